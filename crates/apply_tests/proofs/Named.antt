@@ -35,7 +35,8 @@ use Rattle.apply_tests.specs.Ready.{ComesNamed, IsReady, IsReadyAnswer}
 
 -- What each world keeps
 
-pub static_added : (all : Extent) (pair : Pair) (random : ℕ) (globals statics items : List HeldVal) (val : HeldVal) (pushed : Bool) → IsSoundWorld all pair random globals statics → IsLive all val
+pub static_added : (all : Extent) (pair : Pair) (random : ℕ) (globals statics items : List HeldVal) (val : HeldVal) (pushed : Bool)
+    → IsSoundWorld all pair random globals statics → IsLive all val
     → items ≡ (if pushed then statics ++ val ∷ [] else statics) → IsSoundWorld all pair random globals items
 static_added all pair random globals statics items val true sound live is = rw is (record {
   live_globals = sound.live_globals;
@@ -47,7 +48,8 @@ static_added all pair random globals statics items val true sound live is = rw i
 })
 static_added all pair random globals statics items val false sound live is = rw is sound
 
-pub global_added : (all : Extent) (pair : Pair) (random : ℕ) (globals statics items : List HeldVal) (val : HeldVal) (pushed : Bool) → IsSoundWorld all pair random globals statics → IsLive all val
+pub global_added : (all : Extent) (pair : Pair) (random : ℕ) (globals statics items : List HeldVal) (val : HeldVal) (pushed : Bool)
+    → IsSoundWorld all pair random globals statics → IsLive all val
     → items ≡ (if pushed then globals ++ val ∷ [] else globals) → IsSoundWorld all pair random items statics
 global_added all pair random globals statics items val true sound live is = rw is (record {
   live_globals = All-push (IsLive all) globals val sound.live_globals live;
@@ -59,7 +61,8 @@ global_added all pair random globals statics items val true sound live is = rw i
 })
 global_added all pair random globals statics items val false sound live is = rw is sound
 
-pub statics_cleared : (all : Extent) (pair : Pair) (random : ℕ) (globals statics items : List HeldVal) → IsSoundWorld all pair random globals statics → items ≡ []
+pub statics_cleared : (all : Extent) (pair : Pair) (random : ℕ) (globals statics items : List HeldVal) → IsSoundWorld all pair random globals statics
+    → items ≡ []
     → IsSoundWorld all pair random globals items
 statics_cleared all pair random globals statics items sound is = rw is (record {
   live_globals = sound.live_globals;
@@ -73,9 +76,11 @@ statics_cleared all pair random globals statics items sound is = rw is (record {
 -- That all has a name
 
 empty_named : (names : Names) (bounds : Bounds) → HeapNamed names (empty_heap bounds)
-empty_named names bounds = record { lists = All-nil (ListNamed names); sets = All-nil (SetNamed names); tables = All-nil (TableNamed names); records = All-nil (RecordNamed names) }
+empty_named names bounds =
+    record { lists = All-nil (ListNamed names); sets = All-nil (SetNamed names); tables = All-nil (TableNamed names); records = All-nil (RecordNamed names) }
 
-pub new_ready : (names : Names) (world : World) (bounds : Bounds) (locals : List HeldVal) → heap_of world.heap ≡ empty_heap bounds → world.globals.items ≡ [] → world.statics.items ≡ [] → locals ≡ NullVal ∷ []
+pub new_ready : (names : Names) (world : World) (bounds : Bounds) (locals : List HeldVal) → heap_of world.heap ≡ empty_heap bounds → world.globals.items ≡ []
+    → world.statics.items ≡ [] → locals ≡ NullVal ∷ []
     → IsReady names world locals
 new_ready names world bounds locals heap globals statics is = record {
   named = record {
@@ -90,12 +95,15 @@ new_ready names world bounds locals heap globals statics is = record {
 }
 
 module _ (names : Names) where
-  more : (all : Extent) (vals items : List HeldVal) (val : HeldVal) → All (ValueNamed names) (map (value_in all) vals) → ValueNamed names (value_in all val) → items ≡ vals ++ val ∷ []
+  more : (all : Extent) (vals items : List HeldVal) (val : HeldVal) → All (ValueNamed names) (map (value_in all) vals) → ValueNamed names (value_in all val)
+      → items ≡ vals ++ val ∷ []
       → All (ValueNamed names) (map (value_in all) items)
-  more all vals items val are is same = rw same (rw (map-append (value_in all) vals (val ∷ [])) (All-push (ValueNamed names) (map (value_in all) vals) (value_in all val) are is))
+  more all vals items val are is same =
+      rw same (rw (map-append (value_in all) vals (val ∷ [])) (All-push (ValueNamed names) (map (value_in all) vals) (value_in all val) are is))
 
   module _ (old new : World) (locals : List HeldVal) (heap : new.heap ≡ old.heap) (ready : IsReady names old locals) where
-    pub static_ready : (val : HeldVal) → new.globals.items ≡ old.globals.items → new.statics.items ≡ old.statics.items ++ val ∷ [] → ValueNamed names (value_in (extent_of old.heap) val) → IsReady names new locals
+    pub static_ready : (val : HeldVal) → new.globals.items ≡ old.globals.items → new.statics.items ≡ old.statics.items ++ val ∷ []
+        → ValueNamed names (value_in (extent_of old.heap) val) → IsReady names new locals
     static_ready val globals statics is = record {
       named = record {
         world = record {
@@ -108,7 +116,8 @@ module _ (names : Names) where
       live = rw heap ready.live;
     }
 
-    pub global_ready : (val : HeldVal) → new.globals.items ≡ old.globals.items ++ val ∷ [] → new.statics.items ≡ old.statics.items → ValueNamed names (value_in (extent_of old.heap) val) → IsReady names new locals
+    pub global_ready : (val : HeldVal) → new.globals.items ≡ old.globals.items ++ val ∷ [] → new.statics.items ≡ old.statics.items
+        → ValueNamed names (value_in (extent_of old.heap) val) → IsReady names new locals
     global_ready val globals statics is = record {
       named = record {
         world = record {
@@ -136,15 +145,18 @@ module _ (names : Names) where
 
 -- A record is made
 
-pub record_ready : (names : Names) (old new : World) (locals : List HeldVal) (kind : ℕ) (fields : List Value) (val : HeldVal) → IsReady names old locals → kind < length names.records → All (ValueNamed names) fields
-    → GoesOn (new_record_of (let made : Record = record { kind = kind; fields = fields } in made)) (setting_of (outside_of []) old locals) (value_in (extent_of new.heap) val) (setting_of (outside_of []) new locals)
+pub record_ready : (names : Names) (old new : World) (locals : List HeldVal) (kind : ℕ) (fields : List Value) (val : HeldVal) → IsReady names old locals
+    → kind < length names.records → All (ValueNamed names) fields
+    → GoesOn (new_record_of (let made : Record = record { kind = kind; fields = fields } in made)) (setting_of (outside_of []) old locals)
+    (value_in (extent_of new.heap) val) (setting_of (outside_of []) new locals)
     → ItemNamed names (Val (value_in (extent_of new.heap) val)) × SettingNamed names (setting_of (outside_of []) new locals)
 record_ready names old new locals kind fields val ready known named found =
     subst (OutcomeNamed names) (found gives_value) (rows_keep_names.records names kind fields (setting_of (outside_of []) old locals) ready.named known named)
 
 -- Texts become more
 
-pub held_ready : (names : Names) (old : World) (heap : HeldHeap) (locals : List HeldVal) → IsReady names old locals → Keeps (extent_of old.heap) (extent_of heap) → heap_of heap ≡ heap_of old.heap
+pub held_ready : (names : Names) (old : World) (heap : HeldHeap) (locals : List HeldVal) → IsReady names old locals
+    → Keeps (extent_of old.heap) (extent_of heap) → heap_of heap ≡ heap_of old.heap
     → SettingNamed names (setting_over (outside_of []) heap old.pair old.random old.globals.items old.statics.items locals)
 held_ready names old heap locals ready keeps same = record {
   world = record {
@@ -162,15 +174,18 @@ live_at all [] k are = record { live = tt }
 live_at all (val ∷ vals) zero are = All-head (IsLive all) val vals are
 live_at all (val ∷ vals) (suc k) are = live_at all vals k (All-tail (IsLive all) val vals are)
 
-named_at : (names : Names) (all : Extent) (vals : List HeldVal) (k : ℕ) → All (ValueNamed names) (map (value_in all) vals) → ValueNamed names (value_in all (slice_index_or vals k NullVal))
+named_at : (names : Names) (all : Extent) (vals : List HeldVal) (k : ℕ) → All (ValueNamed names) (map (value_in all) vals)
+    → ValueNamed names (value_in all (slice_index_or vals k NullVal))
 named_at names all [] k are = tt
 named_at names all (val ∷ vals) zero are = All-head (ValueNamed names) (value_in all val) (map (value_in all) vals) are
 named_at names all (val ∷ vals) (suc k) are = named_at names all vals k (All-tail (ValueNamed names) (value_in all val) (map (value_in all) vals) are)
 
-pub got_live : (all : Extent) (vals slice : List HeldVal) (k : ℕ) (val : HeldVal) → slice ≡ vals → val ≡ slice_index_or slice k NullVal → All (IsLive all) vals → IsLive all val
+pub got_live : (all : Extent) (vals slice : List HeldVal) (k : ℕ) (val : HeldVal) → slice ≡ vals → val ≡ slice_index_or slice k NullVal → All (IsLive all) vals
+    → IsLive all val
 got_live all vals slice k val same is are = rw is (rw same (live_at all vals k are))
 
-pub got_named : (names : Names) (all : Extent) (vals slice : List HeldVal) (k : ℕ) (val : HeldVal) → slice ≡ vals → val ≡ slice_index_or slice k NullVal → All (ValueNamed names) (map (value_in all) vals)
+pub got_named : (names : Names) (all : Extent) (vals slice : List HeldVal) (k : ℕ) (val : HeldVal) → slice ≡ vals → val ≡ slice_index_or slice k NullVal
+    → All (ValueNamed names) (map (value_in all) vals)
     → ValueNamed names (value_in all val)
 got_named names all vals slice k val same is are = rw is (rw same (named_at names all vals k are))
 
@@ -180,43 +195,53 @@ past (val ∷ vals) zero low = absurd (omega (arith, low))
 past (val ∷ vals) (suc k) low = past vals k (omega (arith, low))
 
 two_named : (names : Names) (all : Extent) (a b : ℤ) → All (ValueNamed names) (map (value_in all) (IntegerVal a ∷ IntegerVal b ∷ []))
-two_named names all a b = All-cons (ValueNamed names) (Integer a) (Integer b ∷ []) tt (All-cons (ValueNamed names) (Integer b) [] tt (All-nil (ValueNamed names)))
+two_named names all a b =
+    All-cons (ValueNamed names) (Integer a) (Integer b ∷ []) tt (All-cons (ValueNamed names) (Integer b) [] tt (All-nil (ValueNamed names)))
 
 -- a record of two integers is made
 pub pair_ready : (names : Names) (old new : World) (locals : List HeldVal) (a b : ℤ) (val : HeldVal) → IsReady names old locals → 0 < length names.records
-    → GoesOn (new_record_of (let made : Record = record { kind = 0; fields = map (value_in (extent_of old.heap)) (IntegerVal a ∷ IntegerVal b ∷ []) } in made)) (setting_of (outside_of []) old locals) (value_in (extent_of new.heap) val) (setting_of (outside_of []) new locals)
+    → GoesOn (new_record_of (let made : Record = record { kind = 0; fields = map (value_in (extent_of old.heap)) (IntegerVal a ∷ IntegerVal b ∷ []) } in made))
+    (setting_of (outside_of []) old locals) (value_in (extent_of new.heap) val) (setting_of (outside_of []) new locals)
     → ItemNamed names (Val (value_in (extent_of new.heap) val)) × SettingNamed names (setting_of (outside_of []) new locals)
 pair_ready names old new locals a b val ready known found =
-    record_ready names old new locals 0 (map (value_in (extent_of old.heap)) (IntegerVal a ∷ IntegerVal b ∷ [])) val ready known (two_named names (extent_of old.heap) a b) found
+    record_ready names old new locals 0 (map (value_in (extent_of old.heap)) (IntegerVal a ∷ IntegerVal b ∷ [])) val ready known
+    (two_named names (extent_of old.heap) a b) found
 
 -- Items become more
 
-pub items_more : (names : Names) (all : Extent) (items more : List HeldItem) (item : HeldItem) → All (ItemNamed names) (map (item_in all) items) → ItemNamed names (item_in all item) → more ≡ items ++ item ∷ []
+pub items_more : (names : Names) (all : Extent) (items more : List HeldItem) (item : HeldItem) → All (ItemNamed names) (map (item_in all) items)
+    → ItemNamed names (item_in all item) → more ≡ items ++ item ∷ []
     → All (ItemNamed names) (map (item_in all) more)
-items_more names all items more item are is same = rw same (rw (map-append (item_in all) items (item ∷ [])) (All-push (ItemNamed names) (map (item_in all) items) (item_in all item) are is))
+items_more names all items more item are is same =
+    rw same (rw (map-append (item_in all) items (item ∷ [])) (All-push (ItemNamed names) (map (item_in all) items) (item_in all item) are is))
 
 -- What was answered
 
-module _ (names : Names) (world : World) (locals : List HeldVal) (outcome : HeldOutcome) (named : ComesNamed names world locals outcome) (live : All (IsLive (extent_of world.heap)) locals) where
+module _ (names : Names) (world : World) (locals : List HeldVal) (outcome : HeldOutcome) (named : ComesNamed names world locals outcome)
+    (live : All (IsLive (extent_of world.heap)) locals) where
   pub fails_ready : outcome ≡ HeldFails → IsReady names world locals
   fails_ready is = record { named = subst (ComesNamed names world locals) is named; live = live }
 
   pub gives_ready : (item : HeldItem) → outcome ≡ HeldGives item → IsReady names world locals
-  gives_ready item is = let both : ComesNamed names world locals (HeldGives item) = subst (ComesNamed names world locals) is named in record { named = both.1; live = live }
+  gives_ready item is =
+      let both : ComesNamed names world locals (HeldGives item) = subst (ComesNamed names world locals) is named in record { named = both.1; live = live }
 
   pub gives_named : (item : HeldItem) → outcome ≡ HeldGives item → ItemNamed names (item_in (extent_of world.heap) item)
   gives_named item is = let both : ComesNamed names world locals (HeldGives item) = subst (ComesNamed names world locals) is named in both.0
 
   pub suspends_ready : (item : HeldItem) (rest : HeldResidual) → outcome ≡ HeldSuspends item rest → IsReady names world locals
-  suspends_ready item rest is = let all : ComesNamed names world locals (HeldSuspends item rest) = subst (ComesNamed names world locals) is named in record { named = all.1.1; live = live }
+  suspends_ready item rest is = let all : ComesNamed names world locals (HeldSuspends item rest) = subst (ComesNamed names world locals) is named in
+      record { named = all.1.1; live = live }
 
   pub rest_named : (item : HeldItem) (rest : HeldResidual) → outcome ≡ HeldSuspends item rest → ResidualNamed names (residual_in (extent_of world.heap) rest)
   rest_named item rest is = let all : ComesNamed names world locals (HeldSuspends item rest) = subst (ComesNamed names world locals) is named in all.1.0
 
-pub item_live : (reach : Reach) (outcome : HeldOutcome) (item : HeldItem) (rest : HeldResidual) → outcome ≡ HeldSuspends item rest → IsLiveOutcome reach outcome → IsLiveItem reach item
+pub item_live : (reach : Reach) (outcome : HeldOutcome) (item : HeldItem) (rest : HeldResidual) → outcome ≡ HeldSuspends item rest → IsLiveOutcome reach outcome
+    → IsLiveItem reach item
 item_live reach outcome item rest is live = let both : IsLiveOutcome reach (HeldSuspends item rest) = subst (IsLiveOutcome reach) is live in both.live.0
 
-pub rest_live : (reach : Reach) (outcome : HeldOutcome) (item : HeldItem) (rest : HeldResidual) → outcome ≡ HeldSuspends item rest → IsLiveOutcome reach outcome → IsLiveResidual reach rest
+pub rest_live : (reach : Reach) (outcome : HeldOutcome) (item : HeldItem) (rest : HeldResidual) → outcome ≡ HeldSuspends item rest → IsLiveOutcome reach outcome
+    → IsLiveResidual reach rest
 rest_live reach outcome item rest is live = let both : IsLiveOutcome reach (HeldSuspends item rest) = subst (IsLiveOutcome reach) is live in both.live.1
 
 module _ (names : Names) (world : World) (locals : List HeldVal) (result : Result HeldOutcome Halt) (ready : IsReadyAnswer names world locals result) where

@@ -11,7 +11,8 @@ use Rattle.icn_tree.specs.Phrases.{next}
 use Rattle.icn_tree.specs.Grammar.{Part, Spells}
 use Rattle.grammar_rows.specs.Rows.{at, Holds, atoms, suffixes, forms, levels, groups, prefixes, nearest, operands, FileHolds, files}
 
-part : {level : ℕ} {tree : Tree} {here after : List Token} → leb level (level_of tree) ≡ true → Spells tree here after → wants tree (next after) ≡ false → Part level tree (Spells tree) here after
+part : {level : ℕ} {tree : Tree} {here after : List Token} → leb level (level_of tree) ≡ true → Spells tree here after → wants tree (next after) ≡ false
+    → Part level tree (Spells tree) here after
 part {level} {tree} fits spells longest = record { fits = leb-true level (level_of tree) fits; spells = spells; longest = longest }
 
 pub atoms_hold : AllByRecursion Holds atoms
@@ -50,9 +51,11 @@ atoms_hold = (
                                 (
                                   part refl (_, refl, (_, (_, (part refl refl refl), (_, (at 2, refl), (_, (part refl refl refl), refl))), (at 3, refl))) refl,
                                   (
-                                    part refl (_, refl, (_, (_, (part refl refl refl), (_, (at 3, refl), (_, (part refl refl refl), refl))), (at 5, refl))) refl,
+                                    part refl
+                                        (_, refl, (_, (_, (part refl refl refl), (_, (at 3, refl), (_, (part refl refl refl), refl))), (at 5, refl))) refl,
                                     (
-                                      part refl (_, refl, (_, (_, (part refl refl refl), (_, (at 3, refl), (_, (part refl refl refl), refl))), (at 4, refl))) refl,
+                                      part refl
+                                          (_, refl, (_, (_, (part refl refl refl), (_, (at 3, refl), (_, (part refl refl refl), refl))), (at 4, refl))) refl,
                                       tt,
                                     ),
                                   ),
@@ -328,9 +331,17 @@ groups_hold = (
 
 pub prefixes_hold : AllByRecursion Holds prefixes
 prefixes_hold = (
-  part refl (_, record { characters = O.Bar; others = None; behind = _; first = refl; is_here = refl; is_after = refl }, (part refl (_, record { characters = O.Bar; others = None; behind = _; first = refl; is_here = refl; is_after = refl }, (part refl refl refl)) refl)) refl,
+  part refl (
+    _,
+    record { characters = O.Bar; others = None; behind = _; first = refl; is_here = refl; is_after = refl },
+    (part refl (_, record { characters = O.Bar; others = None; behind = _; first = refl; is_here = refl; is_after = refl }, (part refl refl refl)) refl),
+  ) refl,
   (
-    part refl (_, record { characters = O.BarBar; others = Some O.Bar; behind = _; first = refl; is_here = refl; is_after = refl }, (part refl (_, record { characters = O.Bar; others = None; behind = _; first = refl; is_here = refl; is_after = refl }, (part refl refl refl)) refl)) refl,
+    part refl (
+      _,
+      record { characters = O.BarBar; others = Some O.Bar; behind = _; first = refl; is_here = refl; is_after = refl },
+      (part refl (_, record { characters = O.Bar; others = None; behind = _; first = refl; is_here = refl; is_after = refl }, (part refl refl refl)) refl),
+    ) refl,
     (
       part refl (_, record { characters = O.BarBarBar; others = Some O.BarBar; behind = _; first = refl; is_here = refl; is_after = refl }, (part refl (_, record { characters = O.BarBar; others = Some O.Bar; behind = _; first = refl; is_here = refl; is_after = refl }, (part refl (_, record { characters = O.Bar; others = None; behind = _; first = refl; is_here = refl; is_after = refl }, (part refl refl refl)) refl)) refl)) refl,
       (
@@ -344,7 +355,8 @@ prefixes_hold = (
               (
                 part refl (_, record { characters = O.NotEqualEqual; others = Some O.EqualEqual; behind = _; first = refl; is_here = refl; is_after = refl }, (part refl (_, record { characters = O.EqualEqual; others = Some O.Equal; behind = _; first = refl; is_here = refl; is_after = refl }, (part refl (_, record { characters = O.Equal; others = None; behind = _; first = refl; is_here = refl; is_after = refl }, (part refl refl refl)) refl)) refl)) refl,
                 (
-                  part refl (_, record { characters = O.NotEqualEqualEqual; others = Some O.EqualEqualEqual; behind = _; first = refl; is_here = refl; is_after = refl }, (part refl (_, record { characters = O.EqualEqualEqual; others = Some O.EqualEqual; behind = _; first = refl; is_here = refl; is_after = refl }, (part refl (_, record { characters = O.EqualEqual; others = Some O.Equal; behind = _; first = refl; is_here = refl; is_after = refl }, (part refl (_, record { characters = O.Equal; others = None; behind = _; first = refl; is_here = refl; is_after = refl }, (part refl refl refl)) refl)) refl)) refl)) refl,
+                  part refl (_, record { characters = O.NotEqualEqualEqual; others = Some O.EqualEqualEqual; behind = _; first = refl; is_here = refl; is_after = refl }, (part refl (_, record { characters = O.EqualEqualEqual; others = Some O.EqualEqual; behind = _; first = refl; is_here = refl; is_after = refl }, (part refl (_, record { characters = O.EqualEqual; others = Some O.Equal; behind = _; first = refl; is_here = refl; is_after = refl }, (part refl (_, record { characters = O.Equal; others = None; behind = _; first = refl; is_here = refl; is_after = refl }, (part refl refl refl)) refl)) refl)) refl))
+                      refl,
                   (
                     part refl (_, record { characters = O.EqualEqual; others = Some O.Equal; behind = _; first = refl; is_here = refl; is_after = refl }, (part refl (_, record { characters = O.Equal; others = None; behind = _; first = refl; is_here = refl; is_after = refl }, (part refl refl refl)) refl)) refl,
                     (
@@ -408,9 +420,13 @@ nearest_hold = (
                         (
                           part refl (refl, (_, (part refl refl refl), (_, (leb-true 1 _ refl, (at 2, refl)), (part refl (_, refl, (_, (part refl refl refl), (_, (at 5, refl), (part refl (refl, (_, (part refl refl refl), (_, (leb-true 1 _ refl, (at 7, refl)), (part refl refl refl)))) refl)))) refl)))) refl,
                           (
-                            part refl (_, refl, (part refl (refl, (_, (part refl refl refl), (_, (leb-true 1 _ refl, (at 3, refl)), (part refl refl refl)))) refl)) refl,
+                            part refl
+                                (_, refl, (part refl (refl, (_, (part refl refl refl), (_, (leb-true 1 _ refl, (at 3, refl)), (part refl refl refl)))) refl))
+                                refl,
                             (
-                              part refl (_, refl, (part refl (refl, (_, (part refl refl refl), (_, (leb-true 1 _ refl, (at 3, refl)), (part refl refl refl)))) refl)) refl,
+                              part refl
+                                  (_, refl, (part refl (refl, (_, (part refl refl refl), (_, (leb-true 1 _ refl, (at 3, refl)), (part refl refl refl)))) refl))
+                                  refl,
                               (
                                 part refl (_, refl, (_, (part refl refl refl), (_, (at 3, refl), (part refl (refl, (_, (part refl refl refl), (_, (leb-true 1 _ refl, (at 5, refl)), (part refl refl refl)))) refl)))) refl,
                                 (
@@ -439,7 +455,11 @@ nearest_hold = (
 
 pub operands_hold : AllByRecursion Holds operands
 operands_hold = (
-  part refl (_, refl, (part refl (_, record { characters = O.Plus; others = None; behind = _; first = refl; is_here = refl; is_after = refl }, (part refl refl refl)) refl)) refl,
+  part refl (
+    _,
+    refl,
+    (part refl (_, record { characters = O.Plus; others = None; behind = _; first = refl; is_here = refl; is_after = refl }, (part refl refl refl)) refl),
+  ) refl,
   (
     part refl (_, refl, (part refl (_, refl, inl refl) refl)) refl,
     (
@@ -457,9 +477,12 @@ operands_hold = (
                 (
                   part refl (_, refl, (part refl (refl, (_, (part refl refl refl), (_, (leb-true 1 _ refl, (at 3, refl)), (part refl refl refl)))) refl)) refl,
                   (
-                    part refl (_, refl, (part refl (refl, (_, (part refl refl refl), (_, (at 3, refl), (_, (_, (part refl refl refl), refl), (at 5, refl))))) refl)) refl,
+                    part refl
+                        (_, refl, (part refl (refl, (_, (part refl refl refl), (_, (at 3, refl), (_, (_, (part refl refl refl), refl), (at 5, refl))))) refl))
+                        refl,
                     (
-                      part refl (_, refl, (part refl (refl, (_, (part refl refl refl), (_, (leb-true 1 _ refl, (at 3, refl)), (part refl refl refl)))) refl)) refl,
+                      part refl
+                          (_, refl, (part refl (refl, (_, (part refl refl refl), (_, (leb-true 1 _ refl, (at 3, refl)), (part refl refl refl)))) refl)) refl,
                       (
                         part refl (_, refl, (part refl (_, record { characters = O.Dot; others = None; behind = _; first = refl; is_here = refl; is_after = refl }, (part refl refl refl)) refl)) refl,
                         (
@@ -467,7 +490,9 @@ operands_hold = (
                           (
                             part refl (_, refl, (part refl (_, refl, (part refl refl refl)) refl)) refl,
                             (
-                              part refl (refl, (_, (part refl (_, refl, (part refl refl refl)) refl), (_, (leb-true 1 _ refl, (at 2, refl)), (part refl refl refl)))) refl,
+                              part refl
+                                  (refl, (_, (part refl (_, refl, (part refl refl refl)) refl), (_, (leb-true 1 _ refl, (at 2, refl)), (part refl refl refl))))
+                                  refl,
                               (
                                 part refl (refl, (_, (part refl (_, refl, (part refl refl refl)) refl), (_, (leb-true 1 _ refl, (at 2, refl)), (part refl refl refl)))) refl,
                                 (
@@ -485,7 +510,9 @@ operands_hold = (
                                             (
                                               part refl (_, refl, (_, (_, (part refl (_, refl, (part refl refl refl)) refl), (_, (at 3, refl), (_, (part refl refl refl), refl))), (at 5, refl))) refl,
                                               (
-                                                part refl (_, refl, (_, (part refl (_, refl, (part refl refl refl)) refl), (_, (at 3, refl), (part refl refl refl)))) refl,
+                                                part refl
+                                                    (_, refl, (_, (part refl (_, refl, (part refl refl refl)) refl), (_, (at 3, refl), (part refl refl refl))))
+                                                    refl,
                                                 (
                                                   part refl (_, refl, (_, (part refl refl refl), (_, (at 3, refl), (_, (part refl (_, refl, (part refl refl refl)) refl), (_, (at 5, refl), (part refl refl refl)))))) refl,
                                                   (

@@ -12,7 +12,8 @@ behind (x ∷ xs) ys zero past = absurd (omega arith)
 behind (x ∷ xs) ys (suc k) past = behind xs ys k (omega arith) ∙ ap (slice_get ys) (let same : k - length xs ≡ suc k - suc (length xs) = omega arith in same)
 
 -- what stands behind two lists
-pub behind_two : {X : Type 0} (ps rs fs : List X) (number p r : ℕ) (x d : X) → length ps ≡ p → length rs ≡ r → p + r ≤ number → slice_get fs (number - p - r) ≡ Some x
+pub behind_two : {X : Type 0} (ps rs fs : List X) (number p r : ℕ) (x d : X) → length ps ≡ p → length rs ≡ r → p + r ≤ number
+    → slice_get fs (number - p - r) ≡ Some x
     → x ≡ unwrap_or (slice_get (ps ++ (rs ++ fs)) number) d
 behind_two ps rs fs number p r x d first second past is =
     sym (ap (λ o. unwrap_or o d)
@@ -20,7 +21,8 @@ behind_two ps rs fs number p r x d first second past is =
     ∙ (ap (slice_get fs) (let same : number - length ps - length rs ≡ number - p - r = omega arith in same) ∙ is))))
 
 -- a list that is seen twice
-pub seen_twice : {X Y Z : Type 0} (f : X → Y) (g : Y → Z) (xs : List X) (place : ℕ) (x : X) → place < length (map f xs) → x ≡ get_or xs place x → slice_get (map g (map f xs)) place ≡ Some (g (f x))
+pub seen_twice : {X Y Z : Type 0} (f : X → Y) (g : Y → Z) (xs : List X) (place : ℕ) (x : X) → place < length (map f xs) → x ≡ get_or xs place x
+    → slice_get (map g (map f xs)) place ≡ Some (g (f x))
 seen_twice f g xs place x within is =
     let there = simp length-map at within in
     slice_get-map g (map f xs) place ∙ ap (option_map g) (slice_get-map f xs place ∙ ap (option_map f) (slice_get-get_or xs place x there ∙ ap Some (sym is)))

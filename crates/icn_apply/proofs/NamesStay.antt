@@ -40,7 +40,8 @@ use Rattle.icn_apply.specs.NamesAfter.{AnswerNamed}
 
 -- What is named does not ask for the outside
 
-pub elsewhere : (names : Names) (world : World) (locals : List Val) (was now : Outside) → SettingNamed names (setting_of was world locals) → SettingNamed names (setting_of now world locals)
+pub elsewhere : (names : Names) (world : World) (locals : List Val) (was now : Outside) → SettingNamed names (setting_of was world locals)
+    → SettingNamed names (setting_of now world locals)
 elsewhere names world locals was now is = record { world = is.world; locals = is.locals }
 
 outcome_elsewhere : (names : Names) (all : Extent) (world : World) (locals : List Val) (was now : Outside) (outcome : HeldOutcome)
@@ -52,10 +53,12 @@ outcome_elsewhere names all world locals was now (HeldSuspends item rest) is = (
 -- What a row comes to
 
 module _ (names : Names) (row : Row) (at : Setting) (named : OutcomeNamed names (row at)) (world : World) (locals : List Val) (now : Outside) where
-  comes_named : (result : Result HeldOutcome Halt) → ComesToAnswer (extent_of world.heap) row at (setting_of now world locals) result → AnswerNamed names world locals result
+  comes_named : (result : Result HeldOutcome Halt) → ComesToAnswer (extent_of world.heap) row at (setting_of now world locals) result
+      → AnswerNamed names world locals result
   comes_named (Ok outcome) is = outcome_elsewhere names (extent_of world.heap) world locals now (outside_of []) outcome (subst (OutcomeNamed names) is named)
   comes_named (Err (ErrorHalt number offending)) is =
-      let both : OutcomeNamed names (Error number (option_map (value_in (extent_of world.heap)) offending) (setting_of now world locals)) = subst (OutcomeNamed names) is named in
+      let both : OutcomeNamed names (Error number (option_map (value_in (extent_of world.heap)) offending) (setting_of now world locals)) =
+      subst (OutcomeNamed names) is named in
       (both.0, elsewhere names world locals now (outside_of []) both.1)
   comes_named (Err (EndsHalt status)) is =
       let after : OutcomeNamed names (Ends status (setting_of now world locals)) = subst (OutcomeNamed names) is named in
@@ -65,25 +68,32 @@ module _ (names : Names) (row : Row) (at : Setting) (named : OutcomeNamed names 
   comes_named (Err NoMemory) is = tt
 
 -- whatever the input tells
-pub applies_named : (names : Names) (row : Row) (before after : CallState) (result : Result HeldOutcome Halt) → ((was : Outside) → OutcomeNamed names (row (setting_with was before)))
+pub applies_named : (names : Names) (row : Row) (before after : CallState) (result : Result HeldOutcome Halt)
+    → ((was : Outside) → OutcomeNamed names (row (setting_with was before)))
     → Applies row before after result → AnswerNamed names after.world after.locals result
 applies_named names row before after (Ok outcome) named is =
     let comes = is.meant.answers (outside_of is.meant.had) refl in
-    comes_named names row (setting_with (outside_of is.meant.had) before) (named (outside_of is.meant.had)) after.world after.locals comes.now (Ok outcome) comes.comes
+    comes_named names row (setting_with (outside_of is.meant.had) before) (named (outside_of is.meant.had)) after.world after.locals comes.now
+    (Ok outcome) comes.comes
 applies_named names row before after (Err (ErrorHalt number offending)) named is =
     let comes = is.meant.answers (outside_of is.meant.had) refl in
-    comes_named names row (setting_with (outside_of is.meant.had) before) (named (outside_of is.meant.had)) after.world after.locals comes.now (Err (ErrorHalt number offending)) comes.comes
+    comes_named names row (setting_with (outside_of is.meant.had) before) (named (outside_of is.meant.had)) after.world after.locals comes.now
+    (Err (ErrorHalt number offending)) comes.comes
 applies_named names row before after (Err (EndsHalt status)) named is =
     let comes = is.meant.answers (outside_of is.meant.had) refl in
-    comes_named names row (setting_with (outside_of is.meant.had) before) (named (outside_of is.meant.had)) after.world after.locals comes.now (Err (EndsHalt status)) comes.comes
+    comes_named names row (setting_with (outside_of is.meant.had) before) (named (outside_of is.meant.had)) after.world after.locals comes.now
+    (Err (EndsHalt status)) comes.comes
 applies_named names row before after (Err ReadFault) named is = tt
 applies_named names row before after (Err WriteFault) named is = tt
 applies_named names row before after (Err NoMemory) named is = tt
 
 -- whatever the outside
-pub answers_named : (names : Names) (row : Row) (old new : World) (locals : List Val) (result : Result HeldOutcome Halt) → OutcomeNamed names (row (setting_of (outside_of []) old locals))
-    → ((was : Outside) → ComesToAnswer (extent_of new.heap) row (setting_of was old locals) (setting_of was new locals) result) → AnswerNamed names new locals result
-answers_named names row old new locals result named is = comes_named names row (setting_of (outside_of []) old locals) named new locals (outside_of []) result (is (outside_of []))
+pub answers_named : (names : Names) (row : Row) (old new : World) (locals : List Val) (result : Result HeldOutcome Halt)
+    → OutcomeNamed names (row (setting_of (outside_of []) old locals))
+    → ((was : Outside) → ComesToAnswer (extent_of new.heap) row (setting_of was old locals) (setting_of was new locals) result)
+    → AnswerNamed names new locals result
+answers_named names row old new locals result named is =
+    comes_named names row (setting_of (outside_of []) old locals) named new locals (outside_of []) result (is (outside_of []))
 
 -- Values of items
 
@@ -92,7 +102,8 @@ pub values_named : (names : Names) (items : List Item) (at : Setting) (values : 
 values_named names items at values named are found =
     let as_locals : List Value → Row = λ vs s. Fails (record s { locals = vs }) in
     let all : SettingNamed names (record at { locals = values }) =
-    subst (OutcomeNamed names) (found as_locals) (rows_keep_names.values names items as_locals at named are (λ vs is. record { world = named.world; locals = is })) in
+    subst (OutcomeNamed names) (found as_locals)
+    (rows_keep_names.values names items as_locals at named are (λ vs is. record { world = named.world; locals = is })) in
     all.locals
 
 val_named : (names : Names) (all : Extent) (val : Val) → ValueNamed names (value_in all val) → IsNamed names val
@@ -114,9 +125,13 @@ vals_named names all (val ∷ vals) are =
     All-cons (IsNamed names) val vals (val_named names all val (All-head (ValueNamed names) (value_in all val) (map (value_in all) vals) are))
     (vals_named names all vals (All-tail (ValueNamed names) (value_in all val) (map (value_in all) vals) are))
 
-pub records_named : (names : Names) (world : World) (locals : List Val) (was : Outside) → SettingNamed names (setting_of was world locals) → AreRecordsNamed names (heap_of world.heap)
+pub records_named : (names : Names) (world : World) (locals : List Val) (was : Outside) → SettingNamed names (setting_of was world locals)
+    → AreRecordsNamed names (heap_of world.heap)
 records_named names world locals was named =
-    record { kinds = All-weaker (RecordNamed names) (λ (structure : Record). structure.kind < length names.records) (λ structure is. is.0) (heap_of world.heap).records named.world.heap.records }
+    record {
+      kinds = All-weaker (RecordNamed names) (λ (structure : Record). structure.kind < length names.records) (λ structure is. is.0)
+          (heap_of world.heap).records named.world.heap.records;
+    }
 
 -- Records that are there
 
@@ -140,24 +155,28 @@ live_there heap (SetVal id) is = tt
 live_there heap (TableVal id) is = tt
 live_there heap (CoexpVal id) is = tt
 
-pub first_there : (heap : HeldHeap) (vals : List Val) → All (IsLive (extent_of heap)) vals → IsThere (heap_of heap) (arg (map (value_in (extent_of heap)) vals) 0)
+pub first_there : (heap : HeldHeap) (vals : List Val) → All (IsLive (extent_of heap)) vals
+    → IsThere (heap_of heap) (arg (map (value_in (extent_of heap)) vals) 0)
 first_there heap [] are = tt
 first_there heap (val ∷ vals) are = live_there heap val (All-head (IsLive (extent_of heap)) val vals are)
 
 -- Functions
 
 -- of values of a world
-pub function_named : (names : Names) (func : Func) (world : World) (locals : List Val) (was : Outside) (vals : List Val) → SettingNamed names (setting_of was world locals)
+pub function_named : (names : Names) (func : Func) (world : World) (locals : List Val) (was : Outside) (vals : List Val)
+    → SettingNamed names (setting_of was world locals)
     → All (ValueNamed names) (map (value_in (extent_of world.heap)) vals) → All (IsLive (extent_of world.heap)) vals
     → OutcomeNamed names (function_of names func (map (value_in (extent_of world.heap)) vals) (setting_of was world locals))
 function_named names func world locals was vals named are live =
-    rows_keep_names.functions names func (map (value_in (extent_of world.heap)) vals) (setting_of was world locals) named are (λ is_copy. first_there world.heap vals live)
+    rows_keep_names.functions names func (map (value_in (extent_of world.heap)) vals) (setting_of was world locals) named are
+    (λ is_copy. first_there world.heap vals live)
 
 pub copies_nothing : (func : Func) → is_of_files func ≡ true → func ≡ Copy → ⊥
 copies_nothing func is same = let both : is_of_files Copy ≡ true = sym (ap is_of_files same) ∙ is in cc
 
 -- a function over files, of items
-pub file_function_named : (names : Names) (func : Func) (items : List Item) (at : Setting) → is_of_files func ≡ true → SettingNamed names at → All (ItemNamed names) items
+pub file_function_named : (names : Names) (func : Func) (items : List Item) (at : Setting) → is_of_files func ≡ true → SettingNamed names at
+    → All (ItemNamed names) items
     → OutcomeNamed names (function_row names func items at)
 file_function_named names func items at is named are =
     rows_keep_names.values names items (function_of names func) at named are
@@ -166,12 +185,16 @@ file_function_named names func items at is named are =
 -- what stopped the reading of items
 pub stop_named : (names : Names) (items : List Item) (world : World) (locals : List Val) (stop : Stop) (result : Result HeldOutcome Halt)
     → SettingNamed names (setting_of (outside_of []) world locals) → All (ItemNamed names) items → IsErrAnd result (λ halt. halt ≡ halt_of stop)
-    → ((was : Outside) → StopsFinding (extent_of world.heap) (the_values items) (setting_of was world locals) (setting_of was world locals) stop) → AnswerNamed names world locals result
+    → ((was : Outside) → StopsFinding (extent_of world.heap) (the_values items) (setting_of was world locals) (setting_of was world locals) stop)
+    → AnswerNamed names world locals result
 stop_named names items world locals stop (Ok outcome) named are same stops = absurd same
-stop_named names items world locals stop (Err halt) named are same stops = subst (λ (h : Halt). AnswerNamed names world locals (Err h)) (sym same) (by stop (stops (outside_of [])))
+stop_named names items world locals stop (Err halt) named are same stops =
+    subst (λ (h : Halt). AnswerNamed names world locals (Err h)) (sym same) (by stop (stops (outside_of [])))
   where
-    by : (stop : Stop) → StopsFinding (extent_of world.heap) (the_values items) (setting_of (outside_of []) world locals) (setting_of (outside_of []) world locals) stop
+    by : (stop : Stop)
+        → StopsFinding (extent_of world.heap) (the_values items) (setting_of (outside_of []) world locals) (setting_of (outside_of []) world locals) stop
         → AnswerNamed names world locals (Err (halt_of stop))
     by (ErrorStop number offending) is =
-        subst (OutcomeNamed names) (is (λ values. fails)) (rows_keep_names.values names items (λ values. fails) (setting_of (outside_of []) world locals) named are (λ values these. named))
+        subst (OutcomeNamed names) (is (λ values. fails))
+        (rows_keep_names.values names items (λ values. fails) (setting_of (outside_of []) world locals) named are (λ values these. named))
     by NoMemoryStop is = tt

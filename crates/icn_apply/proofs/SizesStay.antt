@@ -39,14 +39,16 @@ same_sized world (Err NoMemory) = tt
 
 -- What a row comes to
 
-outcome_sized : (before after : World) (at : Setting) (outcome : HeldOutcome) → at.world.heap ≡ heap_of after.heap → Sized before (outcome_in (extent_of after.heap) outcome at)
+outcome_sized : (before after : World) (at : Setting) (outcome : HeldOutcome) → at.world.heap ≡ heap_of after.heap
+    → Sized before (outcome_in (extent_of after.heap) outcome at)
     → (sizes : ℕ → ℕ) → KeepSizes sizes (heap_of before.heap) (heap_of after.heap)
 outcome_sized before after at HeldFails same is = λ sizes. subst (KeepSizes sizes (heap_of before.heap)) same (is sizes)
 outcome_sized before after at (HeldGives item) same is = λ sizes. subst (KeepSizes sizes (heap_of before.heap)) same (is sizes)
 outcome_sized before after at (HeldSuspends item rest) same is = λ sizes. subst (KeepSizes sizes (heap_of before.heap)) same (is sizes)
 
 module _ (row : Row) (at : Setting) (before : World) (sized : Sized before (row at)) (after : World) (locals : List Val) (now : Outside) where
-  comes_sized : (result : Result HeldOutcome Halt) → ComesToAnswer (extent_of after.heap) row at (setting_of now after locals) result → AnswerKeepsSizes before after result
+  comes_sized : (result : Result HeldOutcome Halt) → ComesToAnswer (extent_of after.heap) row at (setting_of now after locals) result
+      → AnswerKeepsSizes before after result
   comes_sized (Ok outcome) is = outcome_sized before after (setting_of now after locals) outcome refl (subst (Sized before) is sized)
   comes_sized (Err (ErrorHalt number offending)) is = subst (Sized before) is sized
   comes_sized (Err (EndsHalt status)) is = subst (Sized before) is sized
@@ -55,38 +57,48 @@ module _ (row : Row) (at : Setting) (before : World) (sized : Sized before (row 
   comes_sized (Err NoMemory) is = tt
 
 -- whatever the input tells
-pub applies_sized : (row : Row) (before after : CallState) (result : Result HeldOutcome Halt) → ((was : Outside) → Sized before.world (row (setting_with was before)))
+pub applies_sized : (row : Row) (before after : CallState) (result : Result HeldOutcome Halt)
+    → ((was : Outside) → Sized before.world (row (setting_with was before)))
     → Applies row before after result → AnswerKeepsSizes before.world after.world result
 applies_sized row before after (Ok outcome) sized is =
     let comes = is.meant.answers (outside_of is.meant.had) refl in
-    comes_sized row (setting_with (outside_of is.meant.had) before) before.world (sized (outside_of is.meant.had)) after.world after.locals comes.now (Ok outcome) comes.comes
+    comes_sized row (setting_with (outside_of is.meant.had) before) before.world (sized (outside_of is.meant.had)) after.world after.locals comes.now
+    (Ok outcome) comes.comes
 applies_sized row before after (Err (ErrorHalt number offending)) sized is =
     let comes = is.meant.answers (outside_of is.meant.had) refl in
-    comes_sized row (setting_with (outside_of is.meant.had) before) before.world (sized (outside_of is.meant.had)) after.world after.locals comes.now (Err (ErrorHalt number offending)) comes.comes
+    comes_sized row (setting_with (outside_of is.meant.had) before) before.world (sized (outside_of is.meant.had)) after.world after.locals comes.now
+    (Err (ErrorHalt number offending)) comes.comes
 applies_sized row before after (Err (EndsHalt status)) sized is =
     let comes = is.meant.answers (outside_of is.meant.had) refl in
-    comes_sized row (setting_with (outside_of is.meant.had) before) before.world (sized (outside_of is.meant.had)) after.world after.locals comes.now (Err (EndsHalt status)) comes.comes
+    comes_sized row (setting_with (outside_of is.meant.had) before) before.world (sized (outside_of is.meant.had)) after.world after.locals comes.now
+    (Err (EndsHalt status)) comes.comes
 applies_sized row before after (Err ReadFault) sized is = tt
 applies_sized row before after (Err WriteFault) sized is = tt
 applies_sized row before after (Err NoMemory) sized is = tt
 
 -- whatever the outside
 answers_sized : (row : Row) (old new : World) (locals : List Val) (result : Result HeldOutcome Halt) → Sized old (row (setting_of (outside_of []) old locals))
-    → ((was : Outside) → ComesToAnswer (extent_of new.heap) row (setting_of was old locals) (setting_of was new locals) result) → AnswerKeepsSizes old new result
-answers_sized row old new locals result sized is = comes_sized row (setting_of (outside_of []) old locals) old sized new locals (outside_of []) result (is (outside_of []))
+    → ((was : Outside) → ComesToAnswer (extent_of new.heap) row (setting_of was old locals) (setting_of was new locals) result)
+    → AnswerKeepsSizes old new result
+answers_sized row old new locals result sized is =
+    comes_sized row (setting_of (outside_of []) old locals) old sized new locals (outside_of []) result (is (outside_of []))
 
 -- Functions
 
 -- of values of a world
-pub function_sized : (names : Names) (func : Func) (old new : World) (locals vals : List Val) (result : Result HeldOutcome Halt) → All (IsLive (extent_of old.heap)) vals
-    → ((was : Outside) → ComesToAnswer (extent_of new.heap) (function_of names func (map (value_in (extent_of old.heap)) vals)) (setting_of was old locals) (setting_of was new locals) result)
+pub function_sized : (names : Names) (func : Func) (old new : World) (locals vals : List Val) (result : Result HeldOutcome Halt)
+    → All (IsLive (extent_of old.heap)) vals
+    → ((was : Outside) → ComesToAnswer (extent_of new.heap) (function_of names func (map (value_in (extent_of old.heap)) vals)) (setting_of was old locals)
+    (setting_of was new locals) result)
     → AnswerKeepsSizes old new result
 function_sized names func old new locals vals result live is =
     answers_sized (function_of names func (map (value_in (extent_of old.heap)) vals)) old new locals result
-    (λ sizes. rows_keep_sizes.functions sizes names func (map (value_in (extent_of old.heap)) vals) (setting_of (outside_of []) old locals) (λ is_copy. first_there old.heap vals live)) is
+    (λ sizes. rows_keep_sizes.functions sizes names func (map (value_in (extent_of old.heap)) vals) (setting_of (outside_of []) old locals)
+    (λ is_copy. first_there old.heap vals live)) is
 
 -- a function over files, of items
 pub file_function_sized : (names : Names) (func : Func) (items : List Item) (at : Setting) → is_of_files func ≡ true
     → (sizes : ℕ → ℕ) → KeepSizes sizes at.world.heap (heap_after (function_row names func items at))
 file_function_sized names func items at is = λ sizes.
-    rows_keep_sizes.values sizes items (function_of names func) at (λ values. rows_keep_sizes.functions sizes names func values at (λ same. absurd (copies_nothing func is same)))
+    rows_keep_sizes.values sizes items (function_of names func) at
+    (λ values. rows_keep_sizes.functions sizes names func values at (λ same. absurd (copies_nothing func is same)))

@@ -46,15 +46,18 @@ passing_halts all part next before after NoMemory is = tt
 -- the row stops where a thing is looked for
 pub row_stops : {A : Type 0} (all : Extent) (find : Finds A) (next : A → Row) (before after : Setting) (stop : Stop) (result : Result Outcome Halt)
     → IsErrAnd result (λ halt. halt ≡ halt_of stop) → StopsFinding all find before after stop → ComesToAnswer all (find next) before after result
-row_stops all find next before after stop result same is = stops_row all (find next) before after stop result same (finding_halts all find next before after stop is)
+row_stops all find next before after stop result same is =
+    stops_row all (find next) before after stop result same (finding_halts all find next before after stop is)
 
 -- the row stops at a part of it
 pub row_stops_at : (all : Extent) (part : Row → Row) (next : Row) (before after : Setting) (stop : Stop) (result : Result Outcome Halt)
     → IsErrAnd result (λ halt. halt ≡ halt_of stop) → StopsPassing all part before after stop → ComesToAnswer all (part next) before after result
-row_stops_at all part next before after stop result same is = stops_row all (part next) before after stop result same (passing_halts all part next before after stop is)
+row_stops_at all part next before after stop result same is =
+    stops_row all (part next) before after stop result same (passing_halts all part next before after stop is)
 
 -- what the row stopped with is of the world
-pub stop_lives : (reach : Reach) (stop : Stop) (result : Result Outcome Halt) → IsErrAnd result (λ halt. halt ≡ halt_of stop) → IsLiveStop reach.extent stop → IsLiveAnswer reach result
+pub stop_lives : (reach : Reach) (stop : Stop) (result : Result Outcome Halt) → IsErrAnd result (λ halt. halt ≡ halt_of stop) → IsLiveStop reach.extent stop
+    → IsLiveAnswer reach result
 stop_lives reach stop (Ok outcome) same is = absurd same
 stop_lives reach stop (Err halt) same is = subst (IsLiveHalt reach) (sym same) (lives stop is)
   where
@@ -63,43 +66,52 @@ stop_lives reach stop (Err halt) same is = subst (IsLiveHalt reach) (sym same) (
     lives NoMemory is = tt
 
 -- what a part of a row stopped with is of the heap
-pub stop_lives_on : {B : Type 0} (all : Extent) (stop : Stop) (result : Result B Stop) → IsErrAnd result (λ other. other ≡ stop) → IsLiveStop all stop → IfErr result (IsLiveStop all)
+pub stop_lives_on : {B : Type 0} (all : Extent) (stop : Stop) (result : Result B Stop) → IsErrAnd result (λ other. other ≡ stop) → IsLiveStop all stop
+    → IfErr result (IsLiveStop all)
 stop_lives_on all stop (Ok thing) same is = tt
 stop_lives_on all stop (Err other) same is = subst (IsLiveStop all) (sym same) is
 
 -- Parts of rows
 
-pub found_err : {A B : Type 0} (all : Extent) (find : Finds A) (before after : Setting) (shown : B → A) (stop : Stop) (result : Result B Stop) → IsErrAnd result (λ other. other ≡ stop)
+pub found_err : {A B : Type 0} (all : Extent) (find : Finds A) (before after : Setting) (shown : B → A) (stop : Stop) (result : Result B Stop)
+    → IsErrAnd result (λ other. other ≡ stop)
     → StopsFinding all find before after stop → Found all find before after shown result
 found_err all find before after shown stop (Ok thing) same is = absurd same
 found_err all find before after shown stop (Err other) same is = subst (StopsFinding all find before after) (sym same) is
 
-pub stops_within : {A B : Type 0} (all : Extent) (find : Finds A) (rest : A → Finds B) (before after : Setting) (stop : Stop) → StopsFinding all find before after stop
+pub stops_within : {A B : Type 0} (all : Extent) (find : Finds A) (rest : A → Finds B) (before after : Setting) (stop : Stop)
+    → StopsFinding all find before after stop
     → StopsFinding all (λ next. find (λ thing. rest thing next)) before after stop
 stops_within all find rest before after (Error number offending) is = λ next. is (λ thing. rest thing next)
 stops_within all find rest before after NoMemory is = tt
 
-pub stops_behind : {A B : Type 0} (all : Extent) (find : Finds A) (thing : A) (rest : A → Finds B) (before between after : Setting) (stop : Stop) → GoesOn find before thing between
+pub stops_behind : {A B : Type 0} (all : Extent) (find : Finds A) (thing : A) (rest : A → Finds B) (before between after : Setting) (stop : Stop)
+    → GoesOn find before thing between
     → StopsFinding all (rest thing) between after stop → StopsFinding all (λ next. find (λ thing. rest thing next)) before after stop
 stops_behind all find thing rest before between after (Error number offending) first is = λ next. first (λ thing. rest thing next) ∙ is next
 stops_behind all find thing rest before between after NoMemory first is = tt
 
 -- what is looked for first is not found
-pub first_stops : {A B C : Type 0} (all : Extent) (find : Finds A) (rest : A → Finds B) (before after : Setting) (shown : C → B) (stop : Stop) (result : Result C Stop)
-    → IsErrAnd result (λ other. other ≡ stop) → StopsFinding all find before after stop → Found all (λ next. find (λ thing. rest thing next)) before after shown result
+pub first_stops : {A B C : Type 0} (all : Extent) (find : Finds A) (rest : A → Finds B) (before after : Setting) (shown : C → B) (stop : Stop)
+    (result : Result C Stop)
+    → IsErrAnd result (λ other. other ≡ stop) → StopsFinding all find before after stop
+    → Found all (λ next. find (λ thing. rest thing next)) before after shown result
 first_stops all find rest before after shown stop result same is =
     found_err all (λ next. find (λ thing. rest thing next)) before after shown stop result same (stops_within all find rest before after stop is)
 
 -- it is found, and what is looked for then is not
-pub then_stops : {A B C : Type 0} (all : Extent) (find : Finds A) (thing : A) (rest : A → Finds B) (before between after : Setting) (shown : C → B) (stop : Stop) (result : Result C Stop)
+pub then_stops : {A B C : Type 0} (all : Extent) (find : Finds A) (thing : A) (rest : A → Finds B) (before between after : Setting) (shown : C → B)
+    (stop : Stop) (result : Result C Stop)
     → IsErrAnd result (λ other. other ≡ stop) → GoesOn find before thing between → StopsFinding all (rest thing) between after stop
     → Found all (λ next. find (λ thing. rest thing next)) before after shown result
 then_stops all find thing rest before between after shown stop result same first is =
-    found_err all (λ next. find (λ thing. rest thing next)) before after shown stop result same (stops_behind all find thing rest before between after stop first is)
+    found_err all (λ next. find (λ thing. rest thing next)) before after shown stop result same
+    (stops_behind all find thing rest before between after stop first is)
 
 -- Parts that are passed
 
-pub passed_err : {B : Type 0} (all : Extent) (part : Row → Row) (before after : Setting) (stop : Stop) (result : Result B Stop) → IsErrAnd result (λ other. other ≡ stop)
+pub passed_err : {B : Type 0} (all : Extent) (part : Row → Row) (before after : Setting) (stop : Stop) (result : Result B Stop)
+    → IsErrAnd result (λ other. other ≡ stop)
     → StopsPassing all part before after stop → Passed all part before after result
 passed_err all part before after stop (Ok thing) same is = absurd same
 passed_err all part before after stop (Err other) same is = subst (StopsPassing all part before after) (sym same) is
@@ -115,13 +127,15 @@ passing_behind all part rest before between after (Error number offending) first
 passing_behind all part rest before between after NoMemory first is = tt
 
 -- the first part is not passed
-pub first_part_stops : {B : Type 0} (all : Extent) (part rest : Row → Row) (before after : Setting) (stop : Stop) (result : Result B Stop) → IsErrAnd result (λ other. other ≡ stop)
+pub first_part_stops : {B : Type 0} (all : Extent) (part rest : Row → Row) (before after : Setting) (stop : Stop) (result : Result B Stop)
+    → IsErrAnd result (λ other. other ≡ stop)
     → StopsPassing all part before after stop → Passed all (λ next. part (rest next)) before after result
 first_part_stops all part rest before after stop result same is =
     passed_err all (λ next. part (rest next)) before after stop result same (passing_within all part rest before after stop is)
 
 -- it is passed, and the next one is not
-pub then_part_stops : {B : Type 0} (all : Extent) (part rest : Row → Row) (before between after : Setting) (stop : Stop) (result : Result B Stop) → IsErrAnd result (λ other. other ≡ stop)
+pub then_part_stops : {B : Type 0} (all : Extent) (part rest : Row → Row) (before between after : Setting) (stop : Stop) (result : Result B Stop)
+    → IsErrAnd result (λ other. other ≡ stop)
     → Passes part before between → StopsPassing all rest between after stop → Passed all (λ next. part (rest next)) before after result
 then_part_stops all part rest before between after stop result same first is =
     passed_err all (λ next. part (rest next)) before after stop result same (passing_behind all part rest before between after stop first is)

@@ -32,21 +32,26 @@ module _ (all : Extent) (setting : Setting) (items : List HeldItem) where
   stops_at done first others rest NoMemory same so is = tt
 
   -- an item that is not read
-  pub gather_stops : {B : Type 0} (done : List Value) (first : HeldItem) (others rest : List HeldItem) (shown : B → List Value) (stop : Stop) (result : Result B Stop) → IsErrAnd result (λ other. other ≡ stop)
-      → rest ≡ first ∷ others → ((next : List Value → Row) → the_values (map (item_in all) items) next setting ≡ values_behind done (map (item_in all) rest) next setting)
+  pub gather_stops : {B : Type 0} (done : List Value) (first : HeldItem) (others rest : List HeldItem) (shown : B → List Value) (stop : Stop)
+      (result : Result B Stop) → IsErrAnd result (λ other. other ≡ stop)
+      → rest ≡ first ∷ others
+      → ((next : List Value → Row) → the_values (map (item_in all) items) next setting ≡ values_behind done (map (item_in all) rest) next setting)
       → StopsFinding all (the_value (item_in all first)) setting setting stop → Found all (the_values (map (item_in all) items)) setting setting shown result
   gather_stops done first others rest shown stop result err same so is =
       found_err all (the_values (map (item_in all) items)) setting setting shown stop result err (stops_at done first others rest stop same so is)
 
   -- one more item is read
   pub gather_next : (vals now : List Val) (val : Val) (first : HeldItem) (others rest : List HeldItem) → rest ≡ first ∷ others → now ≡ vals ++ val ∷ []
-      → ((next : List Value → Row) → the_values (map (item_in all) items) next setting ≡ values_behind (map (value_in all) vals) (map (item_in all) rest) next setting)
+      → ((next : List Value → Row)
+      → the_values (map (item_in all) items) next setting ≡ values_behind (map (value_in all) vals) (map (item_in all) rest) next setting)
       → GoesOn (the_value (item_in all first)) setting (value_in all val) setting
-      → (next : List Value → Row) → the_values (map (item_in all) items) next setting ≡ values_behind (map (value_in all) now) (map (item_in all) others) next setting
+      → (next : List Value → Row)
+      → the_values (map (item_in all) items) next setting ≡ values_behind (map (value_in all) now) (map (item_in all) others) next setting
   gather_next vals now val first others rest same more so read next =
       so next ∙ (ap (λ (left : List HeldItem). values_behind (map (value_in all) vals) (map (item_in all) left) next setting) same
       ∙ (read (λ value. the_values (map (item_in all) others) (λ values. next (map (value_in all) vals ++ value ∷ values)))
-      ∙ (behind ∙ sym (ap (λ (done : List Value). values_behind done (map (item_in all) others) next setting) (ap (map (value_in all)) more ∙ map-append (value_in all) vals (val ∷ []))))))
+      ∙ (behind ∙ sym (ap (λ (done : List Value). values_behind done (map (item_in all) others) next setting) (ap (map (value_in all)) more
+      ∙ map-append (value_in all) vals (val ∷ []))))))
     where
       behind : the_values (map (item_in all) others) (λ values. next (map (value_in all) vals ++ value_in all val ∷ values)) setting
           ≡ values_behind (map (value_in all) vals ++ value_in all val ∷ []) (map (item_in all) others) next setting
@@ -57,4 +62,5 @@ module _ (all : Extent) (setting : Setting) (items : List HeldItem) where
       → ((next : List Value → Row) → the_values (map (item_in all) items) next setting ≡ values_behind done (map (item_in all) rest) next setting)
       → GoesOn (the_values (map (item_in all) items)) setting done setting
   gather_all done rest none so next =
-      so next ∙ (ap (λ (left : List HeldItem). values_behind done (map (item_in all) left) next setting) (nothing_left rest none) ∙ ap (λ (values : List Value). next values setting) (append-nil done))
+      so next ∙ (ap (λ (left : List HeldItem). values_behind done (map (item_in all) left) next setting) (nothing_left rest none)
+      ∙ ap (λ (values : List Value). next values setting) (append-nil done))

@@ -36,7 +36,8 @@ module _ (L : Linkage) (j : ℕ) (N : Names) where
   body_block (More T.Empty es) p p' e f = body_block es (p + 0) p' (omega arith) f.1
   body_block (More x es) p p' e f =
       let n = neat L j N x [] [] [] true (marked (start false)) tt f.0 (p + 1) (suc p') (omega arith) nowhere in
-      let b : Neat [] p' (bounded_notes N p x) (p' + (size [] x + 2)) = label _ (suc (suc p' + size [] x)) e_mark (omega arith) (omega arith) (before n (omega arith) (skip _ refl over)) (append n (plain _ refl (nil _ (omega arith))) nowhere) in
+      let b : Neat [] p' (bounded_notes N p x) (p' + (size [] x + 2)) = label _ (suc (suc p' + size [] x)) e_mark (omega arith) (omega arith)
+      (before n (omega arith) (skip _ refl over)) (append n (plain _ refl (nil _ (omega arith))) nowhere) in
       let r = body_block es (p + (size [] x + 2)) (p' + (size [] x + 2)) (omega arith) f.1 in
       record { end = r.end; is = append b r.is nowhere }
 
@@ -50,7 +51,8 @@ module _ (L : Linkage) (j : ℕ) (N : Names) where
       record {
         end = r.end;
         is = label _ q e_init (omega arith) (omega arith) (skip_label _ e_mark (before n (omega arith) (skip _ refl (lies_after k (omega arith)))))
-            (label _ q e_mark (omega arith) (omega arith) (before n (omega arith) (skip _ refl (lies_after k (omega arith)))) (append n (plain _ refl k) nowhere));
+            (label _ q e_mark (omega arith) (omega arith) (before n (omega arith) (skip _ refl (lies_after k (omega arith))))
+            (append n (plain _ refl k) nowhere));
       }
 
 same_back : {i i' : Instr} {l : ℕ} → i ≡ i' → Backs i' l → Backs i l
@@ -77,7 +79,8 @@ regions_at lo p l i [] b h e k = absurd (no_some e)
 regions_at lo p l i (x ∷ xs) zero h e k = let u = (h.0 l (same_back (some_is e) k)).1 in omega arith
 regions_at lo p l i (x ∷ xs) (suc b) h e k = let u = regions_at lo (suc p) l i xs b h.1 e k in omega arith
 
-clear_at : (lo p m l : ℕ) (i i' : Instr) (xs : List Note) (a b : ℕ) → Clear p xs → Regions lo p xs → slice_get (instrs xs) a ≡ Some i → Leads i m → slice_get (instrs xs) b ≡ Some i' → Backs i' l → p + a < l → (m ≤ l) ⊎ (p + b < m)
+clear_at : (lo p m l : ℕ) (i i' : Instr) (xs : List Note) (a b : ℕ) → Clear p xs → Regions lo p xs → slice_get (instrs xs) a ≡ Some i → Leads i m
+    → slice_get (instrs xs) b ≡ Some i' → Backs i' l → p + a < l → (m ≤ l) ⊎ (p + b < m)
 clear_at lo p m l i i' [] a b c r e u f k w = absurd (no_some e)
 clear_at lo p m l i i' (x ∷ xs) zero zero c r e u f k w = absurd (let v = (r.0 l (same_back (some_is f) k)).1 in omega arith)
 clear_at lo p m l i i' (x ∷ xs) zero (suc b) c r e u f k w = turn (passes_at p m (suc p) l i' xs b (c.0 m (same_lead (some_is e) u)) f k (omega arith))
@@ -122,14 +125,16 @@ back_backs (I.Loop l) s q t e = subst (λ q. Backs (I.Loop l) q) (to_is e) k_loo
 back_backs (I.Chfail l) s q t e = subst (λ q. Backs (I.Chfail l) q) (labeled_is l (before_mark s) q t e) k_chfail
 back_backs i s q t e = absurd (no_some e)
 
-module _ (code : List Instr) (shapes : ℕ → Option PlainShape) (v : V.HasShapes code shapes) (clear : (a b m l : ℕ) (i i' : Instr) → slice_get code a ≡ Some i → Leads i m → slice_get code b ≡ Some i' → Backs i' l → a < l → (m ≤ l) ⊎ (b < m)) where
+module _ (code : List Instr) (shapes : ℕ → Option PlainShape) (v : V.HasShapes code shapes)
+    (clear : (a b m l : ℕ) (i i' : Instr) → slice_get code a ≡ Some i → Leads i m → slice_get code b ≡ Some i' → Backs i' l → a < l → (m ≤ l) ⊎ (b < m)) where
   at_label : {q l : ℕ} {t u : PlainShape} → q ≡ l → Reaches code q t → shapes l ≡ Some u → Reaches code l u
   at_label {q = q} {l = l} {t = t} {u = u} e r h = subst (λ u. Reaches code l u) (some_is (sym (reached code shapes v r') ∙ h)) r'
     where
       r' : Reaches code l t
       r' = subst (λ q. Reaches code q t) e r
 
-  entry : {q : ℕ} {t : PlainShape} → Reaches code q t → (b l : ℕ) (i : Instr) → slice_get code b ≡ Some i → Backs i l → l ≤ q → q ≤ b → (u : PlainShape) → shapes l ≡ Some u → Reaches code l u
+  entry : {q : ℕ} {t : PlainShape} → Reaches code q t → (b l : ℕ) (i : Instr) → slice_get code b ≡ Some i → Backs i l → l ≤ q → q ≤ b → (u : PlainShape)
+      → shapes l ≡ Some u → Reaches code l u
   entry starts b l i e k h w u s = at_label (omega arith) starts s
   entry (goes p y q t r c) b l i e k h w u s = by_side (cases_lt p l) (λ d. entry r b l i e k d (let z = c.later in omega arith) u s)
     where
@@ -148,7 +153,8 @@ module _ (code : List Instr) (shapes : ℕ → Option PlainShape) (v : V.HasShap
   never_lacks : (p : ℕ) → LacksShape code p → ⊥
   never_lacks p b =
       let f = v.each p b.shape (reached code shapes v b.met.reaches) in
-      let k = if_some (back f.instr b.shape) (λ to. (to.0 ≤ p) × (shapes to.0 ≡ Some to.1)) f.backward (ap (λ i. back i b.shape) (some_is (sym f.stands ∙ b.met.stands)) ∙ b.leads) in
+      let k = if_some (back f.instr b.shape) (λ to. (to.0 ≤ p) × (shapes to.0 ≡ Some to.1)) f.backward
+      (ap (λ i. back i b.shape) (some_is (sym f.stands ∙ b.met.stands)) ∙ b.leads) in
       b.absent (entry b.met.reaches p b.label b.instr b.met.stands (back_backs b.instr b.shape b.label b.wanted b.leads) b.earlier (omega arith) b.wanted k.1)
 
 pub codes_sound : CodesSound
@@ -156,10 +162,12 @@ codes_sound L j N i es f g p rule b =
     let v = codes_have_shapes L j N i es f g in
     never_lacks (C.procedure N i es) (plain_at (procedure N i es)) v is_clear p (nearly (C.procedure N i es) (plain_at (procedure N i es)) v p rule b)
   where
-    is_clear : (a b m l : ℕ) (k k' : Instr) → slice_get (C.procedure N i es) a ≡ Some k → Leads k m → slice_get (C.procedure N i es) b ≡ Some k' → Backs k' l → a < l → (m ≤ l) ⊎ (b < m)
+    is_clear : (a b m l : ℕ) (k k' : Instr) → slice_get (C.procedure N i es) a ≡ Some k → Leads k m → slice_get (C.procedure N i es) b ≡ Some k' → Backs k' l
+        → a < l → (m ≤ l) ⊎ (b < m)
     is_clear a b m l k k' e u h w d =
         let n = (procedure_block L j N i es f g).is in let same = procedure_noted N i es in
-        turn (clear_at 0 0 m l k k' (procedure N i es) a b n.clear n.regions (ap (λ xs. slice_get xs a) same ∙ e) u (ap (λ xs. slice_get xs b) same ∙ h) w (omega arith))
+        turn (clear_at 0 0 m l k k' (procedure N i es) a b n.clear n.regions (ap (λ xs. slice_get xs a) same ∙ e) u (ap (λ xs. slice_get xs b) same ∙ h) w
+        (omega arith))
       where
         turn : (m ≤ l) ⊎ (0 + b < m) → (m ≤ l) ⊎ (b < m)
         turn (inl z) = inl z

@@ -43,5 +43,6 @@ joined_verified files tables h =
     let translated = is_translated D tables.csets h.code.csets sound in
     let code = code_with D tables.csets in
     let all : IsVerified code = λ number proc at.
-    subst IsSound (instrs_at code number proc at) (routines_sound (linkage (program_of D) code) 0 _ _ translated.routines number number proc (omega arith) at) in
+    subst IsSound (instrs_at code number proc at)
+    (routines_sound (linkage (program_of D) code) 0 _ _ translated.routines number number proc (omega arith) at) in
     subst IsVerified (sym h.code.others) all

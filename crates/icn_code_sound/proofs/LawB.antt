@@ -52,9 +52,11 @@ module _ (At : ℕ → Shape → Type 0) (L : Linkage) (j : ℕ) (N : Names) whe
       by_case false = f_push s u_keyword h
 
   abbrev Goal : Tree → Type 0
-  Goal x = (r : ℕ) (D : List Depth) (W : List Ways) (B : List Bool) (c : Bool) (s : Shape) → Ctx At r D W B c s → Fit L j N B c x → (p p' : ℕ) → p' ≡ p → p' + size D x ≤ r → Has At p' (code N D W p s x) → At (p' + size D x) (more s) → At p' s × AllFine At p' (code N D W p s x)
+  Goal x = (r : ℕ) (D : List Depth) (W : List Ways) (B : List Bool) (c : Bool) (s : Shape) → Ctx At r D W B c s → Fit L j N B c x → (p p' : ℕ) → p' ≡ p
+      → p' + size D x ≤ r → Has At p' (code N D W p s x) → At (p' + size D x) (more s) → At p' s × AllFine At p' (code N D W p s x)
 
-  prefix_fine : (r : ℕ) (D : List Depth) (W : List Ways) (B : List Bool) (c : Bool) (s : Shape) (x : Tree) {op : Operator} {form : PrefixForm} → Goal x → Ctx At r D W B c s → Prefixes op form → Fit L j N B c x → (p p' : ℕ) → p' ≡ p
+  prefix_fine : (r : ℕ) (D : List Depth) (W : List Ways) (B : List Bool) (c : Bool) (s : Shape) (x : Tree) {op : Operator} {form : PrefixForm} → Goal x
+      → Ctx At r D W B c s → Prefixes op form → Fit L j N B c x → (p p' : ℕ) → p' ≡ p
       → p' + elim form as (λ x. ℕ) [ Activating ↦ size D x + 2 | Repeating ↦ size (deeper D) x + 3 | Operating op ↦ size D x + 1 ] ≤ r
       → Has At p' (prefix_code D p s (λ D' p' s'. code N D' W p' s' x) form)
       → At (p' + elim form as (λ x. ℕ) [ Activating ↦ size D x + 2 | Repeating ↦ size (deeper D) x + 3 | Operating op ↦ size D x + 1 ]) (more s)
@@ -72,11 +74,25 @@ module _ (At : ℕ → Shape → Type 0) (L : Linkage) (j : ℕ) (N : Names) whe
       let y = g r D W B c s a f p p' e (omega arith) k.0 k.1.0 in
       (y.0, k.2 y.1 (f_takes 1 s (takes _ w) (to _ z (omega arith)), tt))
 
-  plain_fine : (r : ℕ) (D : List Depth) (W : List Ways) (B : List Bool) (c : Bool) (s : Shape) (x y : Tree) {op : Operator} {form : Form} → Goal x → Goal y → Ctx At r D W B c s → Infixes op form → Fit L j N B c x → Fit L j N B c y → (p p' : ℕ) → p' ≡ p
-      → p' + elim form as (λ x. ℕ) [ Both ↦ size D x + size D y + 1 | Scanning ↦ size D x + size D y + 2 | Either ↦ size (deeper D) x + size D y + 3 | Limiting ↦ size D y + size (deeper D) x + 2 | Applying i ↦ size D x + size D y + 1 ] ≤ r
+  plain_fine : (r : ℕ) (D : List Depth) (W : List Ways) (B : List Bool) (c : Bool) (s : Shape) (x y : Tree) {op : Operator} {form : Form} → Goal x → Goal y
+      → Ctx At r D W B c s → Infixes op form → Fit L j N B c x → Fit L j N B c y → (p p' : ℕ) → p' ≡ p
+      → p' + elim form as (λ x. ℕ) [
+        | Both ↦ size D x + size D y + 1
+        | Scanning ↦ size D x + size D y + 2
+        | Either ↦ size (deeper D) x + size D y + 3
+        | Limiting ↦ size D y + size (deeper D) x + 2
+        | Applying i ↦ size D x + size D y + 1
+      ] ≤ r
       → Has At p' (plain_code D p s (size D x) (size D y) (size (deeper D) x) (λ D' p' s'. code N D' W p' s' x) (λ D' p' s'. code N D' W p' s' y) form)
-      → At (p' + elim form as (λ x. ℕ) [ Both ↦ size D x + size D y + 1 | Scanning ↦ size D x + size D y + 2 | Either ↦ size (deeper D) x + size D y + 3 | Limiting ↦ size D y + size (deeper D) x + 2 | Applying i ↦ size D x + size D y + 1 ]) (more s)
-      → At p' s × AllFine At p' (plain_code D p s (size D x) (size D y) (size (deeper D) x) (λ D' p' s'. code N D' W p' s' x) (λ D' p' s'. code N D' W p' s' y) form)
+      → At (p' + elim form as (λ x. ℕ) [
+        | Both ↦ size D x + size D y + 1
+        | Scanning ↦ size D x + size D y + 2
+        | Either ↦ size (deeper D) x + size D y + 3
+        | Limiting ↦ size D y + size (deeper D) x + 2
+        | Applying i ↦ size D x + size D y + 1
+      ]) (more s)
+      → At p' s
+      × AllFine At p' (plain_code D p s (size D x) (size D y) (size (deeper D) x) (λ D' p' s'. code N D' W p' s' x) (λ D' p' s'. code N D' W p' s' y) form)
   plain_fine r D W B c s x y g v a x_both f t p p' e b h z =
       let k = cut At _ _ p' (size D x) (len N x D W p s) h in
       let w = v r D W B c s a t (p + size D x + 1) (suc (p' + size D x)) (omega arith) (omega arith) k.1.1 (to _ z (omega arith)) in
@@ -119,10 +135,13 @@ module _ (At : ℕ → Shape → Type 0) (L : Linkage) (j : ℕ) (N : Names) whe
       let u = g r D W B c s a f p p' e (omega arith) k.0 w.0 in
       (u.0, k.2 u.1 (m.2 w.1 (f_takes 2 s (takes _ q) (to _ z (omega arith)), tt)))
 
-  augmented_fine : (r : ℕ) (D : List Depth) (W : List Ways) (B : List Bool) (c : Bool) (s : Shape) (x y : Tree) {op : Operator} {form : Form} → Goal x → Goal y → Ctx At r D W B c s → Augments op form → Fit L j N B c x → Fit L j N B c y → (p p' : ℕ) → p' ≡ p
-      → p' + elim form as (λ x. ℕ) [ Both ↦ size D x + size D y + 1 | Scanning ↦ size D x + size D y + 4 | Either ↦ 0 | Limiting ↦ 0 | Applying i ↦ size D x + size D y + 3 ] ≤ r
+  augmented_fine : (r : ℕ) (D : List Depth) (W : List Ways) (B : List Bool) (c : Bool) (s : Shape) (x y : Tree) {op : Operator} {form : Form} → Goal x → Goal y
+      → Ctx At r D W B c s → Augments op form → Fit L j N B c x → Fit L j N B c y → (p p' : ℕ) → p' ≡ p
+      → p' + elim form as (λ x. ℕ)
+      [ Both ↦ size D x + size D y + 1 | Scanning ↦ size D x + size D y + 4 | Either ↦ 0 | Limiting ↦ 0 | Applying i ↦ size D x + size D y + 3 ] ≤ r
       → Has At p' (augmented_code D p s (size D x) (λ D' p' s'. code N D' W p' s' x) (λ D' p' s'. code N D' W p' s' y) form)
-      → At (p' + elim form as (λ x. ℕ) [ Both ↦ size D x + size D y + 1 | Scanning ↦ size D x + size D y + 4 | Either ↦ 0 | Limiting ↦ 0 | Applying i ↦ size D x + size D y + 3 ]) (more s)
+      → At (p' + elim form as (λ x. ℕ)
+      [ Both ↦ size D x + size D y + 1 | Scanning ↦ size D x + size D y + 4 | Either ↦ 0 | Limiting ↦ 0 | Applying i ↦ size D x + size D y + 3 ]) (more s)
       → At p' s × AllFine At p' (augmented_code D p s (size D x) (λ D' p' s'. code N D' W p' s' x) (λ D' p' s'. code N D' W p' s' y) form)
   augmented_fine r D W B c s x y g v a u_both f t p p' e b h z =
       let k = cut At _ _ p' (size D x) (len N x D W p s) h in
@@ -133,7 +152,8 @@ module _ (At : ℕ → Shape → Type 0) (L : Linkage) (j : ℕ) (N : Names) whe
   augmented_fine r D W B c s x y g v a u_scan f t p p' e b h z =
       let k = cut At _ _ p' (size D x) (len N x D W p s) h in
       let m = cut At _ _ (suc (suc (p' + size D x))) (size D y) (len N y D W (p + size D x + 2) (scanned (more s))) k.1.1.1 in
-      let w = v r D W B c (scanned (more s)) (scan At (more s) (push At s a)) t (p + size D x + 2) (suc (suc (p' + size D x))) (omega arith) (omega arith) m.0 m.1.0 in
+      let w = v r D W B c (scanned (more s)) (scan At (more s) (push At s a)) t (p + size D x + 2) (suc (suc (p' + size D x))) (omega arith)
+      (omega arith) m.0 m.1.0 in
       let u = g r D W B c s a f p p' e (omega arith) k.0 k.1.0 in
       (u.0, k.2 u.1 (f_dup s k.1.1.0, (f_bscan (more s) w.0, m.2 w.1 (f_escan (more s) m.1.1.0, (f_takes 2 s t_op (to _ z (omega arith)), tt)))))
   augmented_fine r D W B c s x y g v a u_at f t p p' e b h z =
@@ -149,10 +169,13 @@ module _ (At : ℕ → Shape → Type 0) (L : Linkage) (j : ℕ) (N : Names) whe
       let u = g r D W B c s a f p p' e (omega arith) k.0 k.1.0 in
       (u.0, k.2 u.1 (f_dup s w.0, m.2 w.1 (f_takes 2 (more s) (takes _ q) m.1.1.0, (f_takes 2 s t_op (to _ z (omega arith)), tt))))
 
-  created_fine : (s : Shape) (x : Tree) → Goal x → Fit L j N [] false x → (p p' : ℕ) → p' ≡ p → Has At p' (create_notes p (size [] x) s (code N [] [] (p + 2) (marked (start true)) x)) → At (p' + (size [] x + 5)) (more s) → At p' s × AllFine At p' (create_notes p (size [] x) s (code N [] [] (p + 2) (marked (start true)) x))
+  created_fine : (s : Shape) (x : Tree) → Goal x → Fit L j N [] false x
+      → (p p' : ℕ) → p' ≡ p → Has At p' (create_notes p (size [] x) s (code N [] [] (p + 2) (marked (start true)) x)) → At (p' + (size [] x + 5)) (more s)
+      → At p' s × AllFine At p' (create_notes p (size [] x) s (code N [] [] (p + 2) (marked (start true)) x))
   created_fine s x g f p p' e h z =
       let k = cut At _ _ (suc (suc p')) (size [] x) (len N x [] [] (p + 2) (marked (start true))) h.1.1 in
-      let u = g (suc (suc p') + size [] x) [] [] [] false (marked (start true)) (c_create (marked (start true)) refl) f (p + 2) (suc (suc p')) (omega arith) (omega arith) k.0 k.1.0 in (
+      let u = g (suc (suc p') + size [] x) [] [] [] false (marked (start true)) (c_create (marked (start true)) refl) f (p + 2) (suc (suc p')) (omega arith)
+      (omega arith) k.0 k.1.0 in (
         h.0,
         (
           f_create s h.1.0 (to _ z (omega arith)) (omega arith),
@@ -164,9 +187,12 @@ module _ (At : ℕ → Shape → Type 0) (L : Linkage) (j : ℕ) (N : Names) whe
       )
 
   -- out of the innermost loop
-  break_fine : (r : ℕ) (D : List Depth) (W : List Ways) (b : Bool) (B : List Bool) (c : Bool) (s : Shape) (x : Tree) → Goal x → Ctx At r D W (b ∷ B) c s → Fit L j N B c x → (p p' : ℕ) → p' ≡ p → p' + (opened_in D + size (around D) x + 1) ≤ r
-      → Has At p' (unmarks (opened_in D) s ++ (code N (around D) (around W) (p + opened_in D) (drops (opened_in D) s) x ++ o (more (drops (opened_in D) s)) (I.Goto (last_way W)) ∷ []))
-      → At p' s × AllFine At p' (unmarks (opened_in D) s ++ (code N (around D) (around W) (p + opened_in D) (drops (opened_in D) s) x ++ o (more (drops (opened_in D) s)) (I.Goto (last_way W)) ∷ []))
+  break_fine : (r : ℕ) (D : List Depth) (W : List Ways) (b : Bool) (B : List Bool) (c : Bool) (s : Shape) (x : Tree) → Goal x → Ctx At r D W (b ∷ B) c s
+      → Fit L j N B c x → (p p' : ℕ) → p' ≡ p → p' + (opened_in D + size (around D) x + 1) ≤ r
+      → Has At p' (unmarks (opened_in D) s
+      ++ (code N (around D) (around W) (p + opened_in D) (drops (opened_in D) s) x ++ o (more (drops (opened_in D) s)) (I.Goto (last_way W)) ∷ []))
+      → At p' s × AllFine At p' (unmarks (opened_in D) s
+      ++ (code N (around D) (around W) (p + opened_in D) (drops (opened_in D) s) x ++ o (more (drops (opened_in D) s)) (I.Goto (last_way W)) ∷ []))
   break_fine r D W b B c s x g (c_loop {m = m} {l = l} {D = E} {W = V} {t = t} d rl rg al n a) f p p' e v h =
       let w = dropped_to At d in
       let h' = subst (λ t. Has At p' (unmarks (suc m) s ++ (code N E V (p + suc m) t x ++ o (more t) (I.Goto l) ∷ []))) w h in
@@ -179,21 +205,25 @@ module _ (At : ℕ → Shape → Type 0) (L : Linkage) (j : ℕ) (N : Names) whe
             (k.2 y.1 (k'.2 u.1 (f_goto (more t) al (omega arith), tt))),
       )
 
-  next_fine : (r : ℕ) (D : List Depth) (W : List Ways) (B : List Bool) (c : Bool) (s : Shape) → Ctx At r D W (true ∷ B) c s → (p' : ℕ) → p' + (dropped_by_next D + 1) ≤ r
+  next_fine : (r : ℕ) (D : List Depth) (W : List Ways) (B : List Bool) (c : Bool) (s : Shape) → Ctx At r D W (true ∷ B) c s → (p' : ℕ)
+      → p' + (dropped_by_next D + 1) ≤ r
       → Has At p' (unmarks (dropped_by_next D) s ++ o (drops (dropped_by_next D) s) (I.Goto (next_way W)) ∷ [])
       → At p' s × AllFine At p' (unmarks (dropped_by_next D) s ++ o (drops (dropped_by_next D) s) (I.Goto (next_way W)) ∷ [])
   next_fine r D W B c s (c_loop {m = m} {k = i} {g = g} d rl rg al (n_yes {t = t} im d' ag) a) p' v h =
       let w = dropped_to At d' in let q = later At m i im in
-      let h' = subst (λ t. Has At p' (unmarks (suc (m - i)) s ++ o t (I.Goto g) ∷ [])) w (subst (λ z. Has At p' (unmarks z s ++ o (drops z s) (I.Goto g) ∷ [])) q h) in
+      let h' = subst (λ t. Has At p' (unmarks (suc (m - i)) s ++ o t (I.Goto g) ∷ [])) w
+      (subst (λ z. Has At p' (unmarks z s ++ o (drops z s) (I.Goto g) ∷ [])) q h) in
       let k = cut At (unmarks (suc (m - i)) s) (o t (I.Goto g) ∷ []) p' (suc (m - i)) (none_unmarks (suc (m - i)) s) h' in
       let y = unmarks_fine At p' d' k.0 k.1.0 in (
         y.0,
-        subst (λ z. AllFine At p' (unmarks z s ++ o (drops z s) (I.Goto g) ∷ [])) (sym q) (subst (λ t. AllFine At p' (unmarks (suc (m - i)) s ++ o t (I.Goto g) ∷ [])) (sym w)
+        subst (λ z. AllFine At p' (unmarks z s ++ o (drops z s) (I.Goto g) ∷ [])) (sym q)
+            (subst (λ t. AllFine At p' (unmarks (suc (m - i)) s ++ o t (I.Goto g) ∷ [])) (sym w)
             (k.2 y.1 (f_goto t ag (omega arith), tt))),
       )
 
   mutual
-    pub fine : (x : Tree) (r : ℕ) (D : List Depth) (W : List Ways) (B : List Bool) (c : Bool) (s : Shape) → Ctx At r D W B c s → Fit L j N B c x → (p p' : ℕ) → p' ≡ p → p' + size D x ≤ r → Has At p' (code N D W p s x) → At (p' + size D x) (more s) → At p' s × AllFine At p' (code N D W p s x)
+    pub fine : (x : Tree) (r : ℕ) (D : List Depth) (W : List Ways) (B : List Bool) (c : Bool) (s : Shape) → Ctx At r D W B c s → Fit L j N B c x → (p p' : ℕ)
+        → p' ≡ p → p' + size D x ≤ r → Has At p' (code N D W p s x) → At (p' + size D x) (more s) → At p' s × AllFine At p' (code N D W p s x)
     fine T.Empty r D W B c s a f p p' e b h z = (h.0, (f_push s u_null (to _ z (omega arith)), tt))
     fine (T.Constant place v) r D W B c s a f p p' e b h z = (h.0, (f_push s (pushes L j f) (to _ z (omega arith)), tt))
     fine (T.Identifier name) r D W B c s a f p p' e b h z = (h.0, (f_push s (pushes L j f) (to _ z (omega arith)), tt))
@@ -225,7 +255,8 @@ module _ (At : ℕ → Shape → Type 0) (L : Linkage) (j : ℕ) (N : Names) whe
         let k = cut At _ _ p' (size D x) (len N x D W p s) h in
         let m = cut At _ _ (p' + size D x) (size D y) (len N y D W (p + size D x) (more s)) k.1 in
         let l = cut At _ _ (p' + size D x + size D y) (size D w) (len N w D W (p + size D x + size D y) (more (more s))) m.1 in
-        let t = fine w r D W B c (more (more s)) (push At (more s) (push At s a)) f.2 (p + size D x + size D y) (p' + size D x + size D y) (omega arith) (omega arith) l.0 l.1.0 in
+        let t = fine w r D W B c (more (more s)) (push At (more s) (push At s a)) f.2 (p + size D x + size D y) (p' + size D x + size D y) (omega arith)
+        (omega arith) l.0 l.1.0 in
         let u = fine y r D W B c (more s) (push At s a) f.1 (p + size D x) (p' + size D x) (omega arith) (omega arith) m.0 t.0 in
         let v = fine x r D W B c s a f.0 p p' e (omega arith) k.0 u.0 in
         (v.0, k.2 v.1 (m.2 u.1 (l.2 t.1 (f_takes 3 s (section_takes kind) (to _ z (omega arith)), tt))))
@@ -244,30 +275,40 @@ module _ (At : ℕ → Shape → Type 0) (L : Linkage) (j : ℕ) (N : Names) whe
         let k = cut At _ _ p' (size D x) (len N x D W p s) h in
         let m = cut At _ _ (p' + size D x) (size D y) (len N y D W (p + size D x) (more s)) k.1 in
         let l = cut At _ _ (p' + size D x + size D y) (by_size D by) (by_len N by D W (p + size D x + size D y) (more (more s))) m.1 in
-        let t = by_fine by r D W B c (more (more s)) (push At (more s) (push At s a)) f.2 (p + size D x + size D y) (p' + size D x + size D y) (omega arith) (omega arith) l.0 l.1.0 in
+        let t = by_fine by r D W B c (more (more s)) (push At (more s) (push At s a)) f.2 (p + size D x + size D y) (p' + size D x + size D y) (omega arith)
+        (omega arith) l.0 l.1.0 in
         let u = fine y r D W B c (more s) (push At s a) f.1 (p + size D x) (p' + size D x) (omega arith) (omega arith) m.0 t.0 in
         let v = fine x r D W B c s a f.0 p p' e (omega arith) k.0 u.0 in
         (v.0, k.2 v.1 (m.2 u.1 (l.2 t.1 (f_takes 3 s t_op (to _ z (omega arith)), tt))))
     fine (T.If place x y Absent) r D W B c s a f p p' e b h z =
         let k = cut At _ _ (suc p') (size (deeper D) x) (len N x (deeper D) W (p + 1) (marked s)) h.1 in
-        let u = fine y r D W B c s a f.1 (p + size (deeper D) x + 2) (suc (suc p' + size (deeper D) x)) (omega arith) (omega arith) k.1.1 (to _ z (omega arith)) in
+        let u = fine y r D W B c s a f.1 (p + size (deeper D) x + 2) (suc (suc p' + size (deeper D) x)) (omega arith) (omega arith) k.1.1
+        (to _ z (omega arith)) in
         let v = fine x r (deeper D) W B c (marked s) (under At _ a) f.0 (p + 1) (suc p') (omega arith) (omega arith) k.0 k.1.0 in
         (h.0, (f_mark0 s v.0, k.2 v.1 (f_unmark _ s u.0, u.1)))
     fine (T.If place x y (Present w)) r D W B c s a f p p' e b h z =
         let k = cut At _ _ (suc p') (size (deeper D) x) (len N x (deeper D) W (p + 1) (marked s)) h.1 in
         let q = suc (suc p' + size (deeper D) x) in
         let m = cut At _ _ q (size D y) (len N y D W (p + size (deeper D) x + 2) s) k.1.1 in
-        let t = fine w r D W B c s a f.2 (p + (size (deeper D) x + size D y) + 3) (suc (q + size D y)) (omega arith) (omega arith) m.1.1 (to _ z (omega arith)) in
+        let t = fine w r D W B c s a f.2 (p + (size (deeper D) x + size D y) + 3) (suc (q + size D y)) (omega arith) (omega arith) m.1.1
+        (to _ z (omega arith)) in
         let u = fine y r D W B c s a f.1 (p + size (deeper D) x + 2) q (omega arith) (omega arith) m.0 m.1.0 in
-        let v = fine x r (deeper D) W B c (marked s) (under At _ a) f.0 (p + 1) (suc p') (omega arith) (omega arith) k.0 k.1.0 in
-        (h.0, (f_mark s v.0 (to _ t.0 (omega arith)) (omega arith), k.2 v.1 (f_unmark _ s u.0, m.2 u.1 (f_goto (more s) (to _ z (omega arith)) (omega arith), t.1))))
+        let v = fine x r (deeper D) W B c (marked s) (under At _ a) f.0 (p + 1) (suc p') (omega arith) (omega arith) k.0 k.1.0 in (
+          h.0,
+          (
+            f_mark s v.0 (to _ t.0 (omega arith)) (omega arith),
+            k.2 v.1 (f_unmark _ s u.0, m.2 u.1 (f_goto (more s) (to _ z (omega arith)) (omega arith), t.1)),
+          ),
+        )
     fine (T.Case place x cases) r D W B c s a f p p' e b h z =
         let k = cut At _ _ (suc p') (size (deeper D) x) (len N x (deeper D) W (p + 1) (marked s)) h.1 in
         let q = suc (suc p' + size (deeper D) x) in
         let last = p + size (deeper D) x + clauses_size D cases + default_size D cases + 3 in
         let m = cut At _ _ q (clauses_size D cases) (clauses_len N cases D W (p + size (deeper D) x + 2) last s) k.1.1 in
-        let t = default_fine cases r D W B c s a f.2 (p + size (deeper D) x + 3 + clauses_size D cases) (suc (q + clauses_size D cases)) (omega arith) (omega arith) m.1.1 (to _ z (omega arith)) in
-        let u = cases_fine cases r D W B c s a f.1 (p + size (deeper D) x + 2) q last (omega arith) (omega arith) (omega arith) m.0 (to _ z (omega arith)) m.1.0 in
+        let t = default_fine cases r D W B c s a f.2 (p + size (deeper D) x + 3 + clauses_size D cases) (suc (q + clauses_size D cases)) (omega arith)
+        (omega arith) m.1.1 (to _ z (omega arith)) in
+        let u = cases_fine cases r D W B c s a f.1 (p + size (deeper D) x + 2) q last (omega arith) (omega arith) (omega arith) m.0
+        (to _ z (omega arith)) m.1.0 in
         let v = fine x r (deeper D) W B c (marked s) (under At _ a) f.0 (p + 1) (suc p') (omega arith) (omega arith) k.0 k.1.0 in
         (h.0, (f_mark0 s v.0, k.2 v.1 (f_eret s u.0, m.2 u.1 (f_pop s t.0, t.1))))
     fine (T.Loop place While x b) r D W B c s a f p p' e i h z =
@@ -277,7 +318,8 @@ module _ (At : ℕ → Shape → Type 0) (L : Linkage) (j : ℕ) (N : Names) whe
         let q = suc (suc p' + n) in
         let m = cut At _ _ q y (body_len N b (loop_of 1 0 ∷ D) (V ∷ W) (p + n + 2) s) k.1.1 in
         let l = q + y in
-        let C : Ctx At l (loop_of 1 0 ∷ D) (V ∷ W) (true ∷ B) c (marked s) = c_loop (d_suc _ d_zero) (omega arith) (omega arith) (to _ z (omega arith)) (n_yes (omega arith) (d_suc _ d_zero) (to _ m.1.0 (omega arith))) (weaken At (omega arith) a) in
+        let C : Ctx At l (loop_of 1 0 ∷ D) (V ∷ W) (true ∷ B) c (marked s) = c_loop (d_suc _ d_zero) (omega arith) (omega arith) (to _ z (omega arith))
+        (n_yes (omega arith) (d_suc _ d_zero) (to _ m.1.0 (omega arith))) (weaken At (omega arith) a) in
         let u = body_fine b l (loop_of 1 0 ∷ D) (V ∷ W) (true ∷ B) c s C f.1 (p + n + 2) q (omega arith) (omega arith) m.0 m.1.0 in
         let v = fine x l (loop_of 1 0 ∷ D) (V ∷ W) (true ∷ B) c (marked s) C f.0 (p + 1) (suc p') (omega arith) (omega arith) k.0 k.1.0 in
         (h.0, (f_mark0 s v.0, k.2 v.1 (f_unmark _ s u.0, m.2 u.1 (f_loop s (to _ h.0 e) (omega arith), tt))))
@@ -288,7 +330,8 @@ module _ (At : ℕ → Shape → Type 0) (L : Linkage) (j : ℕ) (N : Names) whe
         let q = suc (suc (suc p' + n)) in
         let m = cut At _ _ q y (body_len N b (loop_of 1 0 ∷ D) (V ∷ W) (p + n + 3) s) k.1.1.1 in
         let l = q + y in
-        let C : Ctx At l (loop_of 1 0 ∷ D) (V ∷ W) (true ∷ B) c (marked s) = c_loop (d_suc _ d_zero) (omega arith) (omega arith) (to _ z (omega arith)) (n_yes (omega arith) (d_suc _ d_zero) (to _ m.1.0 (omega arith))) (weaken At (omega arith) a) in
+        let C : Ctx At l (loop_of 1 0 ∷ D) (V ∷ W) (true ∷ B) c (marked s) = c_loop (d_suc _ d_zero) (omega arith) (omega arith) (to _ z (omega arith))
+        (n_yes (omega arith) (d_suc _ d_zero) (to _ m.1.0 (omega arith))) (weaken At (omega arith) a) in
         let u = body_fine b l (loop_of 1 0 ∷ D) (V ∷ W) (true ∷ B) c s C f.1 (p + n + 3) q (omega arith) (omega arith) m.0 m.1.0 in
         let v = fine x l (loop_of 1 0 ∷ D) (V ∷ W) (true ∷ B) c (marked s) C f.0 (p + 1) (suc p') (omega arith) (omega arith) k.0 k.1.0 in
         (h.0, (f_mark s v.0 (to _ u.0 (omega arith)) (omega arith), k.2 v.1 (f_unmark _ s k.1.1.0, (f_efail s, m.2 u.1 (f_loop s (to _ h.0 e) (omega arith), tt)))))
@@ -299,8 +342,10 @@ module _ (At : ℕ → Shape → Type 0) (L : Linkage) (j : ℕ) (N : Names) whe
         let q = suc (suc p' + n) in
         let m = cut At _ _ q y (body_len N b (loop_of 2 1 ∷ D) (V ∷ W) (p + n + 2) (marked s)) k.1.1 in
         let l = q + y in
-        let C : Ctx At l (loop_of 1 1 ∷ D) (V ∷ W) (false ∷ B) c (marked s) = c_loop (d_suc _ d_zero) (omega arith) (omega arith) (to _ z (omega arith)) n_no (weaken At (omega arith) a) in
-        let C' : Ctx At l (loop_of 2 1 ∷ D) (V ∷ W) (true ∷ B) c (marked (marked s)) = c_loop (d_suc _ (d_suc _ d_zero)) (omega arith) (omega arith) (to _ z (omega arith)) (n_yes (omega arith) (d_suc _ d_zero) (to _ m.1.0 (omega arith))) (weaken At (omega arith) a) in
+        let C : Ctx At l (loop_of 1 1 ∷ D) (V ∷ W) (false ∷ B) c (marked s) = c_loop (d_suc _ d_zero) (omega arith) (omega arith) (to _ z (omega arith)) n_no
+        (weaken At (omega arith) a) in
+        let C' : Ctx At l (loop_of 2 1 ∷ D) (V ∷ W) (true ∷ B) c (marked (marked s)) = c_loop (d_suc _ (d_suc _ d_zero)) (omega arith) (omega arith)
+        (to _ z (omega arith)) (n_yes (omega arith) (d_suc _ d_zero) (to _ m.1.0 (omega arith))) (weaken At (omega arith) a) in
         let u = body_fine b l (loop_of 2 1 ∷ D) (V ∷ W) (true ∷ B) c (marked s) C' f.1 (p + n + 2) q (omega arith) (omega arith) m.0 m.1.0 in
         let v = fine x l (loop_of 1 1 ∷ D) (V ∷ W) (false ∷ B) c (marked s) C f.0 (p + 1) (suc p') (omega arith) (omega arith) k.0 k.1.0 in
         (h.0, (f_mark0 s v.0, k.2 v.1 (f_pop (marked s) u.0, m.2 u.1 (f_efail (marked s), tt))))
@@ -309,7 +354,8 @@ module _ (At : ℕ → Shape → Type 0) (L : Linkage) (j : ℕ) (N : Names) whe
         let V = ways (p + n + 3) (p + n + 2) in
         let k = cut At _ _ (suc p') n (len N x (loop_of 1 0 ∷ D) (V ∷ W) (p + 1) (marked s)) h.1 in
         let l = suc (suc p' + n) in
-        let C : Ctx At l (loop_of 1 0 ∷ D) (V ∷ W) (true ∷ B) c (marked s) = c_loop (d_suc _ d_zero) (omega arith) (omega arith) (to _ z (omega arith)) (n_yes (omega arith) (d_suc _ d_zero) (to _ k.1.1.0 (omega arith))) (weaken At (omega arith) a) in
+        let C : Ctx At l (loop_of 1 0 ∷ D) (V ∷ W) (true ∷ B) c (marked s) = c_loop (d_suc _ d_zero) (omega arith) (omega arith) (to _ z (omega arith))
+        (n_yes (omega arith) (d_suc _ d_zero) (to _ k.1.1.0 (omega arith))) (weaken At (omega arith) a) in
         let v = fine x l (loop_of 1 0 ∷ D) (V ∷ W) (true ∷ B) c (marked s) C f (p + 1) (suc p') (omega arith) (omega arith) k.0 k.1.0 in
         (h.0, (f_mark s v.0 (to _ k.1.1.0 (omega arith)) (omega arith), k.2 v.1 (f_unmark _ s k.1.1.0, (f_loop s (to _ h.0 e) (omega arith), tt))))
     fine (T.Create place x) r D W B c s a f p p' e b h z = created_fine s x (fine x) f p p' e h z
@@ -326,64 +372,87 @@ module _ (At : ℕ → Shape → Type 0) (L : Linkage) (j : ℕ) (N : Names) whe
         let k = cut At _ _ (suc p') (size (deeper D) x) (len N x (deeper D) W (p + 1) (marked s)) h.1 in
         let q = suc (suc (suc p' + size (deeper D) x)) in
         let m = cut At _ _ q (body_size (deeper (deeper D)) b) (body_len N b (deeper (deeper D)) W (p + size (deeper D) x + 3) (marked s)) k.1.1.1 in
-        let u = body_fine b r (deeper (deeper D)) W B c (marked s) (under At _ (under At _ a)) f.2 (p + size (deeper D) x + 3) q (omega arith) (omega arith) m.0 m.1.0 in
+        let u = body_fine b r (deeper (deeper D)) W B c (marked s) (under At _ (under At _ a)) f.2 (p + size (deeper D) x + 3) q (omega arith)
+        (omega arith) m.0 m.1.0 in
         let v = fine x r (deeper D) W B c (marked s) (under At _ a) f.1 (p + 1) (suc p') (omega arith) (omega arith) k.0 k.1.0 in
         (h.0, (f_mark0 s v.0, k.2 v.1 (f_psusp (marked s) (proper At a f.0) k.1.1.0, (f_pop (marked s) u.0, m.2 u.1 (f_efail (marked s), tt)))))
 
-    conjunction_fine : (es : Trees) (r : ℕ) (D : List Depth) (W : List Ways) (B : List Bool) (c : Bool) (s : Shape) → Ctx At r D W B c s → FitAll L j N B c es → (p p' : ℕ) → p' ≡ p → p' + conjunction_size D es ≤ r → Some_trees es → Has At p' (conjunction N D W p s es) → At (p' + conjunction_size D es) (more s) → At p' s × AllFine At p' (conjunction N D W p s es)
+    conjunction_fine : (es : Trees) (r : ℕ) (D : List Depth) (W : List Ways) (B : List Bool) (c : Bool) (s : Shape) → Ctx At r D W B c s → FitAll L j N B c es
+        → (p p' : ℕ) → p' ≡ p → p' + conjunction_size D es ≤ r → Some_trees es → Has At p' (conjunction N D W p s es) → At (p' + conjunction_size D es) (more s)
+        → At p' s × AllFine At p' (conjunction N D W p s es)
     conjunction_fine NoTrees r D W B c s a f p p' e b t h z = absurd t
     conjunction_fine (More x NoTrees) r D W B c s a f p p' e b t h z = fine x r D W B c s a f.0 p p' e b h z
     conjunction_fine (More x (More y es)) r D W B c s a f p p' e b t h z =
         let k = cut At _ _ p' (size D x) (len N x D W p s) h in
-        let u = conjunction_fine (More y es) r D W B c s a f.1 (p + size D x + 1) (suc (p' + size D x)) (omega arith) (omega arith) tt k.1.1 (to _ z (omega arith)) in
+        let u = conjunction_fine (More y es) r D W B c s a f.1 (p + size D x + 1) (suc (p' + size D x)) (omega arith) (omega arith) tt k.1.1
+        (to _ z (omega arith)) in
         let v = fine x r D W B c s a f.0 p p' e (omega arith) k.0 k.1.0 in
         (v.0, k.2 v.1 (f_pop s u.0, u.1))
 
-    compound_fine : (es : Trees) (r : ℕ) (D : List Depth) (W : List Ways) (B : List Bool) (c : Bool) (s : Shape) → Ctx At r D W B c s → FitAll L j N B c es → (p p' : ℕ) → p' ≡ p → p' + compound_size D es ≤ r → Some_trees es → Has At p' (compound N D W p s es) → At (p' + compound_size D es) (more s) → At p' s × AllFine At p' (compound N D W p s es)
+    compound_fine : (es : Trees) (r : ℕ) (D : List Depth) (W : List Ways) (B : List Bool) (c : Bool) (s : Shape) → Ctx At r D W B c s → FitAll L j N B c es
+        → (p p' : ℕ) → p' ≡ p → p' + compound_size D es ≤ r → Some_trees es → Has At p' (compound N D W p s es) → At (p' + compound_size D es) (more s)
+        → At p' s × AllFine At p' (compound N D W p s es)
     compound_fine NoTrees r D W B c s a f p p' e b t h z = absurd t
     compound_fine (More x NoTrees) r D W B c s a f p p' e b t h z = fine x r D W B c s a f.0 p p' e b h z
-    compound_fine (More T.Empty (More y es)) r D W B c s a f p p' e b t h z = compound_fine (More y es) r D W B c s a f.1 p p' e (omega arith) tt h (to _ z (omega arith))
+    compound_fine (More T.Empty (More y es)) r D W B c s a f p p' e b t h z =
+        compound_fine (More y es) r D W B c s a f.1 p p' e (omega arith) tt h (to _ z (omega arith))
     compound_fine (More x (More y es)) r D W B c s a f p p' e b t h z =
-        let k = cut At (code N (deeper D) W (p + 1) (marked s) x) (o (more (marked s)) I.Unmark ∷ compound N D W (p + size (deeper D) x + 2) s (More y es)) (suc p') (size (deeper D) x) (len N x (deeper D) W (p + 1) (marked s)) h.1 in
-        let u = compound_fine (More y es) r D W B c s a f.1 (p + size (deeper D) x + 2) (suc (suc p' + size (deeper D) x)) (omega arith) (omega arith) tt k.1.1 (to _ z (omega arith)) in
+        let k = cut At (code N (deeper D) W (p + 1) (marked s) x) (o (more (marked s)) I.Unmark ∷ compound N D W (p + size (deeper D) x + 2) s (More y es))
+        (suc p') (size (deeper D) x) (len N x (deeper D) W (p + 1) (marked s)) h.1 in
+        let u = compound_fine (More y es) r D W B c s a f.1 (p + size (deeper D) x + 2) (suc (suc p' + size (deeper D) x)) (omega arith) (omega arith) tt k.1.1
+        (to _ z (omega arith)) in
         let v = fine x r (deeper D) W B c (marked s) (under At _ a) f.0 (p + 1) (suc p') (omega arith) (omega arith) k.0 k.1.0 in
         (h.0, (f_mark s v.0 (to _ u.0 (omega arith)) (omega arith), k.2 v.1 (f_unmark _ s u.0, u.1)))
 
-    elements_fine : (es : Trees) (r : ℕ) (D : List Depth) (W : List Ways) (B : List Bool) (c : Bool) (s : Shape) → Ctx At r D W B c s → FitAll L j N B c es → (p p' : ℕ) → p' ≡ p → p' + elements_size D es ≤ r → Has At p' (elements_code N D W p s es) → At (p' + elements_size D es) (many (elements es) s) → At p' s × AllFine At p' (elements_code N D W p s es)
+    elements_fine : (es : Trees) (r : ℕ) (D : List Depth) (W : List Ways) (B : List Bool) (c : Bool) (s : Shape) → Ctx At r D W B c s → FitAll L j N B c es
+        → (p p' : ℕ) → p' ≡ p → p' + elements_size D es ≤ r → Has At p' (elements_code N D W p s es) → At (p' + elements_size D es) (many (elements es) s)
+        → At p' s × AllFine At p' (elements_code N D W p s es)
     elements_fine NoTrees r D W B c s a f p p' e b h z = (to _ z (omega arith), tt)
     elements_fine (More T.Empty NoTrees) r D W B c s a f p p' e b h z = (to _ z (omega arith), tt)
     elements_fine (More x es) r D W B c s a f p p' e b h z =
         let k = cut At (code N D W p s x) (operands N D W (p + size D x) (more s) es) p' (size D x) (len N x D W p s) h in
-        let u = operands_fine es r D W B c (more s) (push At s a) f.1 (p + size D x) (p' + size D x) (omega arith) (omega arith) k.1 (as_many At (count_of es) s (to _ z (omega arith))) in
+        let u = operands_fine es r D W B c (more s) (push At s a) f.1 (p + size D x) (p' + size D x) (omega arith) (omega arith) k.1
+        (as_many At (count_of es) s (to _ z (omega arith))) in
         let v = fine x r D W B c s a f.0 p p' e (omega arith) k.0 u.0 in
         (v.0, k.2 v.1 u.1)
 
-    operands_fine : (es : Trees) (r : ℕ) (D : List Depth) (W : List Ways) (B : List Bool) (c : Bool) (s : Shape) → Ctx At r D W B c s → FitAll L j N B c es → (p p' : ℕ) → p' ≡ p → p' + sizes D es ≤ r → Has At p' (operands N D W p s es) → At (p' + sizes D es) (many (count_of es) s) → At p' s × AllFine At p' (operands N D W p s es)
+    operands_fine : (es : Trees) (r : ℕ) (D : List Depth) (W : List Ways) (B : List Bool) (c : Bool) (s : Shape) → Ctx At r D W B c s
+        → FitAll L j N B c es → (p p' : ℕ) → p' ≡ p → p' + sizes D es ≤ r → Has At p' (operands N D W p s es) → At (p' + sizes D es) (many (count_of es) s)
+        → At p' s × AllFine At p' (operands N D W p s es)
     operands_fine NoTrees r D W B c s a f p p' e b h z = (to _ z (omega arith), tt)
     operands_fine (More x es) r D W B c s a f p p' e b h z =
         let k = cut At _ _ p' (size D x) (len N x D W p s) h in
-        let u = operands_fine es r D W B c (more s) (push At s a) f.1 (p + size D x) (p' + size D x) (omega arith) (omega arith) k.1 (as_many At (count_of es) s (to _ z (omega arith))) in
+        let u = operands_fine es r D W B c (more s) (push At s a) f.1 (p + size D x) (p' + size D x) (omega arith) (omega arith) k.1
+        (as_many At (count_of es) s (to _ z (omega arith))) in
         let v = fine x r D W B c s a f.0 p p' e (omega arith) k.0 u.0 in
         (v.0, k.2 v.1 u.1)
 
-    creates_fine : (es : Trees) (D : List Depth) (s : Shape) → FitCreates L j N es → (p p' : ℕ) → p' ≡ p → Has At p' (bodies_code N p s es) → At (p' + bodies_size D es) (many (elements es) s) → At p' s × AllFine At p' (bodies_code N p s es)
+    creates_fine : (es : Trees) (D : List Depth) (s : Shape) → FitCreates L j N es → (p p' : ℕ) → p' ≡ p → Has At p' (bodies_code N p s es)
+        → At (p' + bodies_size D es) (many (elements es) s) → At p' s × AllFine At p' (bodies_code N p s es)
     creates_fine NoTrees D s f p p' e h z = (to _ z (omega arith), tt)
     creates_fine (More T.Empty NoTrees) D s f p p' e h z = (to _ z (omega arith), tt)
     creates_fine (More x es) D s f p p' e h z =
-        let k = cut At (create_notes p (size [] x) s (code N [] [] (p + 2) (marked (start true)) x)) (creates N (p + size [] x + 5) (more s) es) p' (size [] x + 5) (created_len p (size [] x) s (code N [] [] (p + 2) (marked (start true)) x) (len N x [] [] (p + 2) (marked (start true)))) h in
-        let u = creates_fine_all es D (more s) f.1 (p + size [] x + 5) (p' + (size [] x + 5)) (omega arith) k.1 (as_many At (count_of es) s (to _ z (omega arith))) in
+        let k = cut At (create_notes p (size [] x) s (code N [] [] (p + 2) (marked (start true)) x)) (creates N (p + size [] x + 5) (more s) es) p'
+        (size [] x + 5) (created_len p (size [] x) s (code N [] [] (p + 2) (marked (start true)) x) (len N x [] [] (p + 2) (marked (start true)))) h in
+        let u = creates_fine_all es D (more s) f.1 (p + size [] x + 5) (p' + (size [] x + 5)) (omega arith) k.1
+        (as_many At (count_of es) s (to _ z (omega arith))) in
         let v = created_fine s x (fine x) f.0 p p' e k.0 u.0 in
         (v.0, k.2 v.1 u.1)
 
-    creates_fine_all : (es : Trees) (D : List Depth) (s : Shape) → FitCreates L j N es → (p p' : ℕ) → p' ≡ p → Has At p' (creates N p s es) → At (p' + creates_size D es) (many (count_of es) s) → At p' s × AllFine At p' (creates N p s es)
+    creates_fine_all : (es : Trees) (D : List Depth) (s : Shape) → FitCreates L j N es → (p p' : ℕ) → p' ≡ p → Has At p' (creates N p s es)
+        → At (p' + creates_size D es) (many (count_of es) s) → At p' s × AllFine At p' (creates N p s es)
     creates_fine_all NoTrees D s f p p' e h z = (to _ z (omega arith), tt)
     creates_fine_all (More x es) D s f p p' e h z =
-        let k = cut At (create_notes p (size [] x) s (code N [] [] (p + 2) (marked (start true)) x)) (creates N (p + size [] x + 5) (more s) es) p' (size [] x + 5) (created_len p (size [] x) s (code N [] [] (p + 2) (marked (start true)) x) (len N x [] [] (p + 2) (marked (start true)))) h in
-        let u = creates_fine_all es D (more s) f.1 (p + size [] x + 5) (p' + (size [] x + 5)) (omega arith) k.1 (as_many At (count_of es) s (to _ z (omega arith))) in
+        let k = cut At (create_notes p (size [] x) s (code N [] [] (p + 2) (marked (start true)) x)) (creates N (p + size [] x + 5) (more s) es) p'
+        (size [] x + 5) (created_len p (size [] x) s (code N [] [] (p + 2) (marked (start true)) x) (len N x [] [] (p + 2) (marked (start true)))) h in
+        let u = creates_fine_all es D (more s) f.1 (p + size [] x + 5) (p' + (size [] x + 5)) (omega arith) k.1
+        (as_many At (count_of es) s (to _ z (omega arith))) in
         let v = created_fine s x (fine x) f.0 p p' e k.0 u.0 in
         (v.0, k.2 v.1 u.1)
 
-    subscripts_fine : (es : Trees) (r : ℕ) (D : List Depth) (W : List Ways) (B : List Bool) (c : Bool) (s : Shape) → Ctx At r D W B c s → FitAll L j N B c es → (p p' : ℕ) → p' ≡ p → p' + subscripts_size D es ≤ r → Has At p' (subscripts N D W p s es) → At (p' + subscripts_size D es) (more s) → At p' (more s) × AllFine At p' (subscripts N D W p s es)
+    subscripts_fine : (es : Trees) (r : ℕ) (D : List Depth) (W : List Ways) (B : List Bool) (c : Bool) (s : Shape) → Ctx At r D W B c s → FitAll L j N B c es
+        → (p p' : ℕ) → p' ≡ p → p' + subscripts_size D es ≤ r → Has At p' (subscripts N D W p s es) → At (p' + subscripts_size D es) (more s)
+        → At p' (more s) × AllFine At p' (subscripts N D W p s es)
     subscripts_fine NoTrees r D W B c s a f p p' e b h z = (to _ z (omega arith), tt)
     subscripts_fine (More x es) r D W B c s a f p p' e b h z =
         let k = cut At _ _ p' (size D x) (len N x D W p (more s)) h in
@@ -391,32 +460,44 @@ module _ (At : ℕ → Shape → Type 0) (L : Linkage) (j : ℕ) (N : Names) whe
         let v = fine x r D W B c (more s) (push At s a) f.0 p p' e (omega arith) k.0 k.1.0 in
         (v.0, k.2 v.1 (f_takes 2 s t_op u.0, u.1))
 
-    by_fine : (by : MaybeTree) (r : ℕ) (D : List Depth) (W : List Ways) (B : List Bool) (c : Bool) (s : Shape) → Ctx At r D W B c s → FitBy L j N B c by → (p p' : ℕ) → p' ≡ p → p' + by_size D by ≤ r → Has At p' (by_code N D W p s by) → At (p' + by_size D by) (more s) → At p' s × AllFine At p' (by_code N D W p s by)
+    by_fine : (by : MaybeTree) (r : ℕ) (D : List Depth) (W : List Ways) (B : List Bool) (c : Bool) (s : Shape) → Ctx At r D W B c s
+        → FitBy L j N B c by → (p p' : ℕ) → p' ≡ p → p' + by_size D by ≤ r → Has At p' (by_code N D W p s by) → At (p' + by_size D by) (more s)
+        → At p' s × AllFine At p' (by_code N D W p s by)
     by_fine Absent r D W B c s a f p p' e b h z = (h.0, (f_push s u_int (to _ z (omega arith)), tt))
     by_fine (Present x) r D W B c s a f p p' e b h z = fine x r D W B c s a f p p' e b h z
 
-    body_fine : (b : MaybeTree) (r : ℕ) (D : List Depth) (W : List Ways) (B : List Bool) (c : Bool) (s : Shape) → Ctx At r D W B c (marked s) → FitMaybe L j N B c b → (p p' : ℕ) → p' ≡ p → p' + body_size D b ≤ r → Has At p' (body_code N D W p s b) → At (p' + body_size D b) s → At p' s × AllFine At p' (body_code N D W p s b)
+    body_fine : (b : MaybeTree) (r : ℕ) (D : List Depth) (W : List Ways) (B : List Bool) (c : Bool) (s : Shape) → Ctx At r D W B c (marked s)
+        → FitMaybe L j N B c b → (p p' : ℕ) → p' ≡ p → p' + body_size D b ≤ r → Has At p' (body_code N D W p s b) → At (p' + body_size D b) s
+        → At p' s × AllFine At p' (body_code N D W p s b)
     body_fine Absent r D W B c s a f p p' e b h z = (to _ z (omega arith), tt)
     body_fine (Present x) r D W B c s a f p p' e b h z =
         let k = cut At _ _ (suc p') (size D x) (len N x D W (p + 1) (marked s)) h.1 in
         let v = fine x r D W B c (marked s) a f (p + 1) (suc p') (omega arith) (omega arith) k.0 k.1.0 in
         (h.0, (f_mark s v.0 (to _ z (omega arith)) (omega arith), k.2 v.1 (f_unmark _ s (to _ z (omega arith)), tt)))
 
-    cases_fine : (cases : Clauses) (r : ℕ) (D : List Depth) (W : List Ways) (B : List Bool) (c : Bool) (s : Shape) → Ctx At r D W B c s → FitClauses L j N B c cases → (p p' last : ℕ) → p' ≡ p → p' + clauses_size D cases ≤ r → p' + clauses_size D cases < last → Has At p' (clauses_code N D W p last s cases) → At last (more s) → At (p' + clauses_size D cases) (more s) → At p' (more s) × AllFine At p' (clauses_code N D W p last s cases)
+    cases_fine : (cases : Clauses) (r : ℕ) (D : List Depth) (W : List Ways) (B : List Bool) (c : Bool) (s : Shape) → Ctx At r D W B c s
+        → FitClauses L j N B c cases → (p p' last : ℕ) → p' ≡ p → p' + clauses_size D cases ≤ r
+        → p' + clauses_size D cases < last → Has At p' (clauses_code N D W p last s cases) → At last (more s) → At (p' + clauses_size D cases) (more s)
+        → At p' (more s) × AllFine At p' (clauses_code N D W p last s cases)
     cases_fine NoClauses r D W B c s a f p p' last e b g h y z = (to _ z (omega arith), tt)
-    cases_fine (MoreClauses (Default place x) cases) r D W B c s a f p p' last e b g h y z = cases_fine cases r D W B c s a f.1 (p + 0) p' last (omega arith) (omega arith) (omega arith) h y (to _ z (omega arith))
+    cases_fine (MoreClauses (Default place x) cases) r D W B c s a f p p' last e b g h y z =
+        cases_fine cases r D W B c s a f.1 (p + 0) p' last (omega arith) (omega arith) (omega arith) h y (to _ z (omega arith))
     cases_fine (MoreClauses (Guarded place x w) cases) r D W B c s a f p p' last e b g h y z =
         let t = size (deeper D) x + size D w + 6 in
-        let k = cut At (clause_code N D W p last s (Guarded place x w)) (clauses_code N D W (p + t) last s cases) p' t (clause_len N (Guarded place x w) D W p last s) h in
+        let k = cut At (clause_code N D W p last s (Guarded place x w)) (clauses_code N D W (p + t) last s cases) p' t
+        (clause_len N (Guarded place x w) D W p last s) h in
         let m = cut At _ _ (suc (suc p')) (size (deeper D) x) (len N x (deeper D) W (p + 2) (more (marked (more s)))) k.0.1.1 in
         let q = suc (suc (suc (suc (suc p') + size (deeper D) x))) in
         let v = cut At _ _ q (size D w) (len N w D W (p + size (deeper D) x + 5) s) m.1.1.1.1 in
         let u = cases_fine cases r D W B c s a f.1 (p + t) (p' + t) last (omega arith) (omega arith) (omega arith) k.1 y (to _ z (omega arith)) in
         let i = fine w r D W B c s a f.0.1 (p + size (deeper D) x + 5) q (omega arith) (omega arith) v.0 v.1.0 in
-        let l = fine x r (deeper D) W B c (more (marked (more s))) (push At (marked (more s)) (under At _ (push At s a))) f.0.0 (p + 2) (suc (suc p')) (omega arith) (omega arith) m.0 m.1.0 in
+        let l = fine x r (deeper D) W B c (more (marked (more s))) (push At (marked (more s)) (under At _ (push At s a))) f.0.0 (p + 2) (suc (suc p'))
+        (omega arith) (omega arith) m.0 m.1.0 in
         (k.0.0, k.2 (f_mark (more s) k.0.1.0 (to _ u.0 (omega arith)) (omega arith), (f_ccase s l.0, m.2 l.1 (f_takes 2 (marked (more s)) t_op m.1.1.0, (f_unmark _ (more s) m.1.1.1.0, (f_pop s i.0, v.2 i.1 (f_goto (more s) y (omega arith), tt)))))) u.1)
 
-    default_fine : (cases : Clauses) (r : ℕ) (D : List Depth) (W : List Ways) (B : List Bool) (c : Bool) (s : Shape) → Ctx At r D W B c s → FitDefault L j N B c cases → (p p' : ℕ) → p' ≡ p → p' + default_size D cases ≤ r → Has At p' (default_code N D W p s cases) → At (p' + default_size D cases) (more s) → At p' s × AllFine At p' (default_code N D W p s cases)
+    default_fine : (cases : Clauses) (r : ℕ) (D : List Depth) (W : List Ways) (B : List Bool) (c : Bool) (s : Shape)
+        → Ctx At r D W B c s → FitDefault L j N B c cases → (p p' : ℕ) → p' ≡ p → p' + default_size D cases ≤ r → Has At p' (default_code N D W p s cases)
+        → At (p' + default_size D cases) (more s) → At p' s × AllFine At p' (default_code N D W p s cases)
     default_fine NoClauses r D W B c s a f p p' e b h z = (h.0, (f_efail s, tt))
     default_fine (MoreClauses (Default place x) cases) r D W B c s a f p p' e b h z = fine x r D W B c s a f p p' e b h z
     default_fine (MoreClauses (Guarded place x w) cases) r D W B c s a f p p' e b h z = default_fine cases r D W B c s a f p p' e b h z

@@ -8,10 +8,13 @@ use Rattle.icn_code_sound.proofs.Notes.{len}
 
 -- the body of a `create`
 pub created_len : (p n : ℕ) (s : Shape) (xs : List Note) → length xs ≡ n → length (create_notes p n s xs) ≡ n + 5
-created_len p n s xs e = let a = length-append xs (o (more (marked (start true))) I.Coret ∷ o (more (marked (start true))) I.Efail ∷ o (start true) I.Cofail ∷ []) in omega arith
+created_len p n s xs e =
+    let a = length-append xs (o (more (marked (start true))) I.Coret ∷ o (more (marked (start true))) I.Efail ∷ o (start true) I.Cofail ∷ []) in omega arith
 
 -- a bounded expression of a body
-pub bounded_len : (N : Names) (p : ℕ) (x : Tree) → length (o (start false) (I.Mark (p + size [] x + 2)) ∷ code N [] [] (p + 1) (marked (start false)) x ++ o (more (marked (start false))) I.Unmark ∷ []) ≡ size [] x + 2
+pub bounded_len : (N : Names) (p : ℕ) (x : Tree)
+    → length (o (start false) (I.Mark (p + size [] x + 2)) ∷ code N [] [] (p + 1) (marked (start false)) x ++ o (more (marked (start false))) I.Unmark ∷ [])
+    ≡ size [] x + 2
 bounded_len N p x =
     let a = length-append (code N [] [] (p + 1) (marked (start false)) x) (o (more (marked (start false))) I.Unmark ∷ []) in
     let b = len N x [] [] (p + 1) (marked (start false)) in omega arith

@@ -122,7 +122,8 @@ begins_after : (a m lo p : ℕ) (xs : List Note) → m ≤ lo → Regions lo p x
 begins_after a m lo p [] h r = tt
 begins_after a m lo p (x ∷ xs) h r = (λ l b w. inl (let s = (r.0 l b).0 in omega arith), begins_after a m lo (suc p) xs h r.1)
 
-clear_append : (W : List Ways) (p q t : ℕ) (xs ys : List Note) → p + length xs ≡ q → q + length ys ≡ t → Ahead t W → Labels W q xs → Regions q q ys → Clear p xs → Clear q ys → Clear p (xs ++ ys)
+clear_append : (W : List Ways) (p q t : ℕ) (xs ys : List Note) → p + length xs ≡ q → q + length ys ≡ t → Ahead t W → Labels W q xs → Regions q q ys → Clear p xs
+    → Clear q ys → Clear p (xs ++ ys)
 clear_append W p q t [] ys e f a l r c d = subst (λ q. Clear q ys) (omega arith) d
 clear_append W p q t (x ∷ xs) ys e f a l r c d =
     (λ m i. passes_append p m (suc p) q xs ys (omega arith) (c.0 m i) (over m (l.0 m i)), clear_append W (suc p) q t xs ys (omega arith) f a l.1 r c.1 d)
@@ -143,10 +144,16 @@ pub nil : {W : List Ways} {p : ℕ} (q : ℕ) → p ≡ q → Neat W p [] q
 nil q e = record { ends = omega arith; labels = tt; regions = tt; clear = tt }
 
 pub plain : {W : List Ways} {p q : ℕ} {xs : List Note} (x : Note) → is_plain x.instr ≡ true → Neat W (suc p) xs q → Neat W p (x ∷ xs) q
-plain {p = p} {xs = xs} x e n = let en = n.ends in record { ends = omega arith; labels = (λ m i. absurd (no_lead e i), n.labels); regions = (λ l b. absurd (no_back e b), regions_to (suc p) p (suc p) xs (omega arith) n.regions); clear = (λ m i. absurd (no_lead e i), n.clear) }
+plain {p = p} {xs = xs} x e n = let en = n.ends in record {
+  ends = omega arith;
+  labels = (λ m i. absurd (no_lead e i), n.labels);
+  regions = (λ l b. absurd (no_back e b), regions_to (suc p) p (suc p) xs (omega arith) n.regions);
+  clear = (λ m i. absurd (no_lead e i), n.clear);
+}
 
 -- a label to a place that the rest has, or its end
-pub label : {W : List Ways} {p q : ℕ} {xs : List Note} (x : Note) {l : ℕ} (m : ℕ) → Leads x.instr l → l ≡ m → m ≤ q → Pass p m (suc p) xs → Neat W (suc p) xs q → Neat W p (x ∷ xs) q
+pub label : {W : List Ways} {p q : ℕ} {xs : List Note} (x : Note) {l : ℕ} (m : ℕ) → Leads x.instr l → l ≡ m → m ≤ q → Pass p m (suc p) xs → Neat W (suc p) xs q
+    → Neat W p (x ∷ xs) q
 label {W = W} {p = p} {q = q} {xs = xs} x {l = l} m i e h s n = let en = n.ends in record {
   ends = omega arith;
   labels = (λ m' i'. inl (let u = one_lead i i' in omega arith), n.labels);
@@ -156,10 +163,16 @@ label {W = W} {p = p} {q = q} {xs = xs} x {l = l} m i e h s n = let en = n.ends 
 
 -- a way out
 pub out : {W : List Ways} {p : ℕ} (x : Note) {l : ℕ} → Leads x.instr l → In l W → Neat W p (x ∷ []) (suc p)
-out {W = W} {p = p} x {l = l} i w = record { ends = omega arith; labels = (λ m i'. inr (subst (λ m. In m W) (sym (one_lead i i')) w), tt); regions = (λ l b. absurd (lead_no_back i b), tt); clear = (λ m i'. tt, tt) }
+out {W = W} {p = p} x {l = l} i w = record {
+  ends = omega arith;
+  labels = (λ m i'. inr (subst (λ m. In m W) (sym (one_lead i i')) w), tt);
+  regions = (λ l b. absurd (lead_no_back i b), tt);
+  clear = (λ m i'. tt, tt);
+}
 
 pub before : {W : List Ways} {q t a m : ℕ} {xs ys : List Note} → Neat W q xs t → t ≤ m → Pass a m t ys → Pass a m q (xs ++ ys)
-before {q = q} {t = t} {a = a} {m = m} {xs = xs} {ys = ys} n h s = let en = n.ends in record { is = passes_append a m q t xs ys en (ends_before a m q xs (omega arith)) s.is }
+before {q = q} {t = t} {a = a} {m = m} {xs = xs} {ys = ys} n h s =
+    let en = n.ends in record { is = passes_append a m q t xs ys en (ends_before a m q xs (omega arith)) s.is }
 
 pub after : {W : List Ways} {q t a m : ℕ} {xs ys : List Note} → Neat W q xs t → m ≤ q → Pass a m t ys → Pass a m q (xs ++ ys)
 after {q = q} {t = t} {a = a} {m = m} {xs = xs} {ys = ys} n h s = record { is = passes_append a m q t xs ys n.ends (begins_after a m q q xs h n.regions) s.is }
@@ -179,13 +192,17 @@ skip_label x i s = record { is = (λ l b w. absurd (lead_no_back i b), s.is) }
 pub over : {a m q : ℕ} → Pass a m q []
 over = record { is = tt }
 
-clear_back : (lo p q : ℕ) (xs : List Note) (x : Note) → lo ≤ p → p + length xs ≡ q → ((l : ℕ) → Backs x.instr l → l ≡ lo) → ((m : ℕ) → Leads x.instr m → ⊥) → Clear p xs → Clear p (xs ++ (x ∷ []))
+clear_back : (lo p q : ℕ) (xs : List Note) (x : Note) → lo ≤ p → p + length xs ≡ q → ((l : ℕ) → Backs x.instr l → l ≡ lo) → ((m : ℕ) → Leads x.instr m → ⊥)
+    → Clear p xs → Clear p (xs ++ (x ∷ []))
 clear_back lo p q [] x h e b f c = (λ m i. tt, tt)
-clear_back lo p q (y ∷ ys) x h e b f c =
-    (λ m i. passes_append p m (suc p) q ys (x ∷ []) (omega arith) (c.0 m i) (λ l k w. absurd (let u = b l k in omega arith), tt), clear_back lo (suc p) q ys x (omega arith) (omega arith) b f c.1)
+clear_back lo p q (y ∷ ys) x h e b f c = (
+  λ m i. passes_append p m (suc p) q ys (x ∷ []) (omega arith) (c.0 m i) (λ l k w. absurd (let u = b l k in omega arith), tt),
+  clear_back lo (suc p) q ys x (omega arith) (omega arith) b f c.1,
+)
 
 -- what leads back to the first place
-pub back : {W W' : List Ways} {p q : ℕ} {xs : List Note} (x : Note) → ((l : ℕ) → Backs x.instr l → l ≡ p) → ((m : ℕ) → Leads x.instr m → ⊥) → ((m : ℕ) → (m ≤ q) ⊎ In m W → (m ≤ suc q) ⊎ In m W') → Neat W p xs q → Neat W' p (xs ++ (x ∷ [])) (suc q)
+pub back : {W W' : List Ways} {p q : ℕ} {xs : List Note} (x : Note) → ((l : ℕ) → Backs x.instr l → l ≡ p) → ((m : ℕ) → Leads x.instr m → ⊥)
+    → ((m : ℕ) → (m ≤ q) ⊎ In m W → (m ≤ suc q) ⊎ In m W') → Neat W p xs q → Neat W' p (xs ++ (x ∷ [])) (suc q)
 back {W = W} {W' = W'} {p = p} {q = q} {xs = xs} x b f g n = let en = n.ends in let la = length-append xs (x ∷ []) in record {
   ends = omega arith;
   labels = labels_append W' (suc q) xs (x ∷ []) (labels_to W W' q (suc q) xs g n.labels) (λ m i. absurd (f m i), tt);
@@ -209,7 +226,8 @@ wide W W' q f m (inl h) = inl h
 wide W W' q f m (inr i) = inr (f m i)
 
 pub wider : {W : List Ways} (W' : List Ways) {p q : ℕ} {xs : List Note} → ((m : ℕ) → In m W → In m W') → Neat W p xs q → Neat W' p xs q
-wider {W = W} W' {p = p} {q = q} {xs = xs} f n = record { ends = n.ends; labels = labels_to W W' q q xs (wide W W' q f) n.labels; regions = n.regions; clear = n.clear }
+wider {W = W} W' {p = p} {q = q} {xs = xs} f n =
+    record { ends = n.ends; labels = labels_to W W' q q xs (wide W W' q f) n.labels; regions = n.regions; clear = n.clear }
 
 pub to : {W : List Ways} {p q : ℕ} {xs : List Note} (q' : ℕ) → q ≡ q' → Neat W p xs q → Neat W p xs q'
 to {W = W} {p = p} {xs = xs} q' e n = subst (λ q. Neat W p xs q) e n
@@ -244,7 +262,8 @@ inner W q l h m (inr (i_next e)) = inl (omega arith)
 inner W q l h m (inr (i_outer i)) = inr i
 
 pub narrow : {W : List Ways} {p q : ℕ} {xs : List Note} (l : ℕ) → l ≤ q → Neat (ways l l ∷ W) p xs q → Neat W p xs q
-narrow {W = W} {p = p} {q = q} {xs = xs} l h n = record { ends = n.ends; labels = labels_to (ways l l ∷ W) W q q xs (inner W q l h) n.labels; regions = n.regions; clear = n.clear }
+narrow {W = W} {p = p} {q = q} {xs = xs} l h n =
+    record { ends = n.ends; labels = labels_to (ways l l ∷ W) W q q xs (inner W q l h) n.labels; regions = n.regions; clear = n.clear }
 
 pub unmarks_neat : (W : List Ways) (n : ℕ) (s : Shape) (p : ℕ) → Neat W p (unmarks n s) (p + n)
 unmarks_neat W zero s p = nil _ (omega arith)

@@ -35,7 +35,11 @@ Noted N e = (D : List Depth) (W : List Ways) (p : ℕ) (s : Shape) → instrs (c
 
 prefix_noted : (N : Names) (D : List Depth) (W : List Ways) (p : ℕ) (s : Shape) (e : Tree) (f : PrefixForm) → Noted N e
     → instrs (prefix_code D p s (λ D' p' s'. code N D' W p' s' e) f)
-    ≡ elim f as (λ x. List Instr) [ Activating ↦ I.Pnull ∷ C.code N D W (p + 1) e ++ I.Coact ∷ [] | Repeating ↦ I.Mark0 ∷ C.code N (deeper D) W (p + 1) e ++ (I.Chfail p ∷ I.Esusp ∷ []) | Operating op ↦ C.code N D W p e ++ I.Op op ∷ [] ]
+    ≡ elim f as (λ x. List Instr) [
+      | Activating ↦ I.Pnull ∷ C.code N D W (p + 1) e ++ I.Coact ∷ []
+      | Repeating ↦ I.Mark0 ∷ C.code N (deeper D) W (p + 1) e ++ (I.Chfail p ∷ I.Esusp ∷ [])
+      | Operating op ↦ C.code N D W p e ++ I.Op op ∷ []
+    ]
 prefix_noted N D W p s e Activating g = next I.Pnull (join _ _ (g D W (p + 1) (more s)) refl)
 prefix_noted N D W p s e Repeating g = next I.Mark0 (join _ _ (g (deeper D) W (p + 1) (marked s)) refl)
 prefix_noted N D W p s e (Operating op) g = join _ _ (g D W p s) refl
@@ -45,14 +49,17 @@ plain_noted : (N : Names) (D : List Depth) (W : List Ways) (p : ℕ) (s : Shape)
     ≡ elim f as (λ x. List Instr) [
       | Both ↦ C.code N D W p a ++ I.Pop ∷ C.code N D W (p + size D a + 1) b
       | Scanning ↦ C.code N D W p a ++ I.Bscan ∷ C.code N D W (p + size D a + 1) b ++ I.Escan ∷ []
-      | Either ↦ (let m = size (deeper D) a in let n = size D b in I.Mark (p + m + 3) ∷ C.code N (deeper D) W (p + 1) a ++ (I.Esusp ∷ I.Goto (p + m + 3 + n) ∷ C.code N D W (p + m + 3) b))
+      | Either ↦ (let m = size (deeper D) a in let n = size D b in
+          I.Mark (p + m + 3) ∷ C.code N (deeper D) W (p + 1) a ++ (I.Esusp ∷ I.Goto (p + m + 3 + n) ∷ C.code N D W (p + m + 3) b))
       | Limiting ↦ C.code N D W p b ++ I.Limit ∷ C.code N (deeper D) W (p + size D b + 1) a ++ I.Lsusp ∷ []
       | Applying i ↦ C.code N D W p a ++ (C.code N D W (p + size D a) b ++ i ∷ [])
     ]
 plain_noted N D W p s a b Both g h = join _ _ (g D W p s) (next I.Pop (h D W (p + size D a + 1) s))
-plain_noted N D W p s a b Scanning g h = join _ _ (g D W p s) (next I.Bscan (join _ _ (h D W (p + size D a + 1) (scanned s)) refl)) ∙ sym (append_assoc (C.code N D W p a) (I.Bscan ∷ C.code N D W (p + size D a + 1) b) (I.Escan ∷ []))
+plain_noted N D W p s a b Scanning g h = join _ _ (g D W p s) (next I.Bscan (join _ _ (h D W (p + size D a + 1) (scanned s)) refl))
+    ∙ sym (append_assoc (C.code N D W p a) (I.Bscan ∷ C.code N D W (p + size D a + 1) b) (I.Escan ∷ []))
 plain_noted N D W p s a b Either g h = next _ (join _ _ (g (deeper D) W (p + 1) (marked s)) (next I.Esusp (next _ (h D W (p + size (deeper D) a + 3) s))))
-plain_noted N D W p s a b Limiting g h = join _ _ (h D W p s) (next I.Limit (join _ _ (g (deeper D) W (p + size D b + 1) (within Limited s)) refl)) ∙ sym (append_assoc (C.code N D W p b) (I.Limit ∷ C.code N (deeper D) W (p + size D b + 1) a) (I.Lsusp ∷ []))
+plain_noted N D W p s a b Limiting g h = join _ _ (h D W p s) (next I.Limit (join _ _ (g (deeper D) W (p + size D b + 1) (within Limited s)) refl))
+    ∙ sym (append_assoc (C.code N D W p b) (I.Limit ∷ C.code N (deeper D) W (p + size D b + 1) a) (I.Lsusp ∷ []))
 plain_noted N D W p s a b (Applying i) g h = join _ _ (g D W p s) (join _ _ (h D W (p + size D a) (more s)) refl)
 
 augmented_noted : (N : Names) (D : List Depth) (W : List Ways) (p : ℕ) (s : Shape) (a b : Tree) (f : Form) → Noted N a → Noted N b
@@ -85,22 +92,28 @@ mutual
   noted N (Call place f es) D W p s = join _ _ (noted N f D W p s) (join _ _ (elements_noted N es D W (p + size D f) (more s)) refl)
   noted N (CoCall place f es) D W p s = join _ _ (noted N f D W p s) (join _ _ (bodies_noted N es (p + size D f) (more s)) refl)
   noted N (Subscript place e es) D W p s = join _ _ (noted N e D W p s) (subscripts_noted N es D W (p + size D e) s)
-  noted N (Section place kind e i j) D W p s = join _ _ (noted N e D W p s) (join _ _ (noted N i D W (p + size D e) (more s)) (join _ _ (noted N j D W (p + size D e + size D i) (more (more s))) refl))
+  noted N (Section place kind e i j) D W p s =
+      join _ _ (noted N e D W p s) (join _ _ (noted N i D W (p + size D e) (more s)) (join _ _ (noted N j D W (p + size D e + size D i) (more (more s))) refl))
   noted N (Field place e name) D W p s = join _ _ (noted N e D W p s) refl
   noted N (Prefix place operator e) D W p s = prefix_noted N D W p s e (prefix_of operator) (noted N e)
   noted N (Not place e) D W p s = next _ (join _ _ (noted N e (deeper D) W (p + 1) (marked s)) refl)
   noted N (Binary place (Plain operator) a b) D W p s = plain_noted N D W p s a b (form_of operator) (noted N a) (noted N b)
   noted N (Binary place (Augmented operator) a b) D W p s = augmented_noted N D W p s a b (form_of operator) (noted N a) (noted N b)
-  noted N (To place a b by) D W p s = join _ _ (noted N a D W p s) (join _ _ (noted N b D W (p + size D a) (more s)) (join _ _ (by_noted N by D W (p + size D a + size D b) (more (more s))) refl))
+  noted N (To place a b by) D W p s = join _ _ (noted N a D W p s)
+      (join _ _ (noted N b D W (p + size D a) (more s)) (join _ _ (by_noted N by D W (p + size D a + size D b) (more (more s))) refl))
   noted N (If place c a Absent) D W p s = next _ (join _ _ (noted N c (deeper D) W (p + 1) (marked s)) (next _ (noted N a D W (p + size (deeper D) c + 2) s)))
-  noted N (If place c a (Present b)) D W p s = next _ (join _ _ (noted N c (deeper D) W (p + 1) (marked s)) (next _ (join _ _ (noted N a D W (p + size (deeper D) c + 2) s) (next _ (noted N b D W (p + (size (deeper D) c + size D a) + 3) s)))))
+  noted N (If place c a (Present b)) D W p s = next _ (join _ _ (noted N c (deeper D) W (p + 1) (marked s))
+      (next _ (join _ _ (noted N a D W (p + size (deeper D) c + 2) s) (next _ (noted N b D W (p + (size (deeper D) c + size D a) + 3) s)))))
   noted N (Case place e cases) D W p s = let last = p + size (deeper D) e + clauses_size D cases + default_size D cases + 3 in
-      next _ (join _ _ (noted N e (deeper D) W (p + 1) (marked s)) (next _ (join _ _ (clauses_noted N cases D W (p + size (deeper D) e + 2) last s) (next _ (default_noted N cases D W (p + size (deeper D) e + 3 + clauses_size D cases) s)))))
+      next _ (join _ _ (noted N e (deeper D) W (p + 1) (marked s)) (next _ (join _ _ (clauses_noted N cases D W (p + size (deeper D) e + 2) last s)
+      (next _ (default_noted N cases D W (p + size (deeper D) e + 3 + clauses_size D cases) s)))))
   noted N (Loop place While c b) D W p s =
-      let E = loop_of 1 0 ∷ D in let m = size (loop_of 1 0 ∷ D) c in let n = body_size (loop_of 1 0 ∷ D) b in let V = ways (p + m + n + 3) (p + m + n + 2) ∷ W in
+      let E = loop_of 1 0 ∷ D in let m = size (loop_of 1 0 ∷ D) c in let n = body_size (loop_of 1 0 ∷ D) b in
+      let V = ways (p + m + n + 3) (p + m + n + 2) ∷ W in
       next _ (join _ _ (noted N c E V (p + 1) (marked s)) (next _ (join _ _ (body_noted N b E V (p + m + 2) s) refl)))
   noted N (Loop place Until c b) D W p s =
-      let E = loop_of 1 0 ∷ D in let m = size (loop_of 1 0 ∷ D) c in let n = body_size (loop_of 1 0 ∷ D) b in let V = ways (p + m + n + 4) (p + m + n + 3) ∷ W in
+      let E = loop_of 1 0 ∷ D in let m = size (loop_of 1 0 ∷ D) c in let n = body_size (loop_of 1 0 ∷ D) b in
+      let V = ways (p + m + n + 4) (p + m + n + 3) ∷ W in
       next _ (join _ _ (noted N c E V (p + 1) (marked s)) (next _ (next _ (join _ _ (body_noted N b E V (p + m + 3) s) refl))))
   noted N (Loop place Every c b) D W p s =
       let m = size (loop_of 1 1 ∷ D) c in let n = body_size (loop_of 2 1 ∷ D) b in let V = ways (p + m + n + 3) (p + m + n + 2) ∷ W in
@@ -110,21 +123,27 @@ mutual
   noted N (Create place e) D W p s = created_noted p (size [] e) s _ _ (noted N e [] [] (p + 2) (marked (start true)))
   noted N (Next place) D W p s = join _ _ (unmarked (dropped_by_next D) s) refl
   noted N (Fail place) D W p s = refl
-  noted N (Break place e) D W p s = join _ _ (unmarked (opened_in D) s) (join _ _ (noted N e (around D) (around W) (p + opened_in D) (drops (opened_in D) s)) refl)
+  noted N (Break place e) D W p s =
+      join _ _ (unmarked (opened_in D) s) (join _ _ (noted N e (around D) (around W) (p + opened_in D) (drops (opened_in D) s)) refl)
   noted N (Return place e) D W p s = next _ (join _ _ (noted N e (deeper D) W (p + 1) (marked s)) refl)
-  noted N (Suspend place e b) D W p s = next _ (join _ _ (noted N e (deeper D) W (p + 1) (marked s)) (next _ (next _ (join _ _ (body_noted N b (deeper (deeper D)) W (p + size (deeper D) e + 3) (marked s)) refl))))
+  noted N (Suspend place e b) D W p s = next _ (join _ _ (noted N e (deeper D) W (p + 1) (marked s))
+      (next _ (next _ (join _ _ (body_noted N b (deeper (deeper D)) W (p + size (deeper D) e + 3) (marked s)) refl))))
 
   operands_noted : (N : Names) (es : Trees) (D : List Depth) (W : List Ways) (p : ℕ) (s : Shape) → instrs (operands N D W p s es) ≡ C.operands N D W p es
   operands_noted N NoTrees D W p s = refl
   operands_noted N (More e es) D W p s = join _ _ (noted N e D W p s) (operands_noted N es D W (p + size D e) (more s))
 
-  pub elements_noted : (N : Names) (es : Trees) (D : List Depth) (W : List Ways) (p : ℕ) (s : Shape) → instrs (elements_code N D W p s es) ≡ C.elements_code N D W p es
+  pub elements_noted : (N : Names) (es : Trees) (D : List Depth) (W : List Ways) (p : ℕ) (s : Shape)
+      → instrs (elements_code N D W p s es) ≡ C.elements_code N D W p es
   elements_noted N NoTrees D W p s = refl
-  elements_noted N (More e es) D W p s = choose (is_no_element (More e es)) _ _ _ _ refl (join _ _ (noted N e D W p s) (operands_noted N es D W (p + size D e) (more s)))
+  elements_noted N (More e es) D W p s =
+      choose (is_no_element (More e es)) _ _ _ _ refl (join _ _ (noted N e D W p s) (operands_noted N es D W (p + size D e) (more s)))
 
-  conjunction_noted : (N : Names) (es : Trees) (D : List Depth) (W : List Ways) (p : ℕ) (s : Shape) → instrs (conjunction N D W p s es) ≡ C.conjunction N D W p es
+  conjunction_noted : (N : Names) (es : Trees) (D : List Depth) (W : List Ways) (p : ℕ) (s : Shape)
+      → instrs (conjunction N D W p s es) ≡ C.conjunction N D W p es
   conjunction_noted N NoTrees D W p s = refl
-  conjunction_noted N (More e es) D W p s = choose (is_nothing es) _ _ _ _ (noted N e D W p s) (join _ _ (noted N e D W p s) (next I.Pop (conjunction_noted N es D W (p + size D e + 1) s)))
+  conjunction_noted N (More e es) D W p s =
+      choose (is_nothing es) _ _ _ _ (noted N e D W p s) (join _ _ (noted N e D W p s) (next I.Pop (conjunction_noted N es D W (p + size D e + 1) s)))
 
   compound_noted : (N : Names) (es : Trees) (D : List Depth) (W : List Ways) (p : ℕ) (s : Shape) → instrs (compound N D W p s es) ≡ C.compound N D W p es
   compound_noted N NoTrees D W p s = refl
@@ -133,11 +152,17 @@ mutual
 
   pub creates_noted : (N : Names) (es : Trees) (p : ℕ) (s : Shape) → instrs (creates N p s es) ≡ C.creates N p es
   creates_noted N NoTrees p s = refl
-  creates_noted N (More e es) p s = join (create_notes p (size [] e) s (code N [] [] (p + 2) (marked (start true)) e)) (creates N (p + size [] e + 5) (more s) es) (created_noted p (size [] e) s (code N [] [] (p + 2) (marked (start true)) e) (C.code N [] [] (p + 2) e) (noted N e [] [] (p + 2) (marked (start true)))) (creates_noted N es (p + size [] e + 5) (more s))
+  creates_noted N (More e es) p s =
+      join (create_notes p (size [] e) s (code N [] [] (p + 2) (marked (start true)) e)) (creates N (p + size [] e + 5) (more s) es)
+      (created_noted p (size [] e) s (code N [] [] (p + 2) (marked (start true)) e) (C.code N [] [] (p + 2) e) (noted N e [] [] (p + 2) (marked (start true))))
+      (creates_noted N es (p + size [] e + 5) (more s))
 
   pub bodies_noted : (N : Names) (es : Trees) (p : ℕ) (s : Shape) → instrs (bodies_code N p s es) ≡ C.bodies_code N p es
   bodies_noted N NoTrees p s = refl
-  bodies_noted N (More e es) p s = choose (is_no_element (More e es)) _ _ _ _ refl (join (create_notes p (size [] e) s (code N [] [] (p + 2) (marked (start true)) e)) (creates N (p + size [] e + 5) (more s) es) (created_noted p (size [] e) s (code N [] [] (p + 2) (marked (start true)) e) (C.code N [] [] (p + 2) e) (noted N e [] [] (p + 2) (marked (start true)))) (creates_noted N es (p + size [] e + 5) (more s)))
+  bodies_noted N (More e es) p s = choose (is_no_element (More e es))
+      _ _ _ _ refl (join (create_notes p (size [] e) s (code N [] [] (p + 2) (marked (start true)) e)) (creates N (p + size [] e + 5) (more s) es)
+      (created_noted p (size [] e) s (code N [] [] (p + 2) (marked (start true)) e) (C.code N [] [] (p + 2) e) (noted N e [] [] (p + 2) (marked (start true))))
+      (creates_noted N es (p + size [] e + 5) (more s)))
 
   subscripts_noted : (N : Names) (es : Trees) (D : List Depth) (W : List Ways) (p : ℕ) (s : Shape) → instrs (subscripts N D W p s es) ≡ C.subscripts N D W p es
   subscripts_noted N NoTrees D W p s = refl
@@ -151,15 +176,19 @@ mutual
   body_noted N Absent D W p s = refl
   body_noted N (Present b) D W p s = next _ (join _ _ (noted N b D W (p + 1) (marked s)) refl)
 
-  pub clauses_noted : (N : Names) (cs : Clauses) (D : List Depth) (W : List Ways) (p last : ℕ) (s : Shape) → instrs (clauses_code N D W p last s cs) ≡ C.clauses_code N D W p last cs
+  pub clauses_noted : (N : Names) (cs : Clauses) (D : List Depth) (W : List Ways) (p last : ℕ) (s : Shape)
+      → instrs (clauses_code N D W p last s cs) ≡ C.clauses_code N D W p last cs
   clauses_noted N NoClauses D W p last s = refl
   clauses_noted N (MoreClauses c cs) D W p last s = join _ _ (clause_noted N c D W p last s) (clauses_noted N cs D W (p + clause_size D c) last s)
 
-  pub clause_noted : (N : Names) (c : Clause) (D : List Depth) (W : List Ways) (p last : ℕ) (s : Shape) → instrs (clause_code N D W p last s c) ≡ C.clause_code N D W p last c
+  pub clause_noted : (N : Names) (c : Clause) (D : List Depth) (W : List Ways) (p last : ℕ) (s : Shape)
+      → instrs (clause_code N D W p last s c) ≡ C.clause_code N D W p last c
   clause_noted N (Default place e) D W p last s = refl
-  clause_noted N (Guarded place c b) D W p last s = next _ (next _ (join _ _ (noted N c (deeper D) W (p + 2) (more (marked (more s)))) (next _ (next _ (next _ (join _ _ (noted N b D W (p + size (deeper D) c + 5) s) refl))))))
+  clause_noted N (Guarded place c b) D W p last s = next _ (next _ (join _ _ (noted N c (deeper D) W (p + 2) (more (marked (more s))))
+      (next _ (next _ (next _ (join _ _ (noted N b D W (p + size (deeper D) c + 5) s) refl))))))
 
-  default_noted : (N : Names) (cs : Clauses) (D : List Depth) (W : List Ways) (p : ℕ) (s : Shape) → instrs (default_code N D W p s cs) ≡ C.default_code N D W p cs
+  default_noted : (N : Names) (cs : Clauses) (D : List Depth) (W : List Ways) (p : ℕ) (s : Shape)
+      → instrs (default_code N D W p s cs) ≡ C.default_code N D W p cs
   default_noted N NoClauses D W p s = refl
   default_noted N (MoreClauses (Default place e) cs) D W p s = noted N e D W p s
   default_noted N (MoreClauses (Guarded place c b) cs) D W p s = default_noted N cs D W p s
@@ -199,7 +228,8 @@ by_len N by D W p s = same_len _ (by_noted N by D W p s) (Z.by_len N by D W p)
 pub body_len : (N : Names) (b : MaybeTree) (D : List Depth) (W : List Ways) (p : ℕ) (s : Shape) → length (body_code N D W p s b) ≡ body_size D b
 body_len N b D W p s = same_len _ (body_noted N b D W p s) (Z.body_len N b D W p)
 
-pub clauses_len : (N : Names) (cs : Clauses) (D : List Depth) (W : List Ways) (p last : ℕ) (s : Shape) → length (clauses_code N D W p last s cs) ≡ clauses_size D cs
+pub clauses_len : (N : Names) (cs : Clauses) (D : List Depth) (W : List Ways) (p last : ℕ) (s : Shape)
+    → length (clauses_code N D W p last s cs) ≡ clauses_size D cs
 clauses_len N cs D W p last s = same_len _ (clauses_noted N cs D W p last s) (Z.clauses_len N cs D W p last)
 
 pub clause_len : (N : Names) (c : Clause) (D : List Depth) (W : List Ways) (p last : ℕ) (s : Shape) → length (clause_code N D W p last s c) ≡ clause_size D c

@@ -11,7 +11,8 @@ many_more zero s = refl
 many_more (suc n) s = ap more (many_more n s)
 
 module _ (At : ℕ → Shape → Type 0) where
-  pub cut : (xs ys : List Note) (p z : ℕ) → length xs ≡ z → Has At p (xs ++ ys) → Has At p xs × Has At (p + z) ys × (AllFine At p xs → AllFine At (p + z) ys → AllFine At p (xs ++ ys))
+  pub cut : (xs ys : List Note) (p z : ℕ) → length xs ≡ z → Has At p (xs ++ ys)
+      → Has At p xs × Has At (p + z) ys × (AllFine At p xs → AllFine At (p + z) ys → AllFine At p (xs ++ ys))
   cut [] ys p zero e h = (tt, subst (λ q. Has At q ys) (omega arith) h, λ a b. subst (λ q. AllFine At q ys) (omega arith) b)
   cut [] ys p (suc z) e h = absurd (omega arith)
   cut (x ∷ xs) ys p zero e h = absurd (omega arith)
@@ -24,17 +25,20 @@ module _ (At : ℕ → Shape → Type 0) where
   pub later : (m k : ℕ) → k ≤ m → suc m - k ≡ suc (m - k)
   later m k h = omega arith
 
-  pub under : {r : ℕ} {D : List Depth} {W : List Ways} {B : List Bool} {c : Bool} {s : Shape} (k : Level) → Ctx At r D W B c s → Ctx At r (deeper D) W B c (inside k s)
+  pub under : {r : ℕ} {D : List Depth} {W : List Ways} {B : List Bool} {c : Bool} {s : Shape} (k : Level) → Ctx At r D W B c s
+      → Ctx At r (deeper D) W B c (inside k s)
   under k (c_proper s e) = c_proper (inside k s) e
   under k (c_create s e) = c_create (inside k s) e
   under k (c_loop d u v l n_no r) = c_loop (d_suc k d) u v l n_no r
-  under k (c_loop {m = m} {k = j} {s = s} d u v l (n_yes {t = t} h d' g) r) = c_loop (d_suc k d) u v l (n_yes {t = t} (omega arith) (subst (λ z. Drop (suc z) (inside k s) t) (sym (later m j h)) (d_suc k d')) g) r
+  under k (c_loop {m = m} {k = j} {s = s} d u v l (n_yes {t = t} h d' g) r) =
+      c_loop (d_suc k d) u v l (n_yes {t = t} (omega arith) (subst (λ z. Drop (suc z) (inside k s) t) (sym (later m j h)) (d_suc k d')) g) r
 
   drop_level : {m : ℕ} {s t : Shape} (k : Level) → Drop (suc m) s t → Drop (suc m) (record s { inner = k }) t
   drop_level k (d_suc j d) = d_suc k d
 
   -- another level in place of the innermost
-  pub level : {r : ℕ} {D : List Depth} {W : List Ways} {B : List Bool} {c : Bool} {s : Shape} (k : Level) → Ctx At r D W B c s → Ctx At r D W B c (record s { inner = k })
+  pub level : {r : ℕ} {D : List Depth} {W : List Ways} {B : List Bool} {c : Bool} {s : Shape} (k : Level) → Ctx At r D W B c s
+      → Ctx At r D W B c (record s { inner = k })
   level k (c_proper s e) = c_proper _ e
   level k (c_create s e) = c_create _ e
   level k (c_loop d u v l n_no r) = c_loop (drop_level k d) u v l n_no r

@@ -51,7 +51,8 @@ may_next x_loop = refl
 may_next x_each = refl
 
 -- a `break` leaves the innermost loop
-breaks : (L : Linkage) (j : ℕ) (N : Names) {n : Nest} (place : Place) (e : Tree) → HasLoop n → Fit L j N (loops (outside n)) (proper (outside n)) e → Fit L j N (loops n) (proper n) (T.Break place e)
+breaks : (L : Linkage) (j : ℕ) (N : Names) {n : Nest} (place : Place) (e : Tree) → HasLoop n → Fit L j N (loops (outside n)) (proper (outside n)) e
+    → Fit L j N (loops n) (proper n) (T.Break place e)
 breaks L j N place e (h_mark h) f = breaks L j N place e h f
 breaks L j N place e (h_scan h) f = breaks L j N place e h f
 breaks L j N place e h_loop f = f

@@ -44,13 +44,15 @@ main_begun K es o all l =
     let e = live_entry (Entry K) es 0 l in
     subst IsBegun (sym e.1) (main_case K o e.0 e.0.status (all 0 e.0 e.1).status)
 
-pub kept_more : (K : Type 0) (es es' : List (Entry K)) (a : ℕ) (running : Running K) (e : Entry K) (stack : SeenStack) → Kept es a running → es' ≡ es ++ e ∷ [] → e.status ≡ Fresh stack
+pub kept_more : (K : Type 0) (es es' : List (Entry K)) (a : ℕ) (running : Running K) (e : Entry K) (stack : SeenStack) → Kept es a running → es' ≡ es ++ e ∷ []
+    → e.status ≡ Fresh stack
     → stack.flat ≡ flat.begin e.proc e.values.items e.place → e.activator ≡ 0 → Kept es' a running
 kept_more K es es' a running e stack k p q f r =
     let h = here_entry K running (slice_get es a) k.here in
     let inside : a < length es = slice_get_within es a h.0 h.1 in
     let some : 0 < length es = omega arith in
-    let b : IsBegun (slice_get (es ++ e ∷ []) e.activator) = subst (λ (w : ℕ). IsBegun (slice_get (es ++ e ∷ []) w)) (sym r) (begun_more K es e 0 (main_begun K es (Some a) k.all some)) in
+    let b : IsBegun (slice_get (es ++ e ∷ []) e.activator) = subst (λ (w : ℕ). IsBegun (slice_get (es ++ e ∷ []) w)) (sym r)
+    (begun_more K es e 0 (main_begun K es (Some a) k.all some)) in
     let last : StatusFits (Some a) (length es) e e.status = subst (λ (w : Status K). StatusFits (Some a) (length es) e w) (sym q) (some, f) in
     let new : Fits (es ++ e ∷ []) (Some a) (length es) e = record { status = last; activator = b } in
     let all : AllFit (es ++ e ∷ []) (Some a) = λ i x g. elim (get_one_more (Entry K) es e x i g) as (λ w. Fits (es ++ e ∷ []) (Some a) i x) [
@@ -59,11 +61,13 @@ kept_more K es es' a running e stack k p q f r =
           let z : Fits (es ++ e ∷ []) (Some a) i e = subst (λ (w : ℕ). Fits (es ++ e ∷ []) (Some a) w e) (sym y.0) new in
           subst (λ (w : Entry K). Fits (es ++ e ∷ []) (Some a) i w) (sym y.1) z
     ] in
-    let here : IsHere running (slice_get (es ++ e ∷ []) a) = subst (IsHere running) (sym (get_more (Entry K) es e h.0 a h.1)) (subst (IsHere running) h.1 k.here) in
+    let here : IsHere running (slice_get (es ++ e ∷ []) a) = subst (IsHere running) (sym (get_more (Entry K) es e h.0 a h.1))
+    (subst (IsHere running) h.1 k.here) in
     subst (λ (w : List (Entry K)). Kept w a running) (sym p) (record { all = all; here = here })
 
 -- one more, made as another one was
-pub copied_is : (K : Type 0) (es : List (Entry K)) (t : Table) (id : ℕ) (e : Entry K) (values : List Val) → slice_get es id ≡ Some e → t.coexps ≡ map coexp_seen es → values ≡ e.values.items
+pub copied_is : (K : Type 0) (es : List (Entry K)) (t : Table) (id : ℕ) (e : Entry K) (values : List Val) → slice_get es id ≡ Some e
+    → t.coexps ≡ map coexp_seen es → values ≡ e.values.items
     → with_new values e.proc e.place t ≡ with_copy t (slice_get t.coexps id)
 copied_is K es t id e values g p q =
     ap (λ (w : List Val). with_new w e.proc e.place t) q

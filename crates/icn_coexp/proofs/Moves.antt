@@ -27,7 +27,8 @@ here_entry K running None h = absurd h
 source_in : (K : Type 0) (o : Option (Entry K)) (e : Entry K) → o ≡ Some e → activator_in (option_map coexp_seen o) ≡ e.activator
 source_in K o e p = ap (λ (w : Option (Entry K)). activator_in (option_map coexp_seen w)) p
 
-pub source_begun : (K : Type 0) (es : List (Entry K)) (a to : ℕ) (running : Running K) → Kept es a running → to ≡ source (table_seen es a running) → IsBegun (slice_get es to)
+pub source_begun : (K : Type 0) (es : List (Entry K)) (a to : ℕ) (running : Running K) → Kept es a running → to ≡ source (table_seen es a running)
+    → IsBegun (slice_get es to)
 source_begun K es a to running k p =
     let e = here_entry K running (slice_get es a) k.here in
     let q : to ≡ e.0.activator = p ∙ ap activator_in (slice_get-map coexp_seen es a) ∙ source_in K (slice_get es a) e.0 e.1 in
@@ -40,27 +41,33 @@ begun_entry K None b = absurd b
 pub begun_live : (K : Type 0) (es : List (Entry K)) (n : ℕ) → IsBegun (slice_get es n) → n < length es
 begun_live K es n b = let e = begun_entry K (slice_get es n) b in slice_get_within es n e.0 e.1
 
-pub source_live : (K : Type 0) (es : List (Entry K)) (a to : ℕ) (running : Running K) → Kept es a running → to ≡ source (table_seen es a running) → to < length es
+pub source_live : (K : Type 0) (es : List (Entry K)) (a to : ℕ) (running : Running K) → Kept es a running → to ≡ source (table_seen es a running)
+    → to < length es
 source_live K es a to running k p = begun_live K es to (source_begun K es a to running k p)
 
-pub begun_after : (K : Type 0) (es : List (Entry K)) (n i : ℕ) (s : Status K) (e : Entry K) → slice_get es n ≡ Some e → HasBegun s → IsBegun (slice_get es i) → IsBegun (slice_get (status_put n s es) i)
-begun_after K es n i s e g h b = subst (λ (w : List (Entry K)). IsBegun (slice_get w i)) (sym (status_put_is K es n s e g)) (begun_put K es n i (record e { status = s }) (λ k. h) b)
+pub begun_after : (K : Type 0) (es : List (Entry K)) (n i : ℕ) (s : Status K) (e : Entry K) → slice_get es n ≡ Some e → HasBegun s → IsBegun (slice_get es i)
+    → IsBegun (slice_get (status_put n s es) i)
+begun_after K es n i s e g h b =
+    subst (λ (w : List (Entry K)). IsBegun (slice_get w i)) (sym (status_put_is K es n s e g)) (begun_put K es n i (record e { status = s }) (λ k. h) b)
 
 -- the active one waits
 
-pub left_fits : (K : Type 0) (es es' : List (Entry K)) (a : ℕ) (running : Running K) → Kept es a running → 0 < room_of running → WaitsIn a running es es' → AllFit es' None
+pub left_fits : (K : Type 0) (es es' : List (Entry K)) (a : ℕ) (running : Running K) → Kept es a running → 0 < room_of running → WaitsIn a running es es'
+    → AllFit es' None
 left_fits K es es' a HopDue k r w = absurd w
 left_fits K es es' a (On stack) k r w =
     let e = here_entry K (On stack) (slice_get es a) k.here in
     subst (λ (v : List (Entry K)). AllFit v None) (sym w) (wait_fits K es a stack e.0 e.1 k.all r)
 
-pub left_begun : (K : Type 0) (es es' : List (Entry K)) (a i : ℕ) (running : Running K) → Kept es a running → WaitsIn a running es es' → IsBegun (slice_get es i) → IsBegun (slice_get es' i)
+pub left_begun : (K : Type 0) (es es' : List (Entry K)) (a i : ℕ) (running : Running K) → Kept es a running → WaitsIn a running es es'
+    → IsBegun (slice_get es i) → IsBegun (slice_get es' i)
 left_begun K es es' a i HopDue k w b = absurd w
 left_begun K es es' a i (On stack) k w b =
     let e = here_entry K (On stack) (slice_get es a) k.here in
     subst (λ (v : List (Entry K)). IsBegun (slice_get v i)) (sym w) (begun_after K es a i (Waiting stack) e.0 e.1 tt b)
 
-pub left_seen : (K : Type 0) (es es' : List (Entry K)) (a : ℕ) (running : Running K) → WaitsIn a running es es' → with_waiting (table_seen es a running) ≡ record { coexps = map coexp_seen es'; active = a; running = running_seen running }
+pub left_seen : (K : Type 0) (es es' : List (Entry K)) (a : ℕ) (running : Running K) → WaitsIn a running es es'
+    → with_waiting (table_seen es a running) ≡ record { coexps = map coexp_seen es'; active = a; running = running_seen running }
 left_seen K es es' a HopDue w = absurd w
 left_seen K es es' a (On stack) w =
     let F : List Coexp → Table = λ v. record { coexps = v; active = a; running = Some stack.flat } in
@@ -83,10 +90,12 @@ failed_case K n e Exhausted f h x = cc
 pub status_is : (K : Type 0) (es : List (Entry K)) (n : ℕ) (e : Entry K) → slice_get es n ≡ Some e → status_at n es ≡ Some e.status
 status_is K es n e g = ap (option_map (λ (x : Entry K). x.status)) g
 
-pub tested : (K : Type 0) (es : List (Entry K)) (n : ℕ) (e : Entry K) (b : Bool) → slice_get es n ≡ Some e → IfSome (status_at n es) (λ s. b ≡ exhausted_of (status_seen s)) → b ≡ exhausted_of (status_seen e.status)
+pub tested : (K : Type 0) (es : List (Entry K)) (n : ℕ) (e : Entry K) (b : Bool) → slice_get es n ≡ Some e
+    → IfSome (status_at n es) (λ s. b ≡ exhausted_of (status_seen s)) → b ≡ exhausted_of (status_seen e.status)
 tested K es n e b g t = subst (λ (w : Option (Status K)). IfSome w (λ s. b ≡ exhausted_of (status_seen s))) (status_is K es n e g) t
 
-pub can_give : (K : Type 0) (es : List (Entry K)) (n : ℕ) (b : Bool) → AllFit es None → n < length es → IfSome (status_at n es) (λ s. b ≡ exhausted_of (status_seen s)) → b ≡ false → CanBeGiven (status_at n es)
+pub can_give : (K : Type 0) (es : List (Entry K)) (n : ℕ) (b : Bool) → AllFit es None → n < length es
+    → IfSome (status_at n es) (λ s. b ≡ exhausted_of (status_seen s)) → b ≡ false → CanBeGiven (status_at n es)
 can_give K es n b all l t p =
     let e = live_entry (Entry K) es n l in
     subst CanBeGiven (sym (status_is K es n e.0 e.1)) (given_case K n e.0 e.0.status (all n e.0 e.1).status (sym (tested K es n e.0 b e.1 t) ∙ p))
@@ -94,15 +103,19 @@ can_give K es n b all l t p =
 begun_status : (K : Type 0) (es : List (Entry K)) (n : ℕ) (e : Entry K) → slice_get es n ≡ Some e → IsBegun (slice_get es n) → HasBegun e.status
 begun_status K es n e g b = subst IsBegun g b
 
-pub can_fail : (K : Type 0) (es : List (Entry K)) (n : ℕ) (b : Bool) → AllFit es None → IsBegun (slice_get es n) → IfSome (status_at n es) (λ s. b ≡ exhausted_of (status_seen s)) → b ≡ false → CanFail (status_at n es)
+pub can_fail : (K : Type 0) (es : List (Entry K)) (n : ℕ) (b : Bool) → AllFit es None → IsBegun (slice_get es n)
+    → IfSome (status_at n es) (λ s. b ≡ exhausted_of (status_seen s)) → b ≡ false → CanFail (status_at n es)
 can_fail K es n b all h t p =
     let e = begun_entry K (slice_get es n) h in
-    subst CanFail (sym (status_is K es n e.0 e.1)) (failed_case K n e.0 e.0.status (all n e.0 e.1).status (begun_status K es n e.0 e.1 h) (sym (tested K es n e.0 b e.1 t) ∙ p))
+    subst CanFail (sym (status_is K es n e.0 e.1))
+    (failed_case K n e.0 e.0.status (all n e.0 e.1).status (begun_status K es n e.0 e.1 h) (sym (tested K es n e.0 b e.1 t) ∙ p))
 
-pub kept_on : (K : Type 0) (es es' : List (Entry K)) (n : ℕ) (stack : SeenStack) → AllFit es None → n < length es → es' ≡ status_put n Active es → Kept es' n (On stack)
+pub kept_on : (K : Type 0) (es es' : List (Entry K)) (n : ℕ) (stack : SeenStack) → AllFit es None → n < length es → es' ≡ status_put n Active es
+    → Kept es' n (On stack)
 kept_on K es es' n stack all l p =
     let e = live_entry (Entry K) es n l in
-    let k : Kept (status_put n Active es) n (On stack) = record { all = active_fits K es n e.0 e.1 all; here = subst (IsHere (On stack)) (sym (entry_after K es n Active e.0 e.1)) tt } in
+    let k : Kept (status_put n Active es) n (On stack) =
+    record { all = active_fits K es n e.0 e.1 all; here = subst (IsHere (On stack)) (sym (entry_after K es n Active e.0 e.1)) tt } in
     subst (λ (w : List (Entry K)). Kept w n (On stack)) (sym p) k
 
 hop_case : (K : Type 0) (s : Status K) → exhausted_of (status_seen s) ≡ true → RunsAs HopDue s
@@ -111,24 +124,29 @@ hop_case K Active x = cc
 hop_case K (Waiting stack) x = cc
 hop_case K Exhausted x = tt
 
-pub kept_hop : (K : Type 0) (es : List (Entry K)) (n : ℕ) (b : Bool) → AllFit es None → n < length es → IfSome (status_at n es) (λ s. b ≡ exhausted_of (status_seen s)) → b ≡ true → Kept es n HopDue
+pub kept_hop : (K : Type 0) (es : List (Entry K)) (n : ℕ) (b : Bool) → AllFit es None → n < length es
+    → IfSome (status_at n es) (λ s. b ≡ exhausted_of (status_seen s)) → b ≡ true → Kept es n HopDue
 kept_hop K es n b all l t p =
     let e = live_entry (Entry K) es n l in
     record { all = none_fits K es n all; here = subst (IsHere HopDue) (sym e.1) (hop_case K e.0.status (sym (tested K es n e.0 b e.1 t) ∙ p)) }
 
 -- the same as it is seen
 
-pub seen_of : (K : Type 0) (es : List (Entry K)) (n a : ℕ) (r : Option FlatStack) (e : Entry K) → slice_get es n ≡ Some e → status_of n (record { coexps = map coexp_seen es; active = a; running = r }) ≡ status_seen e.status
+pub seen_of : (K : Type 0) (es : List (Entry K)) (n a : ℕ) (r : Option FlatStack) (e : Entry K) → slice_get es n ≡ Some e
+    → status_of n (record { coexps = map coexp_seen es; active = a; running = r }) ≡ status_seen e.status
 seen_of K es n a r e g = ap status_in (slice_get-map coexp_seen es n ∙ ap (option_map coexp_seen) g)
 
 on_seen : (K : Type 0) (es : List (Entry K)) (n a : ℕ) (r : Option FlatStack) (m m' : FlatStack) → m ≡ m'
-    → on_stack n m' (record { coexps = map coexp_seen es; active = a; running = r }) ≡ record { coexps = map coexp_seen (status_put n Active es); active = n; running = Some m }
+    → on_stack n m' (record { coexps = map coexp_seen es; active = a; running = r })
+    ≡ record { coexps = map coexp_seen (status_put n Active es); active = n; running = Some m }
 on_seen K es n a r m m' p =
     let F : List Coexp → FlatStack → Table = λ v w. record { coexps = v; active = n; running = Some w } in
     ap (λ (v : List Coexp). F v m') (seen_status K es n Active) ∙ ap (F (map coexp_seen (status_put n Active es))) (sym p)
 
-give_case : (K : Type 0) (es : List (Entry K)) (n a : ℕ) (r : Option FlatStack) (v : Val) (e : Entry K) (s : Status K) (m : FlatStack) → slice_get es n ≡ Some e → StatusFits None n e s → IsGiven v (Some s) m
-    → give_by n v (record { coexps = map coexp_seen es; active = a; running = r }) (status_seen s) ≡ Some (record { coexps = map coexp_seen (status_put n Active es); active = n; running = Some m })
+give_case : (K : Type 0) (es : List (Entry K)) (n a : ℕ) (r : Option FlatStack) (v : Val) (e : Entry K) (s : Status K) (m : FlatStack) → slice_get es n ≡ Some e
+    → StatusFits None n e s → IsGiven v (Some s) m
+    → give_by n v (record { coexps = map coexp_seen es; active = a; running = r }) (status_seen s)
+    ≡ Some (record { coexps = map coexp_seen (status_put n Active es); active = n; running = Some m })
 give_case K es n a r v e (Fresh stack) m g f i =
     let T : Table = record { coexps = map coexp_seen es; active = a; running = r } in
     ap (λ (w : Option Coexp). Some (begin_by n T w)) (slice_get-map coexp_seen es n ∙ ap (option_map coexp_seen) g)
@@ -137,8 +155,10 @@ give_case K es n a r v e Active m g f i = absurd i
 give_case K es n a r v e (Waiting stack) m g f i = ap (λ (w : Table). Some w) (on_seen K es n a r m (flat.push (Items.Val v) stack.flat) i)
 give_case K es n a r v e Exhausted m g f i = absurd i
 
-pub give_seen : (K : Type 0) (es : List (Entry K)) (n a : ℕ) (r : Option FlatStack) (v : Val) (m : FlatStack) → AllFit es None → n < length es → IsGiven v (status_at n es) m
-    → enter_with n v (record { coexps = map coexp_seen es; active = a; running = r }) ≡ Some (record { coexps = map coexp_seen (status_put n Active es); active = n; running = Some m })
+pub give_seen : (K : Type 0) (es : List (Entry K)) (n a : ℕ) (r : Option FlatStack) (v : Val) (m : FlatStack) → AllFit es None → n < length es
+    → IsGiven v (status_at n es) m
+    → enter_with n v (record { coexps = map coexp_seen es; active = a; running = r })
+    ≡ Some (record { coexps = map coexp_seen (status_put n Active es); active = n; running = Some m })
 give_seen K es n a r v m all l i =
     let e = live_entry (Entry K) es n l in
     let T : Table = record { coexps = map coexp_seen es; active = a; running = r } in
@@ -146,14 +166,16 @@ give_seen K es n a r v m all l i =
     ∙ give_case K es n a r v e.0 e.0.status m e.1 (all n e.0 e.1).status (subst (λ (w : Option (Status K)). IsGiven v w m) (status_is K es n e.0 e.1) i)
 
 fail_case : (K : Type 0) (es : List (Entry K)) (n a : ℕ) (r : Option FlatStack) (s : Status K) (m : FlatStack) → Comes (Some s) m
-    → fail_by n (record { coexps = map coexp_seen es; active = a; running = r }) (status_seen s) ≡ Some (record { coexps = map coexp_seen (status_put n Active es); active = n; running = Some m })
+    → fail_by n (record { coexps = map coexp_seen es; active = a; running = r }) (status_seen s)
+    ≡ Some (record { coexps = map coexp_seen (status_put n Active es); active = n; running = Some m })
 fail_case K es n a r (Fresh stack) m i = absurd i
 fail_case K es n a r Active m i = absurd i
 fail_case K es n a r (Waiting stack) m i = ap (λ (w : Table). Some w) (on_seen K es n a r m stack.flat i)
 fail_case K es n a r Exhausted m i = absurd i
 
 pub fail_seen : (K : Type 0) (es : List (Entry K)) (n a : ℕ) (r : Option FlatStack) (m : FlatStack) → n < length es → Comes (status_at n es) m
-    → enter_failing n (record { coexps = map coexp_seen es; active = a; running = r }) ≡ Some (record { coexps = map coexp_seen (status_put n Active es); active = n; running = Some m })
+    → enter_failing n (record { coexps = map coexp_seen es; active = a; running = r })
+    ≡ Some (record { coexps = map coexp_seen (status_put n Active es); active = n; running = Some m })
 fail_seen K es n a r m l i =
     let e = live_entry (Entry K) es n l in
     let T : Table = record { coexps = map coexp_seen es; active = a; running = r } in
@@ -166,13 +188,15 @@ exhausted_case code.Active x = cc
 exhausted_case (code.Waiting m) x = cc
 exhausted_case code.Exhausted x = refl
 
-pub status_exhausted : (K : Type 0) (es : List (Entry K)) (n a : ℕ) (r : Option FlatStack) (b : Bool) → n < length es → IfSome (status_at n es) (λ s. b ≡ exhausted_of (status_seen s)) → b ≡ true
+pub status_exhausted : (K : Type 0) (es : List (Entry K)) (n a : ℕ) (r : Option FlatStack) (b : Bool) → n < length es
+    → IfSome (status_at n es) (λ s. b ≡ exhausted_of (status_seen s)) → b ≡ true
     → status_of n (record { coexps = map coexp_seen es; active = a; running = r }) ≡ code.Exhausted
 status_exhausted K es n a r b l t p =
     let e = live_entry (Entry K) es n l in
     seen_of K es n a r e.0 e.1 ∙ exhausted_case (status_seen e.0.status) (sym (tested K es n e.0 b e.1 t) ∙ p)
 
-pub status_other : (K : Type 0) (es : List (Entry K)) (n a : ℕ) (r : Option FlatStack) (b : Bool) → n < length es → IfSome (status_at n es) (λ s. b ≡ exhausted_of (status_seen s)) → b ≡ false
+pub status_other : (K : Type 0) (es : List (Entry K)) (n a : ℕ) (r : Option FlatStack) (b : Bool) → n < length es
+    → IfSome (status_at n es) (λ s. b ≡ exhausted_of (status_seen s)) → b ≡ false
     → exhausted_of (status_of n (record { coexps = map coexp_seen es; active = a; running = r })) ≡ false
 status_other K es n a r b l t p =
     let e = live_entry (Entry K) es n l in
@@ -180,7 +204,8 @@ status_other K es n a r b l t p =
 
 -- The active one gives a value to what entered it last.
 
-pub give_on : (K : Type 0) (es es1 es2 : List (Entry K)) (a to : ℕ) (running : Running K) (v : Val) (m : FlatStack) → to ≡ source (table_seen es a running) → WaitsIn a running es es1
+pub give_on : (K : Type 0) (es es1 es2 : List (Entry K)) (a to : ℕ) (running : Running K) (v : Val) (m : FlatStack) → to ≡ source (table_seen es a running)
+    → WaitsIn a running es es1
     → AllFit es1 None → to < length es1 → IsGiven v (status_at to es1) m → es2 ≡ status_put to Active es1
     → give v (table_seen es a running) ≡ Some (record { coexps = map coexp_seen es2; active = to; running = Some m })
 give_on K es es1 es2 a to running v m p w all l i e =
@@ -191,7 +216,8 @@ give_on K es es1 es2 a to running v m p w all l i e =
     ∙ give_seen K es1 to a (running_seen running) v m all l i
     ∙ ap F (sym e)
 
-pub give_hop : (K : Type 0) (es es1 : List (Entry K)) (a to : ℕ) (running left : Running K) (v : Val) (b : Bool) → to ≡ source (table_seen es a running) → WaitsIn a running es es1
+pub give_hop : (K : Type 0) (es es1 : List (Entry K)) (a to : ℕ) (running left : Running K) (v : Val) (b : Bool) → to ≡ source (table_seen es a running)
+    → WaitsIn a running es es1
     → to < length es1 → IfSome (status_at to es1) (λ s. b ≡ exhausted_of (status_seen s)) → b ≡ true → left ≡ HopDue
     → give v (table_seen es a running) ≡ Some (table_seen es1 to left)
 give_hop K es es1 a to running left v b p w l t x h =
@@ -203,17 +229,20 @@ give_hop K es es1 a to running left v b p w l t x h =
 
 -- The active one is exhausted.
 
-pub end_fits : (K : Type 0) (es es1 : List (Entry K)) (a : ℕ) (running : Running K) → Kept es a running → 0 < a → es1 ≡ status_put a Exhausted es → AllFit es1 None
+pub end_fits : (K : Type 0) (es es1 : List (Entry K)) (a : ℕ) (running : Running K) → Kept es a running → 0 < a → es1 ≡ status_put a Exhausted es
+    → AllFit es1 None
 end_fits K es es1 a running k r p =
     let e = here_entry K running (slice_get es a) k.here in
     subst (λ (w : List (Entry K)). AllFit w None) (sym p) (exhausted_fits K es a e.0 e.1 k.all r)
 
-pub end_begun : (K : Type 0) (es es1 : List (Entry K)) (a i : ℕ) (running : Running K) → Kept es a running → es1 ≡ status_put a Exhausted es → IsBegun (slice_get es i) → IsBegun (slice_get es1 i)
+pub end_begun : (K : Type 0) (es es1 : List (Entry K)) (a i : ℕ) (running : Running K) → Kept es a running → es1 ≡ status_put a Exhausted es
+    → IsBegun (slice_get es i) → IsBegun (slice_get es1 i)
 end_begun K es es1 a i running k p b =
     let e = here_entry K running (slice_get es a) k.here in
     subst (λ (w : List (Entry K)). IsBegun (slice_get w i)) (sym p) (begun_after K es a i Exhausted e.0 e.1 tt b)
 
-pub exhaust_on : (K : Type 0) (es es1 es2 : List (Entry K)) (a to : ℕ) (running : Running K) (m : FlatStack) → to ≡ source (table_seen es a running) → es1 ≡ status_put a Exhausted es
+pub exhaust_on : (K : Type 0) (es es1 es2 : List (Entry K)) (a to : ℕ) (running : Running K) (m : FlatStack) → to ≡ source (table_seen es a running)
+    → es1 ≡ status_put a Exhausted es
     → to < length es1 → Comes (status_at to es1) m → es2 ≡ status_put to Active es1
     → exhaust (table_seen es a running) ≡ Some (record { coexps = map coexp_seen es2; active = to; running = Some m })
 exhaust_on K es es1 es2 a to running m p w l i e =
@@ -224,7 +253,8 @@ exhaust_on K es es1 es2 a to running m p w l i e =
     ∙ fail_seen K es1 to a (running_seen running) m l i
     ∙ ap F (sym e)
 
-pub exhaust_hop : (K : Type 0) (es es1 : List (Entry K)) (a to : ℕ) (running : Running K) (b : Bool) → to ≡ source (table_seen es a running) → es1 ≡ status_put a Exhausted es
+pub exhaust_hop : (K : Type 0) (es es1 : List (Entry K)) (a to : ℕ) (running : Running K) (b : Bool) → to ≡ source (table_seen es a running)
+    → es1 ≡ status_put a Exhausted es
     → to < length es1 → IfSome (status_at to es1) (λ s. b ≡ exhausted_of (status_seen s)) → b ≡ true
     → exhaust (table_seen es a running) ≡ Some (record { coexps = map coexp_seen es1; active = to; running = None })
 exhaust_hop K es es1 a to running b p w l t x =
@@ -261,7 +291,8 @@ active_case K stack (Some e) h = by_status e.status h
     by_status (Waiting f) h = absurd h
     by_status Exhausted h = absurd h
 
-pub active_begun : (K : Type 0) (es es' : List (Entry K)) (a : ℕ) (running : Running K) → Kept es a running → WaitsIn a running es es' → IsBegun (slice_get es' a)
+pub active_begun : (K : Type 0) (es es' : List (Entry K)) (a : ℕ) (running : Running K) → Kept es a running → WaitsIn a running es es'
+    → IsBegun (slice_get es' a)
 active_begun K es es' a HopDue k w = absurd w
 active_begun K es es' a (On stack) k w = left_begun K es es' a a (On stack) k w (active_case K stack (slice_get es a) k.here)
 
@@ -279,21 +310,24 @@ pub record Turned (K : Type 0) (es es1 es2 : List (Entry K)) (a n : ℕ) (runnin
   pub live : n < length es2
   pub status : status_at n es2 ≡ status_at n es
 
-pub turned : (K : Type 0) (es es1 es2 : List (Entry K)) (a n : ℕ) (running : Running K) → Kept es a running → 0 < room_of running → WaitsIn a running es es1 → es2 ≡ activator_put n a es1 → n ≢ a → n < length es1 → Turned K es es1 es2 a n running
+pub turned : (K : Type 0) (es es1 es2 : List (Entry K)) (a n : ℕ) (running : Running K) → Kept es a running → 0 < room_of running → WaitsIn a running es es1
+    → es2 ≡ activator_put n a es1 → n ≢ a → n < length es1 → Turned K es es1 es2 a n running
 turned K es es1 es2 a n running k r w p d l =
     let e = live_entry (Entry K) es1 n l in
     let all1 : AllFit es1 None = left_fits K es es1 a running k r w in
     let all2 : AllFit (activator_put n a es1) None = activator_fits K es1 n a e.0 e.1 all1 (active_begun K es es1 a running k w) in
     let q : es2 ≡ slice_set es1 n (record e.0 { activator = a }) = p ∙ activator_put_is K es1 n a e.0 e.1 in
     let len : length es2 ≡ length es1 = ap length q ∙ length-set es1 n (record e.0 { activator = a }) in
-    let at : slice_get es2 n ≡ Some (record e.0 { activator = a }) = ap (λ (x : List (Entry K)). slice_get x n) q ∙ put_here (Entry K) es1 n (record e.0 { activator = a }) e.0 e.1 in
+    let at : slice_get es2 n ≡ Some (record e.0 { activator = a }) = ap (λ (x : List (Entry K)). slice_get x n) q
+    ∙ put_here (Entry K) es1 n (record e.0 { activator = a }) e.0 e.1 in
     record {
       fits = subst (λ (x : List (Entry K)). AllFit x None) (sym p) all2;
       live = omega (arith, len, l);
       status = status_is K es2 n (record e.0 { activator = a }) at ∙ sym (status_is K es1 n e.0 e.1) ∙ left_length K es es1 a n running w d;
     }
 
-pub enter_on : (K : Type 0) (es es1 es2 es3 : List (Entry K)) (a n : ℕ) (running : Running K) (v : Val) (m : FlatStack) → WaitsIn a running es es1 → es2 ≡ activator_put n a es1
+pub enter_on : (K : Type 0) (es es1 es2 es3 : List (Entry K)) (a n : ℕ) (running : Running K) (v : Val) (m : FlatStack) → WaitsIn a running es es1
+    → es2 ≡ activator_put n a es1
     → AllFit es2 None → n < length es2 → IsGiven v (status_at n es2) m → es3 ≡ status_put n Active es2
     → enter_other n v (table_seen es a running) ≡ Some (record { coexps = map coexp_seen es3; active = n; running = Some m })
 enter_on K es es1 es2 es3 a n running v m w p all l i e =

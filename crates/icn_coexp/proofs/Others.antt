@@ -47,7 +47,8 @@ unfolding list_in
 same_list t u e = ap (λ (w : Option Table). list_in w t.coexps) e
 
 give_others : (n i : ℕ) (v : Val) (t u : Table) (s : code.Status FlatStack) → give_by n v t s ≡ Some u → i ≢ n → slice_get u.coexps i ≡ slice_get t.coexps i
-give_others n i v t u code.Fresh e d = ap (λ (w : List Coexp). slice_get w i) (sym (same_list (begin_by n t (slice_get t.coexps n)) u e)) ∙ begin_others n i t (slice_get t.coexps n) d
+give_others n i v t u code.Fresh e d =
+    ap (λ (w : List Coexp). slice_get w i) (sym (same_list (begin_by n t (slice_get t.coexps n)) u e)) ∙ begin_others n i t (slice_get t.coexps n) d
 give_others n i v t u code.Active e d = cc
 give_others n i v t u (code.Waiting m) e d = ap (λ (w : List Coexp). slice_get w i) (sym (same_list _ u e)) ∙ status_others n i code.Active t.coexps d
 give_others n i v t u code.Exhausted e d = ap (λ (w : List Coexp). slice_get w i) (sym (same_list _ u e))
@@ -65,7 +66,8 @@ enter_keeps n v t u e = λ i d f.
     give_others n i v next u (status_of n next) e f ∙ activator_others n i t.active left.coexps f ∙ wait_others t i t.running d
 
 pub give_keeps : (v : Val) (t u : Table) → give v t ≡ Some u → KeepsOthers t.active (source t) t.coexps u.coexps
-give_keeps v t u e = λ i d f. let left : Table = with_waiting t in give_others (source t) i v left u (status_of (source t) left) e f ∙ wait_others t i t.running d
+give_keeps v t u e =
+    λ i d f. let left : Table = with_waiting t in give_others (source t) i v left u (status_of (source t) left) e f ∙ wait_others t i t.running d
 
 pub exhaust_keeps : (t u : Table) → exhaust t ≡ Some u → KeepsOthers t.active (source t) t.coexps u.coexps
 exhaust_keeps t u e = λ i d f.
@@ -142,7 +144,8 @@ begin_runs : (n : ℕ) (t u : Table) (o : Option Coexp) → status_in o ≡ code
 begin_runs n t u None x e = cc
 begin_runs n t u (Some c) x e = subst (λ (w : Table). IsSome w.running) (same_Some _ _ e) refl
 
-given_runs : (n : ℕ) (v : Val) (t u : Table) (s : code.Status FlatStack) → status_of n t ≡ s → give_by n v t s ≡ Some u → exhausted_of s ≡ false → IsSome u.running
+given_runs : (n : ℕ) (v : Val) (t u : Table) (s : code.Status FlatStack) → status_of n t ≡ s → give_by n v t s ≡ Some u → exhausted_of s ≡ false
+    → IsSome u.running
 given_runs n v t u code.Fresh h e x = begin_runs n t u (slice_get t.coexps n) h e
 given_runs n v t u code.Active h e x = cc
 given_runs n v t u (code.Waiting m) h e x = subst (λ (w : Table). IsSome w.running) (same_Some _ _ e) refl

@@ -16,15 +16,17 @@ live_entry E [] n p = absurd (omega arith)
 live_entry E (x ∷ es) zero p = (x, refl)
 live_entry E (x ∷ es) (suc n) p = live_entry E es n (omega arith)
 
-pub put_at : (E : Type 0) (es : List E) (k i : ℕ) (e x : E) → slice_get (slice_set es k e) i ≡ Some x → ((i ≡ k) × (x ≡ e)) ⊎ ((i ≢ k) × (slice_get es i ≡ Some x))
+pub put_at : (E : Type 0) (es : List E) (k i : ℕ) (e x : E) → slice_get (slice_set es k e) i ≡ Some x
+    → ((i ≡ k) × (x ≡ e)) ⊎ ((i ≢ k) × (slice_get es i ≡ Some x))
 put_at E [] k i e x p = cc
 put_at E (y ∷ s) zero zero e x p = let q : x ≡ e = cc in inl (refl, q)
 put_at E (y ∷ s) zero (suc i) e x p = let n : suc i ≢ zero = λ q. absurd (omega arith) in inr (n, p)
 put_at E (y ∷ s) (suc k) zero e x p = let n : zero ≢ suc k = λ q. absurd (omega arith) in inr (n, p)
-put_at E (y ∷ s) (suc k) (suc i) e x p = elim (put_at E s k i e x p) as (λ w. ((suc i ≡ suc k) × (x ≡ e)) ⊎ ((suc i ≢ suc k) × (slice_get (y ∷ s) (suc i) ≡ Some x))) [
-  | inl q ↦ inl (ap (λ (w : ℕ). suc w) q.0, q.1)
-  | inr q ↦ let n : suc i ≢ suc k = λ r. q.0 (omega arith) in inr (n, q.1)
-]
+put_at E (y ∷ s) (suc k) (suc i) e x p =
+    elim (put_at E s k i e x p) as (λ w. ((suc i ≡ suc k) × (x ≡ e)) ⊎ ((suc i ≢ suc k) × (slice_get (y ∷ s) (suc i) ≡ Some x))) [
+      | inl q ↦ inl (ap (λ (w : ℕ). suc w) q.0, q.1)
+      | inr q ↦ let n : suc i ≢ suc k = λ r. q.0 (omega arith) in inr (n, q.1)
+    ]
 
 pub put_here : (E : Type 0) (es : List E) (k : ℕ) (e x : E) → slice_get es k ≡ Some x → slice_get (slice_set es k e) k ≡ Some e
 put_here E [] k e x p = cc
@@ -38,7 +40,8 @@ put_other E (y ∷ s) zero (suc i) e n = refl
 put_other E (y ∷ s) (suc k) zero e n = refl
 put_other E (y ∷ s) (suc k) (suc i) e n = put_other E s k i e (λ q. n (ap (λ (w : ℕ). suc w) q))
 
-pub begun_put : (K : Type 0) (es : List (Entry K)) (k i : ℕ) (e : Entry K) → (IsBegun (slice_get es k) → HasBegun e.status) → IsBegun (slice_get es i) → IsBegun (slice_get (slice_set es k e) i)
+pub begun_put : (K : Type 0) (es : List (Entry K)) (k i : ℕ) (e : Entry K) → (IsBegun (slice_get es k) → HasBegun e.status) → IsBegun (slice_get es i)
+    → IsBegun (slice_get (slice_set es k e) i)
 begun_put K [] k i e h b = b
 begun_put K (y ∷ s) zero zero e h b = h b
 begun_put K (y ∷ s) zero (suc i) e h b = b
@@ -51,7 +54,8 @@ fits_other K o o' i x Active t f = t f
 fits_other K o o' i x (Waiting stack) t f = f
 fits_other K o o' i x Exhausted t f = f
 
-pub put_fits : (K : Type 0) (es : List (Entry K)) (o o' : Option ℕ) (k : ℕ) (e : Entry K) → AllFit es o → (IsBegun (slice_get es k) → HasBegun e.status) → IsBegun (slice_get es e.activator)
+pub put_fits : (K : Type 0) (es : List (Entry K)) (o o' : Option ℕ) (k : ℕ) (e : Entry K) → AllFit es o → (IsBegun (slice_get es k) → HasBegun e.status)
+    → IsBegun (slice_get es e.activator)
     → StatusFits o' k e e.status → ((i : ℕ) → i ≢ k → Some i ≡ o → Some i ≡ o') → AllFit (slice_set es k e) o'
 put_fits K es o o' k e all h b s others = λ i x p. elim (put_at (Entry K) es k i e x p) as (λ w. Fits (slice_set es k e) o' i x) [
   | inl q ↦
@@ -65,13 +69,16 @@ put_fits K es o o' k e all h b s others = λ i x p. elim (put_at (Entry K) es k 
 
 -- a status put in
 
-pub status_put_is : (K : Type 0) (es : List (Entry K)) (n : ℕ) (s : Status K) (e : Entry K) → slice_get es n ≡ Some e → status_put n s es ≡ slice_set es n (record e { status = s })
+pub status_put_is : (K : Type 0) (es : List (Entry K)) (n : ℕ) (s : Status K) (e : Entry K) → slice_get es n ≡ Some e
+    → status_put n s es ≡ slice_set es n (record e { status = s })
 status_put_is K es n s e g = ap (status_put_in n s es) g
 
-pub activator_put_is : (K : Type 0) (es : List (Entry K)) (n a : ℕ) (e : Entry K) → slice_get es n ≡ Some e → activator_put n a es ≡ slice_set es n (record e { activator = a })
+pub activator_put_is : (K : Type 0) (es : List (Entry K)) (n a : ℕ) (e : Entry K) → slice_get es n ≡ Some e
+    → activator_put n a es ≡ slice_set es n (record e { activator = a })
 activator_put_is K es n a e g = ap (activator_put_in n a es) g
 
-pub entry_after : (K : Type 0) (es : List (Entry K)) (n : ℕ) (s : Status K) (e : Entry K) → slice_get es n ≡ Some e → slice_get (status_put n s es) n ≡ Some (record e { status = s })
+pub entry_after : (K : Type 0) (es : List (Entry K)) (n : ℕ) (s : Status K) (e : Entry K) → slice_get es n ≡ Some e
+    → slice_get (status_put n s es) n ≡ Some (record e { status = s })
 entry_after K es n s e g = ap (λ (w : List (Entry K)). slice_get w n) (status_put_is K es n s e g) ∙ put_here (Entry K) es n (record e { status = s }) e g
 
 pub status_fits : (K : Type 0) (es : List (Entry K)) (o o' : Option ℕ) (n : ℕ) (s : Status K) (e : Entry K) → slice_get es n ≡ Some e → AllFit es o → HasBegun s
@@ -84,10 +91,12 @@ status_fits K es o o' n s e g all h f others =
 only_active : (a i : ℕ) → i ≢ a → Some i ≡ Some a → Some i ≡ None
 only_active a i n p = let q : i ≡ a = cc in absurd (n q)
 
-pub wait_fits : (K : Type 0) (es : List (Entry K)) (a : ℕ) (stack : SeenStack) (e : Entry K) → slice_get es a ≡ Some e → AllFit es (Some a) → 0 < stack.spare → AllFit (status_put a (Waiting stack) es) None
+pub wait_fits : (K : Type 0) (es : List (Entry K)) (a : ℕ) (stack : SeenStack) (e : Entry K) → slice_get es a ≡ Some e → AllFit es (Some a) → 0 < stack.spare
+    → AllFit (status_put a (Waiting stack) es) None
 wait_fits K es a stack e g all r = status_fits K es (Some a) None a (Waiting stack) e g all tt r (only_active a)
 
-pub exhausted_fits : (K : Type 0) (es : List (Entry K)) (a : ℕ) (e : Entry K) → slice_get es a ≡ Some e → AllFit es (Some a) → 0 < a → AllFit (status_put a Exhausted es) None
+pub exhausted_fits : (K : Type 0) (es : List (Entry K)) (a : ℕ) (e : Entry K) → slice_get es a ≡ Some e → AllFit es (Some a) → 0 < a
+    → AllFit (status_put a Exhausted es) None
 exhausted_fits K es a e g all r = status_fits K es (Some a) None a Exhausted e g all tt r (only_active a)
 
 -- none is active, and one becomes so
@@ -102,14 +111,16 @@ none_fits K es n all = λ i x p.
     let f = all i x p in
     record { status = fits_other K None (Some n) i x x.status (λ q. cc) f.status; activator = f.activator }
 
-pub activator_fits : (K : Type 0) (es : List (Entry K)) (n a : ℕ) (e : Entry K) → slice_get es n ≡ Some e → AllFit es None → IsBegun (slice_get es a) → AllFit (activator_put n a es) None
+pub activator_fits : (K : Type 0) (es : List (Entry K)) (n a : ℕ) (e : Entry K) → slice_get es n ≡ Some e → AllFit es None → IsBegun (slice_get es a)
+    → AllFit (activator_put n a es) None
 activator_fits K es n a e g all b =
     subst (λ (w : List (Entry K)). AllFit w None) (sym (activator_put_is K es n a e g))
     (put_fits K es None None n (record e { activator = a }) all (λ (h : IsBegun (slice_get es n)). subst IsBegun g h) b (all n e g).status (λ i k p. p))
 
 -- entries that are seen
 
-pub seen_status : (K : Type 0) (es : List (Entry K)) (n : ℕ) (s : Status K) → with_status n (status_seen s) (map coexp_seen es) ≡ map coexp_seen (status_put n s es)
+pub seen_status : (K : Type 0) (es : List (Entry K)) (n : ℕ) (s : Status K)
+    → with_status n (status_seen s) (map coexp_seen es) ≡ map coexp_seen (status_put n s es)
 seen_status K es n s = ap (with_status_in n (status_seen s) (map coexp_seen es)) (slice_get-map coexp_seen es n) ∙ by_entry (slice_get es n)
   where
     by_entry : (o : Option (Entry K)) → with_status_in n (status_seen s) (map coexp_seen es) (option_map coexp_seen o) ≡ map coexp_seen (status_put_in n s es o)

@@ -52,21 +52,25 @@ use Rattle.icn_control.proofs.TransferSteps.{are_read, status_at, status_put}
 
 -- Where a transfer leads
 
-pub lands_runs : (beside : Beside) (m : Frames) (u : Table) (went : Went) → went ≡ went_by u.running → is_moved went ≡ true → land beside running m u u.running ≡ running (stack_in beside.all (running_of u.running)) (store_with beside u)
+pub lands_runs : (beside : Beside) (m : Frames) (u : Table) (went : Went) → went ≡ went_by u.running → is_moved went ≡ true
+    → land beside running m u u.running ≡ running (stack_in beside.all (running_of u.running)) (store_with beside u)
 lands_runs beside m u went e w = by_running u.running (sym (ap is_moved e) ∙ w)
   where
-    by_running : (o : Option FlatStack) → is_moved (went_by o) ≡ true → land beside running m u o ≡ running (stack_in beside.all (running_of o)) (store_with beside u)
+    by_running : (o : Option FlatStack) → is_moved (went_by o) ≡ true
+        → land beside running m u o ≡ running (stack_in beside.all (running_of o)) (store_with beside u)
     by_running (Some n) q = refl
     by_running None q = cc
 
-pub lands_hops : (beside : Beside) (m : Frames) (u : Table) (went : Went) → went ≡ went_by u.running → is_moved went ≡ false → land beside running m u u.running ≡ hopping m (store_with beside u)
+pub lands_hops : (beside : Beside) (m : Frames) (u : Table) (went : Went) → went ≡ went_by u.running → is_moved went ≡ false
+    → land beside running m u u.running ≡ hopping m (store_with beside u)
 lands_hops beside m u went e w = by_running u.running (sym (ap is_moved e) ∙ w)
   where
     by_running : (o : Option FlatStack) → is_moved (went_by o) ≡ false → land beside running m u o ≡ hopping m (store_with beside u)
     by_running (Some n) q = cc
     by_running None q = refl
 
-lands_some : (beside : Beside) (m : Frames) (u : Table) → IsSome u.running → land beside running m u u.running ≡ running (stack_in beside.all (running_of u.running)) (store_with beside u)
+lands_some : (beside : Beside) (m : Frames) (u : Table) → IsSome u.running
+    → land beside running m u u.running ≡ running (stack_in beside.all (running_of u.running)) (store_with beside u)
 lands_some beside m u k = by_running u.running k
   where
     by_running : (o : Option FlatStack) → IsSome o → land beside running m u o ≡ running (stack_in beside.all (running_of o)) (store_with beside u)
@@ -85,8 +89,10 @@ other_number n m d = by_test (n == m) refl
     by_test true e = absurd (d (eqb-true n m e))
     by_test false e = e
 
-pub coact_goes : (tables : Tables) (names : Names) (outside : Outside) (w : World) (turns : ℕ) (begun : List Bool) (table : Table) (m : FlatStack) → table.running ≡ Some m → nat_lt turns (heap_of w.heap).bounds.turns ≡ true
-    → instruction flat tables Instrs.Coact (stack_in (extent_of w.heap) (running_of table.running)) (store_in names outside (world_of w) turns begun (extent_of w.heap) table)
+pub coact_goes : (tables : Tables) (names : Names) (outside : Outside) (w : World) (turns : ℕ) (begun : List Bool) (table : Table) (m : FlatStack)
+    → table.running ≡ Some m → nat_lt turns (heap_of w.heap).bounds.turns ≡ true
+    → instruction flat tables Instrs.Coact (stack_in (extent_of w.heap) (running_of table.running))
+    (store_in names outside (world_of w) turns begun (extent_of w.heap) table)
     ≡ with_two (stack_in (extent_of w.heap) m) (store_in names outside (world_of w) (suc turns) begun (extent_of w.heap) table)
     (λ first second n. activation flat first second n (store_in names outside (world_of w) (suc turns) begun (extent_of w.heap) table))
 coact_goes tables names outside w turns begun table m e b =
@@ -105,10 +111,13 @@ abbrev if_base : Bool → State Frames Frames → State Frames Frames
 if_base x given = if x then given else stuck
 
 -- what gives a result of a create body
-pub create_body : (tables : Tables) (names : Names) (outside : Outside) (w : World) (turns : ℕ) (begun : List Bool) (table : Table) (m : FlatStack) → table.running ≡ Some m → held.is_base m ≡ true → 0 < table.active
-    → instruction flat tables Instrs.Coret (stack_in (extent_of w.heap) (running_of table.running)) (store_in names outside (world_of w) turns begun (extent_of w.heap) table)
+pub create_body : (tables : Tables) (names : Names) (outside : Outside) (w : World) (turns : ℕ) (begun : List Bool) (table : Table) (m : FlatStack)
+    → table.running ≡ Some m → held.is_base m ≡ true → 0 < table.active
+    → instruction flat tables Instrs.Coret (stack_in (extent_of w.heap) (running_of table.running))
+    (store_in names outside (world_of w) turns begun (extent_of w.heap) table)
     ≡ with_popped flat (stack_in (extent_of w.heap) m)
-    (λ item n. turn tables (store_in names outside (world_of w) turns begun (extent_of w.heap) table) (λ st. with_value flat item n st (λ value. result_given flat value n st)))
+    (λ item n. turn tables (store_in names outside (world_of w) turns begun (extent_of w.heap) table)
+    (λ st. with_value flat item n st (λ value. result_given flat value n st)))
 create_body tables names outside w turns begun table m e base other =
     let st : Store Frames = store_in names outside (world_of w) turns begun (extent_of w.heap) table in
     let M : Frames = stack_in (extent_of w.heap) m in
@@ -122,9 +131,11 @@ create_body tables names outside w turns begun table m e base other =
 pub not_under : (m n : ℕ) → n ≤ m → nat_lt m n ≡ false
 not_under m n p = grind (arith, nat_tests)
 
-pub coact_bound : (tables : Tables) (names : Names) (outside : Outside) (w : World) (turns : ℕ) (begun : List Bool) (table : Table) (m l k : FlatStack) (upper lower : Item) → table.running ≡ Some m
+pub coact_bound : (tables : Tables) (names : Names) (outside : Outside) (w : World) (turns : ℕ) (begun : List Bool) (table : Table) (m l k : FlatStack)
+    (upper lower : Item) → table.running ≡ Some m
     → nat_lt turns (heap_of w.heap).bounds.turns ≡ false → held.pop m ≡ Some (upper, l) → held.pop l ≡ Some (lower, k)
-    → instruction flat tables Instrs.Coact (stack_in (extent_of w.heap) (running_of table.running)) (store_in names outside (world_of w) turns begun (extent_of w.heap) table)
+    → instruction flat tables Instrs.Coact (stack_in (extent_of w.heap) (running_of table.running))
+    (store_in names outside (world_of w) turns begun (extent_of w.heap) table)
     ≡ at_bound (store_in names outside (world_of w) turns begun (extent_of w.heap) table)
 coact_bound tables names outside w turns begun table m l k upper lower e b p q =
     let st : Store Frames = store_in names outside (world_of w) turns begun (extent_of w.heap) table in
@@ -135,9 +146,11 @@ coact_bound tables names outside w turns begun table m l k upper lower e b p q =
     ∙ popped_runs l k lower q all (λ j y. turn tables st (activation_of flat (j ∷ item_in all upper ∷ []) y))
     ∙ ap (λ (x : Bool). turn_if x st (activation_of flat (item_in all lower ∷ item_in all upper ∷ []) (stack_in all k))) b
 
-pub refresh_bound : (tables : Tables) (names : Names) (outside : Outside) (w : World) (turns : ℕ) (begun : List Bool) (table : Table) (m k : FlatStack) (item : Item) → table.running ≡ Some m
+pub refresh_bound : (tables : Tables) (names : Names) (outside : Outside) (w : World) (turns : ℕ) (begun : List Bool) (table : Table) (m k : FlatStack)
+    (item : Item) → table.running ≡ Some m
     → nat_lt turns (heap_of w.heap).bounds.turns ≡ false → held.pop m ≡ Some (item, k)
-    → instruction flat tables (Instrs.Op Ops.Refresh) (stack_in (extent_of w.heap) (running_of table.running)) (store_in names outside (world_of w) turns begun (extent_of w.heap) table)
+    → instruction flat tables (Instrs.Op Ops.Refresh) (stack_in (extent_of w.heap) (running_of table.running))
+    (store_in names outside (world_of w) turns begun (extent_of w.heap) table)
     ≡ at_bound (store_in names outside (world_of w) turns begun (extent_of w.heap) table)
 refresh_bound tables names outside w turns begun table m k item e b p =
     let st : Store Frames = store_in names outside (world_of w) turns begun (extent_of w.heap) table in
@@ -147,9 +160,11 @@ refresh_bound tables names outside w turns begun table m k item e b p =
     ∙ popped_runs m k item p all (λ i n. turn tables st (operate flat Ops.Refresh (i ∷ []) n))
     ∙ ap (λ (x : Bool). turn_if x st (operate flat Ops.Refresh (item_in all item ∷ []) (stack_in all k))) b
 
-pub coret_bound : (tables : Tables) (names : Names) (outside : Outside) (w : World) (turns : ℕ) (begun : List Bool) (table : Table) (m k : FlatStack) (item : Item) → table.running ≡ Some m
+pub coret_bound : (tables : Tables) (names : Names) (outside : Outside) (w : World) (turns : ℕ) (begun : List Bool) (table : Table) (m k : FlatStack)
+    (item : Item) → table.running ≡ Some m
     → nat_lt turns (heap_of w.heap).bounds.turns ≡ false → held.pop m ≡ Some (item, k) → held.is_base m ≡ true → 0 < table.active
-    → instruction flat tables Instrs.Coret (stack_in (extent_of w.heap) (running_of table.running)) (store_in names outside (world_of w) turns begun (extent_of w.heap) table)
+    → instruction flat tables Instrs.Coret (stack_in (extent_of w.heap) (running_of table.running))
+    (store_in names outside (world_of w) turns begun (extent_of w.heap) table)
     ≡ at_bound (store_in names outside (world_of w) turns begun (extent_of w.heap) table)
 coret_bound tables names outside w turns begun table m k item e b p base other =
     let st : Store Frames = store_in names outside (world_of w) turns begun (extent_of w.heap) table in
@@ -162,15 +177,18 @@ entered_exhausted : (b : Bool) (n : ℕ) (value : Value) (m : Frames) (st : Stor
 entered_exhausted true n value m st = refl
 entered_exhausted false n value m st = refl
 
-entered_other : (all : Extent) (s : Status FlatStack) (n : ℕ) (value : Value) (m : Frames) (st : Store Frames) → exhausted_of s ≡ false → entered_if flat false (status_in all s) n value m st ≡ entered_by flat n value m st
+entered_other : (all : Extent) (s : Status FlatStack) (n : ℕ) (value : Value) (m : Frames) (st : Store Frames) → exhausted_of s ≡ false
+    → entered_if flat false (status_in all s) n value m st ≡ entered_by flat n value m st
 entered_other all Fresh n value m st e = refl
 entered_other all Active n value m st e = refl
 entered_other all (Waiting k) n value m st e = refl
 entered_other all Exhausted n value m st e = cc
 
 -- the active one gives the value itself
-pub activates_same : (beside : Beside) (t u : Table) (m n : FlatStack) (id : ℕ) (v w : Val) → t.running ≡ Some m → table.status_of t.active t ≡ Active → id ≡ t.active → w ≡ v → u ≡ t → n ≡ held.push (HeldVal w) m
-    → activation flat (value_in beside.all v) (ACoexp id) (stack_in beside.all (running_of t.running)) (store_with beside t) ≡ running (stack_in beside.all n) (store_with beside (record u { running = Some n }))
+pub activates_same : (beside : Beside) (t u : Table) (m n : FlatStack) (id : ℕ) (v w : Val) → t.running ≡ Some m → table.status_of t.active t ≡ Active
+    → id ≡ t.active → w ≡ v → u ≡ t → n ≡ held.push (HeldVal w) m
+    → activation flat (value_in beside.all v) (ACoexp id) (stack_in beside.all (running_of t.running)) (store_with beside t)
+    ≡ running (stack_in beside.all n) (store_with beside (record u { running = Some n }))
 activates_same beside t u m n id v w e s i f p q =
     let all : Extent = beside.all in
     let st : Store Frames = store_with beside t in
@@ -186,7 +204,8 @@ activates_same beside t u m n id v w e s i f p q =
 
 -- an exhausted one fails
 pub activates_exhausted : (beside : Beside) (t u : Table) (id : ℕ) (v : Val) → table.status_of id t ≡ Exhausted → u ≡ t
-    → activation flat (value_in beside.all v) (ACoexp id) (stack_in beside.all (running_of t.running)) (store_with beside t) ≡ failing (stack_in beside.all (running_of u.running)) (store_with beside u)
+    → activation flat (value_in beside.all v) (ACoexp id) (stack_in beside.all (running_of t.running)) (store_with beside t)
+    ≡ failing (stack_in beside.all (running_of u.running)) (store_with beside u)
 activates_exhausted beside t u id v s p =
     let all : Extent = beside.all in
     let st : Store Frames = store_with beside t in
@@ -196,8 +215,10 @@ activates_exhausted beside t u id v s p =
     ∙ ap (λ (x : Table). failing (stack_in all (running_of x.running)) (store_with beside x)) (sym p)
 
 -- another one is entered
-pub activates_other : (beside : Beside) (t u : Table) (m : FlatStack) (id : ℕ) (v : Val) → t.running ≡ Some m → id ≢ t.active → exhausted_of (table.status_of id t) ≡ false → enter_other id v t ≡ Some u
-    → activation flat (value_in beside.all v) (ACoexp id) (stack_in beside.all (running_of t.running)) (store_with beside t) ≡ running (stack_in beside.all (running_of u.running)) (store_with beside u)
+pub activates_other : (beside : Beside) (t u : Table) (m : FlatStack) (id : ℕ) (v : Val) → t.running ≡ Some m → id ≢ t.active
+    → exhausted_of (table.status_of id t) ≡ false → enter_other id v t ≡ Some u
+    → activation flat (value_in beside.all v) (ACoexp id) (stack_in beside.all (running_of t.running)) (store_with beside t)
+    ≡ running (stack_in beside.all (running_of u.running)) (store_with beside u)
 activates_other beside t u m id v e d x g =
     let all : Extent = beside.all in
     let st : Store Frames = store_with beside t in
@@ -212,9 +233,11 @@ activates_other beside t u m id v e d x g =
 
 -- Results
 
-pub coret_goes : (tables : Tables) (names : Names) (outside : Outside) (w : World) (turns : ℕ) (begun : List Bool) (table : Table) (m : FlatStack) → table.running ≡ Some m → nat_lt turns (heap_of w.heap).bounds.turns ≡ true
+pub coret_goes : (tables : Tables) (names : Names) (outside : Outside) (w : World) (turns : ℕ) (begun : List Bool) (table : Table) (m : FlatStack)
+    → table.running ≡ Some m → nat_lt turns (heap_of w.heap).bounds.turns ≡ true
     → held.is_base m ≡ true → 0 < table.active
-    → instruction flat tables Instrs.Coret (stack_in (extent_of w.heap) (running_of table.running)) (store_in names outside (world_of w) turns begun (extent_of w.heap) table)
+    → instruction flat tables Instrs.Coret (stack_in (extent_of w.heap) (running_of table.running))
+    (store_in names outside (world_of w) turns begun (extent_of w.heap) table)
     ≡ with_top (stack_in (extent_of w.heap) m) (store_in names outside (world_of w) (suc turns) begun (extent_of w.heap) table)
     (λ value n. result_given flat value n (store_in names outside (world_of w) (suc turns) begun (extent_of w.heap) table))
 coret_goes tables names outside w turns begun table m e b base other =
@@ -235,23 +258,29 @@ index_or (c ∷ cs) zero = refl
 index_or (c ∷ cs) (suc n) = index_or cs n
 
 -- a result is counted in the world
-counted_world : (w v : World) (n : ℕ) (st : Store Frames) → st.world ≡ world_of w → world_of v ≡ having_result n (world_of w) → counted_result n st ≡ with_world (world_of v) st
+counted_world : (w v : World) (n : ℕ) (st : Store Frames) → st.world ≡ world_of w → world_of v ≡ having_result n (world_of w)
+    → counted_result n st ≡ with_world (world_of v) st
 counted_world w v n st same c =
     let F : StoreWorld → Store Frames = λ x. counted_result n (with_world x st) in
     let G : ℕ → StoreWorld = λ k. record (world_of w) { heap = record (heap_of w.heap) { coexps = slice_set (heap_of w.heap).coexps n k } } in
-    let one : suc (slice_index_or (heap_of w.heap).coexps n 0) ≡ slice_index (heap_of w.heap).coexps n + 1 = ap (λ (k : ℕ). suc k) (index_or (heap_of w.heap).coexps n) ∙ sym (add-one (slice_index (heap_of w.heap).coexps n)) in
+    let one : suc (slice_index_or (heap_of w.heap).coexps n 0) ≡ slice_index (heap_of w.heap).coexps n + 1 = ap (λ (k : ℕ). suc k)
+    (index_or (heap_of w.heap).coexps n) ∙ sym (add-one (slice_index (heap_of w.heap).coexps n)) in
     ap F same ∙ ap (λ (k : ℕ). with_world (G k) st) one ∙ ap (λ (x : StoreWorld). with_world x st) (sym c)
 
-pub result_passes : (t : Tables) (names : Names) (outside : Outside) (w v : World) (turns : ℕ) (begun : List Bool) (table u : Table) (k : FlatStack) (val : Val) → table.running ≡ Some k → give val table ≡ Some u
-    → KeepsItems (reach_of w []) (reach_of v []) → world_of v ≡ having_result table.active (world_of w) → IsLive (extent_of w.heap) val → IsLiveStack t (reach_of w []) k → AllLive t (reach_of w []) table.coexps
-    → result_given flat (value_in (extent_of w.heap) val) (stack_in (extent_of w.heap) k) (store_in names outside (world_of w) turns begun (extent_of w.heap) table)
+pub result_passes : (t : Tables) (names : Names) (outside : Outside) (w v : World) (turns : ℕ) (begun : List Bool) (table u : Table) (k : FlatStack) (val : Val)
+    → table.running ≡ Some k → give val table ≡ Some u
+    → KeepsItems (reach_of w []) (reach_of v []) → world_of v ≡ having_result table.active (world_of w) → IsLive (extent_of w.heap) val
+    → IsLiveStack t (reach_of w []) k → AllLive t (reach_of w []) table.coexps
+    → result_given flat (value_in (extent_of w.heap) val) (stack_in (extent_of w.heap) k)
+    (store_in names outside (world_of w) turns begun (extent_of w.heap) table)
     ≡ land (beside_in names outside v turns begun v) running (stack_in (extent_of v.heap) k) u u.running
 result_passes t names outside w v turns begun table u k val e g keeps c value live all =
     let st : Store Frames = store_in names outside (world_of w) turns begun (extent_of v.heap) table in
     let K : Frames = stack_in (extent_of v.heap) k in
     let V : Value = value_in (extent_of v.heap) val in
     let beside : Beside = beside_in names outside v turns begun v in
-    ap (λ (x : Frames). result_given flat (value_in (extent_of w.heap) val) x (store_in names outside (world_of w) turns begun (extent_of w.heap) table)) (sym (stack_same t (reach_of w []) (reach_of v []) k keeps live))
+    ap (λ (x : Frames). result_given flat (value_in (extent_of w.heap) val) x (store_in names outside (world_of w) turns begun (extent_of w.heap) table))
+    (sym (stack_same t (reach_of w []) (reach_of v []) k keeps live))
     ∙ ap (λ (x : Value). result_given flat x K (store_in names outside (world_of w) turns begun (extent_of w.heap) table)) (sym (keeps.extent.value val value))
     ∙ ap (result_given flat V K) (sym (store_same names outside (world_of w) turns begun t (reach_of w []) (reach_of v []) table keeps all))
     ∙ ap (passed_value flat (activator_of table.active st) V K) (counted_world w v table.active (with_status table.active (Waiting K) st) refl c)
@@ -274,12 +303,14 @@ still_exhausted cs n e = by_coexp (slice_get cs n) refl e
         same_set cs n (record c { status = Exhausted }) (g ∙ ap (λ (s : Status FlatStack). Some (F s)) f)
 
 -- events that come to the same come to the same as a turn
-same_turn : (b : Bool) (st : Store Frames) (f g : Store Frames → State Frames Frames) → (let next : Store Frames = record st { turns = suc st.turns } in f next ≡ g next) → turn_if b st f ≡ turn_if b st g
+same_turn : (b : Bool) (st : Store Frames) (f g : Store Frames → State Frames Frames)
+    → (let next : Store Frames = record st { turns = suc st.turns } in f next ≡ g next) → turn_if b st f ≡ turn_if b st g
 same_turn true st f g e = e
 same_turn false st f g e = refl
 
 -- a hop is what is done where one is exhausted, as it is already
-pub hop_exhausts : (tables : Tables) (beside : Beside) (t : Table) (m : Frames) → table.status_of t.active t ≡ Exhausted → hop flat tables m (store_with beside t) ≡ exhaust_active flat tables m (store_with beside t)
+pub hop_exhausts : (tables : Tables) (beside : Beside) (t : Table) (m : Frames) → table.status_of t.active t ≡ Exhausted
+    → hop flat tables m (store_with beside t) ≡ exhaust_active flat tables m (store_with beside t)
 hop_exhausts tables beside t m s =
     let st : Store Frames = store_with (turned beside) t in
     let F : List Coexp → Store Frames = λ cs. store_with (turned beside) (record t { coexps = cs }) in
@@ -298,8 +329,10 @@ reached_other t e d = by_number t.active e
 
 -- Refreshed ones
 
-pub refresh_goes : (tables : Tables) (names : Names) (outside : Outside) (w : World) (turns : ℕ) (begun : List Bool) (table : Table) (m : FlatStack) → table.running ≡ Some m → nat_lt turns (heap_of w.heap).bounds.turns ≡ true
-    → instruction flat tables (Instrs.Op Ops.Refresh) (stack_in (extent_of w.heap) (running_of table.running)) (store_in names outside (world_of w) turns begun (extent_of w.heap) table)
+pub refresh_goes : (tables : Tables) (names : Names) (outside : Outside) (w : World) (turns : ℕ) (begun : List Bool) (table : Table) (m : FlatStack)
+    → table.running ≡ Some m → nat_lt turns (heap_of w.heap).bounds.turns ≡ true
+    → instruction flat tables (Instrs.Op Ops.Refresh) (stack_in (extent_of w.heap) (running_of table.running))
+    (store_in names outside (world_of w) turns begun (extent_of w.heap) table)
     ≡ with_top (stack_in (extent_of w.heap) m) (store_in names outside (world_of w) (suc turns) begun (extent_of w.heap) table)
     (λ value n. refresh flat value n (store_in names outside (world_of w) (suc turns) begun (extent_of w.heap) table))
 refresh_goes tables names outside w turns begun table m e b =
@@ -309,16 +342,20 @@ refresh_goes tables names outside w turns begun table m e b =
     ∙ one_popped M (λ items n. turn tables st (operate flat Ops.Refresh items n))
     ∙ ap (λ (x : Bool). with_popped flat M (λ item n. turn_if x st (operate flat Ops.Refresh (item ∷ []) n))) b
 
-pub copy_goes : (t : Tables) (w v : World) (m : FlatStack) (id : ℕ) (names : Names) (outside : Outside) (turns : ℕ) (begun : List Bool) (table : Table) → table.running ≡ Some m → 0 < id → id < length table.coexps
+pub copy_goes : (t : Tables) (w v : World) (m : FlatStack) (id : ℕ) (names : Names) (outside : Outside) (turns : ℕ) (begun : List Bool) (table : Table)
+    → table.running ≡ Some m → 0 < id → id < length table.coexps
     → KeepsItems (reach_of w []) (reach_of v []) → IsLiveStack t (reach_of w []) m → AllLive t (reach_of w []) table.coexps
-    → refresh flat (ACoexp id) (stack_in (extent_of w.heap) (running_of table.running)) (store_in names outside (world_of w) turns begun (extent_of w.heap) table)
-    ≡ charged_and_made (beside_in names outside w turns begun v) (length (values_of id table)) table (with_copy table (slice_get table.coexps id)) (stack_in (extent_of v.heap) m)
+    → refresh flat (ACoexp id) (stack_in (extent_of w.heap) (running_of table.running))
+    (store_in names outside (world_of w) turns begun (extent_of w.heap) table)
+    ≡ charged_and_made (beside_in names outside w turns begun v) (length (values_of id table)) table (with_copy table (slice_get table.coexps id))
+    (stack_in (extent_of v.heap) m)
 copy_goes t w v m zero names outside turns begun table e p l keeps live all = absurd (omega (arith, p))
 copy_goes t w v m (suc k) names outside turns begun table e p l keeps live all =
     let st : Store Frames = store_in names outside (world_of w) turns begun (extent_of w.heap) table in
     ap (λ (o : Option FlatStack). refresh flat (ACoexp (suc k)) (stack_in (extent_of w.heap) (running_of o)) st) e
     ∙ ap (λ (x : Frames). refresh flat (ACoexp (suc k)) x st) (sym (stack_same t (reach_of w []) (reach_of v []) m keeps live))
-    ∙ ap (refresh flat (ACoexp (suc k)) (stack_in (extent_of v.heap) m)) (sym (store_same names outside (world_of w) turns begun t (reach_of w []) (reach_of v []) table keeps all))
+    ∙ ap (refresh flat (ACoexp (suc k)) (stack_in (extent_of v.heap) m))
+    (sym (store_same names outside (world_of w) turns begun t (reach_of w []) (reach_of v []) table keeps all))
     ∙ (creations_are (beside_in names outside w turns begun v) table (stack_in (extent_of v.heap) m)).refreshes k l
 
 -- what is copied, by its number
@@ -330,17 +367,24 @@ copied_is table u m id number e c n =
 
 -- a copy as a whole: what it comes to where it is charged, and where it is not
 
-pub copy_runs : (t : Tables) (w v : World) (m : FlatStack) (id count number : ℕ) (names : Names) (outside : Outside) (turns : ℕ) (begun : List Bool) (table u : Table) → table.running ≡ Some m → 0 < id → id < length table.coexps
-    → KeepsItems (reach_of w []) (reach_of v []) → IsLiveStack t (reach_of w []) m → AllLive t (reach_of w []) table.coexps → held.set_locals (held.locals m) m ≡ m → count ≡ length (values_of id table)
-    → coexpression_row count (setting_of outside w (held.locals m)) ≡ Gives (ItemVal (ACoexp number)) (setting_of outside v (held.locals m)) → number ≡ length table.coexps → u ≡ copy_entry id (record table { running = Some m })
-    → refresh flat (ACoexp id) (stack_in (extent_of w.heap) (running_of table.running)) (store_in names outside (world_of w) turns begun (extent_of w.heap) table)
+pub copy_runs : (t : Tables) (w v : World) (m : FlatStack) (id count number : ℕ) (names : Names) (outside : Outside) (turns : ℕ) (begun : List Bool)
+    (table u : Table) → table.running ≡ Some m → 0 < id → id < length table.coexps
+    → KeepsItems (reach_of w []) (reach_of v []) → IsLiveStack t (reach_of w []) m → AllLive t (reach_of w []) table.coexps
+    → held.set_locals (held.locals m) m ≡ m → count ≡ length (values_of id table)
+    → coexpression_row count (setting_of outside w (held.locals m)) ≡ Gives (ItemVal (ACoexp number)) (setting_of outside v (held.locals m))
+    → number ≡ length table.coexps → u ≡ copy_entry id (record table { running = Some m })
+    → refresh flat (ACoexp id) (stack_in (extent_of w.heap) (running_of table.running))
+    (store_in names outside (world_of w) turns begun (extent_of w.heap) table)
     ≡ running (stack_in (extent_of v.heap) (running_of u.running)) (store_in names outside (world_of v) turns begun (extent_of v.heap) u)
 copy_runs t w v m id count number names outside turns begun table u e p l keeps live all same c row n made =
     let after : Table = with_copy table (slice_get table.coexps id) in
-    let F : Table → State Frames Frames = λ y. running (stack_in (extent_of v.heap) (running_of y.running)) (store_in names outside (world_of v) turns begun (extent_of v.heap) y) in
+    let F : Table → State Frames Frames = λ y. running (stack_in (extent_of v.heap) (running_of y.running))
+    (store_in names outside (world_of v) turns begun (extent_of v.heap) y) in
     copy_goes t w v m id names outside turns begun table e p l keeps live all
-    ∙ charged_runs t w v m (length (values_of id table)) number names outside turns begun table after keeps live same (copy_active table (slice_get table.coexps id))
-    (subst (λ (x : ℕ). coexpression_row x (setting_of outside w (held.locals m)) ≡ Gives (ItemVal (ACoexp number)) (setting_of outside v (held.locals m))) c row)
+    ∙ charged_runs t w v m (length (values_of id table)) number names outside turns begun table after keeps live same
+    (copy_active table (slice_get table.coexps id))
+    (subst (λ (x : ℕ). coexpression_row x (setting_of outside w (held.locals m)) ≡ Gives (ItemVal (ACoexp number)) (setting_of outside v (held.locals m))) c
+    row)
     ∙ ap (λ (y : Table). F (record y { running = Some (held.push (HeldVal (HeldCoexp number)) m) })) (copy_on table m (slice_get table.coexps id))
     ∙ ap F (copied_is (record table { running = Some m }) u m id number refl made n)
   where
@@ -352,15 +396,23 @@ copy_runs t w v m id count number names outside turns begun table u e p l keeps 
     copy_on t m None = refl
     copy_on t m (Some c) = refl
 
-pub copy_errs : (t : Tables) (w v : World) (m : FlatStack) (id count number : ℕ) (offending : Option Val) (stop : Stop) (names : Names) (outside : Outside) (turns : ℕ) (begun : List Bool) (table other : Table) → table.running ≡ Some m → 0 < id
-    → id < length table.coexps → KeepsItems (reach_of w []) (reach_of v []) → IsLiveStack t (reach_of w []) m → AllLive t (reach_of w []) table.coexps → count ≡ length (values_of id table)
-    → HaltsRow (extent_of v.heap) (coexpression_row count) (setting_of outside w (held.locals m)) (setting_of outside v (held.locals m)) (halt_of stop) → stop ≡ StopError number offending
-    → refresh flat (ACoexp id) (stack_in (extent_of w.heap) (running_of table.running)) (store_in names outside (world_of w) turns begun (extent_of w.heap) table)
+pub copy_errs : (t : Tables) (w v : World) (m : FlatStack) (id count number : ℕ) (offending : Option Val) (stop : Stop) (names : Names) (outside : Outside)
+    (turns : ℕ) (begun : List Bool) (table other : Table) → table.running ≡ Some m → 0 < id
+    → id < length table.coexps → KeepsItems (reach_of w []) (reach_of v []) → IsLiveStack t (reach_of w []) m → AllLive t (reach_of w []) table.coexps
+    → count ≡ length (values_of id table)
+    → HaltsRow (extent_of v.heap) (coexpression_row count) (setting_of outside w (held.locals m)) (setting_of outside v (held.locals m)) (halt_of stop)
+    → stop ≡ StopError number offending
+    → refresh flat (ACoexp id) (stack_in (extent_of w.heap) (running_of table.running))
+    (store_in names outside (world_of w) turns begun (extent_of w.heap) table)
     ≡ errs number (option_map (value_in (extent_of v.heap)) offending) (store_in names outside (world_of v) turns begun (extent_of v.heap) other)
 copy_errs t w v m id count number offending stop names outside turns begun table other e p l keeps live all c row s =
     let after : Table = with_copy table (slice_get table.coexps id) in
-    let halts : HaltsRow (extent_of v.heap) (coexpression_row (length (values_of id table))) (setting_of outside w (held.locals m)) (setting_of outside v (held.locals m)) (halt_of stop)
-    = subst (λ (x : ℕ). HaltsRow (extent_of v.heap) (coexpression_row x) (setting_of outside w (held.locals m)) (setting_of outside v (held.locals m)) (halt_of stop)) c row in
+    let halts : HaltsRow (extent_of v.heap) (coexpression_row (length (values_of id table))) (setting_of outside w (held.locals m))
+    (setting_of outside v (held.locals m)) (halt_of stop)
+    = subst (λ (x : ℕ). HaltsRow (extent_of v.heap) (coexpression_row x) (setting_of outside w (held.locals m)) (setting_of outside v (held.locals m))
+    (halt_of stop)) c row in
     copy_goes t w v m id names outside turns begun table e p l keeps live all
-    ∙ charged_errs t w v m (length (values_of id table)) number (option_map (value_in (extent_of v.heap)) offending) names outside turns begun table after other (extent_of v.heap) keeps live
-    (row_error (extent_of v.heap) (coexpression_row (length (values_of id table))) (setting_of outside w (held.locals m)) (setting_of outside v (held.locals m)) stop number offending halts s)
+    ∙ charged_errs t w v m (length (values_of id table)) number (option_map (value_in (extent_of v.heap)) offending) names outside turns begun table after other
+    (extent_of v.heap) keeps live
+    (row_error (extent_of v.heap) (coexpression_row (length (values_of id table))) (setting_of outside w (held.locals m))
+    (setting_of outside v (held.locals m)) stop number offending halts s)

@@ -30,7 +30,8 @@ paid_is false paid made why is = cc
 
 paid_heap : (heap paid : Heap) (count : ℕ) → charged_cells heap count ≡ Ok paid → record heap { cells = heap.cells + count } ≡ paid
 unfolding charged_cells
-paid_heap heap paid count is = paid_is (nat_le (heap.cells + count) heap.bounds.cells) (record heap { cells = heap.cells + count }) paid (Cells heap.cells heap.bounds.cells) is
+paid_heap heap paid count is =
+    paid_is (nat_le (heap.cells + count) heap.bounds.cells) (record heap { cells = heap.cells + count }) paid (Cells heap.cells heap.bounds.cells) is
 
 -- the heap that is made, by what was paid
 record IsMade (heap made paid : Heap) (count : ℕ) : Type 0 where
@@ -63,7 +64,8 @@ fields_stay heap made count is = fields_behind (cells_change (1 + count)) having
 
 -- where the whole is refused, its charge is
 
-refused_first : (charged : ChangedHeap) (full : Full) → and_then charged (λ paid. let r : ChangedHeap = Ok (having_coexp paid) in r) ≡ Err full → charged ≡ Err full
+refused_first : (charged : ChangedHeap) (full : Full) → and_then charged (λ paid. let r : ChangedHeap = Ok (having_coexp paid) in r) ≡ Err full
+    → charged ≡ Err full
 refused_first (Ok paid) full is = cc
 refused_first (Err why) full is = is
 
@@ -72,7 +74,8 @@ first_refuses heap count full (inl none) = inl none
 first_refuses heap count full (inr is) = inr (refused_first (charged_cells heap (1 + count)) full is)
 
 -- a row that stops at its charge
-row_stops : (all : Extent) (part : Row → Row) (next : Row) (before after : Setting) (full : Full) → StopsPassing all part before after (stop_of full) → HaltsRow all (part next) before after (halt_of (stop_of full))
+row_stops : (all : Extent) (part : Row → Row) (next : Row) (before after : Setting) (full : Full) → StopsPassing all part before after (stop_of full)
+    → HaltsRow all (part next) before after (halt_of (stop_of full))
 row_stops all part next before after (Strings sum limit) h = h next
 row_stops all part next before after (Cells sum limit) h = h next
 row_stops all part next before after NoMemory h = tt
@@ -85,7 +88,8 @@ rest setting = let counts = setting.world.heap.coexps in
 module _ (old new : HeldHeap) (pair : Pair) (random : ℕ) (globals statics : List Val) (keeps : Keeps (extent_of old) (extent_of new))
     (sound : IsSoundWorld (extent_of old) pair random globals statics) where
   pub makes : (count : ℕ) → made_coexp (heap_of old) count ≡ Ok (heap_of new) → (outside : Outside) (locals : List Val) → All (IsLive (extent_of old)) locals
-      → coexpression_row count (setting_over outside old pair random globals statics locals) ≡ Gives (ItemVal (ACoexp (length (heap_of old).coexps))) (setting_over outside new pair random globals statics locals)
+      → coexpression_row count (setting_over outside old pair random globals statics locals)
+      ≡ Gives (ItemVal (ACoexp (length (heap_of old).coexps))) (setting_over outside new pair random globals statics locals)
   makes count is outside locals live =
       let by = made_by (heap_of old) (heap_of new) count is in
       let before : Setting = setting_over outside old pair random globals statics locals in
@@ -94,14 +98,19 @@ module _ (old new : HeldHeap) (pair : Pair) (random : ℕ) (globals statics : Li
       ∙ ap F (heap_changed outside old new pair random globals statics locals keeps (sym by.1.made_so) sound live)
       ∙ ap (λ (cs : List ℕ). Gives (ItemVal (ACoexp (length cs))) (setting_over outside new pair random globals statics locals)) by.1.same
 
-  pub refuses : (count : ℕ) → heap_of new ≡ heap_of old → (full : Full) → Refuses (made_coexp (heap_of old) count) full → (outside : Outside) (locals : List Val) → All (IsLive (extent_of old)) locals
-      → HaltsRow (extent_of new) (coexpression_row count) (setting_over outside old pair random globals statics locals) (setting_over outside new pair random globals statics locals) (halt_of (stop_of full))
+  pub refuses : (count : ℕ) → heap_of new ≡ heap_of old → (full : Full) → Refuses (made_coexp (heap_of old) count) full
+      → (outside : Outside) (locals : List Val) → All (IsLive (extent_of old)) locals
+      → HaltsRow (extent_of new) (coexpression_row count) (setting_over outside old pair random globals statics locals)
+      (setting_over outside new pair random globals statics locals) (halt_of (stop_of full))
   refuses count same full why outside locals live =
-      row_stops (extent_of new) (costs_cells (1 + count)) rest (setting_over outside old pair random globals statics locals) (setting_over outside new pair random globals statics locals) full
-      (stops old new pair random globals statics locals keeps sound live (cells_change (1 + count)) same full (first_refuses (heap_of old) count full why) (extent_of new) outside)
+      row_stops (extent_of new) (costs_cells (1 + count)) rest (setting_over outside old pair random globals statics locals)
+      (setting_over outside new pair random globals statics locals) full
+      (stops old new pair random globals statics locals keeps sound live (cells_change (1 + count)) same full (first_refuses (heap_of old) count full why)
+      (extent_of new) outside)
 
 -- an answer that stops
-pub at_stop : {A : Type 0} (result : Result A Stop) (stop : Stop) (P : A → Type 0) (Q : Stop → Type 0) → IsErrAnd result (λ s. s ≡ stop) → Q stop → MatchResult result P Q
+pub at_stop : {A : Type 0} (result : Result A Stop) (stop : Stop) (P : A → Type 0) (Q : Stop → Type 0) → IsErrAnd result (λ s. s ≡ stop) → Q stop
+    → MatchResult result P Q
 at_stop (Err s) stop P Q e q = subst Q (sym e) q
 at_stop (Ok a) stop P Q e q = absurd e
 

@@ -15,7 +15,8 @@ use Rattle.icn_control.specs.Creations.{copy_entry, copied_on}
 
 -- Activators
 
-status_next : (n : ℕ) (s : Status FlatStack) (c : Coexp) (cs : List Coexp) (o : Option Coexp) → table.with_status_in (suc n) s (c ∷ cs) o ≡ c ∷ table.with_status_in n s cs o
+status_next : (n : ℕ) (s : Status FlatStack) (c : Coexp) (cs : List Coexp) (o : Option Coexp)
+    → table.with_status_in (suc n) s (c ∷ cs) o ≡ c ∷ table.with_status_in n s cs o
 status_next n s c cs (Some x) = refl
 status_next n s c cs None = refl
 
@@ -25,17 +26,20 @@ status_activator [] n i s = refl
 status_activator (c ∷ cs) zero zero s = refl
 status_activator (c ∷ cs) zero (suc i) s = refl
 status_activator (c ∷ cs) (suc n) zero s = ap (λ (w : List Coexp). activator_in (slice_get w 0)) (status_next n s c cs (slice_get cs n))
-status_activator (c ∷ cs) (suc n) (suc i) s = ap (λ (w : List Coexp). activator_in (slice_get w (suc i))) (status_next n s c cs (slice_get cs n)) ∙ status_activator cs n i s
+status_activator (c ∷ cs) (suc n) (suc i) s =
+    ap (λ (w : List Coexp). activator_in (slice_get w (suc i))) (status_next n s c cs (slice_get cs n)) ∙ status_activator cs n i s
 
 pub status_others : (cs : List Coexp) (n : ℕ) (s : Status FlatStack) → EnterOthers cs → EnterOthers (table.with_status n s cs)
 status_others cs n s k i p = λ e. k i p (sym (status_activator cs n i s) ∙ e)
 
-activator_next : (n a : ℕ) (c : Coexp) (cs : List Coexp) (o : Option Coexp) → table.with_activator_in (suc n) a (c ∷ cs) o ≡ c ∷ table.with_activator_in n a cs o
+activator_next : (n a : ℕ) (c : Coexp) (cs : List Coexp) (o : Option Coexp)
+    → table.with_activator_in (suc n) a (c ∷ cs) o ≡ c ∷ table.with_activator_in n a cs o
 activator_next n a c cs (Some x) = refl
 activator_next n a c cs None = refl
 
 -- one that is set is another one
-activator_set : (P : ℕ → ℕ → Type 0) (cs : List Coexp) (n a : ℕ) → ((i : ℕ) → P i (activator_in (slice_get cs i))) → P n a → (i : ℕ) → P i (activator_in (slice_get (table.with_activator n a cs) i))
+activator_set : (P : ℕ → ℕ → Type 0) (cs : List Coexp) (n a : ℕ) → ((i : ℕ) → P i (activator_in (slice_get cs i))) → P n a → (i : ℕ)
+    → P i (activator_in (slice_get (table.with_activator n a cs) i))
 activator_set P [] n a all one i = all i
 activator_set P (c ∷ cs) zero a all one zero = one
 activator_set P (c ∷ cs) zero a all one (suc i) = all (suc i)
@@ -53,7 +57,8 @@ begin_others tab n None k = k
 begin_others tab n (Some c) k = status_others tab.coexps n Active k
 
 give_by_others : (tab u : Table) (n : ℕ) (v : Val) (s : Status FlatStack) → table.give_by n v tab s ≡ Some u → EnterOthers tab.coexps → EnterOthers u.coexps
-give_by_others tab u n v Fresh e k = subst (λ (w : Table). EnterOthers w.coexps) (same_Some (table.begin_by n tab (slice_get tab.coexps n)) u e) (begin_others tab n (slice_get tab.coexps n) k)
+give_by_others tab u n v Fresh e k =
+    subst (λ (w : Table). EnterOthers w.coexps) (same_Some (table.begin_by n tab (slice_get tab.coexps n)) u e) (begin_others tab n (slice_get tab.coexps n) k)
 give_by_others tab u n v Active e k = cc
 give_by_others tab u n v (Waiting m) e k = subst (λ (w : Table). EnterOthers w.coexps) (same_Some _ _ e) (status_others tab.coexps n Active k)
 give_by_others tab u n v Exhausted e k = subst (λ (w : Table). EnterOthers w.coexps) (same_Some _ _ e) k
@@ -69,7 +74,8 @@ waits_others tab None k = k
 waits_others tab (Some m) k = status_others tab.coexps tab.active (Waiting m) k
 
 pub give_others : (v : Val) (tab u : Table) → give v tab ≡ Some u → EnterOthers tab.coexps → EnterOthers u.coexps
-give_others v tab u e k = let left : Table = table.with_waiting tab in give_by_others left u (source tab) v (table.status_of (source tab) left) e (waits_others tab tab.running k)
+give_others v tab u e k =
+    let left : Table = table.with_waiting tab in give_by_others left u (source tab) v (table.status_of (source tab) left) e (waits_others tab tab.running k)
 
 pub entered_others : (n : ℕ) (v : Val) (tab u : Table) → enter_other n v tab ≡ Some u → n ≢ tab.active → EnterOthers tab.coexps → EnterOthers u.coexps
 entered_others n v tab u e d k =
@@ -104,7 +110,8 @@ begin_active tab n None e = cc
 begin_active tab n (Some c) e = refl
 
 give_by_active : (tab u : Table) (n : ℕ) (v : Val) (s : Status FlatStack) → table.status_of n tab ≡ s → table.give_by n v tab s ≡ Some u → u.active ≡ n
-give_by_active tab u n v Fresh h e = ap (λ (w : Table). w.active) (sym (same_Some (table.begin_by n tab (slice_get tab.coexps n)) u e)) ∙ begin_active tab n (slice_get tab.coexps n) h
+give_by_active tab u n v Fresh h e =
+    ap (λ (w : Table). w.active) (sym (same_Some (table.begin_by n tab (slice_get tab.coexps n)) u e)) ∙ begin_active tab n (slice_get tab.coexps n) h
 give_by_active tab u n v Active h e = cc
 give_by_active tab u n v (Waiting m) h e = ap (λ (w : Table). w.active) (sym (same_Some _ _ e))
 give_by_active tab u n v Exhausted h e = ap (λ (w : Table). w.active) (sym (same_Some _ _ e))
@@ -159,7 +166,8 @@ result_fits turns a to cs p d k =
     let new : List ℕ = slice_set cs a (slice_index cs a + 1) in
     record {
       all = λ n q. elim (decides n a) as (λ w. slice_index new n + slice_index new n ≤ turns + 1) [
-        | inl e ↦ subst (λ (i : ℕ). slice_index new i + slice_index new i ≤ turns + 1) (sym e) (omega (arith, index_here cs a (slice_index cs a + 1), k.entered p))
+        | inl e ↦
+            subst (λ (i : ℕ). slice_index new i + slice_index new i ≤ turns + 1) (sym e) (omega (arith, index_here cs a (slice_index cs a + 1), k.entered p))
         | inr e ↦ omega (arith, index_other cs a n (slice_index cs a + 1) e, k.all n q)
       ];
       entered = λ q. omega (arith, index_other cs a to (slice_index cs a + 1) d, k.all to q);
@@ -195,7 +203,8 @@ pub turn_had : (turns a : ℕ) (cs : List ℕ) → FitTurns turns a cs → (n : 
 turn_had turns a cs k n p = omega (arith, k.all n p)
 
 -- a count that has room
-pub count_fits : (turns a limit : ℕ) (cs : List ℕ) → 0 < a → turns < limit → limit ≤ 18446744073709551615 → FitTurns turns a cs → slice_index cs a < 9223372036854775807
+pub count_fits : (turns a limit : ℕ) (cs : List ℕ) → 0 < a → turns < limit → limit ≤ 18446744073709551615 → FitTurns turns a cs
+    → slice_index cs a < 9223372036854775807
 count_fits turns a limit cs p q r k = omega (arith, k.entered p, q, r)
 
 -- what is copied

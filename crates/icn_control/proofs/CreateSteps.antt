@@ -45,7 +45,8 @@ abbrev pub beside_in : Names → Outside → World → ℕ → List Bool → Wor
 beside_in names outside w turns begun v = record { names = names; outside = outside; world = world_of w; turns = turns; begun = begun; all = extent_of v.heap }
 
 -- the setting in which it is charged
-charged_here : (t : Tables) (w v : World) (n : FlatStack) (st : Store Frames) → st.world ≡ world_of w → KeepsItems (reach_of w []) (reach_of v []) → IsLiveStack t (reach_of w []) n
+charged_here : (t : Tables) (w v : World) (n : FlatStack) (st : Store Frames) → st.world ≡ world_of w → KeepsItems (reach_of w []) (reach_of v [])
+    → IsLiveStack t (reach_of w []) n
     → here flat (stack_in (extent_of v.heap) n) st ≡ setting_of st.outside w (held.locals n)
 charged_here t w v n st same keeps live =
     let F : StoreWorld → List Value → Setting = λ x y. record { world = x; locals = y; outside = st.outside } in
@@ -53,11 +54,13 @@ charged_here t w v n st same keeps live =
     ∙ ap (F (world_of w)) (locals_read (reading_of (extent_of v.heap)) n ∙ values_kept keeps.extent (held.locals n) (live_locals t (reach_of w []) n live))
 
 -- what comes of a charge that is paid: the value is pushed
-pub charged_runs : (t : Tables) (w v : World) (n : FlatStack) (count number : ℕ) (names : Names) (outside : Outside) (turns : ℕ) (begun : List Bool) (before after : Table)
+pub charged_runs : (t : Tables) (w v : World) (n : FlatStack) (count number : ℕ) (names : Names) (outside : Outside) (turns : ℕ) (begun : List Bool)
+    (before after : Table)
     → KeepsItems (reach_of w []) (reach_of v []) → IsLiveStack t (reach_of w []) n → held.set_locals (held.locals n) n ≡ n → after.active ≡ before.active
     → coexpression_row count (setting_of outside w (held.locals n)) ≡ Gives (ItemVal (ACoexp number)) (setting_of outside v (held.locals n))
     → charged_and_made (beside_in names outside w turns begun v) count before after (stack_in (extent_of v.heap) n)
-    ≡ running (stack_in (extent_of v.heap) (held.push (HeldVal (HeldCoexp number)) n)) (store_in names outside (world_of v) turns begun (extent_of v.heap) after)
+    ≡ running (stack_in (extent_of v.heap) (held.push (HeldVal (HeldCoexp number)) n))
+    (store_in names outside (world_of v) turns begun (extent_of v.heap) after)
 charged_runs t w v n count number names outside turns begun before after keeps live same active row =
     let b : Extent = extent_of v.heap in
     let beside : Beside = beside_in names outside w turns begun v in
@@ -66,14 +69,17 @@ charged_runs t w v n count number names outside turns begun before after keeps l
     let done : ℕ → Store Frames = λ a. record (store_in names outside (world_of v) turns begun b after) { active = a } in
     ap (λ (s : Setting). with_made flat (coexpression_row count s) (stack_in b n) st next) (charged_here t w v n st refl keeps live)
     ∙ ap (λ (o : Outcome). with_made flat o (stack_in b n) st next) row
-    ∙ ap (λ (x : Frames). running (flat.push (ItemVal (ACoexp number)) x) (done before.active)) (set_locals_read (reading_of b) (held.locals n) n ∙ ap (stack_in b) same)
+    ∙ ap (λ (x : Frames). running (flat.push (ItemVal (ACoexp number)) x) (done before.active))
+    (set_locals_read (reading_of b) (held.locals n) n ∙ ap (stack_in b) same)
     ∙ ap (λ (a : ℕ). running (stack_in b (held.push (HeldVal (HeldCoexp number)) n)) (done a)) (sym active)
 
 -- what comes of one that is not
-pub charged_errs : (t : Tables) (w v : World) (n : FlatStack) (count number : ℕ) (value : Option Value) (names : Names) (outside : Outside) (turns : ℕ) (begun : List Bool) (before after other : Table) (all : Extent)
+pub charged_errs : (t : Tables) (w v : World) (n : FlatStack) (count number : ℕ) (value : Option Value) (names : Names) (outside : Outside) (turns : ℕ)
+    (begun : List Bool) (before after other : Table) (all : Extent)
     → KeepsItems (reach_of w []) (reach_of v []) → IsLiveStack t (reach_of w []) n
     → coexpression_row count (setting_of outside w (held.locals n)) ≡ Error number value (setting_of outside v (held.locals n))
-    → charged_and_made (beside_in names outside w turns begun v) count before after (stack_in (extent_of v.heap) n) ≡ errs number value (store_in names outside (world_of v) turns begun all other)
+    → charged_and_made (beside_in names outside w turns begun v) count before after (stack_in (extent_of v.heap) n)
+    ≡ errs number value (store_in names outside (world_of v) turns begun all other)
 charged_errs t w v n count number value names outside turns begun before after other all keeps live row =
     let b : Extent = extent_of v.heap in
     let beside : Beside = beside_in names outside w turns begun v in
@@ -83,10 +89,14 @@ charged_errs t w v n count number value names outside turns begun before after o
     ∙ ap (λ (o : Outcome). with_made flat o (stack_in b n) st next) row
 
 -- create, up to its charge
-pub create_goes : (t tables : Tables) (w v : World) (m : FlatStack) (label : ℕ) (names : Names) (outside : Outside) (turns : ℕ) (begun : List Bool) (table : Table) → table.running ≡ Some m
-    → nat_lt turns (heap_of w.heap).bounds.turns ≡ true → KeepsItems (reach_of w []) (reach_of v []) → IsLiveStack t (reach_of w []) m → AllLive t (reach_of w []) table.coexps
-    → instruction flat tables (Instrs.Create label) (stack_in (extent_of w.heap) (running_of table.running)) (store_in names outside (world_of w) turns begun (extent_of w.heap) table)
-    ≡ charged_and_made (beside_in names outside w (suc turns) begun v) (length (held.locals m)) table (with_new (held.locals m) (held.proc m) m.place table) (stack_in (extent_of v.heap) (held.go label m))
+pub create_goes : (t tables : Tables) (w v : World) (m : FlatStack) (label : ℕ) (names : Names) (outside : Outside) (turns : ℕ) (begun : List Bool)
+    (table : Table) → table.running ≡ Some m
+    → nat_lt turns (heap_of w.heap).bounds.turns ≡ true → KeepsItems (reach_of w []) (reach_of v []) → IsLiveStack t (reach_of w []) m
+    → AllLive t (reach_of w []) table.coexps
+    → instruction flat tables (Instrs.Create label) (stack_in (extent_of w.heap) (running_of table.running))
+    (store_in names outside (world_of w) turns begun (extent_of w.heap) table)
+    ≡ charged_and_made (beside_in names outside w (suc turns) begun v) (length (held.locals m)) table (with_new (held.locals m) (held.proc m) m.place table)
+    (stack_in (extent_of v.heap) (held.go label m))
 create_goes t tables w v m label names outside turns begun table e b keeps live all =
     let st : Store Frames = store_in names outside (world_of w) turns begun (extent_of w.heap) table in
     let M : Frames = stack_in (extent_of w.heap) m in
@@ -95,8 +105,10 @@ create_goes t tables w v m label names outside turns begun table e b keeps live 
     let beside : Beside = beside_in names outside w (suc turns) begun v in
     ap (λ (o : Option FlatStack). instruction flat tables (Instrs.Create label) (stack_in (extent_of w.heap) (running_of o)) st) e
     ∙ ap (λ (x : Bool). turn_if x st event) b
-    ∙ ap (λ (x : Frames). coexp_made flat (flat.locals x) (flat.proc x) (flat.place x) (flat.go label x) next) (sym (stack_same t (reach_of w []) (reach_of v []) m keeps live))
-    ∙ ap (coexp_made flat (flat.locals (stack_in (extent_of v.heap) m)) (flat.proc (stack_in (extent_of v.heap) m)) m.place (stack_in (extent_of v.heap) (held.go label m)))
+    ∙ ap (λ (x : Frames). coexp_made flat (flat.locals x) (flat.proc x) (flat.place x) (flat.go label x) next)
+    (sym (stack_same t (reach_of w []) (reach_of v []) m keeps live))
+    ∙ ap (coexp_made flat (flat.locals (stack_in (extent_of v.heap) m)) (flat.proc (stack_in (extent_of v.heap) m)) m.place
+    (stack_in (extent_of v.heap) (held.go label m)))
     (sym (store_same names outside (world_of w) (suc turns) begun t (reach_of w []) (reach_of v []) table keeps all))
     ∙ (creations_are beside table (stack_in (extent_of v.heap) (held.go label m))).creates m
 
@@ -104,12 +116,15 @@ create_goes t tables w v m label names outside turns begun table e b keeps live 
 pub created_is : (table u : Table) (m : FlatStack) (label number : ℕ) → table.running ≡ Some m → u ≡ create_entry label table → number ≡ length table.coexps
     → record (with_new (held.locals m) (held.proc m) m.place table) { running = Some (held.push (HeldVal (HeldCoexp number)) (held.go label m)) } ≡ u
 created_is table u m label number e c n =
-    let F : ℕ → Table = λ k. record (with_new (held.locals m) (held.proc m) m.place table) { running = Some (held.push (HeldVal (HeldCoexp k)) (held.go label m)) } in
+    let F : ℕ
+    → Table = λ k. record (with_new (held.locals m) (held.proc m) m.place table) { running = Some (held.push (HeldVal (HeldCoexp k)) (held.go label m)) } in
     ap F n ∙ sym (ap (created_on label table) e) ∙ sym c
 
 -- what the table comes to whose stack was read, then grew, and went on
-pub adds_here : (table t u : Table) (f e k n : FlatStack) (values : List Val) (proc place id label : ℕ) → table.running ≡ Some f → e ≡ f → values ≡ held.locals f → proc ≡ held.proc f → place ≡ f.place
-    → t ≡ with_new values proc place (record table { running = Some e }) → id ≡ length table.coexps → t.running ≡ Some k → n ≡ held.push (HeldVal (HeldCoexp id)) (held.go label k) → u ≡ record t { running = Some n }
+pub adds_here : (table t u : Table) (f e k n : FlatStack) (values : List Val) (proc place id label : ℕ) → table.running ≡ Some f → e ≡ f
+    → values ≡ held.locals f → proc ≡ held.proc f → place ≡ f.place
+    → t ≡ with_new values proc place (record table { running = Some e }) → id ≡ length table.coexps → t.running ≡ Some k
+    → n ≡ held.push (HeldVal (HeldCoexp id)) (held.go label k) → u ≡ record t { running = Some n }
     → u ≡ create_entry label table
 adds_here table t u f e k n values proc place id label r same v p q made i g push there =
     let back : k ≡ f = same_Some k f (sym g ∙ ap (λ (x : Table). x.running) made ∙ ap (λ (x : FlatStack). Some x) same) in
@@ -120,7 +135,8 @@ adds_here table t u f e k n values proc place id label r same v p q made i g pus
     ∙ ap (λ (a : List Val). G a proc place) v
     ∙ ap (λ (b : ℕ). G (held.locals f) b place) p
     ∙ ap (G (held.locals f) (held.proc f)) q
-    ∙ ap (F (with_new (held.locals f) (held.proc f) f.place table)) (push ∙ ap (λ (x : FlatStack). held.push (HeldVal (HeldCoexp id)) (held.go label x)) back ∙ ap (λ (x : ℕ). held.push (HeldVal (HeldCoexp x)) (held.go label f)) i)
+    ∙ ap (F (with_new (held.locals f) (held.proc f) f.place table)) (push ∙ ap (λ (x : FlatStack). held.push (HeldVal (HeldCoexp id)) (held.go label x)) back
+    ∙ ap (λ (x : ℕ). held.push (HeldVal (HeldCoexp x)) (held.go label f)) i)
     ∙ sym (ap (created_on label table) r)
 
 pub copy_running : (t : Table) (o : Option Coexp) → (with_copy t o).running ≡ t.running
@@ -128,46 +144,64 @@ copy_running t None = refl
 copy_running t (Some c) = refl
 
 -- the same of a copy
-pub adds_copy : (table t u : Table) (f k n : FlatStack) (id number : ℕ) → table.running ≡ Some f → t ≡ with_copy table (slice_get table.coexps id) → number ≡ length table.coexps → t.running ≡ Some k
+pub adds_copy : (table t u : Table) (f k n : FlatStack) (id number : ℕ) → table.running ≡ Some f → t ≡ with_copy table (slice_get table.coexps id)
+    → number ≡ length table.coexps → t.running ≡ Some k
     → n ≡ held.push (HeldVal (HeldCoexp number)) k → u ≡ record t { running = Some n } → u ≡ copy_entry id table
 adds_copy table t u f k n id number r made i g push there =
     let back : k ≡ f = same_Some k f (sym g ∙ ap (λ (x : Table). x.running) made ∙ copy_running table (slice_get table.coexps id) ∙ r) in
     let F : Table → FlatStack → Table = λ x y. record x { running = Some y } in
     there
     ∙ ap (λ (x : Table). F x n) made
-    ∙ ap (F (with_copy table (slice_get table.coexps id))) (push ∙ ap (held.push (HeldVal (HeldCoexp number))) back ∙ ap (λ (x : ℕ). held.push (HeldVal (HeldCoexp x)) f) i)
+    ∙ ap (F (with_copy table (slice_get table.coexps id)))
+    (push ∙ ap (held.push (HeldVal (HeldCoexp number))) back ∙ ap (λ (x : ℕ). held.push (HeldVal (HeldCoexp x)) f) i)
     ∙ sym (ap (copied_on id table) r)
 
 -- create as a whole: what it comes to where it is charged, and where it is not
 
-pub create_runs : (t tables : Tables) (w v : World) (m : FlatStack) (label count number : ℕ) (names : Names) (outside : Outside) (turns more : ℕ) (begun : List Bool) (table u : Table) → table.running ≡ Some m
-    → nat_lt turns (heap_of w.heap).bounds.turns ≡ true → KeepsItems (reach_of w []) (reach_of v []) → IsLiveStack t (reach_of w []) m → AllLive t (reach_of w []) table.coexps → held.set_locals (held.locals m) m ≡ m → count ≡ length (held.locals m)
-    → coexpression_row count (setting_of outside w (held.locals m)) ≡ Gives (ItemVal (ACoexp number)) (setting_of outside v (held.locals m)) → number ≡ length table.coexps → u ≡ create_entry label (record table { running = Some m }) → more ≡ suc turns
-    → instruction flat tables (Instrs.Create label) (stack_in (extent_of w.heap) (running_of table.running)) (store_in names outside (world_of w) turns begun (extent_of w.heap) table)
+pub create_runs : (t tables : Tables) (w v : World) (m : FlatStack) (label count number : ℕ) (names : Names) (outside : Outside) (turns more : ℕ)
+    (begun : List Bool) (table u : Table) → table.running ≡ Some m
+    → nat_lt turns (heap_of w.heap).bounds.turns ≡ true → KeepsItems (reach_of w []) (reach_of v []) → IsLiveStack t (reach_of w []) m
+    → AllLive t (reach_of w []) table.coexps → held.set_locals (held.locals m) m ≡ m → count ≡ length (held.locals m)
+    → coexpression_row count (setting_of outside w (held.locals m)) ≡ Gives (ItemVal (ACoexp number)) (setting_of outside v (held.locals m))
+    → number ≡ length table.coexps → u ≡ create_entry label (record table { running = Some m }) → more ≡ suc turns
+    → instruction flat tables (Instrs.Create label) (stack_in (extent_of w.heap) (running_of table.running))
+    (store_in names outside (world_of w) turns begun (extent_of w.heap) table)
     ≡ running (stack_in (extent_of v.heap) (running_of u.running)) (store_in names outside (world_of v) more begun (extent_of v.heap) u)
 create_runs t tables w v m label count number names outside turns more begun table u e b keeps live all same c row n made k =
     let after : Table = with_new (held.locals m) (held.proc m) m.place table in
-    let F : ℕ → Table → State Frames Frames = λ x y. running (stack_in (extent_of v.heap) (running_of y.running)) (store_in names outside (world_of v) x begun (extent_of v.heap) y) in
+    let F : ℕ → Table → State Frames Frames = λ x y. running (stack_in (extent_of v.heap) (running_of y.running))
+    (store_in names outside (world_of v) x begun (extent_of v.heap) y) in
     create_goes t tables w v m label names outside turns begun table e b keeps live all
-    ∙ charged_runs t w v (held.go label m) (length (held.locals m)) number names outside (suc turns) begun table after keeps (live_go t (reach_of w []) m label live) (ap (held.go label) same) refl
-    (subst (λ (x : ℕ). coexpression_row x (setting_of outside w (held.locals m)) ≡ Gives (ItemVal (ACoexp number)) (setting_of outside v (held.locals m))) c row)
+    ∙ charged_runs t w v (held.go label m) (length (held.locals m)) number names outside (suc turns) begun table after keeps
+    (live_go t (reach_of w []) m label live) (ap (held.go label) same) refl
+    (subst (λ (x : ℕ). coexpression_row x (setting_of outside w (held.locals m)) ≡ Gives (ItemVal (ACoexp number)) (setting_of outside v (held.locals m))) c
+    row)
     ∙ ap (F (suc turns)) (created_is (record table { running = Some m }) u m label number refl made n)
     ∙ ap (λ (x : ℕ). F x u) (sym k)
 
-pub create_errs : (t tables : Tables) (w v : World) (m : FlatStack) (label count number : ℕ) (offending : Option Val) (stop : Stop) (names : Names) (outside : Outside) (turns more : ℕ) (begun : List Bool) (table other : Table) → table.running ≡ Some m
-    → nat_lt turns (heap_of w.heap).bounds.turns ≡ true → KeepsItems (reach_of w []) (reach_of v []) → IsLiveStack t (reach_of w []) m → AllLive t (reach_of w []) table.coexps → count ≡ length (held.locals m)
-    → HaltsRow (extent_of v.heap) (coexpression_row count) (setting_of outside w (held.locals m)) (setting_of outside v (held.locals m)) (halt_of stop) → stop ≡ StopError number offending
-    → instruction flat tables (Instrs.Create label) (stack_in (extent_of w.heap) (running_of table.running)) (store_in names outside (world_of w) turns begun (extent_of w.heap) table)
+pub create_errs : (t tables : Tables) (w v : World) (m : FlatStack) (label count number : ℕ) (offending : Option Val) (stop : Stop) (names : Names)
+    (outside : Outside) (turns more : ℕ) (begun : List Bool) (table other : Table) → table.running ≡ Some m
+    → nat_lt turns (heap_of w.heap).bounds.turns ≡ true → KeepsItems (reach_of w []) (reach_of v []) → IsLiveStack t (reach_of w []) m
+    → AllLive t (reach_of w []) table.coexps → count ≡ length (held.locals m)
+    → HaltsRow (extent_of v.heap) (coexpression_row count) (setting_of outside w (held.locals m)) (setting_of outside v (held.locals m)) (halt_of stop)
+    → stop ≡ StopError number offending
+    → instruction flat tables (Instrs.Create label) (stack_in (extent_of w.heap) (running_of table.running))
+    (store_in names outside (world_of w) turns begun (extent_of w.heap) table)
     ≡ errs number (option_map (value_in (extent_of v.heap)) offending) (store_in names outside (world_of v) more begun (extent_of v.heap) other)
 create_errs t tables w v m label count number offending stop names outside turns more begun table other e b keeps live all c row s =
     let after : Table = with_new (held.locals m) (held.proc m) m.place table in
-    let halts : HaltsRow (extent_of v.heap) (coexpression_row (length (held.locals m))) (setting_of outside w (held.locals m)) (setting_of outside v (held.locals m)) (halt_of stop)
-    = subst (λ (x : ℕ). HaltsRow (extent_of v.heap) (coexpression_row x) (setting_of outside w (held.locals m)) (setting_of outside v (held.locals m)) (halt_of stop)) c row in
+    let halts : HaltsRow (extent_of v.heap) (coexpression_row (length (held.locals m))) (setting_of outside w (held.locals m))
+    (setting_of outside v (held.locals m)) (halt_of stop)
+    = subst (λ (x : ℕ). HaltsRow (extent_of v.heap) (coexpression_row x) (setting_of outside w (held.locals m)) (setting_of outside v (held.locals m))
+    (halt_of stop)) c row in
     create_goes t tables w v m label names outside turns begun table e b keeps live all
-    ∙ charged_errs t w v (held.go label m) (length (held.locals m)) number (option_map (value_in (extent_of v.heap)) offending) names outside (suc turns) begun table after other (extent_of v.heap) keeps (live_go t (reach_of w []) m label live)
-    (row_error (extent_of v.heap) (coexpression_row (length (held.locals m))) (setting_of outside w (held.locals m)) (setting_of outside v (held.locals m)) stop number offending halts s)
+    ∙ charged_errs t w v (held.go label m) (length (held.locals m)) number (option_map (value_in (extent_of v.heap)) offending) names outside
+    (suc turns) begun table after other (extent_of v.heap) keeps (live_go t (reach_of w []) m label live)
+    (row_error (extent_of v.heap) (coexpression_row (length (held.locals m))) (setting_of outside w (held.locals m))
+    (setting_of outside v (held.locals m)) stop number offending halts s)
 
 -- one more local was read
 pub one_local : (xs ys : List Val) (i : ℕ) (v : Val) → ys ≡ take i xs → slice_get xs i ≡ Some v → ys ++ v ∷ [] ≡ take (i + 1) xs
 one_local xs ys i v so e =
-    ap (λ (w : List Val). w ++ v ∷ []) so ∙ sym (take_more xs i v (slice_get_within xs i v e) ∙ ap (λ (x : Val). take i xs ++ x ∷ []) (get_or_from_slice_get xs i v v e))
+    ap (λ (w : List Val). w ++ v ∷ []) so
+    ∙ sym (take_more xs i v (slice_get_within xs i v e) ∙ ap (λ (x : Val). take i xs ++ x ∷ []) (get_or_from_slice_get xs i v v e))

@@ -35,7 +35,8 @@ made_by : (beside : Beside) (t : Table) (values : List Val) (proc place : ℕ) (
     ≡ with_made flat o n (store_with beside t) (λ value n st. push_item flat (ItemVal value) n (with_coexps beside (with_new values proc place t) st))
 made_by beside t values proc place n (Gives (ItemVal value) seen) =
     let F : List (code.Coexp Frames) → State Frames Frames
-    = λ w. push_item flat (ItemVal value) (flat.set_locals seen.locals n) (record (store_with beside t) { world = seen.world; outside = seen.outside; coexps = w }) in
+    = λ w. push_item flat (ItemVal value) (flat.set_locals seen.locals n)
+    (record (store_with beside t) { world = seen.world; outside = seen.outside; coexps = w }) in
     ap F (added_is beside t values proc place)
 made_by beside t values proc place n (Gives (ItemVar variable) seen) = refl
 made_by beside t values proc place n (Fails seen) = refl
@@ -44,10 +45,13 @@ made_by beside t values proc place n (Error number value seen) = refl
 made_by beside t values proc place n (Ends status seen) = refl
 
 pub adds : (beside : Beside) (t : Table) (values : List Val) (proc place : ℕ) (n : Frames)
-    → coexp_made flat (map (value_in beside.all) values) proc place n (store_with beside t) ≡ charged_and_made beside (length values) t (with_new values proc place t) n
+    → coexp_made flat (map (value_in beside.all) values) proc place n (store_with beside t)
+    ≡ charged_and_made beside (length values) t (with_new values proc place t) n
 adds beside t values proc place n =
-    let next : Value → Frames → Store Frames → State Frames Frames = λ value n st. push_item flat (ItemVal value) n (code.with_new (map (value_in beside.all) values) proc place st) in
-    ap (λ (count : ℕ). with_made flat (coexpression_row count (here flat n (store_with beside t))) n (store_with beside t) next) (length-map values (value_in beside.all))
+    let next : Value → Frames → Store Frames
+    → State Frames Frames = λ value n st. push_item flat (ItemVal value) n (code.with_new (map (value_in beside.all) values) proc place st) in
+    ap (λ (count : ℕ). with_made flat (coexpression_row count (here flat n (store_with beside t))) n (store_with beside t) next)
+    (length-map values (value_in beside.all))
     ∙ made_by beside t values proc place n (coexpression_row (length values) (here flat n (store_with beside t)))
 
 refreshed_is : (beside : Beside) (t : Table) (n : Frames) (o : Option Coexp) (c : Coexp) → o ≡ Some c
@@ -60,8 +64,10 @@ refreshed_is beside t n o c e =
 pub creations_are : (beside : Beside) (t : Table) (n : Frames) → CreationsAreRead beside t n
 creations_are beside t n = record {
   creates = λ m.
-      ap (λ (values : List Value). coexp_made flat values (flat.proc (stack_in beside.all m)) m.place n (store_with beside t)) (locals_read (reading_of beside.all) m)
-      ∙ ap (λ (proc : ℕ). coexp_made flat (map (value_in beside.all) (held.locals m)) proc m.place n (store_with beside t)) (proc_read (reading_of beside.all) m)
+      ap (λ (values : List Value). coexp_made flat values (flat.proc (stack_in beside.all m)) m.place n (store_with beside t))
+      (locals_read (reading_of beside.all) m)
+      ∙ ap (λ (proc : ℕ). coexp_made flat (map (value_in beside.all) (held.locals m)) proc m.place n (store_with beside t))
+      (proc_read (reading_of beside.all) m)
       ∙ adds beside t (held.locals m) (held.proc m) m.place n;
   refreshes = λ k l.
       let c = live_entry Coexp t.coexps (suc k) l in

@@ -41,7 +41,8 @@ live_drop t reach (suc k) n (Mark label changed r ∷ s) l = live_drop t reach k
 live_drop t reach (suc k) n (Limit count r ∷ s) l = live_drop t reach k (locals_at r s) s l.1.1
 live_drop t reach (suc k) n (Suspension why r place ∷ s) l = live_drop t reach k (locals_at r s) s l.1.1
 
-live_down : (t : Tables) (reach : Reach) (c n : ℕ) (s : List Cell) (values : List Val) → AreLive t reach n s → All (IsLive reach.extent) values → All (IsLive reach.extent) (locals_down c s values)
+live_down : (t : Tables) (reach : Reach) (c n : ℕ) (s : List Cell) (values : List Val) → AreLive t reach n s → All (IsLive reach.extent) values
+    → All (IsLive reach.extent) (locals_down c s values)
 live_down t reach zero n s values l a = a
 live_down t reach (suc c) n [] values l a = a
 live_down t reach (suc c) n (Local value ∷ s) values l a = live_down t reach c n s (value ∷ values) l.1 (All-cons (IsLive reach.extent) value values l.0 a)
@@ -59,21 +60,27 @@ live_locals t reach m k =
     live_down t reach count l.0 (drop (length m.cells - (m.registers.base + count)) m.cells) [] l.1 (All-nil (IsLive reach.extent))
 
 -- what an instruction sees is the setting of the world and the locals
-pub here_is : (w : World) (m : FlatStack) (st : Store Frames) → st.world ≡ world_of w → here flat (stack_in (extent_of w.heap) m) st ≡ setting_of st.outside w (held.locals m)
+pub here_is : (w : World) (m : FlatStack) (st : Store Frames) → st.world ≡ world_of w
+    → here flat (stack_in (extent_of w.heap) m) st ≡ setting_of st.outside w (held.locals m)
 here_is w m st e =
     let F : StoreWorld → List Value → Setting = λ x y. record { world = x; locals = y; outside = st.outside } in
     ap (λ (x : StoreWorld). F x (flat.locals (stack_in (extent_of w.heap) m))) e ∙ ap (F (world_of w)) (locals_read (reading_of (extent_of w.heap)) m)
 
-pub item_here : (w : World) (m : FlatStack) (item : HeldItem) → held.local_count m ≡ length (held.locals m) → IsLiveItem (with_locals (held.local_count m) (reach_of w [])) item → IsLiveItem (reach_of w (held.locals m)) item
+pub item_here : (w : World) (m : FlatStack) (item : HeldItem) → held.local_count m ≡ length (held.locals m)
+    → IsLiveItem (with_locals (held.local_count m) (reach_of w [])) item → IsLiveItem (reach_of w (held.locals m)) item
 item_here w m item e l = subst (λ (n : ℕ). IsLiveItem (with_locals n (reach_of w [])) item) e l
 
 pub value_found : (w : World) (m : FlatStack) (item : HeldItem) (result : Result Val Stop)
-    → ((outside : Outside) → MatchResult result (λ val. GoesOn (the_value (item_in (extent_of w.heap) item)) (setting_of outside w (held.locals m)) (value_in (extent_of w.heap) val) (setting_of outside w (held.locals m))) (StopsFinding (extent_of w.heap) (the_value (item_in (extent_of w.heap) item)) (setting_of outside w (held.locals m)) (setting_of outside w (held.locals m))))
-    → (st : Store Frames) → st.world ≡ world_of w → FindsValue (extent_of w.heap) (item_in (extent_of w.heap) item) (here flat (stack_in (extent_of w.heap) m) st) result
+    → ((outside : Outside) → MatchResult result (λ val. GoesOn (the_value (item_in (extent_of w.heap) item)) (setting_of outside w (held.locals m))
+    (value_in (extent_of w.heap) val) (setting_of outside w (held.locals m))) (StopsFinding (extent_of w.heap) (the_value (item_in (extent_of w.heap) item))
+    (setting_of outside w (held.locals m)) (setting_of outside w (held.locals m))))
+    → (st : Store Frames) → st.world ≡ world_of w
+    → FindsValue (extent_of w.heap) (item_in (extent_of w.heap) item) (here flat (stack_in (extent_of w.heap) m) st) result
 value_found w m item (Ok val) h st e =
     subst (λ (x : Setting). FindsValue (extent_of w.heap) (item_in (extent_of w.heap) item) x (Ok val)) (sym (here_is w m st e)) (h st.outside gives_value)
 value_found w m item (Err (StopError number offending)) h st e =
-    subst (λ (x : Setting). FindsValue (extent_of w.heap) (item_in (extent_of w.heap) item) x (Err (StopError number offending))) (sym (here_is w m st e)) (h st.outside gives_value)
+    subst (λ (x : Setting). FindsValue (extent_of w.heap) (item_in (extent_of w.heap) item) x (Err (StopError number offending))) (sym (here_is w m st e))
+    (h st.outside gives_value)
 value_found w m item (Err StopNoMemory) h st e = tt
 
 -- the pair of a world is of it

@@ -25,14 +25,17 @@ exhausts beside tables t u m b e =
 pub under : (m n : ℕ) → m < n → nat_lt m n ≡ true
 under m n p = grind (arith, nat_tests)
 
-pub lands_failing : (beside : Beside) (m : Frames) (u : Table) (went : Went) → went ≡ went_by u.running → is_moved went ≡ true → land beside failing m u u.running ≡ failing (stack_in beside.all (running_of u.running)) (store_with beside u)
+pub lands_failing : (beside : Beside) (m : Frames) (u : Table) (went : Went) → went ≡ went_by u.running → is_moved went ≡ true
+    → land beside failing m u u.running ≡ failing (stack_in beside.all (running_of u.running)) (store_with beside u)
 lands_failing beside m u went e w = by_running u.running (sym (ap is_moved e) ∙ w)
   where
-    by_running : (o : Option FlatStack) → is_moved (went_by o) ≡ true → land beside failing m u o ≡ failing (stack_in beside.all (running_of o)) (store_with beside u)
+    by_running : (o : Option FlatStack) → is_moved (went_by o) ≡ true
+        → land beside failing m u o ≡ failing (stack_in beside.all (running_of o)) (store_with beside u)
     by_running (Some n) q = refl
     by_running None q = cc
 
-pub lands_hopping : (beside : Beside) (m : Frames) (u : Table) (went : Went) → went ≡ went_by u.running → is_moved went ≡ false → land beside failing m u u.running ≡ hopping m (store_with beside u)
+pub lands_hopping : (beside : Beside) (m : Frames) (u : Table) (went : Went) → went ≡ went_by u.running → is_moved went ≡ false
+    → land beside failing m u u.running ≡ hopping m (store_with beside u)
 lands_hopping beside m u went e w = by_running u.running (sym (ap is_moved e) ∙ w)
   where
     by_running : (o : Option FlatStack) → is_moved (went_by o) ≡ false → land beside failing m u o ≡ hopping m (store_with beside u)

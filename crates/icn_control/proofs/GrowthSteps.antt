@@ -33,9 +33,11 @@ use Rattle.icn_control.proofs.KeptItems.{stack_same, stack_stays}
 pub values_same : (old new : Extent) → Keeps old new → (values : List Val) → All (IsLive old) values → map (value_in new) values ≡ map (value_in old) values
 values_same old new k [] a = refl
 values_same old new k (v ∷ values) a =
-    ap (λ (x : Value). x ∷ map (value_in new) values) (k.value v (All-head (IsLive old) v values a)) ∙ ap (λ (xs : List Value). value_in old v ∷ xs) (values_same old new k values (All-tail (IsLive old) v values a))
+    ap (λ (x : Value). x ∷ map (value_in new) values) (k.value v (All-head (IsLive old) v values a))
+    ∙ ap (λ (xs : List Value). value_in old v ∷ xs) (values_same old new k values (All-tail (IsLive old) v values a))
 
-status_same : (t : Tables) (old new : Reach) (s : Status FlatStack) → KeepsItems old new → IsLiveStatus t old s → status_in new.extent s ≡ status_in old.extent s
+status_same : (t : Tables) (old new : Reach) (s : Status FlatStack) → KeepsItems old new → IsLiveStatus t old s
+    → status_in new.extent s ≡ status_in old.extent s
 status_same t old new Fresh k l = refl
 status_same t old new Active k l = refl
 status_same t old new (Waiting m) k l = ap (λ (x : Frames). Waiting x) (stack_same t old new m k l)
@@ -47,12 +49,17 @@ status_stays t old new Active k l = tt
 status_stays t old new (Waiting m) k l = stack_stays t old new m k l
 status_stays t old new Exhausted k l = tt
 
-coexp_same : (t : Tables) (old new : Reach) (c : Coexp) → KeepsItems old new → IsLiveStatus t old c.status → All (IsLive old.extent) c.values → coexp_in new.extent c ≡ coexp_in old.extent c
+coexp_same : (t : Tables) (old new : Reach) (c : Coexp) → KeepsItems old new → IsLiveStatus t old c.status → All (IsLive old.extent) c.values
+    → coexp_in new.extent c ≡ coexp_in old.extent c
 coexp_same t old new c k s v =
-    let F : Status Frames → List Value → code.Coexp Frames = λ x xs. record { status = x; activator = c.activator; values = xs; proc = c.proc; place = c.place } in
-    ap (λ (x : Status Frames). F x (map (value_in new.extent) c.values)) (status_same t old new c.status k s) ∙ ap (F (status_in old.extent c.status)) (values_same old.extent new.extent k.extent c.values v)
+    let F : Status Frames → List Value
+    → code.Coexp Frames = λ x xs. record { status = x; activator = c.activator; values = xs; proc = c.proc; place = c.place } in
+    ap (λ (x : Status Frames). F x (map (value_in new.extent) c.values)) (status_same t old new c.status k s)
+    ∙ ap (F (status_in old.extent c.status)) (values_same old.extent new.extent k.extent c.values v)
 
-coexps_same : (t : Tables) (old new : Reach) (cs : List Coexp) → KeepsItems old new → ((n : ℕ) (c : Coexp) → slice_get cs n ≡ Some c → IsLiveStatus t old c.status) → ((n : ℕ) (c : Coexp) → slice_get cs n ≡ Some c → All (IsLive old.extent) c.values)
+coexps_same : (t : Tables) (old new : Reach) (cs : List Coexp)
+    → KeepsItems old new → ((n : ℕ) (c : Coexp) → slice_get cs n ≡ Some c → IsLiveStatus t old c.status)
+    → ((n : ℕ) (c : Coexp) → slice_get cs n ≡ Some c → All (IsLive old.extent) c.values)
     → map (coexp_in new.extent) cs ≡ map (coexp_in old.extent) cs
 coexps_same t old new [] k s v = refl
 coexps_same t old new (c ∷ cs) k s v =
@@ -60,18 +67,26 @@ coexps_same t old new (c ∷ cs) k s v =
     ∙ ap (λ (xs : List (code.Coexp Frames)). coexp_in old.extent c ∷ xs) (coexps_same t old new cs k (λ n x e. s (suc n) x e) (λ n x e. v (suc n) x e))
 
 -- the store in which the world has grown
-pub grown : (t : Tables) (names : Names) (outside : Outside) (w v : World) (turns : ℕ) (begun : List Bool) (table : Table) (o : Option FlatStack) → KeepsItems (reach_of w []) (reach_of v []) → AreLiveStacks t (reach_of w []) table
-    → with_world (world_of v) (store_in names outside (world_of w) turns begun (extent_of w.heap) table) ≡ store_in names outside (world_of v) turns begun (extent_of v.heap) (record table { running = o })
+pub grown : (t : Tables) (names : Names) (outside : Outside) (w v : World) (turns : ℕ) (begun : List Bool) (table : Table) (o : Option FlatStack)
+    → KeepsItems (reach_of w []) (reach_of v []) → AreLiveStacks t (reach_of w []) table
+    → with_world (world_of v) (store_in names outside (world_of w) turns begun (extent_of w.heap) table)
+    ≡ store_in names outside (world_of v) turns begun (extent_of v.heap) (record table { running = o })
 grown t names outside w v turns begun table o k l =
-    let F : List (code.Coexp Frames) → Store Frames = λ cs. record { world = world_of v; outside = outside; turns = turns; begun = begun; coexps = cs; active = table.active; names = names } in
+    let F : List (code.Coexp Frames)
+    → Store Frames = λ cs. record { world = world_of v; outside = outside; turns = turns; begun = begun; coexps = cs; active = table.active; names = names } in
     ap F (sym (coexps_same t (reach_of w []) (reach_of v []) table.coexps k (λ n c e. (l.coexps n c e).status) (λ n c e. (l.coexps n c e).values)))
 
 -- all stacks stay of the world, and another one runs that is of it
-pub stacks_grow : (t : Tables) (w v : World) (table : Table) (n : FlatStack) → KeepsItems (reach_of w []) (reach_of v []) → IsLiveRunning t (reach_of v []) (Some n) → AreLiveStacks t (reach_of w []) table
+pub stacks_grow : (t : Tables) (w v : World) (table : Table) (n : FlatStack) → KeepsItems (reach_of w []) (reach_of v [])
+    → IsLiveRunning t (reach_of v []) (Some n) → AreLiveStacks t (reach_of w []) table
     → AreLiveStacks t (reach_of v []) (record table { running = Some n })
 stacks_grow t w v table n k l a = record {
   runs = l;
-  coexps = λ i c e. let was = a.coexps i c e in record { status = status_stays t (reach_of w []) (reach_of v []) c.status k was.status; values = locals_grow (extent_of w.heap) (extent_of v.heap) c.values k.extent was.values; count = was.count };
+  coexps = λ i c e. let was = a.coexps i c e in record {
+    status = status_stays t (reach_of w []) (reach_of v []) c.status k was.status;
+    values = locals_grow (extent_of w.heap) (extent_of v.heap) c.values k.extent was.values;
+    count = was.count;
+  };
 }
 
 -- Rows that make a value keep the limits and the counts of results
@@ -88,19 +103,23 @@ GivesSame before (Suspends item rest seen) = ⊤
 GivesSame before (Error number offending seen) = ⊤
 GivesSame before (Ends status seen) = ⊤
 
-on_check : (b : Bool) (number : ℕ) (offending : Option Value) (next : Row) (before at : Setting) → GivesSame before (next at) → GivesSame before (check b number offending next at)
+on_check : (b : Bool) (number : ℕ) (offending : Option Value) (next : Row) (before at : Setting) → GivesSame before (next at)
+    → GivesSame before (check b number offending next at)
 on_check true number offending next before at h = h
 on_check false number offending next before at h = tt
 
 list_counts : (values : List Value) (at : Setting) → GivesSame at (list_row values at)
-list_counts values at = on_check (nat_le (at.world.heap.cells + (1 + length values)) at.world.heap.bounds.cells) 307 None _ at at (record { bounds = refl; coexps = refl })
+list_counts values at =
+    on_check (nat_le (at.world.heap.cells + (1 + length values)) at.world.heap.bounds.cells) 307 None _ at at (record { bounds = refl; coexps = refl })
 
 record_counts : (kind : ℕ) (fields : List Value) (at : Setting) → GivesSame at (record_row kind fields at)
-record_counts kind fields at = on_check (nat_le (at.world.heap.cells + (1 + length fields)) at.world.heap.bounds.cells) 307 None _ at at (record { bounds = refl; coexps = refl })
+record_counts kind fields at =
+    on_check (nat_le (at.world.heap.cells + (1 + length fields)) at.world.heap.bounds.cells) 307 None _ at at (record { bounds = refl; coexps = refl })
 
 made_counts : (o : Option (List ℕ)) (text : List ℕ) (at : Setting) → GivesSame at (costs_made o (gives_value (Text text)) at)
 made_counts None text at = record { bounds = refl; coexps = refl }
-made_counts (Some bytes) text at = on_check (nat_le (at.world.heap.strings + length bytes) at.world.heap.bounds.strings) 306 None _ at at (record { bounds = refl; coexps = refl })
+made_counts (Some bytes) text at =
+    on_check (nat_le (at.world.heap.strings + length bytes) at.world.heap.bounds.strings) 306 None _ at at (record { bounds = refl; coexps = refl })
 
 text_counts : (value : Value) (at : Setting) → GivesSame at (text_row value at)
 text_counts value at = by_text (text_of value)
@@ -109,21 +128,31 @@ text_counts value at = by_text (text_of value)
     by_text None = tt
     by_text (Some text) = made_counts (text_made (form_of value)) text at
 
-counts_by : (w v : World) (outside : Outside) (locals : List Val) (item : Item) (outcome : Outcome) → GivesSame (setting_of outside w locals) outcome → outcome ≡ Gives item (setting_of outside v locals) → KeepsCounts w v
+counts_by : (w v : World) (outside : Outside) (locals : List Val) (item : Item) (outcome : Outcome) → GivesSame (setting_of outside w locals) outcome
+    → outcome ≡ Gives item (setting_of outside v locals) → KeepsCounts w v
 counts_by w v outside locals item outcome h e =
     let same : SameCounts (setting_of outside w locals) (setting_of outside v locals) = subst (GivesSame (setting_of outside w locals)) e h in
     record { bounds = same.bounds; coexps = same.coexps }
 
-pub list_keeps : (w v : World) (outside : Outside) (locals : List Val) (item : Item) (values : List Value) → list_row values (setting_of outside w locals) ≡ Gives item (setting_of outside v locals) → KeepsCounts w v
-list_keeps w v outside locals item values e = counts_by w v outside locals item (list_row values (setting_of outside w locals)) (list_counts values (setting_of outside w locals)) e
+pub list_keeps : (w v : World) (outside : Outside) (locals : List Val) (item : Item) (values : List Value)
+    → list_row values (setting_of outside w locals) ≡ Gives item (setting_of outside v locals) → KeepsCounts w v
+list_keeps w v outside locals item values e =
+    counts_by w v outside locals item (list_row values (setting_of outside w locals)) (list_counts values (setting_of outside w locals)) e
 
-pub record_keeps : (w v : World) (outside : Outside) (locals : List Val) (item : Item) (kind : ℕ) (fields : List Value) → record_row kind fields (setting_of outside w locals) ≡ Gives item (setting_of outside v locals) → KeepsCounts w v
-record_keeps w v outside locals item kind fields e = counts_by w v outside locals item (record_row kind fields (setting_of outside w locals)) (record_counts kind fields (setting_of outside w locals)) e
+pub record_keeps : (w v : World) (outside : Outside) (locals : List Val) (item : Item) (kind : ℕ) (fields : List Value)
+    → record_row kind fields (setting_of outside w locals) ≡ Gives item (setting_of outside v locals) → KeepsCounts w v
+record_keeps w v outside locals item kind fields e =
+    counts_by w v outside locals item (record_row kind fields (setting_of outside w locals)) (record_counts kind fields (setting_of outside w locals)) e
 
-pub text_keeps : (w v : World) (outside : Outside) (locals : List Val) (item : Item) (value : Value) → text_row value (setting_of outside w locals) ≡ Gives item (setting_of outside v locals) → KeepsCounts w v
-text_keeps w v outside locals item value e = counts_by w v outside locals item (text_row value (setting_of outside w locals)) (text_counts value (setting_of outside w locals)) e
+pub text_keeps : (w v : World) (outside : Outside) (locals : List Val) (item : Item) (value : Value)
+    → text_row value (setting_of outside w locals) ≡ Gives item (setting_of outside v locals) → KeepsCounts w v
+text_keeps w v outside locals item value e =
+    counts_by w v outside locals item (text_row value (setting_of outside w locals)) (text_counts value (setting_of outside w locals)) e
 
 pub list_counted : (w v : World) (locals : List Val) (values : List Value) (result : Result Val Stop)
-    → ((outside : Outside) → Found (extent_of v.heap) (new_list_of values) (setting_of outside w locals) (setting_of outside v locals) (value_in (extent_of v.heap)) result) → OnOk result (KeepsCounts w v)
-list_counted w v locals values (Ok val) f = list_keeps w v (outside_of []) locals (ItemVal (value_in (extent_of v.heap) val)) values (f (outside_of []) gives_value)
+    → ((outside : Outside)
+    → Found (extent_of v.heap) (new_list_of values) (setting_of outside w locals) (setting_of outside v locals) (value_in (extent_of v.heap)) result)
+    → OnOk result (KeepsCounts w v)
+list_counted w v locals values (Ok val) f =
+    list_keeps w v (outside_of []) locals (ItemVal (value_in (extent_of v.heap) val)) values (f (outside_of []) gives_value)
 list_counted w v locals values (Err stop) f = tt

@@ -30,7 +30,8 @@ some_there (Some x) k = (x, refl)
 some_there None k = cc
 
 -- an answer that is a stop, whose error is what is due
-pub at_stopped : {A : Type 0} (result : Result A Halt) (stop : Stop) (P : A → Type 0) (Q : Halt → Type 0) → IsErrAnd result (λ h. h ≡ halt_of stop) → Q Halts.NoMemory
+pub at_stopped : {A : Type 0} (result : Result A Halt) (stop : Stop) (P : A → Type 0) (Q : Halt → Type 0) → IsErrAnd result (λ h. h ≡ halt_of stop)
+    → Q Halts.NoMemory
     → ((number : ℕ) (offending : Option Val) → stop ≡ StopError number offending → Q (Halts.Error number offending)) → MatchResult result P Q
 at_stopped {A} result stop P Q e none h = at_halt result (halt_of stop) P Q e (by_stop stop h)
   where
@@ -39,12 +40,14 @@ at_stopped {A} result stop P Q e none h = at_halt result (halt_of stop) P Q e (b
     by_stop StopNoMemory g = none
 
 -- the error of a row that stopped
-pub row_error : (all : Extent) (row : Row) (before after : Setting) (stop : Stop) (number : ℕ) (offending : Option Val) → HaltsRow all row before after (halt_of stop) → stop ≡ StopError number offending
+pub row_error : (all : Extent) (row : Row) (before after : Setting) (stop : Stop) (number : ℕ) (offending : Option Val)
+    → HaltsRow all row before after (halt_of stop) → stop ≡ StopError number offending
     → row before ≡ Error number (option_map (value_in all) offending) after
 row_error all row before after stop number offending h e = subst (λ (s : Stop). HaltsRow all row before after (halt_of s)) e h
 
 -- the error of a value that was not found
-pub value_error : (state : State Frames Frames) (st : Store Frames) (w : World) (stop : Stop) (number : ℕ) (offending : Option Val) → HaltsWith state st w (halt_of stop) → stop ≡ StopError number offending
+pub value_error : (state : State Frames Frames) (st : Store Frames) (w : World) (stop : Stop) (number : ℕ) (offending : Option Val)
+    → HaltsWith state st w (halt_of stop) → stop ≡ StopError number offending
     → state ≡ errs number (option_map (value_in (extent_of w.heap)) offending) (with_world (world_of w) st)
 value_error state st w stop number offending h e = subst (λ (s : Stop). HaltsWith state st w (halt_of s)) e h
 

@@ -18,10 +18,12 @@ active_left None st = refl
 active_left (Some swap) st = refl
 
 -- it is the end of the procedure, as a create body, which has no such end, has no caller either
-pub pfail_is : (all : Extent) (m : FlatStack) (tables : Tables) (st : Store Frames) → instruction_state all tables Instrs.Pfail m st ≡ proc_fails flat (stack_in all m) st
+pub pfail_is : (all : Extent) (m : FlatStack) (tables : Tables) (st : Store Frames)
+    → instruction_state all tables Instrs.Pfail m st ≡ proc_fails flat (stack_in all m) st
 pfail_is all m tables st = by_base (held.is_base m) refl
   where
-    by_main : (main : Bool) → is_main st.active ≡ main → held.is_base m ≡ true → (if (true && not (is_main st.active)) then stuck else proc_fails flat (stack_in all m) st) ≡ proc_fails flat (stack_in all m) st
+    by_main : (main : Bool) → is_main st.active ≡ main → held.is_base m ≡ true
+        → (if (true && not (is_main st.active)) then stuck else proc_fails flat (stack_in all m) st) ≡ proc_fails flat (stack_in all m) st
     by_main true a e = ap (λ (x : Bool). if (true && not x) then stuck else proc_fails flat (stack_in all m) st) a
     by_main false a e =
         let left : Store Frames = all_left flat (stack_in all m) st in
@@ -30,6 +32,8 @@ pfail_is all m tables st = by_base (held.is_base m) refl
         ∙ sym (leaves_none all m e failing left ∙ ap F (ap is_main (active_left (flat.swap_oldest (pair_now st) (stack_in all m)) st) ∙ a))
 
     by_base : (base : Bool) → held.is_base m ≡ base → instruction_state all tables Instrs.Pfail m st ≡ proc_fails flat (stack_in all m) st
-    by_base false e = ap (λ (x : Bool). if (x && not (is_main st.active)) then stuck else proc_fails flat (stack_in all m) st) (is_base_read (reading_of all) m ∙ e)
+    by_base false e =
+        ap (λ (x : Bool). if (x && not (is_main st.active)) then stuck else proc_fails flat (stack_in all m) st) (is_base_read (reading_of all) m ∙ e)
     by_base true e =
-        ap (λ (x : Bool). if (x && not (is_main st.active)) then stuck else proc_fails flat (stack_in all m) st) (is_base_read (reading_of all) m ∙ e) ∙ by_main (is_main st.active) refl e
+        ap (λ (x : Bool). if (x && not (is_main st.active)) then stuck else proc_fails flat (stack_in all m) st) (is_base_read (reading_of all) m ∙ e)
+        ∙ by_main (is_main st.active) refl e

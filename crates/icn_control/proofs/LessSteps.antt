@@ -41,7 +41,8 @@ unmark_less m n pair e = by_cells (cut m.registers.mark m.cells) refl e
         omega (arith, short, same)
 
     by_cells : (s : List Cell) → cut m.registers.mark m.cells ≡ s → unmark_from m s ≡ Some (n, pair) → length n.cells < length m.cells
-    by_cells (Mark label changed r ∷ below) c q = below_less (Mark label changed r) below c (ap (λ (w : FlatStack × Option Pair). length w.0.cells) (same_Some _ _ q))
+    by_cells (Mark label changed r ∷ below) c q =
+        below_less (Mark label changed r) below c (ap (λ (w : FlatStack × Option Pair). length w.0.cells) (same_Some _ _ q))
     by_cells (Limit count r ∷ below) c q = below_less (Limit count r) below c (ap (λ (w : FlatStack × Option Pair). length w.0.cells) (same_Some _ _ q))
     by_cells [] c q = cc
     by_cells (Operand item ∷ below) c q = cc
@@ -76,7 +77,8 @@ swap_length m n oldest pair old e = by_choice oldest e
     by_choice true q = by_scan (scan_chosen true m) q
     by_choice false q = by_scan (scan_chosen false m) q
 
-pub swapped_less : (m k n : FlatStack) (why : Why) (pair old : Pair) → resume m ≡ Some (why, k) → swap_by false pair k ≡ Some (old, n) → length n.cells < length m.cells
+pub swapped_less : (m k n : FlatStack) (why : Why) (pair old : Pair) → resume m ≡ Some (why, k) → swap_by false pair k ≡ Some (old, n)
+    → length n.cells < length m.cells
 swapped_less m k n why pair old e f =
     let less : length k.cells < length m.cells = resume_less m k why e in
     let same : length n.cells ≡ length k.cells = swap_length k n false pair old f in

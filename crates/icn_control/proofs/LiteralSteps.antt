@@ -34,16 +34,19 @@ members_same : (set : Cset) → members_of set ≡ code.members_of set
 unfolding members_of
 members_same set = refl
 
-pub cset_runs : (m n : FlatStack) (tables : Tables) (k : ℕ) (set : Cset) → slice_get tables.csets k ≡ Some set → n ≡ held.push (HeldVal (CharsVal set)) m → GoesOnIn tables (Instrs.Cset k) m n
+pub cset_runs : (m n : FlatStack) (tables : Tables) (k : ℕ) (set : Cset) → slice_get tables.csets k ≡ Some set → n ≡ held.push (HeldVal (CharsVal set)) m
+    → GoesOnIn tables (Instrs.Cset k) m n
 cset_runs m n tables k set s p all st =
     ap (λ (o : Option Cset). with_found o (λ x. push_item flat (rows.Val (rows.Chars (code.members_of x))) (stack_in all m) st)) s
     ∙ ap (λ (w : List ℕ). push_item flat (rows.Val (rows.Chars w)) (stack_in all m) st) (sym (members_same set))
     ∙ ap (λ (y : FlatStack). running (stack_in all y) st) (sym p)
 
 -- what a keyword gives is pushed, or it fails
-keyword_goes : (beside : Beside) (t : Table) (m : FlatStack) (tables : Tables) (word : Keyword) (level current source : ℕ) (item : Option HeldItem) → t.running ≡ Some m → level ≡ held.level m → current ≡ t.active
+keyword_goes : (beside : Beside) (t : Table) (m : FlatStack) (tables : Tables) (word : Keyword) (level current source : ℕ) (item : Option HeldItem)
+    → t.running ≡ Some m → level ≡ held.level m → current ≡ t.active
     → source ≡ table.source t → option_map (item_in beside.all) item ≡ keyword_item (record { level = level; current = current; source = source }) word
-    → instruction flat tables (Instrs.Keywd word) (stack_in beside.all (running_of t.running)) (store_with beside t) ≡ pushed_or_fails flat (option_map (item_in beside.all) item) (stack_in beside.all m) (store_with beside t)
+    → instruction flat tables (Instrs.Keywd word) (stack_in beside.all (running_of t.running)) (store_with beside t)
+    ≡ pushed_or_fails flat (option_map (item_in beside.all) item) (stack_in beside.all m) (store_with beside t)
 keyword_goes beside t m tables word level current source item r l a s i =
     let st : Store Frames = store_with beside t in
     let F : Standing → State Frames Frames = λ x. pushed_or_fails flat (keyword_item x word) (stack_in beside.all m) st in
@@ -53,16 +56,22 @@ keyword_goes beside t m tables word level current source item r l a s i =
     ∙ ap (λ (k : ℕ). F (record { level = level; current = current; source = k })) (source_is beside t ∙ sym s)
     ∙ ap (λ (o : Option rows.Item). pushed_or_fails flat o (stack_in beside.all m) st) (sym i)
 
-pub keyword_fails : (beside : Beside) (t : Table) (m : FlatStack) (tables : Tables) (word : Keyword) (level current source : ℕ) (item : Option HeldItem) → t.running ≡ Some m → level ≡ held.level m → current ≡ t.active
-    → source ≡ table.source t → option_map (item_in beside.all) item ≡ keyword_item (record { level = level; current = current; source = source }) word → item ≡ None
-    → instruction flat tables (Instrs.Keywd word) (stack_in beside.all (running_of t.running)) (store_with beside t) ≡ failing (stack_in beside.all m) (store_with beside (record t { running = Some m }))
+pub keyword_fails : (beside : Beside) (t : Table) (m : FlatStack) (tables : Tables) (word : Keyword) (level current source : ℕ) (item : Option HeldItem)
+    → t.running ≡ Some m → level ≡ held.level m → current ≡ t.active
+    → source ≡ table.source t → option_map (item_in beside.all) item ≡ keyword_item (record { level = level; current = current; source = source }) word
+    → item ≡ None
+    → instruction flat tables (Instrs.Keywd word) (stack_in beside.all (running_of t.running)) (store_with beside t)
+    ≡ failing (stack_in beside.all m) (store_with beside (record t { running = Some m }))
 keyword_fails beside t m tables word level current source item r l a s i e =
     keyword_goes beside t m tables word level current source item r l a s i
     ∙ ap (λ (o : Option HeldItem). pushed_or_fails flat (option_map (item_in beside.all) o) (stack_in beside.all m) (store_with beside t)) e
 
-pub keyword_runs : (beside : Beside) (t : Table) (m n : FlatStack) (tables : Tables) (word : Keyword) (level current source : ℕ) (item : Option HeldItem) (x : HeldItem) → t.running ≡ Some m → level ≡ held.level m → current ≡ t.active
-    → source ≡ table.source t → option_map (item_in beside.all) item ≡ keyword_item (record { level = level; current = current; source = source }) word → item ≡ Some x → n ≡ held.push x m
-    → instruction flat tables (Instrs.Keywd word) (stack_in beside.all (running_of t.running)) (store_with beside t) ≡ running (stack_in beside.all n) (store_with beside (record t { running = Some n }))
+pub keyword_runs : (beside : Beside) (t : Table) (m n : FlatStack) (tables : Tables) (word : Keyword) (level current source : ℕ) (item : Option HeldItem)
+    (x : HeldItem) → t.running ≡ Some m → level ≡ held.level m → current ≡ t.active
+    → source ≡ table.source t → option_map (item_in beside.all) item ≡ keyword_item (record { level = level; current = current; source = source }) word
+    → item ≡ Some x → n ≡ held.push x m
+    → instruction flat tables (Instrs.Keywd word) (stack_in beside.all (running_of t.running)) (store_with beside t)
+    ≡ running (stack_in beside.all n) (store_with beside (record t { running = Some n }))
 keyword_runs beside t m n tables word level current source item x r l a s i e p =
     keyword_goes beside t m tables word level current source item r l a s i
     ∙ ap (λ (o : Option HeldItem). pushed_or_fails flat (option_map (item_in beside.all) o) (stack_in beside.all m) (store_with beside t)) e
@@ -84,7 +93,8 @@ active_there t m r one = by_entry (slice_get t.coexps t.active) refl (one.here �
     by_entry None g e = cc
 
 -- the stack that runs is of the world
-pub running_live : (tables : Tables) (reach : Reach) (t : Table) (m : FlatStack) → t.running ≡ Some m → AreLiveStacks tables reach t → IsLiveStack tables reach m
+pub running_live : (tables : Tables) (reach : Reach) (t : Table) (m : FlatStack) → t.running ≡ Some m → AreLiveStacks tables reach t
+    → IsLiveStack tables reach m
 running_live tables reach t m r k = subst (λ (w : Option FlatStack). IsLiveRunning tables reach w) r k.runs
 
 pub if_there : {A : Type 0} (o : Option A) (x : A) (P : A → Type 0) → o ≡ Some x → IfSome o P → P x

@@ -25,7 +25,8 @@ own m = locals_at m.registers m.cells
 pub live_go : (t : Tables) (reach : Reach) (m : FlatStack) (place : ℕ) → IsLiveStack t reach m → IsLiveStack t reach (go place m)
 live_go t reach m place k = record { root = k.root; cells = k.cells }
 
-pub live_push : (t : Tables) (reach : Reach) (m : FlatStack) (item : Item) → IsLiveStack t reach m → IsLiveItem (with_locals (own m) reach) item → IsLiveStack t reach (push item m)
+pub live_push : (t : Tables) (reach : Reach) (m : FlatStack) (item : Item) → IsLiveStack t reach m → IsLiveItem (with_locals (own m) reach) item
+    → IsLiveStack t reach (push item m)
 live_push t reach m item k i =
     let cells : AreLive t reach (own m) (Operand item ∷ m.cells) = (i, k.cells) in
     record {
@@ -64,7 +65,8 @@ live_pop t reach m n item e k = by_cells m.cells e k.root k.cells
     by_cells (Suspension why r place ∷ s) q root l = cc
 
 -- an operand that is taken and put back twice
-pub live_twice : (t : Tables) (reach : Reach) (m n k l : FlatStack) (item : Item) → pop m ≡ Some (item, n) → k ≡ push item n → l ≡ push item k → IsLiveStack t reach m → IsLiveStack t reach l
+pub live_twice : (t : Tables) (reach : Reach) (m n k l : FlatStack) (item : Item) → pop m ≡ Some (item, n) → k ≡ push item n → l ≡ push item k
+    → IsLiveStack t reach m → IsLiveStack t reach l
 live_twice t reach m n k l item e f h live =
     let popped = live_pop t reach m n item e live in
     let once : IsLiveStack t reach (push item n) = live_push t reach n item popped.rest popped.item_live in
@@ -85,7 +87,8 @@ rooted_mark x m k h =
 pub live_mark : (t : Tables) (reach : Reach) (m : FlatStack) (label : Option ℕ) → IsLiveStack t reach m → IsLiveStack t reach (open_either label None m)
 live_mark t reach m label k = record { root = rooted_mark (Mark label false m.registers) m k.root refl; cells = (k.root, k.cells) }
 
-pub live_limit : (t : Tables) (reach : Reach) (m : FlatStack) (label : Option ℕ) (count : ℕ) → 0 < count → IsLiveStack t reach m → IsLiveStack t reach (open_either label (Some count) m)
+pub live_limit : (t : Tables) (reach : Reach) (m : FlatStack) (label : Option ℕ) (count : ℕ) → 0 < count → IsLiveStack t reach m
+    → IsLiveStack t reach (open_either label (Some count) m)
 live_limit t reach m label count p k = record { root = rooted_mark (Limit count m.registers) m k.root refl; cells = (p, (k.root, k.cells)) }
 
 -- what is left where the innermost mark is dropped, with the pair that comes back
@@ -95,17 +98,21 @@ pub record UnmarksLive (t : Tables) (reach : Reach) (before : ℕ) (n : FlatStac
   pub same : own n ≡ before
 
 -- the registers outside a mark lead to the same activation
-pub outside_owner : (m : FlatStack) (x : Cell) (below : List Cell) (r : Registers) → cut m.registers.mark m.cells ≡ x ∷ below → IsRooted r below → r.base ≡ m.registers.base → locals_at r below ≡ own m
+pub outside_owner : (m : FlatStack) (x : Cell) (below : List Cell) (r : Registers) → cut m.registers.mark m.cells ≡ x ∷ below → IsRooted r below
+    → r.base ≡ m.registers.base → locals_at r below ≡ own m
 outside_owner m x below r e root same =
     sym (owner_above (length m.cells - m.registers.mark) m.cells x below r e root) ∙ ap (λ (b : ℕ). locals_of (cell_at b m.cells)) same
 
-pub mark_is : (m : FlatStack) (x : Cell) (below : List Cell) → IsRooted m.registers m.cells → cut m.registers.mark m.cells ≡ x ∷ below → IsMarkOf m.registers.base (Some x)
+pub mark_is : (m : FlatStack) (x : Cell) (below : List Cell) → IsRooted m.registers m.cells → cut m.registers.mark m.cells ≡ x ∷ below
+    → IsMarkOf m.registers.base (Some x)
 mark_is m x below k e = subst (IsMarkOf m.registers.base) (first_cut m.registers.mark m.cells x below e) k.mark
 
-pub live_unmark : (t : Tables) (reach : Reach) (m n : FlatStack) (pair : Option Pair) → unmark m ≡ Some (n, pair) → IsLiveStack t reach m → UnmarksLive t reach (own m) n pair
+pub live_unmark : (t : Tables) (reach : Reach) (m n : FlatStack) (pair : Option Pair) → unmark m ≡ Some (n, pair) → IsLiveStack t reach m
+    → UnmarksLive t reach (own m) n pair
 live_unmark t reach m n pair e k = by_cells (cut m.registers.mark m.cells) refl e
   where
-    made : (x : Cell) (below : List Cell) (r : Registers) → cut m.registers.mark m.cells ≡ x ∷ below → IsRooted r below → AreLive t reach (locals_at r below) below → r.base ≡ m.registers.base
+    made : (x : Cell) (below : List Cell) (r : Registers) → cut m.registers.mark m.cells ≡ x ∷ below → IsRooted r below
+        → AreLive t reach (locals_at r below) below → r.base ≡ m.registers.base
         → UnmarksLive t reach (own m) (record m { cells = below; registers = r }) (pair_at m.cells (oldest r.scan m))
     made x below r c root cells same = record {
       rest = record { root = root; cells = cells };
@@ -131,7 +138,8 @@ live_unmark t reach m n pair e k = by_cells (cut m.registers.mark m.cells) refl 
 
 -- Suspensions
 
-pub live_suspend : (t : Tables) (reach : Reach) (m : FlatStack) (why : Why) → IsLiveStack t reach m → IsLiveWhy (with_locals (own m) reach) why → IsLiveStack t reach (suspend why m)
+pub live_suspend : (t : Tables) (reach : Reach) (m : FlatStack) (why : Why) → IsLiveStack t reach m → IsLiveWhy (with_locals (own m) reach) why
+    → IsLiveStack t reach (suspend why m)
 live_suspend t reach m why k w =
     let onto : List Cell = Suspension why m.registers m.place ∷ m.cells in
     let under : IsRooted m.registers onto = rooted_on (Suspension why m.registers m.place) m.cells m.registers k.root in
@@ -154,8 +162,10 @@ pub record LeavesLive (t : Tables) (reach : Reach) (count : ℕ) (n : FlatStack)
   pub rest : IsLiveStack t reach n
   pub same : own n ≡ count
 
-pub live_onto : (t : Tables) (reach : Reach) (m : FlatStack) (why : Why) (i : ℕ) (x : Cell) (below : List Cell) (r : Registers) (place : ℕ) → drop i m.cells ≡ x ∷ below → IsLiveStack t reach m
-    → IsLiveWhy (with_locals (own m) reach) why → IsRooted r below → AreLive t reach (locals_at r below) below → LeavesLive t reach (locals_at r below) (suspend_onto why m below r place)
+pub live_onto : (t : Tables) (reach : Reach) (m : FlatStack) (why : Why) (i : ℕ) (x : Cell) (below : List Cell) (r : Registers) (place : ℕ)
+    → drop i m.cells ≡ x ∷ below → IsLiveStack t reach m
+    → IsLiveWhy (with_locals (own m) reach) why → IsRooted r below → AreLive t reach (locals_at r below) below
+    → LeavesLive t reach (locals_at r below) (suspend_onto why m below r place)
 live_onto t reach m why i x below r place c k w rooted cells =
     let onto : List Cell = Suspension why m.registers m.place ∷ m.cells in
     let above : IsRooted r m.cells = rooted_above i m.cells x below r c rooted in
@@ -175,7 +185,8 @@ live_onto t reach m why i x below r place c k w rooted cells =
 pub live_suspend_mark : (t : Tables) (reach : Reach) (m n : FlatStack) → suspend_mark m ≡ Some n → IsLiveStack t reach m → LeavesLive t reach (own m) n
 live_suspend_mark t reach m n e k = by_cells (cut m.registers.mark m.cells) refl e
   where
-    made : (x : Cell) (below : List Cell) (r : Registers) → cut m.registers.mark m.cells ≡ x ∷ below → IsRooted r below → AreLive t reach (locals_at r below) below → r.base ≡ m.registers.base
+    made : (x : Cell) (below : List Cell) (r : Registers) → cut m.registers.mark m.cells ≡ x ∷ below → IsRooted r below
+        → AreLive t reach (locals_at r below) below → r.base ≡ m.registers.base
         → LeavesLive t reach (own m) (suspend_onto Alt m below r m.place)
     made x below r c root cells same =
         subst (λ (count : ℕ). LeavesLive t reach count (suspend_onto Alt m below r m.place)) (outside_owner m x below r c root same)
@@ -198,16 +209,19 @@ live_suspend_mark t reach m n e k = by_cells (cut m.registers.mark m.cells) refl
     by_cells (Suspension why r place ∷ below) c q = cc
 
 -- a result is put where something is left suspended
-pub given_split : (item : Item) (left : Option FlatStack) (n : FlatStack) → given_to (Some item) left ≡ Some n → (k : FlatStack) × ((left ≡ Some k) × (push item k ≡ n))
+pub given_split : (item : Item) (left : Option FlatStack) (n : FlatStack) → given_to (Some item) left ≡ Some n
+    → (k : FlatStack) × ((left ≡ Some k) × (push item k ≡ n))
 given_split item (Some k) n e = (k, (refl, same_Some _ _ e))
 given_split item None n e = cc
 
 -- a result is given where a mark is left suspended
-pub live_given : (t : Tables) (reach : Reach) (m n : FlatStack) (item : Item) → given_to (Some item) (suspend_mark m) ≡ Some n → IsLiveStack t reach m → IsLiveItem (with_locals (own m) reach) item → IsLiveStack t reach n
+pub live_given : (t : Tables) (reach : Reach) (m n : FlatStack) (item : Item) → given_to (Some item) (suspend_mark m) ≡ Some n → IsLiveStack t reach m
+    → IsLiveItem (with_locals (own m) reach) item → IsLiveStack t reach n
 live_given t reach m n item e k i =
     let split = given_split item (suspend_mark m) n e in
     let left = live_suspend_mark t reach m split.0 split.1.0 k in
-    let on : IsLiveStack t reach (push item split.0) = live_push t reach split.0 item left.rest (subst (λ (c : ℕ). IsLiveItem (with_locals c reach) item) (sym left.same) i) in
+    let on : IsLiveStack t reach (push item split.0) = live_push t reach split.0 item left.rest
+    (subst (λ (c : ℕ). IsLiveItem (with_locals c reach) item) (sym left.same) i) in
     subst (λ (w : FlatStack). IsLiveStack t reach w) split.1.1 on
 
 -- taking an operand keeps the activation
@@ -225,7 +239,8 @@ pop_owner m n item e k = by_cells m.cells e k
     by_cells (Limit count r ∷ s) q root = cc
     by_cells (Suspension why r place ∷ s) q root = cc
 
-pub live_esusp : (t : Tables) (reach : Reach) (m k n : FlatStack) (item : Item) → pop m ≡ Some (item, k) → given_to (Some item) (suspend_mark k) ≡ Some n → IsLiveStack t reach m → IsLiveStack t reach n
+pub live_esusp : (t : Tables) (reach : Reach) (m k n : FlatStack) (item : Item) → pop m ≡ Some (item, k) → given_to (Some item) (suspend_mark k) ≡ Some n
+    → IsLiveStack t reach m → IsLiveStack t reach n
 live_esusp t reach m k n item e f live =
     let popped = live_pop t reach m k item e live in
     live_given t reach k n item f popped.rest popped.item_live

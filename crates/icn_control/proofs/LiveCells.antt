@@ -77,7 +77,8 @@ rooted_above k s x below r e q =
       mark = subst (IsMarkOf r.base) (sym (dropped_at k s x below r.mark e q.mark_within)) q.mark;
     }
 
-pub owner_above : (k : ℕ) (s : List Cell) (x : Cell) (below : List Cell) (r : Registers) → drop k s ≡ x ∷ below → IsRooted r below → locals_at r s ≡ locals_at r below
+pub owner_above : (k : ℕ) (s : List Cell) (x : Cell) (below : List Cell) (r : Registers) → drop k s ≡ x ∷ below → IsRooted r below
+    → locals_at r s ≡ locals_at r below
 owner_above k s x below r e q = ap locals_of (dropped_at k s x below r.base e q.within)
 
 first_drop : (k : ℕ) (s : List Cell) → slice_get s k ≡ slice_get (drop k s) 0
@@ -88,7 +89,8 @@ first_drop (suc k) (x ∷ s) = first_drop k s
 pub first_cut : (h : ℕ) (s : List Cell) (x : Cell) (below : List Cell) → cut h s ≡ x ∷ below → cell_at h s ≡ Some x
 first_cut h s x below e = first_drop (length s - h) s ∙ ap (λ (w : List Cell). slice_get w 0) e
 
-pub live_cut : (t : Tables) (reach : Reach) (k n : ℕ) (s : List Cell) (x : Cell) (below : List Cell) → drop k s ≡ x ∷ below → AreLive t reach n s → (other : ℕ) × AreLive t reach other (x ∷ below)
+pub live_cut : (t : Tables) (reach : Reach) (k n : ℕ) (s : List Cell) (x : Cell) (below : List Cell) → drop k s ≡ x ∷ below → AreLive t reach n s
+    → (other : ℕ) × AreLive t reach other (x ∷ below)
 live_cut t reach zero n s x below e l = (n, subst (λ (w : List Cell). AreLive t reach n w) e l)
 live_cut t reach (suc k) n [] x below e l = cc
 live_cut t reach (suc k) n (Operand item ∷ s) x below e l = live_cut t reach k n s x below e l.1
@@ -125,7 +127,8 @@ live_pair t reach n (suc i) (Mark label changed r ∷ s) l = live_pair t reach (
 live_pair t reach n (suc i) (Limit count r ∷ s) l = live_pair t reach (locals_at r s) i s l.1.1
 live_pair t reach n (suc i) (Suspension why r place ∷ s) l = live_pair t reach (locals_at r s) i s l.1.1
 
-pub live_pair_at : (t : Tables) (reach : Reach) (n : ℕ) (s : List Cell) (height : Option ℕ) → AreLive t reach n s → MaybeLivePair reach.extent (pair_at s height)
+pub live_pair_at : (t : Tables) (reach : Reach) (n : ℕ) (s : List Cell) (height : Option ℕ) → AreLive t reach n s
+    → MaybeLivePair reach.extent (pair_at s height)
 live_pair_at t reach n s None l = tt
 live_pair_at t reach n s (Some h) l = live_pair t reach n (length s - h) s l
 

@@ -34,7 +34,8 @@ live_resume t reach m n why e k = by_height m.registers.newest e
     by_cells : (h : ℕ) (s : List Cell) → cut h m.cells ≡ s → resume_from s ≡ Some (why, n) → ResumesLive t reach why n
     by_cells h (Suspension reason r place ∷ below) c q =
         let l = live_cut t reach (length m.cells - h) (own m) m.cells (Suspension reason r place) below c k.cells in
-        let made : ResumesLive t reach reason (record { cells = below; registers = r; place = place }) = record { why_live = l.1.0; rest = record { root = l.1.1.0; cells = l.1.1.1 } } in
+        let made : ResumesLive t reach reason (record { cells = below; registers = r; place = place }) =
+        record { why_live = l.1.0; rest = record { root = l.1.1.0; cells = l.1.1.1 } } in
         subst (λ (w : Why × FlatStack). ResumesLive t reach w.0 w.1) (same_Some _ _ q) made
     by_cells h [] c q = cc
     by_cells h (Operand item ∷ below) c q = cc
@@ -55,10 +56,12 @@ pub record SwapsLive (t : Tables) (reach : Reach) (before : ℕ) (old : Pair) (n
   pub rest : IsLiveStack t reach n
   pub same : own n ≡ before
 
-pub live_swap : (t : Tables) (reach : Reach) (m n : FlatStack) (oldest : Bool) (pair old : Pair) → swap_by oldest pair m ≡ Some (old, n) → IsLivePair reach.extent pair → IsLiveStack t reach m → SwapsLive t reach (own m) old n
+pub live_swap : (t : Tables) (reach : Reach) (m n : FlatStack) (oldest : Bool) (pair old : Pair) → swap_by oldest pair m ≡ Some (old, n)
+    → IsLivePair reach.extent pair → IsLiveStack t reach m → SwapsLive t reach (own m) old n
 live_swap t reach m n oldest pair old e p k = by_choice oldest e
   where
-    made : (h : ℕ) (was : Pair) (r : Registers) (place : ℕ) → cell_at h m.cells ≡ Some (Suspension (Scan was) r place) → SwapsLive t reach (own m) was (record m { cells = set_cell h (Suspension (Scan pair) r place) m.cells })
+    made : (h : ℕ) (was : Pair) (r : Registers) (place : ℕ) → cell_at h m.cells ≡ Some (Suspension (Scan was) r place)
+        → SwapsLive t reach (own m) was (record m { cells = set_cell h (Suspension (Scan pair) r place) m.cells })
     made h was r place at =
         let before : Cell = Suspension (Scan was) r place in
         let after : Cell = Suspension (Scan pair) r place in
@@ -70,7 +73,8 @@ live_swap t reach m n oldest pair old e p k = by_choice oldest e
         }
 
     by_cell : (h : ℕ) (cell : Option Cell) → cell_at h m.cells ≡ cell → with_pair pair h m cell ≡ Some (old, n) → SwapsLive t reach (own m) old n
-    by_cell h (Some (Suspension (Scan was) r place)) at q = subst (λ (w : Pair × FlatStack). SwapsLive t reach (own m) w.0 w.1) (same_Some _ _ q) (made h was r place at)
+    by_cell h (Some (Suspension (Scan was) r place)) at q =
+        subst (λ (w : Pair × FlatStack). SwapsLive t reach (own m) w.0 w.1) (same_Some _ _ q) (made h was r place at)
     by_cell h (Some (Suspension Alt r place)) at q = cc
     by_cell h (Some (Suspension (Op residual) r place)) at q = cc
     by_cell h (Some (Suspension Escan r place)) at q = cc
@@ -94,7 +98,8 @@ live_swap t reach m n oldest pair old e p k = by_choice oldest e
 -- Calls
 
 -- how many locals the activation that runs has is how many its procedure has
-framed : (t : Tables) (reach : Reach) (n i : ℕ) (s : List Cell) → AreLive t reach n s → IsFrame (slice_get s i) → locals_of (slice_get s i) ≡ variable_count t (proc_of (slice_get s i))
+framed : (t : Tables) (reach : Reach) (n i : ℕ) (s : List Cell) → AreLive t reach n s → IsFrame (slice_get s i)
+    → locals_of (slice_get s i) ≡ variable_count t (proc_of (slice_get s i))
 framed t reach n i [] l f = absurd f
 framed t reach n zero (Base proc locals ∷ s) l f = l.0
 framed t reach n zero (Call proc locals level r place ∷ s) l f = l.0
@@ -136,7 +141,8 @@ pub level_low : (t : Tables) (reach : Reach) (m : FlatStack) → IsLiveStack t r
 level_low t reach m k = leveled t reach (own m) (length m.cells - m.registers.base) m.cells k.cells k.root.frame
 
 -- locals of the world above cells of the world
-live_above : (t : Tables) (reach : Reach) (n : ℕ) (values : List Val) (s : List Cell) → All (IsLive reach.extent) values → AreLive t reach n s → AreLive t reach n (put_above values s)
+live_above : (t : Tables) (reach : Reach) (n : ℕ) (values : List Val) (s : List Cell) → All (IsLive reach.extent) values → AreLive t reach n s
+    → AreLive t reach n (put_above values s)
 live_above t reach n [] s a l = l
 live_above t reach n (v ∷ values) s a l =
     live_above t reach n values (Local v ∷ s) (All-tail (IsLive reach.extent) v values a) (All-head (IsLive reach.extent) v values a, l)
@@ -145,7 +151,8 @@ above_short : (values : List Val) (s : List Cell) → length s ≤ length (put_a
 above_short [] s = omega arith
 above_short (v ∷ values) s = omega (arith, above_short values (Local v ∷ s))
 
-frame_rooted : (values : List Val) (x : Cell) (s : List Cell) → IsFrame (Some x) → IsMarkOf (suc (length s)) (Some x) → IsRooted (registers_at (suc (length s))) (put_above values (x ∷ s))
+frame_rooted : (values : List Val) (x : Cell) (s : List Cell) → IsFrame (Some x) → IsMarkOf (suc (length s)) (Some x)
+    → IsRooted (registers_at (suc (length s))) (put_above values (x ∷ s))
 frame_rooted values x s f g =
     let within : suc (length s) ≤ length (put_above values (x ∷ s)) = above_short values (x ∷ s) in
     record {
@@ -155,23 +162,27 @@ frame_rooted values x s f g =
       mark = subst (IsMarkOf (suc (length s))) (sym (frame_at values x s)) g;
     }
 
-pub live_begin : (t : Tables) (reach : Reach) (proc : ℕ) (values : List Val) (place : ℕ) → length values ≡ variable_count t proc → All (IsLive reach.extent) values → IsLiveStack t reach (begin proc values place)
+pub live_begin : (t : Tables) (reach : Reach) (proc : ℕ) (values : List Val) (place : ℕ) → length values ≡ variable_count t proc
+    → All (IsLive reach.extent) values → IsLiveStack t reach (begin proc values place)
 live_begin t reach proc values place c a =
     let x : Cell = Base proc (length values) in
     let base : AreLive t reach (length values) (x ∷ []) = (c, tt) in
     record {
       root = frame_rooted values x [] tt tt;
-      cells = subst (λ (n : ℕ). AreLive t reach n (put_above values (x ∷ []))) (sym (ap locals_of (frame_at values x []))) (live_above t reach (length values) values (x ∷ []) a base);
+      cells = subst (λ (n : ℕ). AreLive t reach n (put_above values (x ∷ []))) (sym (ap locals_of (frame_at values x [])))
+          (live_above t reach (length values) values (x ∷ []) a base);
     }
 
-pub live_enter : (t : Tables) (reach : Reach) (m : FlatStack) (proc : ℕ) (values : List Val) (place : ℕ) → length values ≡ variable_count t proc → suc (level m) ≤ 4294967295 → All (IsLive reach.extent) values → IsLiveStack t reach m
+pub live_enter : (t : Tables) (reach : Reach) (m : FlatStack) (proc : ℕ) (values : List Val) (place : ℕ) → length values ≡ variable_count t proc
+    → suc (level m) ≤ 4294967295 → All (IsLive reach.extent) values → IsLiveStack t reach m
     → IsLiveStack t reach (enter proc values place m)
 live_enter t reach m proc values place c d a k =
     let x : Cell = Call proc (length values) (suc (level m)) m.registers m.place in
     let base : AreLive t reach (length values) (x ∷ m.cells) = (c, (d, (k.root, k.cells))) in
     record {
       root = frame_rooted values x m.cells tt tt;
-      cells = subst (λ (n : ℕ). AreLive t reach n (put_above values (x ∷ m.cells))) (sym (ap locals_of (frame_at values x m.cells))) (live_above t reach (length values) values (x ∷ m.cells) a base);
+      cells = subst (λ (n : ℕ). AreLive t reach n (put_above values (x ∷ m.cells))) (sym (ap locals_of (frame_at values x m.cells)))
+          (live_above t reach (length values) values (x ∷ m.cells) a base);
     }
 
 pub live_leave : (t : Tables) (reach : Reach) (m n : FlatStack) → leave m ≡ Some n → IsLiveStack t reach m → IsLiveStack t reach n

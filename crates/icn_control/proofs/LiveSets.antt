@@ -22,18 +22,21 @@ pub record Replaces (t : Tables) (reach : Reach) (old new : Cell) : Type 0 where
   pub frame : IsFrame (Some old) → IsFrame (Some new)
   pub mark : (base : ℕ) → IsMarkOf base (Some old) → IsMarkOf base (Some new)
 
-get_set : (P : Option Cell → Type 0) (s : List Cell) (i j : ℕ) (old new : Cell) → slice_get s i ≡ Some old → (P (Some old) → P (Some new)) → P (slice_get s j) → P (slice_get (slice_set s i new) j)
+get_set : (P : Option Cell → Type 0) (s : List Cell) (i j : ℕ) (old new : Cell) → slice_get s i ≡ Some old → (P (Some old) → P (Some new)) → P (slice_get s j)
+    → P (slice_get (slice_set s i new) j)
 get_set P [] i j old new e f p = cc
 get_set P (x ∷ s) zero zero old new e f p = f (subst P e p)
 get_set P (x ∷ s) zero (suc j) old new e f p = p
 get_set P (x ∷ s) (suc i) zero old new e f p = p
 get_set P (x ∷ s) (suc i) (suc j) old new e f p = get_set P s i j old new e f p
 
-at_set : (P : Option Cell → Type 0) (s : List Cell) (i h : ℕ) (old new : Cell) → slice_get s i ≡ Some old → (P (Some old) → P (Some new)) → P (cell_at h s) → P (cell_at h (slice_set s i new))
+at_set : (P : Option Cell → Type 0) (s : List Cell) (i h : ℕ) (old new : Cell) → slice_get s i ≡ Some old → (P (Some old) → P (Some new)) → P (cell_at h s)
+    → P (cell_at h (slice_set s i new))
 at_set P s i h old new e f p =
     subst (λ (n : ℕ). P (slice_get (slice_set s i new) (n - h))) (sym (length-set s i new)) (get_set P s i (length s - h) old new e f p)
 
-rooted_set : (t : Tables) (reach : Reach) (s : List Cell) (i : ℕ) (old new : Cell) (r : Registers) → slice_get s i ≡ Some old → Replaces t reach old new → IsRooted r s → IsRooted r (slice_set s i new)
+rooted_set : (t : Tables) (reach : Reach) (s : List Cell) (i : ℕ) (old new : Cell) (r : Registers) → slice_get s i ≡ Some old → Replaces t reach old new
+    → IsRooted r s → IsRooted r (slice_set s i new)
 rooted_set t reach s i old new r e k q =
     let n : length (slice_set s i new) ≡ length s = length-set s i new in
     let within : r.base ≤ length (slice_set s i new) = omega (arith, n, q.within) in
@@ -45,19 +48,26 @@ rooted_set t reach s i old new r e k q =
       mark = at_set (IsMarkOf r.base) s i r.mark old new e (k.mark r.base) q.mark;
     }
 
-owner_set : (t : Tables) (reach : Reach) (s : List Cell) (i : ℕ) (old new : Cell) (r : Registers) → slice_get s i ≡ Some old → Replaces t reach old new → locals_at r s ≡ locals_at r (slice_set s i new)
+owner_set : (t : Tables) (reach : Reach) (s : List Cell) (i : ℕ) (old new : Cell) (r : Registers) → slice_get s i ≡ Some old → Replaces t reach old new
+    → locals_at r s ≡ locals_at r (slice_set s i new)
 owner_set t reach s i old new r e k =
     sym (at_set (λ (w : Option Cell). locals_of w ≡ locals_at r s) s i r.base old new e (λ (p : locals_of (Some old) ≡ locals_at r s). k.locals ∙ p) refl)
 
-live_set : (t : Tables) (reach : Reach) (n i : ℕ) (s : List Cell) (old new : Cell) → slice_get s i ≡ Some old → Replaces t reach old new → AreLive t reach n s → AreLive t reach n (slice_set s i new)
+live_set : (t : Tables) (reach : Reach) (n i : ℕ) (s : List Cell) (old new : Cell) → slice_get s i ≡ Some old → Replaces t reach old new → AreLive t reach n s
+    → AreLive t reach n (slice_set s i new)
 live_set t reach n i [] old new e k l = cc
 live_set t reach n zero (x ∷ s) old new e k l = k.live n s (subst (λ (w : Cell). AreLive t reach n (w ∷ s)) (same_Some _ _ e) l)
 live_set t reach n (suc i) (Operand item ∷ s) old new e k l = (l.0, live_set t reach n i s old new e k l.1)
 live_set t reach n (suc i) (Local value ∷ s) old new e k l = (l.0, live_set t reach n i s old new e k l.1)
 live_set t reach n (suc i) (Base proc locals ∷ s) old new e k l = (l.0, live_set t reach 0 i s old new e k l.1)
 live_set t reach n (suc i) (Call proc locals level r place ∷ s) old new e k l =
-    let inner = live_set t reach (locals_at r s) i s old new e k l.1.1.1 in
-    (l.0, (l.1.0, (rooted_set t reach s i old new r e k l.1.1.0, subst (λ (c : ℕ). AreLive t reach c (slice_set s i new)) (owner_set t reach s i old new r e k) inner)))
+    let inner = live_set t reach (locals_at r s) i s old new e k l.1.1.1 in (
+      l.0,
+      (
+        l.1.0,
+        (rooted_set t reach s i old new r e k l.1.1.0, subst (λ (c : ℕ). AreLive t reach c (slice_set s i new)) (owner_set t reach s i old new r e k) inner),
+      ),
+    )
 live_set t reach n (suc i) (Mark label changed r ∷ s) old new e k l =
     let inner = live_set t reach (locals_at r s) i s old new e k l.1 in
     (rooted_set t reach s i old new r e k l.0, subst (λ (c : ℕ). AreLive t reach c (slice_set s i new)) (owner_set t reach s i old new r e k) inner)
@@ -66,18 +76,23 @@ live_set t reach n (suc i) (Limit count r ∷ s) old new e k l =
     (l.0, (rooted_set t reach s i old new r e k l.1.0, subst (λ (c : ℕ). AreLive t reach c (slice_set s i new)) (owner_set t reach s i old new r e k) inner))
 live_set t reach n (suc i) (Suspension why r place ∷ s) old new e k l =
     let inner = live_set t reach (locals_at r s) i s old new e k l.1.1 in
-    let same = owner_set t reach s i old new r e k in
-    (subst (λ (c : ℕ). IsLiveWhy (with_locals c reach) why) same l.0, (rooted_set t reach s i old new r e k l.1.0, subst (λ (c : ℕ). AreLive t reach c (slice_set s i new)) same inner))
+    let same = owner_set t reach s i old new r e k in (
+      subst (λ (c : ℕ). IsLiveWhy (with_locals c reach) why) same l.0,
+      (rooted_set t reach s i old new r e k l.1.0, subst (λ (c : ℕ). AreLive t reach c (slice_set s i new)) same inner),
+    )
 
-pub live_replace : (t : Tables) (reach : Reach) (m : FlatStack) (h : ℕ) (old new : Cell) → cell_at h m.cells ≡ Some old → Replaces t reach old new → IsLiveStack t reach m → IsLiveStack t reach (record m { cells = set_cell h new m.cells })
+pub live_replace : (t : Tables) (reach : Reach) (m : FlatStack) (h : ℕ) (old new : Cell) → cell_at h m.cells ≡ Some old → Replaces t reach old new
+    → IsLiveStack t reach m → IsLiveStack t reach (record m { cells = set_cell h new m.cells })
 live_replace t reach m h old new e k l =
     let i : ℕ = length m.cells - h in
     record {
       root = rooted_set t reach m.cells i old new m.registers e k l.root;
-      cells = subst (λ (c : ℕ). AreLive t reach c (slice_set m.cells i new)) (owner_set t reach m.cells i old new m.registers e k) (live_set t reach (own m) i m.cells old new e k l.cells);
+      cells = subst (λ (c : ℕ). AreLive t reach c (slice_set m.cells i new)) (owner_set t reach m.cells i old new m.registers e k)
+          (live_set t reach (own m) i m.cells old new e k l.cells);
     }
 
-pub owner_replace : (t : Tables) (reach : Reach) (m : FlatStack) (h : ℕ) (old new : Cell) → cell_at h m.cells ≡ Some old → Replaces t reach old new → locals_at m.registers (set_cell h new m.cells) ≡ own m
+pub owner_replace : (t : Tables) (reach : Reach) (m : FlatStack) (h : ℕ) (old new : Cell) → cell_at h m.cells ≡ Some old → Replaces t reach old new
+    → locals_at m.registers (set_cell h new m.cells) ≡ own m
 owner_replace t reach m h old new e k = sym (owner_set t reach m.cells (length m.cells - h) old new m.registers e k)
 
 -- Labels and counts
@@ -103,12 +118,15 @@ pub record CountsLive (t : Tables) (reach : Reach) (before count : ℕ) (n : Fla
   pub rest : 0 < count → IsLiveStack t reach n
   pub same : 0 < count → own n ≡ before
 
-pub live_count : (t : Tables) (reach : Reach) (m n : FlatStack) (count : ℕ) → count_down m ≡ Some (count, n) → IsLiveStack t reach m → CountsLive t reach (own m) count n
+pub live_count : (t : Tables) (reach : Reach) (m n : FlatStack) (count : ℕ) → count_down m ≡ Some (count, n) → IsLiveStack t reach m
+    → CountsLive t reach (own m) count n
 live_count t reach m n count e k = by_cell (cell_at m.registers.mark m.cells) refl e
   where
-    made : (c : ℕ) (r : Registers) → cell_at m.registers.mark m.cells ≡ Some (Limit (suc c) r) → CountsLive t reach (own m) c (record m { cells = set_cell m.registers.mark (Limit c r) m.cells })
+    made : (c : ℕ) (r : Registers) → cell_at m.registers.mark m.cells ≡ Some (Limit (suc c) r)
+        → CountsLive t reach (own m) c (record m { cells = set_cell m.registers.mark (Limit c r) m.cells })
     made c r at =
-        let f : 0 < c → Replaces t reach (Limit (suc c) r) (Limit c r) = λ p. record { live = λ w s l. (p, l.1); locals = refl; frame = λ w. w; mark = λ base w. w } in
+        let f : 0 < c
+        → Replaces t reach (Limit (suc c) r) (Limit c r) = λ p. record { live = λ w s l. (p, l.1); locals = refl; frame = λ w. w; mark = λ base w. w } in
         record {
           rest = λ p. live_replace t reach m m.registers.mark (Limit (suc c) r) (Limit c r) at (f p) k;
           same = λ p. sym (owner_set t reach m.cells (length m.cells - m.registers.mark) (Limit (suc c) r) (Limit c r) m.registers at (f p));
@@ -141,24 +159,28 @@ cut_set : (s : List Cell) (h : ℕ) (old new : Cell) → cell_at h s ≡ Some ol
 cut_set s h old new e =
     ap (λ (n : ℕ). drop (n - h) (set_cell h new s)) (length-set s (length s - h) new) ∙ drop_set s (length s - h) old new e
 
-pair_set : (t : Tables) (reach : Reach) (m : FlatStack) (c : ℕ) (r : Registers) (height : Option ℕ) → cell_at m.registers.mark m.cells ≡ Some (Limit (suc c) r) → IsLiveStack t reach m
+pair_set : (t : Tables) (reach : Reach) (m : FlatStack) (c : ℕ) (r : Registers) (height : Option ℕ) → cell_at m.registers.mark m.cells ≡ Some (Limit (suc c) r)
+    → IsLiveStack t reach m
     → MaybeLivePair reach.extent (pair_at (set_cell m.registers.mark (Limit c r) m.cells) height)
 pair_set t reach m c r None at k = tt
 pair_set t reach m c r (Some h) at k =
     at_set (λ (w : Option Cell). MaybeLivePair reach.extent (pair_of w)) m.cells (length m.cells - m.registers.mark) h (Limit (suc c) r) (Limit c r) at (λ q. q)
     (live_pair t reach (own m) (length m.cells - h) m.cells k.cells)
 
-pub live_last : (t : Tables) (reach : Reach) (m l n : FlatStack) (count : ℕ) (pair : Option Pair) → count_down m ≡ Some (count, l) → unmark l ≡ Some (n, pair) → IsLiveStack t reach m → UnmarksLive t reach (own m) n pair
+pub live_last : (t : Tables) (reach : Reach) (m l n : FlatStack) (count : ℕ) (pair : Option Pair) → count_down m ≡ Some (count, l) → unmark l ≡ Some (n, pair)
+    → IsLiveStack t reach m → UnmarksLive t reach (own m) n pair
 live_last t reach m l n count pair e u k = by_cell (cell_at m.registers.mark m.cells) refl e
   where
-    made : (c : ℕ) (r : Registers) → cell_at m.registers.mark m.cells ≡ Some (Limit (suc c) r) → unmark (record m { cells = set_cell m.registers.mark (Limit c r) m.cells }) ≡ Some (n, pair)
+    made : (c : ℕ) (r : Registers) → cell_at m.registers.mark m.cells ≡ Some (Limit (suc c) r)
+        → unmark (record m { cells = set_cell m.registers.mark (Limit c r) m.cells }) ≡ Some (n, pair)
         → UnmarksLive t reach (own m) n pair
     made c r at v =
         let i : ℕ = length m.cells - m.registers.mark in
         let after : FlatStack = record m { cells = set_cell m.registers.mark (Limit c r) m.cells } in
         let under : List Cell = drop (suc i) m.cells in
         let here : cut m.registers.mark m.cells ≡ Limit (suc c) r ∷ under = drop_get m.cells i (Limit (suc c) r) at in
-        let there : unmark after ≡ unmark_from after (Limit c r ∷ under) = ap (unmark_from after) (cut_set m.cells m.registers.mark (Limit (suc c) r) (Limit c r) at) in
+        let there : unmark after
+        ≡ unmark_from after (Limit c r ∷ under) = ap (unmark_from after) (cut_set m.cells m.registers.mark (Limit (suc c) r) (Limit c r) at) in
         let w = live_cut t reach i (own m) m.cells (Limit (suc c) r) under here k.cells in
         let result : UnmarksLive t reach (own m) (record after { cells = under; registers = r }) (pair_at after.cells (oldest r.scan after)) = record {
           rest = record { root = w.1.1.0; cells = w.1.1.1 };
@@ -182,30 +204,36 @@ live_last t reach m l n count pair e u k = by_cell (cell_at m.registers.mark m.c
 
 -- Results of a limited expression
 
-pub live_more : (t : Tables) (reach : Reach) (m k l n : FlatStack) (item : Item) (count : ℕ) → pop m ≡ Some (item, k) → count_down k ≡ Some (count, l) → 0 < count → given_to (Some item) (suspend_mark l) ≡ Some n → IsLiveStack t reach m
+pub live_more : (t : Tables) (reach : Reach) (m k l n : FlatStack) (item : Item) (count : ℕ) → pop m ≡ Some (item, k) → count_down k ≡ Some (count, l)
+    → 0 < count → given_to (Some item) (suspend_mark l) ≡ Some n → IsLiveStack t reach m
     → IsLiveStack t reach n
 live_more t reach m k l n item count e f p u live =
     let popped = live_pop t reach m k item e live in
     let counts = live_count t reach k l count f popped.rest in
     live_given t reach l n item u (counts.rest p) (subst (λ (c : ℕ). IsLiveItem (with_locals c reach) item) (sym (counts.same p)) popped.item_live)
 
-pub live_last_result : (t : Tables) (reach : Reach) (m k l o n : FlatStack) (item : Item) (count : ℕ) (pair : Option Pair) → pop m ≡ Some (item, k) → count_down k ≡ Some (count, l) → unmark l ≡ Some (o, pair) → n ≡ push item o
+pub live_last_result : (t : Tables) (reach : Reach) (m k l o n : FlatStack) (item : Item) (count : ℕ) (pair : Option Pair) → pop m ≡ Some (item, k)
+    → count_down k ≡ Some (count, l) → unmark l ≡ Some (o, pair) → n ≡ push item o
     → IsLiveStack t reach m → UnmarksLive t reach (own n) n pair
 live_last_result t reach m k l o n item count pair e f u p live =
     let popped = live_pop t reach m k item e live in
     let left = live_last t reach k l o count pair f u popped.rest in
-    let on : IsLiveStack t reach (push item o) = live_push t reach o item left.rest (subst (λ (c : ℕ). IsLiveItem (with_locals c reach) item) (sym left.same) popped.item_live) in
+    let on : IsLiveStack t reach (push item o) = live_push t reach o item left.rest
+    (subst (λ (c : ℕ). IsLiveItem (with_locals c reach) item) (sym left.same) popped.item_live) in
     record { rest = subst (λ (w : FlatStack). IsLiveStack t reach w) (sym p) on; pair_live = left.pair_live; same = refl }
 
 -- The operand below a mark that is no frame is of the activation that runs.
 
-pub live_below : (t : Tables) (reach : Reach) (m : FlatStack) (item : Item) → below m ≡ Some item → is_none (unmark m) ≡ false → IsLiveStack t reach m → IsLiveItem (with_locals (own m) reach) item
+pub live_below : (t : Tables) (reach : Reach) (m : FlatStack) (item : Item) → below m ≡ Some item → is_none (unmark m) ≡ false → IsLiveStack t reach m
+    → IsLiveItem (with_locals (own m) reach) item
 live_below t reach m item e d k = by_cells (cut m.registers.mark m.cells) refl e d
   where
-    made : (x : Cell) (under : List Cell) (r : Registers) → cut m.registers.mark m.cells ≡ x ∷ under → IsRooted r under → AreLive t reach (locals_at r under) under → r.base ≡ m.registers.base → below_in (x ∷ under) ≡ Some item
+    made : (x : Cell) (under : List Cell) (r : Registers) → cut m.registers.mark m.cells ≡ x ∷ under → IsRooted r under
+        → AreLive t reach (locals_at r under) under → r.base ≡ m.registers.base → below_in (x ∷ under) ≡ Some item
         → IsLiveItem (with_locals (own m) reach) item
     made x (Operand y ∷ s) r c root cells same q =
-        let there : IsLiveItem (with_locals (own m) reach) y = subst (λ (n : ℕ). IsLiveItem (with_locals n reach) y) (outside_owner m x (Operand y ∷ s) r c root same) cells.0 in
+        let there : IsLiveItem (with_locals (own m) reach) y = subst (λ (n : ℕ). IsLiveItem (with_locals n reach) y)
+        (outside_owner m x (Operand y ∷ s) r c root same) cells.0 in
         subst (λ (w : Item). IsLiveItem (with_locals (own m) reach) w) (same_Some _ _ q) there
     made x [] r c root cells same q = cc
     made x (Local value ∷ s) r c root cells same q = cc
@@ -215,7 +243,8 @@ live_below t reach m item e d k = by_cells (cut m.registers.mark m.cells) refl e
     made x (Limit count saved ∷ s) r c root cells same q = cc
     made x (Suspension why saved place ∷ s) r c root cells same q = cc
 
-    by_cells : (s : List Cell) → cut m.registers.mark m.cells ≡ s → below_in s ≡ Some item → is_none (unmark_from m s) ≡ false → IsLiveItem (with_locals (own m) reach) item
+    by_cells : (s : List Cell) → cut m.registers.mark m.cells ≡ s → below_in s ≡ Some item → is_none (unmark_from m s) ≡ false
+        → IsLiveItem (with_locals (own m) reach) item
     by_cells (Mark label changed r ∷ under) c q d =
         let l = live_cut t reach (length m.cells - m.registers.mark) (own m) m.cells (Mark label changed r) under c k.cells in
         made (Mark label changed r) under r c l.1.0 l.1.1 (mark_is m (Mark label changed r) under k.root c) q

@@ -15,7 +15,8 @@ use Rattle.icn_control.specs.Machines.{IsLiveStatus, IsLiveCoexp, AreLiveStacks}
 abbrev pub AllLive : Tables → Reach → List Coexp → Type 0
 AllLive t r cs = (n : ℕ) (coexp : Coexp) → slice_get cs n ≡ Some coexp → IsLiveCoexp t r n coexp
 
-live_in : (t : Tables) (r : Reach) (cs : List Coexp) (n : ℕ) (s : Status FlatStack) (o : Option Coexp) → slice_get cs n ≡ o → AllLive t r cs → IsLiveStatus t r s → AllLive t r (table.with_status_in n s cs o)
+live_in : (t : Tables) (r : Reach) (cs : List Coexp) (n : ℕ) (s : Status FlatStack) (o : Option Coexp) → slice_get cs n ≡ o → AllLive t r cs
+    → IsLiveStatus t r s → AllLive t r (table.with_status_in n s cs o)
 live_in t r cs n s None g k l i c e = k i c e
 live_in t r cs n s (Some x) g k l i c e = elim (put_at Coexp cs n i (record x { status = s }) c e) as (λ w. IsLiveCoexp t r i c) [
   | inl q ↦
@@ -25,15 +26,18 @@ live_in t r cs n s (Some x) g k l i c e = elim (put_at Coexp cs n i (record x { 
   | inr q ↦ k i c q.1
 ]
 
-pub live_put : (t : Tables) (r : Reach) (cs : List Coexp) (n : ℕ) (s : Status FlatStack) → AllLive t r cs → IsLiveStatus t r s → AllLive t r (table.with_status n s cs)
+pub live_put : (t : Tables) (r : Reach) (cs : List Coexp) (n : ℕ) (s : Status FlatStack) → AllLive t r cs → IsLiveStatus t r s
+    → AllLive t r (table.with_status n s cs)
 live_put t r cs n s k l = live_in t r cs n s (slice_get cs n) refl k l
 
 -- a stack that waits is live
-pub live_waiting : (t : Tables) (r : Reach) (cs : List Coexp) (n : ℕ) (o : Option Coexp) → slice_get cs n ≡ o → AllLive t r cs → IsLiveStatus t r (table.status_in o)
+pub live_waiting : (t : Tables) (r : Reach) (cs : List Coexp) (n : ℕ) (o : Option Coexp) → slice_get cs n ≡ o → AllLive t r cs
+    → IsLiveStatus t r (table.status_in o)
 live_waiting t r cs n None g k = tt
 live_waiting t r cs n (Some c) g k = (k n c g).status
 
-fails_live : (t : Tables) (r : Reach) (tab u : Table) (n : ℕ) (s : Status FlatStack) → table.fail_by n tab s ≡ Some u → AllLive t r tab.coexps → IsLiveStatus t r s → AreLiveStacks t r u
+fails_live : (t : Tables) (r : Reach) (tab u : Table) (n : ℕ) (s : Status FlatStack) → table.fail_by n tab s ≡ Some u → AllLive t r tab.coexps
+    → IsLiveStatus t r s → AreLiveStacks t r u
 fails_live t r tab u n Fresh e k l = cc
 fails_live t r tab u n Active e k l = cc
 fails_live t r tab u n (Waiting m) e k l =
@@ -47,7 +51,8 @@ pub exhaust_live : (t : Tables) (r : Reach) (tab u : Table) → exhaust tab ≡ 
 exhaust_live t r tab u e k =
     let cs : List Coexp = table.with_status tab.active Exhausted tab.coexps in
     let left : AllLive t r cs = live_put t r tab.coexps tab.active Exhausted k.coexps tt in
-    fails_live t r (record tab { coexps = cs }) u (source tab) (table.status_in (slice_get cs (source tab))) e left (live_waiting t r cs (source tab) (slice_get cs (source tab)) refl left)
+    fails_live t r (record tab { coexps = cs }) u (source tab) (table.status_in (slice_get cs (source tab))) e left
+    (live_waiting t r cs (source tab) (slice_get cs (source tab)) refl left)
 
 -- as many co-expressions
 
@@ -64,4 +69,5 @@ fails_length tab u n Exhausted e = ap (λ (w : Table). length w.coexps) (sym (sa
 pub exhaust_length : (tab u : Table) → exhaust tab ≡ Some u → length u.coexps ≡ length tab.coexps
 exhaust_length tab u e =
     let cs : List Coexp = table.with_status tab.active Exhausted tab.coexps in
-    fails_length (record tab { coexps = cs }) u (source tab) (table.status_in (slice_get cs (source tab))) e ∙ in_length tab.coexps tab.active Exhausted (slice_get tab.coexps tab.active)
+    fails_length (record tab { coexps = cs }) u (source tab) (table.status_in (slice_get cs (source tab))) e
+    ∙ in_length tab.coexps tab.active Exhausted (slice_get tab.coexps tab.active)

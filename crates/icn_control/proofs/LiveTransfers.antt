@@ -38,7 +38,8 @@ coexp_is_live heap id p = record { live = p }
 
 -- another activator
 
-activator_in : (t : Tables) (r : Reach) (cs : List Coexp) (n a : ℕ) (o : Option Coexp) → slice_get cs n ≡ o → AllLive t r cs → AllLive t r (table.with_activator_in n a cs o)
+activator_in : (t : Tables) (r : Reach) (cs : List Coexp) (n a : ℕ) (o : Option Coexp) → slice_get cs n ≡ o → AllLive t r cs
+    → AllLive t r (table.with_activator_in n a cs o)
 activator_in t r cs n a None g k i c e = k i c e
 activator_in t r cs n a (Some x) g k i c e = elim (put_at Coexp cs n i (record x { activator = a }) c e) as (λ w. IsLiveCoexp t r i c) [
   | inl q ↦
@@ -53,7 +54,8 @@ activator_live t r cs n a k = activator_in t r cs n a (slice_get cs n) refl k
 
 -- entering with a value
 
-begins_live : (t : Tables) (r : Reach) (tab u : Table) (n : ℕ) (o : Option Coexp) → slice_get tab.coexps n ≡ o → table.status_in o ≡ Fresh → 0 < n → Some (table.begin_by n tab o) ≡ Some u → AllLive t r tab.coexps → AreLiveStacks t r u
+begins_live : (t : Tables) (r : Reach) (tab u : Table) (n : ℕ) (o : Option Coexp) → slice_get tab.coexps n ≡ o → table.status_in o ≡ Fresh → 0 < n
+    → Some (table.begin_by n tab o) ≡ Some u → AllLive t r tab.coexps → AreLiveStacks t r u
 begins_live t r tab u n None g f p e k = cc
 begins_live t r tab u n (Some c) g f p e k =
     let l = k n c g in
@@ -61,7 +63,8 @@ begins_live t r tab u n (Some c) g f p e k =
     = record { runs = live_begin t r c.proc c.values c.place (l.count p) l.values; coexps = live_put t r tab.coexps n Active k tt } in
     subst (λ (w : Table). AreLiveStacks t r w) (same_Some _ _ e) made
 
-gives_live : (t : Tables) (r : Reach) (tab u : Table) (n : ℕ) (v : Val) (s : Status FlatStack) → table.status_of n tab ≡ s → (s ≡ Fresh → 0 < n) → table.give_by n v tab s ≡ Some u → AllLive t r tab.coexps → IsLiveStatus t r s
+gives_live : (t : Tables) (r : Reach) (tab u : Table) (n : ℕ) (v : Val) (s : Status FlatStack) → table.status_of n tab ≡ s → (s ≡ Fresh → 0 < n)
+    → table.give_by n v tab s ≡ Some u → AllLive t r tab.coexps → IsLiveStatus t r s
     → IsLive r.extent v → AreLiveStacks t r u
 gives_live t r tab u n v Fresh h p e k l i = begins_live t r tab u n (slice_get tab.coexps n) refl h (p refl) e k
 gives_live t r tab u n v Active h p e k l i = cc
@@ -75,26 +78,31 @@ gives_live t r tab u n v Exhausted h p e k l i =
 
 -- the active one waits
 
-waits_live : (t : Tables) (r : Reach) (tab : Table) (o : Option FlatStack) → AllLive t r tab.coexps → IsLiveRunning t r o → AllLive t r (table.wait_on tab o).coexps
+waits_live : (t : Tables) (r : Reach) (tab : Table) (o : Option FlatStack) → AllLive t r tab.coexps → IsLiveRunning t r o
+    → AllLive t r (table.wait_on tab o).coexps
 waits_live t r tab None k l = k
 waits_live t r tab (Some m) k l = live_put t r tab.coexps tab.active (Waiting m) k l
 
 -- one that is fresh then was fresh before, and is not the first
 
-status_next : (n : ℕ) (s : Status FlatStack) (c : Coexp) (cs : List Coexp) (o : Option Coexp) → table.with_status_in (suc n) s (c ∷ cs) o ≡ c ∷ table.with_status_in n s cs o
+status_next : (n : ℕ) (s : Status FlatStack) (c : Coexp) (cs : List Coexp) (o : Option Coexp)
+    → table.with_status_in (suc n) s (c ∷ cs) o ≡ c ∷ table.with_status_in n s cs o
 status_next n s c cs (Some x) = refl
 status_next n s c cs None = refl
 
-fresh_before : (cs : List Coexp) (a : ℕ) (m : FlatStack) → table.status_in (slice_get (table.with_status a (Waiting m) cs) 0) ≡ Fresh → table.status_in (slice_get cs 0) ≡ Fresh
+fresh_before : (cs : List Coexp) (a : ℕ) (m : FlatStack) → table.status_in (slice_get (table.with_status a (Waiting m) cs) 0) ≡ Fresh
+    → table.status_in (slice_get cs 0) ≡ Fresh
 fresh_before [] a m e = e
 fresh_before (c ∷ cs) zero m e = cc
 fresh_before (c ∷ cs) (suc a) m e = sym (ap (λ (w : List Coexp). table.status_in (slice_get w 0)) (status_next a (Waiting m) c cs (slice_get cs a))) ∙ e
 
-fresh_waiting : (tab : Table) (o : Option FlatStack) → table.status_in (slice_get (table.wait_on tab o).coexps 0) ≡ Fresh → table.status_in (slice_get tab.coexps 0) ≡ Fresh
+fresh_waiting : (tab : Table) (o : Option FlatStack) → table.status_in (slice_get (table.wait_on tab o).coexps 0) ≡ Fresh
+    → table.status_in (slice_get tab.coexps 0) ≡ Fresh
 fresh_waiting tab None e = e
 fresh_waiting tab (Some m) e = fresh_before tab.coexps tab.active m e
 
-activator_next : (n a : ℕ) (c : Coexp) (cs : List Coexp) (o : Option Coexp) → table.with_activator_in (suc n) a (c ∷ cs) o ≡ c ∷ table.with_activator_in n a cs o
+activator_next : (n a : ℕ) (c : Coexp) (cs : List Coexp) (o : Option Coexp)
+    → table.with_activator_in (suc n) a (c ∷ cs) o ≡ c ∷ table.with_activator_in n a cs o
 activator_next n a c cs (Some x) = refl
 activator_next n a c cs None = refl
 
@@ -110,21 +118,25 @@ above_first cs (suc n) d e = omega arith
 
 -- The transfers
 
-pub give_live : (t : Tables) (r : Reach) (v : Val) (tab u : Table) → give v tab ≡ Some u → table.status_of 0 tab ≢ Fresh → IsLive r.extent v → AreLiveStacks t r tab → AreLiveStacks t r u
+pub give_live : (t : Tables) (r : Reach) (v : Val) (tab u : Table) → give v tab ≡ Some u → table.status_of 0 tab ≢ Fresh → IsLive r.extent v
+    → AreLiveStacks t r tab → AreLiveStacks t r u
 give_live t r v tab u e d i k =
     let left : Table = table.with_waiting tab in
     let all : AllLive t r left.coexps = waits_live t r tab tab.running k.coexps k.runs in
     let first : table.status_of 0 left ≢ Fresh = λ f. d (fresh_waiting tab tab.running f) in
-    gives_live t r left u (source tab) v (table.status_of (source tab) left) refl (above_first left.coexps (source tab) first) e all (live_waiting t r left.coexps (source tab) (slice_get left.coexps (source tab)) refl all) i
+    gives_live t r left u (source tab) v (table.status_of (source tab) left) refl (above_first left.coexps (source tab) first) e all
+    (live_waiting t r left.coexps (source tab) (slice_get left.coexps (source tab)) refl all) i
 
-pub enter_live : (t : Tables) (r : Reach) (n : ℕ) (v : Val) (tab u : Table) → enter_other n v tab ≡ Some u → table.status_of 0 tab ≢ Fresh → IsLive r.extent v → AreLiveStacks t r tab → AreLiveStacks t r u
+pub enter_live : (t : Tables) (r : Reach) (n : ℕ) (v : Val) (tab u : Table) → enter_other n v tab ≡ Some u → table.status_of 0 tab ≢ Fresh → IsLive r.extent v
+    → AreLiveStacks t r tab → AreLiveStacks t r u
 enter_live t r n v tab u e d i k =
     let left : Table = table.with_waiting tab in
     let next : Table = record left { coexps = table.with_activator n tab.active left.coexps } in
     let waits : AllLive t r left.coexps = waits_live t r tab tab.running k.coexps k.runs in
     let all : AllLive t r next.coexps = activator_live t r left.coexps n tab.active waits in
     let first : table.status_of 0 next ≢ Fresh = λ f. d (fresh_waiting tab tab.running (sym (activator_status left.coexps n tab.active) ∙ f)) in
-    gives_live t r next u n v (table.status_of n next) refl (above_first next.coexps n first) e all (live_waiting t r next.coexps n (slice_get next.coexps n) refl all) i
+    gives_live t r next u n v (table.status_of n next) refl (above_first next.coexps n first) e all
+    (live_waiting t r next.coexps n (slice_get next.coexps n) refl all) i
 
 -- as many co-expressions
 
@@ -141,7 +153,8 @@ begin_length tab n None = refl
 begin_length tab n (Some c) = status_length tab.coexps n Active (slice_get tab.coexps n)
 
 gives_length : (tab u : Table) (n : ℕ) (v : Val) (s : Status FlatStack) → table.give_by n v tab s ≡ Some u → length u.coexps ≡ length tab.coexps
-gives_length tab u n v Fresh e = ap (λ (w : Table). length w.coexps) (sym (same_Some (table.begin_by n tab (slice_get tab.coexps n)) u e)) ∙ begin_length tab n (slice_get tab.coexps n)
+gives_length tab u n v Fresh e =
+    ap (λ (w : Table). length w.coexps) (sym (same_Some (table.begin_by n tab (slice_get tab.coexps n)) u e)) ∙ begin_length tab n (slice_get tab.coexps n)
 gives_length tab u n v Active e = cc
 gives_length tab u n v (Waiting m) e = ap (λ (w : Table). length w.coexps) (sym (same_Some _ _ e)) ∙ status_length tab.coexps n Active (slice_get tab.coexps n)
 gives_length tab u n v Exhausted e = ap (λ (w : Table). length w.coexps) (sym (same_Some _ _ e))
@@ -163,13 +176,15 @@ enter_length n v tab u e =
 
 -- One more
 
-one_more : (P : ℕ → Coexp → Type 0) (cs : List Coexp) (x : Coexp) → ((n : ℕ) (c : Coexp) → slice_get cs n ≡ Some c → P n c) → P (length cs) x → (n : ℕ) (c : Coexp) → slice_get (cs ++ x ∷ []) n ≡ Some c → P n c
+one_more : (P : ℕ → Coexp → Type 0) (cs : List Coexp) (x : Coexp) → ((n : ℕ) (c : Coexp) → slice_get cs n ≡ Some c → P n c) → P (length cs) x
+    → (n : ℕ) (c : Coexp) → slice_get (cs ++ x ∷ []) n ≡ Some c → P n c
 one_more P [] x all one zero c q = subst (P 0) (same_Some x c q) one
 one_more P [] x all one (suc n) c q = cc
 one_more P (y ∷ cs) x all one zero c q = all 0 c q
 one_more P (y ∷ cs) x all one (suc n) c q = one_more (λ k. P (suc k)) cs x (λ k d r. all (suc k) d r) one n c q
 
-pub new_live : (t : Tables) (r : Reach) (tab : Table) (values : List Val) (proc place : ℕ) → All (IsLive r.extent) values → length values ≡ variable_count t proc → AllLive t r tab.coexps → AllLive t r (with_new values proc place tab).coexps
+pub new_live : (t : Tables) (r : Reach) (tab : Table) (values : List Val) (proc place : ℕ) → All (IsLive r.extent) values
+    → length values ≡ variable_count t proc → AllLive t r tab.coexps → AllLive t r (with_new values proc place tab).coexps
 new_live t r tab values proc place a c k =
     let new : Coexp = record { status = Fresh; activator = 0; values = values; proc = proc; place = place } in
     let live : IsLiveCoexp t r (length tab.coexps) new = record { status = tt; values = a; count = λ p. c } in
@@ -181,7 +196,8 @@ new_length tab values proc place =
     let l : length (tab.coexps ++ new ∷ []) ≡ length tab.coexps + 1 = length-append tab.coexps (new ∷ []) in
     omega (arith, l)
 
-pub copy_live : (t : Tables) (r : Reach) (tab : Table) (n : ℕ) (o : Option Coexp) → slice_get tab.coexps n ≡ o → 0 < n → AllLive t r tab.coexps → AllLive t r (with_copy tab o).coexps
+pub copy_live : (t : Tables) (r : Reach) (tab : Table) (n : ℕ) (o : Option Coexp) → slice_get tab.coexps n ≡ o → 0 < n → AllLive t r tab.coexps
+    → AllLive t r (with_copy tab o).coexps
 copy_live t r tab n None g p k = k
 copy_live t r tab n (Some c) g p k = let l = k n c g in new_live t r tab c.values c.proc c.place l.values (l.count p) k
 
@@ -189,7 +205,8 @@ pub copy_length : (tab : Table) (o : Option Coexp) (c : Coexp) → o ≡ Some c 
 copy_length tab o c e = ap (λ (w : Option Coexp). length (with_copy tab w).coexps) e ∙ new_length tab c.values c.proc c.place
 
 -- what is created
-pub created_live : (t : Tables) (old new : Reach) (tab u : Table) (m : FlatStack) (label : ℕ) → tab.running ≡ Some m → u ≡ create_entry label tab → KeepsItems old new → held.local_count m ≡ length (held.locals m)
+pub created_live : (t : Tables) (old new : Reach) (tab u : Table) (m : FlatStack) (label : ℕ) → tab.running ≡ Some m → u ≡ create_entry label tab
+    → KeepsItems old new → held.local_count m ≡ length (held.locals m)
     → IsLive new.extent (HeldCoexp (length tab.coexps)) → AreLiveStacks t old tab → AreLiveStacks t new u
 created_live t old new tab u m label e c keeps count value k =
     let live : IsLiveStack t old m = subst (λ (o : Option FlatStack). IsLiveRunning t old o) e k.runs in
@@ -199,7 +216,8 @@ created_live t old new tab u m label e c keeps count value k =
     let made : AreLiveStacks t new (created_on label tab (Some m))
     = record {
       runs = live_push t new (held.go label m) (HeldVal (HeldCoexp (length tab.coexps))) after item;
-      coexps = new_live t new tab (held.locals m) (held.proc m) m.place values (sym count ∙ own_count t old m live) (coexps_stay t old new tab.coexps keeps k.coexps);
+      coexps = new_live t new tab (held.locals m) (held.proc m) m.place values (sym count ∙ own_count t old m live)
+          (coexps_stay t old new tab.coexps keeps k.coexps);
     } in
     subst (λ (w : Table). AreLiveStacks t new w) (sym (c ∙ ap (created_on label tab) e)) made
 
@@ -207,7 +225,8 @@ pub created_length : (tab u : Table) (m : FlatStack) (label : ℕ) → tab.runni
 created_length tab u m label e c = ap (λ (w : Table). length w.coexps) (c ∙ ap (created_on label tab) e) ∙ new_length tab (held.locals m) (held.proc m) m.place
 
 -- what is copied
-pub copied_live : (t : Tables) (old new : Reach) (tab u : Table) (m : FlatStack) (id : ℕ) → tab.running ≡ Some m → u ≡ copy_entry id tab → 0 < id → KeepsItems old new → IsLive new.extent (HeldCoexp (length tab.coexps)) → AreLiveStacks t old tab
+pub copied_live : (t : Tables) (old new : Reach) (tab u : Table) (m : FlatStack) (id : ℕ) → tab.running ≡ Some m → u ≡ copy_entry id tab → 0 < id
+    → KeepsItems old new → IsLive new.extent (HeldCoexp (length tab.coexps)) → AreLiveStacks t old tab
     → AreLiveStacks t new u
 copied_live t old new tab u m id e c p keeps value k =
     let live : IsLiveStack t old m = subst (λ (o : Option FlatStack). IsLiveRunning t old o) e k.runs in
@@ -219,7 +238,8 @@ copied_live t old new tab u m id e c p keeps value k =
     } in
     subst (λ (w : Table). AreLiveStacks t new w) (sym (c ∙ ap (copied_on id tab) e)) made
 
-pub copied_length : (tab u : Table) (m : FlatStack) (id : ℕ) → tab.running ≡ Some m → u ≡ copy_entry id tab → id < length tab.coexps → length u.coexps ≡ suc (length tab.coexps)
+pub copied_length : (tab u : Table) (m : FlatStack) (id : ℕ) → tab.running ≡ Some m → u ≡ copy_entry id tab → id < length tab.coexps
+    → length u.coexps ≡ suc (length tab.coexps)
 copied_length tab u m id e c p =
     let there = live_entry Coexp tab.coexps id p in
     ap (λ (w : Table). length w.coexps) (c ∙ ap (copied_on id tab) e) ∙ copy_length tab (slice_get tab.coexps id) there.0 there.1

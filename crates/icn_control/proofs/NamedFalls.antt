@@ -104,7 +104,8 @@ pub stack_falls : (w v : World) (running : Option FlatStack) (m n : FlatStack) (
     → StackNamed names (stack_in (extent_of w.heap) (running_of running))
     → StackNamed names (stack_in (extent_of v.heap) n) × DueNamed names (extent_of v.heap) due
 stack_falls w v running m n due e heap h names k =
-    let from : StackNamed names (stack_in (extent_of w.heap) m) = subst (λ (o : Option FlatStack). StackNamed names (stack_in (extent_of w.heap) (running_of o))) e k in
+    let from : StackNamed names (stack_in (extent_of w.heap) m) =
+    subst (λ (o : Option FlatStack). StackNamed names (stack_in (extent_of w.heap) (running_of o))) e k in
     subst (λ (x : HeldHeap). StackNamed names (stack_in (extent_of x) n) × DueNamed names (extent_of x) due) (sym heap) (h names from)
 
 pub store_falls : (w v : World) (turns : ℕ) (begun : List Bool) (table : Table) (n : FlatStack) → v.heap ≡ w.heap
@@ -114,4 +115,5 @@ pub store_falls : (w v : World) (turns : ℕ) (begun : List Bool) (table : Table
 store_falls w v turns begun table n heap h names tables outside k =
     let same : StoreNamed names (store_in (all_names tables) outside (world_of v) turns begun (extent_of w.heap) (record table { running = Some n }))
     = record { world = h names k.world; coexps = k.coexps } in
-    subst (λ (x : HeldHeap). StoreNamed names (store_in (all_names tables) outside (world_of v) turns begun (extent_of x) (record table { running = Some n }))) (sym heap) same
+    subst (λ (x : HeldHeap). StoreNamed names (store_in (all_names tables) outside (world_of v) turns begun (extent_of x) (record table { running = Some n })))
+    (sym heap) same

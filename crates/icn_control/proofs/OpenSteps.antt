@@ -49,25 +49,34 @@ use Rattle.icn_value.specs.Values.{Val as ItemVal}
 
 -- The text of a value
 
-pub text_made : (t : Tables) (w v : World) (m : FlatStack) (val : Val) (span : Span) → KeepsItems (reach_of w (held.locals m)) (reach_of v (held.locals m)) → IsLiveStack t (reach_of w []) m → held.set_locals (held.locals m) m ≡ m
-    → ((setting : Setting) → Found (extent_of w.heap) (string (value_in (extent_of w.heap) val)) setting setting (λ (done : Unit {0}). the_text (value_in (extent_of w.heap) val)) (Ok tt))
-    → ((outside : Outside) → Passed (extent_of v.heap) (costs_text (value_in (extent_of w.heap) val)) (setting_of outside w (held.locals m)) (setting_of outside v (held.locals m)) (Ok span))
-    → text_in (extent_of v.heap) span ≡ the_text (value_in (extent_of w.heap) val) → MakesValue (text_row (value_in (extent_of w.heap) val)) w m v (Ok (TextVal span))
+pub text_made : (t : Tables) (w v : World) (m : FlatStack) (val : Val) (span : Span) → KeepsItems (reach_of w (held.locals m)) (reach_of v (held.locals m))
+    → IsLiveStack t (reach_of w []) m → held.set_locals (held.locals m) m ≡ m
+    → ((setting : Setting) → Found (extent_of w.heap) (string (value_in (extent_of w.heap) val)) setting setting
+    (λ (done : Unit {0}). the_text (value_in (extent_of w.heap) val)) (Ok tt))
+    → ((outside : Outside) → Passed (extent_of v.heap) (costs_text (value_in (extent_of w.heap) val)) (setting_of outside w (held.locals m))
+    (setting_of outside v (held.locals m)) (Ok span))
+    → text_in (extent_of v.heap) span ≡ the_text (value_in (extent_of w.heap) val)
+    → MakesValue (text_row (value_in (extent_of w.heap) val)) w m v (Ok (TextVal span))
 text_made t w v m val span k l s f p e st next same =
     let value : Value = value_in (extent_of w.heap) val in
     let before : Setting = setting_of st.outside w (held.locals m) in
     made_goes t w v m (text_row value) (TextVal span) st next same (no_locals w v (held.locals m) k) l s
-    (f before (λ text. costs_text value (gives_value (Text text))) ∙ p st.outside (gives_value (Text (the_text value))) ∙ ap (λ (x : List ℕ). gives_value (Text x) (setting_of st.outside v (held.locals m))) (sym e))
+    (f before (λ text. costs_text value (gives_value (Text text))) ∙ p st.outside (gives_value (Text (the_text value)))
+    ∙ ap (λ (x : List ℕ). gives_value (Text x) (setting_of st.outside v (held.locals m))) (sym e))
 
-pub text_unfit : (w : World) (m : FlatStack) (val : Val) (stop : Stop) → ((setting : Setting) → Found (extent_of w.heap) (string (value_in (extent_of w.heap) val)) setting setting (λ (done : Unit {0}). the_text (value_in (extent_of w.heap) val)) (Err stop))
+pub text_unfit : (w : World) (m : FlatStack) (val : Val) (stop : Stop) → ((setting : Setting) → Found (extent_of w.heap)
+    (string (value_in (extent_of w.heap) val)) setting setting (λ (done : Unit {0}). the_text (value_in (extent_of w.heap) val)) (Err stop))
     → MakesValue (text_row (value_in (extent_of w.heap) val)) w m w (Err stop)
 text_unfit w m val (StopError number offending) f st next same =
     let value : Value = value_in (extent_of w.heap) val in
-    made_halts w w m (text_row value) number offending st next same (f (setting_of st.outside w (held.locals m)) (λ text. costs_text value (gives_value (Text text))))
+    made_halts w w m (text_row value) number offending st next same
+    (f (setting_of st.outside w (held.locals m)) (λ text. costs_text value (gives_value (Text text))))
 text_unfit w m val StopNoMemory f st next same = tt
 
-pub text_dear : (w v : World) (m : FlatStack) (val : Val) (stop : Stop) → ((setting : Setting) → Found (extent_of w.heap) (string (value_in (extent_of w.heap) val)) setting setting (λ (done : Unit {0}). the_text (value_in (extent_of w.heap) val)) (Ok tt))
-    → ((outside : Outside) → Passed {B = Span} (extent_of v.heap) (costs_text (value_in (extent_of w.heap) val)) (setting_of outside w (held.locals m)) (setting_of outside v (held.locals m)) (Err stop))
+pub text_dear : (w v : World) (m : FlatStack) (val : Val) (stop : Stop) → ((setting : Setting) → Found (extent_of w.heap)
+    (string (value_in (extent_of w.heap) val)) setting setting (λ (done : Unit {0}). the_text (value_in (extent_of w.heap) val)) (Ok tt))
+    → ((outside : Outside) → Passed {B = Span} (extent_of v.heap) (costs_text (value_in (extent_of w.heap) val)) (setting_of outside w (held.locals m))
+    (setting_of outside v (held.locals m)) (Err stop))
     → MakesValue (text_row (value_in (extent_of w.heap) val)) w m v (Err stop)
 text_dear w v m val (StopError number offending) f p st next same =
     let value : Value = value_in (extent_of w.heap) val in
@@ -78,18 +87,24 @@ text_dear w v m val StopNoMemory f p st next same = tt
 -- what the text of a value that has one comes to, and what it keeps
 
 abbrev pub HasOne : World → Val → Type 0
-HasOne w val = (setting : Setting) → Found (extent_of w.heap) (string (value_in (extent_of w.heap) val)) setting setting (λ (done : Unit {0}). the_text (value_in (extent_of w.heap) val)) (Ok tt)
+HasOne w val = (setting : Setting) → Found (extent_of w.heap) (string (value_in (extent_of w.heap) val)) setting setting
+    (λ (done : Unit {0}). the_text (value_in (extent_of w.heap) val)) (Ok tt)
 
 abbrev pub PaysFor : World → World → List Val → Val → Result Span Stop → Type 0
-PaysFor w v locals val result = (outside : Outside) → Passed (extent_of v.heap) (costs_text (value_in (extent_of w.heap) val)) (setting_of outside w locals) (setting_of outside v locals) result
+PaysFor w v locals val result = (outside : Outside)
+    → Passed (extent_of v.heap) (costs_text (value_in (extent_of w.heap) val)) (setting_of outside w locals) (setting_of outside v locals) result
 
-pub text_result : (t : Tables) (w v : World) (m : FlatStack) (val : Val) (result : Result Span Stop) → KeepsItems (reach_of w (held.locals m)) (reach_of v (held.locals m)) → IsLiveStack t (reach_of w []) m → held.set_locals (held.locals m) m ≡ m → HasOne w val
+pub text_result : (t : Tables) (w v : World) (m : FlatStack) (val : Val) (result : Result Span Stop)
+    → KeepsItems (reach_of w (held.locals m)) (reach_of v (held.locals m)) → IsLiveStack t (reach_of w []) m → held.set_locals (held.locals m) m ≡ m
+    → HasOne w val
     → PaysFor w v (held.locals m) val result → IfOk result (λ span. text_in (extent_of v.heap) span ≡ the_text (value_in (extent_of w.heap) val))
-    → MatchResult result (λ span. MakesValue (text_row (value_in (extent_of w.heap) val)) w m v (Ok (TextVal span))) (λ stop. MakesValue (text_row (value_in (extent_of w.heap) val)) w m v (Err stop))
+    → MatchResult result (λ span. MakesValue (text_row (value_in (extent_of w.heap) val)) w m v (Ok (TextVal span)))
+    (λ stop. MakesValue (text_row (value_in (extent_of w.heap) val)) w m v (Err stop))
 text_result t w v m val (Ok span) k l s f p e = text_made t w v m val span k l s f p e
 text_result t w v m val (Err stop) k l s f p e = text_dear w v m val stop f p
 
-pub text_counted : (w v : World) (locals : List Val) (val : Val) (result : Result Span Stop) → HasOne w val → PaysFor w v locals val result → OnOk result (KeepsCounts w v)
+pub text_counted : (w v : World) (locals : List Val) (val : Val) (result : Result Span Stop) → HasOne w val → PaysFor w v locals val result
+    → OnOk result (KeepsCounts w v)
 text_counted w v locals val (Ok span) f p =
     let value : Value = value_in (extent_of w.heap) val in
     text_keeps w v (outside_of []) locals (ItemVal (Text (the_text value))) value
@@ -97,7 +112,8 @@ text_counted w v locals val (Ok span) f p =
 text_counted w v locals val (Err stop) f p = tt
 
 -- an answer that stops
-pub at_stop : {A : Type 0} (result : Result A Stop) (stop : Stop) (P : A → Type 0) (Q : Stop → Type 0) → IsErrAnd result (λ s. s ≡ stop) → Q stop → MatchResult result P Q
+pub at_stop : {A : Type 0} (result : Result A Stop) (stop : Stop) (P : A → Type 0) (Q : Stop → Type 0) → IsErrAnd result (λ s. s ≡ stop) → Q stop
+    → MatchResult result P Q
 at_stop (Err s) stop P Q e q = subst Q (sym e) q
 at_stop (Ok a) stop P Q e q = absurd e
 
@@ -107,7 +123,8 @@ stop_live (Ok a) stop P e p = absurd e
 
 -- Opening
 
-pub opens : (w v : World) (m n : FlatStack) (span : Span) (pair : HeldPair) → held.given_to None (held.suspend_by (Scan w.pair) m) ≡ Some n → pair_in (extent_of w.heap) pair ≡ record { subject = text_in (extent_of w.heap) span; position = 1 }
+pub opens : (w v : World) (m n : FlatStack) (span : Span) (pair : HeldPair) → held.given_to None (held.suspend_by (Scan w.pair) m) ≡ Some n
+    → pair_in (extent_of w.heap) pair ≡ record { subject = text_in (extent_of w.heap) span; position = 1 }
     → world_of v ≡ paired (pair_in (extent_of w.heap) pair) (world_of w) → v.heap ≡ w.heap → (st : Store Frames) → st.world ≡ world_of w
     → RunsWith (scan_opened flat (Text (text_in (extent_of w.heap) span)) (stack_in (extent_of w.heap) m) st) st v n
 opens w v m n span pair e p back heap st same =
@@ -125,13 +142,17 @@ opens w v m n span pair e p back heap st same =
 pub first_position : (all : Extent) (span : Span) → IsText all span → IsLivePair all (record { subject = span; position = 1 })
 first_position all span t = let high : 1 ≤ length (text_in all span) + 1 = omega arith in record { subject = t; low = omega arith; high = high }
 
-pub opens_live : (t : Tables) (w : World) (m n : FlatStack) → held.given_to None (held.suspend_by (Scan w.pair) m) ≡ Some n → IsLiveStack t (reach_of w []) m → IsLiveStack t (reach_of w []) n
-opens_live t w m n e l = subst (λ (x : FlatStack). IsLiveStack t (reach_of w []) x) (same_Some _ _ e) (live_suspend t (reach_of w []) m (Scan w.pair) l (present_live w))
+pub opens_live : (t : Tables) (w : World) (m n : FlatStack) → held.given_to None (held.suspend_by (Scan w.pair) m) ≡ Some n → IsLiveStack t (reach_of w []) m
+    → IsLiveStack t (reach_of w []) n
+opens_live t w m n e l =
+    subst (λ (x : FlatStack). IsLiveStack t (reach_of w []) x) (same_Some _ _ e) (live_suspend t (reach_of w []) m (Scan w.pair) l (present_live w))
 
 -- The instruction
 
-pub bscan_runs : (w v u : World) (m k l n : FlatStack) (item : Item) (val : Val) (span : Span) → held.pop m ≡ Some (item, k) → FindsItem w k item (Ok val) → MakesValue (text_row (value_in (extent_of w.heap) val)) w k v (Ok (TextVal span)) → l ≡ k
-    → ((st : Store Frames) → st.world ≡ world_of v → RunsWith (scan_opened flat (Text (text_in (extent_of v.heap) span)) (stack_in (extent_of v.heap) l) st) st u n)
+pub bscan_runs : (w v u : World) (m k l n : FlatStack) (item : Item) (val : Val) (span : Span) → held.pop m ≡ Some (item, k) → FindsItem w k item (Ok val)
+    → MakesValue (text_row (value_in (extent_of w.heap) val)) w k v (Ok (TextVal span)) → l ≡ k
+    → ((st : Store Frames) → st.world ≡ world_of v
+    → RunsWith (scan_opened flat (Text (text_in (extent_of v.heap) span)) (stack_in (extent_of v.heap) l) st) st u n)
     → (tables : Tables) (st : Store Frames) → st.world ≡ world_of w → RunsWith (instruction_state (extent_of w.heap) tables Instrs.Bscan m st) st u n
 bscan_runs w v u m k l n item val span e f made_so p o tables st same =
     popped_value w m k item val e st (f st same) (λ value a. with_made flat (text_row value (here flat a st)) a st (scan_opened flat))
@@ -139,17 +160,23 @@ bscan_runs w v u m k l n item val span e f made_so p o tables st same =
     ∙ ap (λ (x : FlatStack). scan_opened flat (Text (text_in (extent_of v.heap) span)) (stack_in (extent_of v.heap) x) (with_world (world_of v) st)) (sym p)
     ∙ o (with_world (world_of v) st) refl
 
-pub bscan_err : {A : Type 0} (result : Result A Halt) (w : World) (m k n : FlatStack) (item : Item) (stop : Stop) → IsErrAnd result (λ h. h ≡ halt_of stop) → held.pop m ≡ Some (item, k) → FindsItem w k item (Err stop) → (tables : Tables) (st : Store Frames) → st.world ≡ world_of w
-    → MatchResult result (λ (x : A). RunsWith (instruction_state (extent_of w.heap) tables Instrs.Bscan m st) st w n) (HaltsWith (instruction_state (extent_of w.heap) tables Instrs.Bscan m st) st w)
+pub bscan_err : {A : Type 0} (result : Result A Halt) (w : World) (m k n : FlatStack) (item : Item) (stop : Stop) → IsErrAnd result (λ h. h ≡ halt_of stop)
+    → held.pop m ≡ Some (item, k) → FindsItem w k item (Err stop) → (tables : Tables) (st : Store Frames) → st.world ≡ world_of w
+    → MatchResult result (λ (x : A). RunsWith (instruction_state (extent_of w.heap) tables Instrs.Bscan m st) st w n)
+    (HaltsWith (instruction_state (extent_of w.heap) tables Instrs.Bscan m st) st w)
 bscan_err {A} result w m k n item stop err e f tables st same =
-    at_halt result (halt_of stop) (λ (x : A). RunsWith (instruction_state (extent_of w.heap) tables Instrs.Bscan m st) st w n) (HaltsWith (instruction_state (extent_of w.heap) tables Instrs.Bscan m st) st w) err
+    at_halt result (halt_of stop) (λ (x : A). RunsWith (instruction_state (extent_of w.heap) tables Instrs.Bscan m st) st w n)
+    (HaltsWith (instruction_state (extent_of w.heap) tables Instrs.Bscan m st) st w) err
     (popped_halts w m k item stop e st same (f st same) (λ value a. with_made flat (text_row value (here flat a st)) a st (scan_opened flat)))
 
-pub bscan_unmade : {A : Type 0} (result : Result A Halt) (w v : World) (m k n : FlatStack) (item : Item) (val : Val) (stop : Stop) → IsErrAnd result (λ h. h ≡ halt_of stop) → held.pop m ≡ Some (item, k) → FindsItem w k item (Ok val)
+pub bscan_unmade : {A : Type 0} (result : Result A Halt) (w v : World) (m k n : FlatStack) (item : Item) (val : Val) (stop : Stop)
+    → IsErrAnd result (λ h. h ≡ halt_of stop) → held.pop m ≡ Some (item, k) → FindsItem w k item (Ok val)
     → MakesValue (text_row (value_in (extent_of w.heap) val)) w k v (Err stop) → (tables : Tables) (st : Store Frames) → st.world ≡ world_of w
-    → MatchResult result (λ (x : A). RunsWith (instruction_state (extent_of w.heap) tables Instrs.Bscan m st) st v n) (HaltsWith (instruction_state (extent_of w.heap) tables Instrs.Bscan m st) st v)
+    → MatchResult result (λ (x : A). RunsWith (instruction_state (extent_of w.heap) tables Instrs.Bscan m st) st v n)
+    (HaltsWith (instruction_state (extent_of w.heap) tables Instrs.Bscan m st) st v)
 bscan_unmade {A} result w v m k n item val stop err e f made_so tables st same =
     let go : instruction_state (extent_of w.heap) tables Instrs.Bscan m st ≡ made_in (text_row (value_in (extent_of w.heap) val)) w k st (scan_opened flat)
     = popped_value w m k item val e st (f st same) (λ value a. with_made flat (text_row value (here flat a st)) a st (scan_opened flat)) in
-    at_halt result (halt_of stop) (λ (x : A). RunsWith (instruction_state (extent_of w.heap) tables Instrs.Bscan m st) st v n) (HaltsWith (instruction_state (extent_of w.heap) tables Instrs.Bscan m st) st v) err
+    at_halt result (halt_of stop) (λ (x : A). RunsWith (instruction_state (extent_of w.heap) tables Instrs.Bscan m st) st v n)
+    (HaltsWith (instruction_state (extent_of w.heap) tables Instrs.Bscan m st) st v) err
     (subst (λ (x : State Frames Frames). HaltsWith x st v (halt_of stop)) (sym go) (made_so st (scan_opened flat) same))

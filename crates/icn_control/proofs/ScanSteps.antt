@@ -50,8 +50,10 @@ pop_registers m n item e = by_cells m.cells e
 pub open_after : (m n : FlatStack) (item : Item) → held.pop m ≡ Some (item, n) → IsSome m.registers.scan → IsSome n.registers.scan
 open_after m n item e k = subst (λ (r : Registers). IsSome r.scan) (pop_registers m n item e) k
 
-pub escan_runs : (w v : World) (m k l n : FlatStack) (item : Item) → held.pop m ≡ Some (item, k) → held.swap_by false w.pair k ≡ Some (v.pair, l) → world_of v ≡ paired (pair_in (extent_of w.heap) v.pair) (world_of w) → v.heap ≡ w.heap
-    → held.given_to (Some item) (held.suspend_by Escan l) ≡ Some n → (tables : Tables) (st : Store Frames) → st.world ≡ world_of w → RunsWith (instruction_state (extent_of w.heap) tables Instrs.Escan m st) st v n
+pub escan_runs : (w v : World) (m k l n : FlatStack) (item : Item) → held.pop m ≡ Some (item, k) → held.swap_by false w.pair k ≡ Some (v.pair, l)
+    → world_of v ≡ paired (pair_in (extent_of w.heap) v.pair) (world_of w) → v.heap ≡ w.heap
+    → held.given_to (Some item) (held.suspend_by Escan l) ≡ Some n → (tables : Tables) (st : Store Frames) → st.world ≡ world_of w
+    → RunsWith (instruction_state (extent_of w.heap) tables Instrs.Escan m st) st v n
 escan_runs w v m k l n item e f back heap g tables st same =
     let all : Extent = extent_of w.heap in
     let x : rows.Item = item_in all item in
@@ -59,14 +61,16 @@ escan_runs w v m k l n item e f back heap g tables st same =
     let F : HeldHeap → State Frames Frames = λ y. running (stack_in (extent_of y) n) (with_world (world_of v) st) in
     popped_runs m k item e all (λ y a. with_exchange (flat.swap_newest (pair_now st) a) (λ b. push_item flat y (flat.suspend calls.Escan b)) st)
     ∙ ap (λ (p : calls.Pair). with_exchange (flat.swap_newest p (stack_in all k)) next st) (present w st same)
-    ∙ ap (λ (o : Option (calls.Pair × Frames)). with_exchange o next st) (swap_newest_read (reading_of all) w.pair k ∙ ap (option_map (swapped_read (reading_of all))) f)
+    ∙ ap (λ (o : Option (calls.Pair × Frames)). with_exchange o next st)
+    (swap_newest_read (reading_of all) w.pair k ∙ ap (option_map (swapped_read (reading_of all))) f)
     ∙ ap (λ (s : StoreWorld). next (stack_in all l) (with_world (paired (pair_in all v.pair) s) st)) same
     ∙ ap (λ (s : StoreWorld). next (stack_in all l) (with_world s st)) (sym back)
     ∙ ap (λ (a : Frames). push_item flat x a (with_world (world_of v) st)) (suspend_read (reading_of all) Escan l)
     ∙ ap (λ (y : FlatStack). running (stack_in all y) (with_world (world_of v) st)) (same_Some _ _ g)
     ∙ ap F (sym heap)
 
-pub escan_live : (t : Tables) (w v : World) (m k l n : FlatStack) (item : Item) → held.pop m ≡ Some (item, k) → held.swap_by false w.pair k ≡ Some (v.pair, l) → held.given_to (Some item) (held.suspend_by Escan l) ≡ Some n
+pub escan_live : (t : Tables) (w v : World) (m k l n : FlatStack) (item : Item) → held.pop m ≡ Some (item, k) → held.swap_by false w.pair k ≡ Some (v.pair, l)
+    → held.given_to (Some item) (held.suspend_by Escan l) ≡ Some n
     → reach_of v [] ≡ reach_of w [] → IsLiveStack t (reach_of w []) m → IsLiveStack t (reach_of v []) n
 escan_live t w v m k l n item e f g r live =
     let reach : Reach = reach_of w [] in
@@ -75,5 +79,6 @@ escan_live t w v m k l n item e f g r live =
     let left : IsLiveStack t reach (held.suspend Escan l) = live_suspend t reach l Escan swapped.rest tt in
     let here : IsLiveItem (with_locals (own (held.suspend Escan l)) reach) item
     = subst (λ (c : ℕ). IsLiveItem (with_locals c reach) item) (sym (suspend_owner l Escan swapped.rest.root ∙ swapped.same)) popped.item_live in
-    let on : IsLiveStack t reach n = subst (λ (x : FlatStack). IsLiveStack t reach x) (same_Some _ _ g) (live_push t reach (held.suspend Escan l) item left here) in
+    let on : IsLiveStack t reach n = subst (λ (x : FlatStack). IsLiveStack t reach x) (same_Some _ _ g)
+    (live_push t reach (held.suspend Escan l) item left here) in
     subst (λ (x : Reach). IsLiveStack t x n) (sym r) on

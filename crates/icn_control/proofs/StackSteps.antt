@@ -75,19 +75,23 @@ pub go_runs : (m n : FlatStack) (label : ℕ) → n ≡ held.go label m → Goes
 go_runs m n label e all tables st = ap (on_stack all st) (sym e)
 
 -- what is left where a mark is dropped, with the rest of the instruction
-pub unmarked_by : (m n : FlatStack) (pair : Option Pair) → held.unmark m ≡ Some (n, pair) → (all : Extent) (next : Frames → Option calls.Pair → State Frames Frames)
+pub unmarked_by : (m n : FlatStack) (pair : Option Pair) → held.unmark m ≡ Some (n, pair)
+    → (all : Extent) (next : Frames → Option calls.Pair → State Frames Frames)
     → with_found (flat.unmark (stack_in all m)) (on_pair next) ≡ next (stack_in all n) (maybe_pair_in all pair)
 unmarked_by m n pair e all next =
-    ap (λ (w : Option (Frames × Option calls.Pair)). with_found w (on_pair next)) (unmark_read (reading_of all) m ∙ ap (option_map (unmarked_read (reading_of all))) e)
+    ap (λ (w : Option (Frames × Option calls.Pair)). with_found w (on_pair next))
+    (unmark_read (reading_of all) m ∙ ap (option_map (unmarked_read (reading_of all))) e)
 
 pub unmark_runs : (m n : FlatStack) (pair : Option Pair) → held.unmark m ≡ Some (n, pair) → GoesOnLeaving Instrs.Unmark m pair n
 unmark_runs m n pair e all tables st = unmarked_by m n pair e all (λ outside back. running outside (scans_left back st))
 
-suspended_by : (m n : FlatStack) → held.suspend_mark m ≡ Some n → (all : Extent) (next : Frames → State Frames Frames) → with_found (flat.suspend_mark (stack_in all m)) next ≡ next (stack_in all n)
+suspended_by : (m n : FlatStack) → held.suspend_mark m ≡ Some n → (all : Extent) (next : Frames → State Frames Frames)
+    → with_found (flat.suspend_mark (stack_in all m)) next ≡ next (stack_in all n)
 suspended_by m n e all next =
     ap (λ (w : Option Frames). with_found w next) (suspend_mark_read (reading_of all) m ∙ ap (option_map (stack_in all)) e)
 
-pub esusp_runs : (m k n : FlatStack) (item : Item) → held.pop m ≡ Some (item, k) → held.given_to (Some item) (held.suspend_mark k) ≡ Some n → GoesOn Instrs.Esusp m n
+pub esusp_runs : (m k n : FlatStack) (item : Item) → held.pop m ≡ Some (item, k) → held.given_to (Some item) (held.suspend_mark k) ≡ Some n
+    → GoesOn Instrs.Esusp m n
 esusp_runs m k n item e f all tables st =
     let split = given_split item (held.suspend_mark k) n f in
     popped_runs m k item e all (λ x w. with_found (flat.suspend_mark w) (λ v. push_item flat x v st))
@@ -100,13 +104,16 @@ counted_by m n count e all next =
     let there : IsSome (held.count_down m) = subst IsSome (sym e) refl in
     ap (λ (w : Option (ℕ × Frames)). with_found w (on_pair next)) (count_down_read (reading_of all) m there ∙ ap (option_map (counted_read (reading_of all))) e)
 
-lsusp_by : (m k l n : FlatStack) (item : Item) (count : ℕ) → held.pop m ≡ Some (item, k) → held.count_down k ≡ Some (count, l) → (all : Extent) (tables : Tables) (st : Store Frames)
-    → with_found (flat.pop (stack_in all m)) (on_pair (λ x w. with_found (flat.count_down w) (on_pair (λ c v. limited_result flat x c v st)))) ≡ limited_result flat ((reading_of all).item item) count (stack_in all l) st
+lsusp_by : (m k l n : FlatStack) (item : Item) (count : ℕ) → held.pop m ≡ Some (item, k) → held.count_down k ≡ Some (count, l)
+    → (all : Extent) (tables : Tables) (st : Store Frames)
+    → with_found (flat.pop (stack_in all m)) (on_pair (λ x w. with_found (flat.count_down w) (on_pair (λ c v. limited_result flat x c v st))))
+    ≡ limited_result flat ((reading_of all).item item) count (stack_in all l) st
 lsusp_by m k l n item count e f all tables st =
     popped_runs m k item e all (λ x w. with_found (flat.count_down w) (on_pair (λ c v. limited_result flat x c v st)))
     ∙ counted_by k l count f all (λ c v. limited_result flat ((reading_of all).item item) c v st)
 
-pub lsusp_last : (m k l o n : FlatStack) (item : Item) (count : ℕ) (pair : Option Pair) → held.pop m ≡ Some (item, k) → held.count_down k ≡ Some (count, l) → count ≡ 0 → held.unmark l ≡ Some (o, pair)
+pub lsusp_last : (m k l o n : FlatStack) (item : Item) (count : ℕ) (pair : Option Pair) → held.pop m ≡ Some (item, k) → held.count_down k ≡ Some (count, l)
+    → count ≡ 0 → held.unmark l ≡ Some (o, pair)
     → n ≡ held.push item o → GoesOnLeaving Instrs.Lsusp m pair n
 lsusp_last m k l o n item count pair e f z u p all tables st =
     lsusp_by m k l n item count e f all tables st
@@ -118,7 +125,8 @@ above_zero : (n : ℕ) → 0 < n → (k : ℕ) × (n ≡ suc k)
 above_zero zero p = absurd (omega arith)
 above_zero (suc k) p = (k, refl)
 
-pub lsusp_more : (m k l n : FlatStack) (item : Item) (count : ℕ) → held.pop m ≡ Some (item, k) → held.count_down k ≡ Some (count, l) → 0 < count → held.given_to (Some item) (held.suspend_mark l) ≡ Some n
+pub lsusp_more : (m k l n : FlatStack) (item : Item) (count : ℕ) → held.pop m ≡ Some (item, k) → held.count_down k ≡ Some (count, l) → 0 < count
+    → held.given_to (Some item) (held.suspend_mark l) ≡ Some n
     → GoesOnLeaving Instrs.Lsusp m None n
 lsusp_more m k l n item count e f z u all tables st =
     let split = given_split item (held.suspend_mark l) n u in
@@ -130,5 +138,6 @@ lsusp_more m k l n item count e f z u all tables st =
 
 pub below_runs : (m n : FlatStack) (item : Item) → held.below m ≡ Some item → n ≡ held.push item m → GoesOn Instrs.Ccase m n
 below_runs m n item e p all tables st =
-    ap (λ (w : Option rows.Item). with_found w (λ x. push_item flat x (stack_in all m) st)) (below_read (reading_of all) m ∙ ap (option_map (reading_of all).item) e)
+    ap (λ (w : Option rows.Item). with_found w (λ x. push_item flat x (stack_in all m) st))
+    (below_read (reading_of all) m ∙ ap (option_map (reading_of all).item) e)
     ∙ ap (on_stack all st) (sym p)

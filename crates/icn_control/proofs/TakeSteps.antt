@@ -43,13 +43,17 @@ use Rattle.icn_control.proofs.PartSteps.{value_goes, value_halts}
 abbrev taken_read : Extent → List Item × FlatStack → List rows.Item × Frames
 taken_read all pair = (map (item_in all) pair.0, stack_in all pair.1)
 
-over_pop : (all : Extent) (n : ℕ) (items : List Item) → ((m : FlatStack) (xs : List Item) → code.take_top n (stack_in all m) (stack_in all m).cells (map (item_in all) xs) ≡ option_map (taken_read all) (taken_onto n m xs)) → (o : Option (Item × FlatStack))
-    → option_and_then (λ (pair : rows.Item × Frames). code.take_top n pair.1 pair.1.cells (pair.0 ∷ map (item_in all) items)) (option_map (popped_read (reading_of all)) o)
+over_pop : (all : Extent) (n : ℕ) (items : List Item) → ((m : FlatStack) (xs : List Item)
+    → code.take_top n (stack_in all m) (stack_in all m).cells (map (item_in all) xs) ≡ option_map (taken_read all) (taken_onto n m xs))
+    → (o : Option (Item × FlatStack))
+    → option_and_then (λ (pair : rows.Item × Frames). code.take_top n pair.1 pair.1.cells (pair.0 ∷ map (item_in all) items))
+    (option_map (popped_read (reading_of all)) o)
     ≡ option_map (taken_read all) (option_and_then (λ (popped : Item × FlatStack). taken_onto n popped.1 (popped.0 ∷ items)) o)
 over_pop all n items h None = refl
 over_pop all n items h (Some popped) = h popped.1 (popped.0 ∷ items)
 
-take_onto_read : (all : Extent) (n : ℕ) (m : FlatStack) (items : List Item) → code.take_top n (stack_in all m) (stack_in all m).cells (map (item_in all) items) ≡ option_map (taken_read all) (taken_onto n m items)
+take_onto_read : (all : Extent) (n : ℕ) (m : FlatStack) (items : List Item)
+    → code.take_top n (stack_in all m) (stack_in all m).cells (map (item_in all) items) ≡ option_map (taken_read all) (taken_onto n m items)
 take_onto_read all zero m items = refl
 take_onto_read all (suc n) m items =
     taken_pop n (stack_in all m) (map (item_in all) items)
@@ -57,7 +61,8 @@ take_onto_read all (suc n) m items =
     ∙ over_pop all n items (take_onto_read all n) (held.pop m)
 
 -- what is taken off a stack, with the rest of the instruction
-pub taken_runs : (all : Extent) (n : ℕ) (m k : FlatStack) (items : List Item) (next : List rows.Item → Frames → State Frames Frames) → take_operands n m ≡ Some (items, k)
+pub taken_runs : (all : Extent) (n : ℕ) (m k : FlatStack) (items : List Item) (next : List rows.Item → Frames → State Frames Frames)
+    → take_operands n m ≡ Some (items, k)
     → with_found (flat.take n (stack_in all m)) (on_pair next) ≡ next (map (item_in all) items) (stack_in all k)
 taken_runs all n m k items next e =
     ap (λ (o : Option (List rows.Item × Frames)). with_found o (on_pair next)) (take_onto_read all n m [] ∙ ap (option_map (taken_read all)) e)
@@ -68,24 +73,29 @@ pub record TakesLive (t : Tables) (reach : Reach) (before : ℕ) (items : List I
   pub rest : IsLiveStack t reach n
   pub same : before ≡ own n
 
-live_onto : (t : Tables) (reach : Reach) (n : ℕ) (m k : FlatStack) (xs items : List Item) → taken_onto n m xs ≡ Some (items, k) → All (IsLiveItem (with_locals (own m) reach)) xs → IsLiveStack t reach m → TakesLive t reach (own m) items k
+live_onto : (t : Tables) (reach : Reach) (n : ℕ) (m k : FlatStack) (xs items : List Item) → taken_onto n m xs ≡ Some (items, k)
+    → All (IsLiveItem (with_locals (own m) reach)) xs → IsLiveStack t reach m → TakesLive t reach (own m) items k
 live_onto t reach zero m k xs items e a l =
     let here : List Item × FlatStack = (xs, m) in
     let both : TakesLive t reach (own m) xs m = record { items_live = a; rest = l; same = refl } in
     subst (λ (w : List Item × FlatStack). TakesLive t reach (own m) w.0 w.1) (same_Some here (items, k) e) both
 live_onto t reach (suc n) m k xs items e a l = by_pop (held.pop m) refl e (live_onto t reach n)
   where
-    by_pop : (o : Option (Item × FlatStack)) → held.pop m ≡ o → option_and_then (λ (popped : Item × FlatStack). taken_onto n popped.1 (popped.0 ∷ xs)) o ≡ Some (items, k)
-        → ((m k : FlatStack) (xs items : List Item) → taken_onto n m xs ≡ Some (items, k) → All (IsLiveItem (with_locals (own m) reach)) xs → IsLiveStack t reach m → TakesLive t reach (own m) items k) → TakesLive t reach (own m) items k
+    by_pop : (o : Option (Item × FlatStack)) → held.pop m ≡ o
+        → option_and_then (λ (popped : Item × FlatStack). taken_onto n popped.1 (popped.0 ∷ xs)) o ≡ Some (items, k)
+        → ((m k : FlatStack) (xs items : List Item) → taken_onto n m xs ≡ Some (items, k) → All (IsLiveItem (with_locals (own m) reach)) xs
+        → IsLiveStack t reach m → TakesLive t reach (own m) items k) → TakesLive t reach (own m) items k
     by_pop None p q f = cc
     by_pop (Some popped) p q f =
         let back = live_pop t reach m popped.1 popped.0 p l in
         let same : own m ≡ own popped.1 = pop_owner m popped.1 popped.0 p l.root in
         let others : All (IsLiveItem (with_locals (own popped.1) reach)) xs = subst (λ (c : ℕ). All (IsLiveItem (with_locals c reach)) xs) same a in
-        let rest = f popped.1 k (popped.0 ∷ xs) items q (All-cons (IsLiveItem (with_locals (own popped.1) reach)) popped.0 xs back.item_live others) back.rest in
+        let rest = f popped.1 k (popped.0 ∷ xs) items q
+        (All-cons (IsLiveItem (with_locals (own popped.1) reach)) popped.0 xs back.item_live others) back.rest in
         record { items_live = rest.items_live; rest = rest.rest; same = same ∙ rest.same }
 
-pub live_taken : (t : Tables) (reach : Reach) (n : ℕ) (m k : FlatStack) (items : List Item) → take_operands n m ≡ Some (items, k) → IsLiveStack t reach m → TakesLive t reach (own m) items k
+pub live_taken : (t : Tables) (reach : Reach) (n : ℕ) (m k : FlatStack) (items : List Item) → take_operands n m ≡ Some (items, k) → IsLiveStack t reach m
+    → TakesLive t reach (own m) items k
 live_taken t reach n m k items e l = live_onto t reach n m k [] items e (All-nil (IsLiveItem (with_locals (own m) reach))) l
 
 -- places that are filled from the last one on
@@ -112,15 +122,18 @@ pop_there n m xs k = by_pop (held.pop m) k
     by_pop (Some p) q = refl
 
 -- one more is taken
-pub one_taken : (k : ℕ) (m n : FlatStack) (x : Item) (items : List Item) → k < length items → held.pop m ≡ Some (x, n) → taken_onto (suc k) m (drop (suc k) items) ≡ taken_onto k n (drop k (slice_set items k x))
+pub one_taken : (k : ℕ) (m n : FlatStack) (x : Item) (items : List Item) → k < length items → held.pop m ≡ Some (x, n)
+    → taken_onto (suc k) m (drop (suc k) items) ≡ taken_onto k n (drop k (slice_set items k x))
 one_taken k m n x items p e =
-    ap (option_and_then (λ (popped : Item × FlatStack). taken_onto k popped.1 (popped.0 ∷ drop (suc k) items))) e ∙ ap (taken_onto k n) (sym (drop_set k items x p))
+    ap (option_and_then (λ (popped : Item × FlatStack). taken_onto k popped.1 (popped.0 ∷ drop (suc k) items))) e
+    ∙ ap (taken_onto k n) (sym (drop_set k items x p))
 
 -- Values
 
 -- the value of an item of the activation that runs, or why there is none
 abbrev pub FindsItem : World → FlatStack → Item → Result Val Stop → Type 0
-FindsItem w m item result = (st : Store Frames) → st.world ≡ world_of w → FindsValue (extent_of w.heap) (item_in (extent_of w.heap) item) (here flat (stack_in (extent_of w.heap) m) st) result
+FindsItem w m item result = (st : Store Frames) → st.world ≡ world_of w
+    → FindsValue (extent_of w.heap) (item_in (extent_of w.heap) item) (here flat (stack_in (extent_of w.heap) m) st) result
 
 pub found_at : (w : World) (m k : FlatStack) (item : Item) (result : Result Val Stop) → k ≡ m → FindsItem w k item result → FindsItem w m item result
 found_at w m k item result e f = subst (λ (x : FlatStack). FindsItem w x item result) e f
@@ -134,31 +147,43 @@ abbrev pub ValuesSo : World → FlatStack → List Item → List Val → List It
 ValuesSo w m items vals rest = (st : Store Frames) (next : List Value → State Frames Frames) → st.world ≡ world_of w
     → with_values_in w m items st next ≡ with_values_in w m rest st (λ more. next (map (value_in (extent_of w.heap)) vals ++ more))
 
-pub values_next : (w : World) (m : FlatStack) (items others rest : List Item) (vals more : List Val) (first : Item) (val : Val) → rest ≡ first ∷ others → more ≡ vals ++ val ∷ []
-    → ((st : Store Frames) → st.world ≡ world_of w → FindsValue (extent_of w.heap) (item_in (extent_of w.heap) first) (here flat (stack_in (extent_of w.heap) m) st) (Ok val)) → ValuesSo w m items vals rest → ValuesSo w m items more others
+pub values_next : (w : World) (m : FlatStack) (items others rest : List Item) (vals more : List Val) (first : Item) (val : Val) → rest ≡ first ∷ others
+    → more ≡ vals ++ val ∷ []
+    → ((st : Store Frames)
+    → st.world ≡ world_of w → FindsValue (extent_of w.heap) (item_in (extent_of w.heap) first) (here flat (stack_in (extent_of w.heap) m) st) (Ok val))
+    → ValuesSo w m items vals rest → ValuesSo w m items more others
 values_next w m items others rest vals more first val e p f so st next same =
     let all : Extent = extent_of w.heap in
     so st next same
     ∙ ap (λ (r : List Item). with_values_in w m r st (λ ys. next (map (value_in all) vals ++ ys))) e
-    ∙ value_goes all (item_in all first) (stack_in all m) st val (λ value. with_values flat (map (item_in all) others) (stack_in all m) st (λ ys. next (map (value_in all) vals ++ value ∷ ys))) (f st same)
+    ∙ value_goes all (item_in all first) (stack_in all m) st val
+    (λ value. with_values flat (map (item_in all) others) (stack_in all m) st (λ ys. next (map (value_in all) vals ++ value ∷ ys))) (f st same)
     ∙ behind
-    ∙ ap (λ (xs : List Value). with_values_in w m others st (λ ys. next (xs ++ ys))) (sym (ap (map (value_in all)) p ∙ map-append (value_in all) vals (val ∷ [])))
+    ∙ ap (λ (xs : List Value). with_values_in w m others st (λ ys. next (xs ++ ys)))
+    (sym (ap (map (value_in all)) p ∙ map-append (value_in all) vals (val ∷ [])))
   where
-    behind : with_values_in w m others st (λ ys. next (map (value_in (extent_of w.heap)) vals ++ value_in (extent_of w.heap) val ∷ ys)) ≡ with_values_in w m others st (λ ys. next ((map (value_in (extent_of w.heap)) vals ++ value_in (extent_of w.heap) val ∷ []) ++ ys))
+    behind : with_values_in w m others st (λ ys. next (map (value_in (extent_of w.heap)) vals ++ value_in (extent_of w.heap) val ∷ ys))
+        ≡ with_values_in w m others st (λ ys. next ((map (value_in (extent_of w.heap)) vals ++ value_in (extent_of w.heap) val ∷ []) ++ ys))
     behind = simp append_assoc
 
-pub values_stop : (result : Result Unit Stop) (w : World) (m : FlatStack) (items others rest : List Item) (vals after : List Val) (first : Item) (stop : Stop) → IsErrAnd result (λ s. s ≡ stop) → rest ≡ first ∷ others
-    → ((st : Store Frames) → st.world ≡ world_of w → FindsValue (extent_of w.heap) (item_in (extent_of w.heap) first) (here flat (stack_in (extent_of w.heap) m) st) (Err stop)) → ValuesSo w m items vals rest → FindsValues w m items after result
+pub values_stop : (result : Result Unit Stop) (w : World) (m : FlatStack) (items others rest : List Item) (vals after : List Val) (first : Item) (stop : Stop)
+    → IsErrAnd result (λ s. s ≡ stop) → rest ≡ first ∷ others
+    → ((st : Store Frames)
+    → st.world ≡ world_of w → FindsValue (extent_of w.heap) (item_in (extent_of w.heap) first) (here flat (stack_in (extent_of w.heap) m) st) (Err stop))
+    → ValuesSo w m items vals rest → FindsValues w m items after result
 values_stop (Ok a) w m items others rest vals after first stop err e f so st next same = absurd err
 values_stop (Err s) w m items others rest vals after first stop err e f so st next same =
     let all : Extent = extent_of w.heap in
     let go : with_values_in w m items st next ≡ with_values_in w m (first ∷ others) st (λ ys. next (map (value_in all) vals ++ ys))
     = so st next same ∙ ap (λ (r : List Item). with_values_in w m r st (λ ys. next (map (value_in all) vals ++ ys))) e in
     let at : HaltsWith (with_values_in w m (first ∷ others) st (λ ys. next (map (value_in all) vals ++ ys))) st w (halt_of stop)
-    = value_halts w (item_in all first) (stack_in all m) st stop (λ value. with_values flat (map (item_in all) others) (stack_in all m) st (λ ys. next (map (value_in all) vals ++ value ∷ ys))) same (f st same) in
-    subst (λ (z : Stop). HaltsWith (with_values_in w m items st next) st w (halt_of z)) (sym err) (subst (λ (x : State Frames Frames). HaltsWith x st w (halt_of stop)) (sym go) at)
+    = value_halts w (item_in all first) (stack_in all m) st stop
+    (λ value. with_values flat (map (item_in all) others) (stack_in all m) st (λ ys. next (map (value_in all) vals ++ value ∷ ys))) same (f st same) in
+    subst (λ (z : Stop). HaltsWith (with_values_in w m items st next) st w (halt_of z)) (sym err)
+    (subst (λ (x : State Frames Frames). HaltsWith x st w (halt_of stop)) (sym go) at)
 
-pub values_found : (w : World) (m : FlatStack) (items rest : List Item) (vals : List Val) → length rest ≡ 0 → ValuesSo w m items vals rest → (st : Store Frames) (next : List Value → State Frames Frames) → st.world ≡ world_of w
+pub values_found : (w : World) (m : FlatStack) (items rest : List Item) (vals : List Val) → length rest ≡ 0 → ValuesSo w m items vals rest
+    → (st : Store Frames) (next : List Value → State Frames Frames) → st.world ≡ world_of w
     → with_values_in w m items st next ≡ next (map (value_in (extent_of w.heap)) vals)
 values_found w m items rest vals z so st next same =
     so st next same
@@ -172,40 +197,51 @@ pub no_locals : (w v : World) (locals : List Val) → KeepsItems (reach_of w loc
 no_locals w v locals k = record { extent = k.extent; fields = k.fields; globals = k.globals; statics = k.statics; locals = refl }
 
 -- the locals are set to what they are
-pub locals_back : (t : Tables) (w v : World) (m : FlatStack) → KeepsItems (reach_of w []) (reach_of v []) → IsLiveStack t (reach_of w []) m → held.set_locals (held.locals m) m ≡ m
+pub locals_back : (t : Tables) (w v : World) (m : FlatStack) → KeepsItems (reach_of w []) (reach_of v []) → IsLiveStack t (reach_of w []) m
+    → held.set_locals (held.locals m) m ≡ m
     → flat.set_locals (map (value_in (extent_of v.heap)) (held.locals m)) (stack_in (extent_of w.heap) m) ≡ stack_in (extent_of v.heap) m
 locals_back t w v m k l s =
     ap (flat.set_locals (map (value_in (extent_of v.heap)) (held.locals m))) (sym (stack_same t (reach_of w []) (reach_of v []) m k l))
     ∙ set_locals_read (reading_of (extent_of v.heap)) (held.locals m) m
     ∙ ap (stack_in (extent_of v.heap)) s
 
-pub made_goes : (t : Tables) (w v : World) (m : FlatStack) (row : Row) (val : Val) (st : Store Frames) (next : Value → Frames → Store Frames → State Frames Frames) → st.world ≡ world_of w → KeepsItems (reach_of w []) (reach_of v [])
-    → IsLiveStack t (reach_of w []) m → held.set_locals (held.locals m) m ≡ m → row (setting_of st.outside w (held.locals m)) ≡ Gives (rows.Val (value_in (extent_of v.heap) val)) (setting_of st.outside v (held.locals m))
+pub made_goes : (t : Tables) (w v : World) (m : FlatStack) (row : Row) (val : Val) (st : Store Frames)
+    (next : Value → Frames → Store Frames → State Frames Frames) → st.world ≡ world_of w → KeepsItems (reach_of w []) (reach_of v [])
+    → IsLiveStack t (reach_of w []) m → held.set_locals (held.locals m) m ≡ m
+    → row (setting_of st.outside w (held.locals m)) ≡ Gives (rows.Val (value_in (extent_of v.heap) val)) (setting_of st.outside v (held.locals m))
     → made_in row w m st next ≡ next (value_in (extent_of v.heap) val) (stack_in (extent_of v.heap) m) (with_world (world_of v) st)
 made_goes t w v m row val st next same k l s r =
     ap (λ (x : Setting). with_made flat (row x) (stack_in (extent_of w.heap) m) st next) (here_is w m st same)
     ∙ ap (λ (o : Outcome). with_made flat o (stack_in (extent_of w.heap) m) st next) r
     ∙ ap (λ (a : Frames). next (value_in (extent_of v.heap) val) a (with_world (world_of v) st)) (locals_back t w v m k l s)
 
-pub made_halts : (w v : World) (m : FlatStack) (row : Row) (number : ℕ) (offending : Option Val) (st : Store Frames) (next : Value → Frames → Store Frames → State Frames Frames) → st.world ≡ world_of w
-    → row (setting_of st.outside w (held.locals m)) ≡ Error number (option_map (value_in (extent_of v.heap)) offending) (setting_of st.outside v (held.locals m))
+pub made_halts : (w v : World) (m : FlatStack) (row : Row) (number : ℕ) (offending : Option Val) (st : Store Frames)
+    (next : Value → Frames → Store Frames → State Frames Frames) → st.world ≡ world_of w
+    → row (setting_of st.outside w (held.locals m))
+    ≡ Error number (option_map (value_in (extent_of v.heap)) offending) (setting_of st.outside v (held.locals m))
     → made_in row w m st next ≡ errs number (option_map (value_in (extent_of v.heap)) offending) (with_world (world_of v) st)
 made_halts w v m row number offending st next same r =
-    ap (λ (x : Setting). with_made flat (row x) (stack_in (extent_of w.heap) m) st next) (here_is w m st same) ∙ ap (λ (o : Outcome). with_made flat o (stack_in (extent_of w.heap) m) st next) r
+    ap (λ (x : Setting). with_made flat (row x) (stack_in (extent_of w.heap) m) st next) (here_is w m st same)
+    ∙ ap (λ (o : Outcome). with_made flat o (stack_in (extent_of w.heap) m) st next) r
 
 pub made_at : (row : Row) (w v : World) (m k : FlatStack) (result : Result Val Stop) → k ≡ m → MakesValue row w k v result → MakesValue row w m v result
 made_at row w v m k result e f = subst (λ (x : FlatStack). MakesValue row w x v result) e f
 
 -- a row that finds a new value and gives it
-pub makes_value : (t : Tables) (w v : World) (m : FlatStack) (find : Finds Value) (result : Result Val Stop) → KeepsItems (reach_of w (held.locals m)) (reach_of v (held.locals m)) → IsLiveStack t (reach_of w []) m
+pub makes_value : (t : Tables) (w v : World) (m : FlatStack) (find : Finds Value) (result : Result Val Stop)
+    → KeepsItems (reach_of w (held.locals m)) (reach_of v (held.locals m)) → IsLiveStack t (reach_of w []) m
     → held.set_locals (held.locals m) m ≡ m
-    → ((outside : _) → Found (extent_of v.heap) find (setting_of outside w (held.locals m)) (setting_of outside v (held.locals m)) (value_in (extent_of v.heap)) result)
+    → ((outside : _)
+    → Found (extent_of v.heap) find (setting_of outside w (held.locals m)) (setting_of outside v (held.locals m)) (value_in (extent_of v.heap)) result)
     → MakesValue (find gives_value) w m v result
-makes_value t w v m find (Ok val) k l s f st next same = made_goes t w v m (find gives_value) val st next same (no_locals w v (held.locals m) k) l s (f st.outside gives_value)
-makes_value t w v m find (Err (StopError number offending)) k l s f st next same = made_halts w v m (find gives_value) number offending st next same (f st.outside gives_value)
+makes_value t w v m find (Ok val) k l s f st next same =
+    made_goes t w v m (find gives_value) val st next same (no_locals w v (held.locals m) k) l s (f st.outside gives_value)
+makes_value t w v m find (Err (StopError number offending)) k l s f st next same =
+    made_halts w v m (find gives_value) number offending st next same (f st.outside gives_value)
 makes_value t w v m find (Err StopNoMemory) k l s f st next same = tt
 
 -- want of memory says nothing of what is looked for
-pub values_lack : (result : Result Unit Stop) (w : World) (m : FlatStack) (items : List Item) (after : List Val) → IsErrAnd result (λ s. s ≡ StopNoMemory) → FindsValues w m items after result
+pub values_lack : (result : Result Unit Stop) (w : World) (m : FlatStack) (items : List Item) (after : List Val) → IsErrAnd result (λ s. s ≡ StopNoMemory)
+    → FindsValues w m items after result
 values_lack (Ok a) w m items after err st next same = absurd err
 values_lack (Err s) w m items after err st next same = subst (λ (z : Stop). HaltsWith (with_values_in w m items st next) st w (halt_of z)) (sym err) tt

@@ -30,13 +30,17 @@ use Rattle.icn_control.proofs.KeptItems.{stack_stays, stack_same}
 use Rattle.icn_control.proofs.PartSteps.{same_world}
 
 -- a heap that holds a text more, in a world that is the same
-pub world_same : (old new : HeldHeap) (pair : Pair) (random : ℕ) (globals statics : List Val) → Keeps (extent_of old) (extent_of new) → heap_of new ≡ heap_of old → IsSoundWorld (extent_of old) pair random globals statics
+pub world_same : (old new : HeldHeap) (pair : Pair) (random : ℕ) (globals statics : List Val) → Keeps (extent_of old) (extent_of new)
+    → heap_of new ≡ heap_of old → IsSoundWorld (extent_of old) pair random globals statics
     → world_over new pair random globals statics ≡ world_over old pair random globals statics
 world_same old new pair random globals statics keeps same sound =
-    sym (ap (λ (s : Setting). s.world) (heap_changed (outside_of []) old new pair random globals statics [] keeps same sound (All-nil (IsLive (extent_of old)))))
+    sym
+    (ap (λ (s : Setting). s.world) (heap_changed (outside_of []) old new pair random globals statics [] keeps same sound (All-nil (IsLive (extent_of old)))))
 
-pub string_runs : (w v : World) (t tables : Tables) (m n : FlatStack) (k : ℕ) (bytes : List ℕ) (span : Span) → slice_get tables.strings k ≡ Some bytes → text_in (extent_of v.heap) span ≡ bytes → world_of v ≡ world_of w
-    → KeepsItems (reach_of w []) (reach_of v []) → IsLiveStack t (reach_of w []) m → n ≡ held.push (HeldVal (TextVal span)) m → (st : Store Frames) → st.world ≡ world_of w
+pub string_runs : (w v : World) (t tables : Tables) (m n : FlatStack) (k : ℕ) (bytes : List ℕ) (span : Span) → slice_get tables.strings k ≡ Some bytes
+    → text_in (extent_of v.heap) span ≡ bytes → world_of v ≡ world_of w
+    → KeepsItems (reach_of w []) (reach_of v []) → IsLiveStack t (reach_of w []) m → n ≡ held.push (HeldVal (TextVal span)) m → (st : Store Frames)
+    → st.world ≡ world_of w
     → RunsWith (instruction_state (extent_of w.heap) tables (Instrs.Str k) m st) st v n
 string_runs w v t tables m n k bytes span s b world keeps live p st same =
     ap (λ (o : Option (List ℕ)). with_found o (λ text. push_item flat (rows.Val (rows.Text text)) (stack_in (extent_of w.heap) m) st)) s
@@ -45,8 +49,10 @@ string_runs w v t tables m n k bytes span s b world keeps live p st same =
     ∙ ap (λ (y : FlatStack). running (stack_in (extent_of v.heap) y) st) (sym p)
     ∙ ap (running (stack_in (extent_of v.heap) n)) (same_world v st (same ∙ sym world))
 
-pub string_live : (t : Tables) (w v : World) (m n : FlatStack) (span : Span) → IsText (extent_of v.heap) span → KeepsItems (reach_of w []) (reach_of v []) → n ≡ held.push (HeldVal (TextVal span)) m → IsLiveStack t (reach_of w []) m
+pub string_live : (t : Tables) (w v : World) (m n : FlatStack) (span : Span) → IsText (extent_of v.heap) span → KeepsItems (reach_of w []) (reach_of v [])
+    → n ≡ held.push (HeldVal (TextVal span)) m → IsLiveStack t (reach_of w []) m
     → IsLiveStack t (reach_of v []) n
 string_live t w v m n span b keeps p live =
     let text : IsLiveItem (with_locals (own m) (reach_of v [])) (HeldVal (TextVal span)) = record { live = record { live = b } } in
-    subst (λ (x : FlatStack). IsLiveStack t (reach_of v []) x) (sym p) (live_push t (reach_of v []) m (HeldVal (TextVal span)) (stack_stays t (reach_of w []) (reach_of v []) m keeps live) text)
+    subst (λ (x : FlatStack). IsLiveStack t (reach_of v []) x) (sym p)
+    (live_push t (reach_of v []) m (HeldVal (TextVal span)) (stack_stays t (reach_of w []) (reach_of v []) m keeps live) text)

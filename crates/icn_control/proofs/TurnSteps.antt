@@ -15,15 +15,19 @@ use Rattle.icn_control.specs.Machines.{store_in, running_of}
 use Rattle.icn_control.specs.Standing.{stack_in}
 use Rattle.icn_control.proofs.ReturnSteps.{Swaps}
 
-pub reenters : (names : Names) (outside : Outside) (tables : Tables) (w v : World) (turns : ℕ) (begun : List Bool) (table : Table) (m n : FlatStack) → table.running ≡ Some m → nat_lt turns (heap_of w.heap).bounds.turns ≡ true
+pub reenters : (names : Names) (outside : Outside) (tables : Tables) (w v : World) (turns : ℕ) (begun : List Bool) (table : Table) (m n : FlatStack)
+    → table.running ≡ Some m → nat_lt turns (heap_of w.heap).bounds.turns ≡ true
     → Swaps w m v n → v.heap ≡ w.heap
-    → resume_by flat tables Proc (stack_in (extent_of w.heap) (running_of table.running)) (store_in names outside (world_of w) turns begun (extent_of w.heap) table)
+    → resume_by flat tables Proc (stack_in (extent_of w.heap) (running_of table.running))
+    (store_in names outside (world_of w) turns begun (extent_of w.heap) table)
     ≡ running (stack_in (extent_of v.heap) n) (store_in names outside (world_of v) (suc turns) begun (extent_of v.heap) (record table { running = Some n }))
 reenters names outside tables w v turns begun table m n e b s heap =
     let st : Store Frames = store_in names outside (world_of w) turns begun (extent_of w.heap) table in
     let next : Store Frames = store_in names outside (world_of w) (suc turns) begun (extent_of w.heap) table in
-    let event : Store Frames → State Frames Frames = λ x. maybe_exchanged (flat.swap_oldest (pair_now x) (stack_in (extent_of w.heap) m)) (stack_in (extent_of w.heap) m) x (λ a y. running a y) in
-    let F : HeldHeap → State Frames Frames = λ h. running (stack_in (extent_of v.heap) n) (store_in names outside (world_of v) (suc turns) begun (extent_of h) (record table { running = Some n })) in
+    let event : Store Frames → State Frames Frames = λ x. maybe_exchanged (flat.swap_oldest (pair_now x) (stack_in (extent_of w.heap) m))
+    (stack_in (extent_of w.heap) m) x (λ a y. running a y) in
+    let F : HeldHeap → State Frames Frames = λ h.
+    running (stack_in (extent_of v.heap) n) (store_in names outside (world_of v) (suc turns) begun (extent_of h) (record table { running = Some n })) in
     ap (λ (o : Option FlatStack). resume_by flat tables Proc (stack_in (extent_of w.heap) (running_of o)) st) e
     ∙ ap (λ (x : Bool). turn_if x st event) b
     ∙ s next (λ a y. running a y) refl

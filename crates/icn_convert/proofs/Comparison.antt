@@ -47,5 +47,8 @@ alike names heap a b r s m n texts numbers result ranks first second by_text lef
     let number_b : (sorted_shape names heap b).number ≡ n = number_same names heap b ∙ sym right in
     is
     ∙ (ap (λ order. ordering_then order numbers) by_text
-    ∙ (ap (λ order. ordering_then (slice_cmp nat_cmp (sorted_shape names heap a).text (sorted_shape names heap b).text) order) (by_number ∙ (ap (λ k. int_cmp k n) (sym number_a) ∙ ap (int_cmp (sorted_shape names heap a).number) (sym number_b)))
-    ∙ ap (λ order. ordering_then order (ordering_then (slice_cmp nat_cmp (sorted_shape names heap a).text (sorted_shape names heap b).text) (int_cmp (sorted_shape names heap a).number (sorted_shape names heap b).number))) (ranks ∙ (ap (λ k. nat_cmp k s) (sym rank_a) ∙ ap (nat_cmp (sorted_shape names heap a).rank) (sym rank_b)))))
+    ∙ (ap (λ order. ordering_then (slice_cmp nat_cmp (sorted_shape names heap a).text (sorted_shape names heap b).text) order)
+    (by_number ∙ (ap (λ k. int_cmp k n) (sym number_a) ∙ ap (int_cmp (sorted_shape names heap a).number) (sym number_b)))
+    ∙ ap (λ order. ordering_then order (ordering_then (slice_cmp nat_cmp (sorted_shape names heap a).text (sorted_shape names heap b).text)
+    (int_cmp (sorted_shape names heap a).number (sorted_shape names heap b).number)))
+    (ranks ∙ (ap (λ k. nat_cmp k s) (sym rank_a) ∙ ap (nat_cmp (sorted_shape names heap a).rank) (sym rank_b)))))

@@ -21,7 +21,8 @@ pub one_more : (cset : Cset) (bytes : List ℕ) (len n : ℕ) → len < length b
 one_more cset bytes len n within is before = take_more_set bytes len n within ∙ (ap (λ front. front ++ n ∷ []) before ∙ sym (below_more cset n ∙ (rw is refl)))
 
 -- a byte that is none
-pub no_more : (cset : Cset) (bytes : List ℕ) (len n : ℕ) → has cset n ≡ false → take len bytes ≡ members_below cset n → take len bytes ≡ members_below cset (n + 1)
+pub no_more : (cset : Cset) (bytes : List ℕ) (len n : ℕ) → has cset n ≡ false → take len bytes ≡ members_below cset n
+    → take len bytes ≡ members_below cset (n + 1)
 no_more cset bytes len n is before = before ∙ sym (below_more cset n ∙ (rw is (append-nil (members_below cset n))))
 
 pub whole : (cset : Cset) (bytes : List ℕ) (len n : ℕ) → 256 ≤ n → n ≤ 256 → take len bytes ≡ members_below cset n → take len bytes ≡ members_of cset
@@ -48,16 +49,20 @@ text_more cset new text place within before now = record {
       now.is byte below ∙ (ap (λ b. byte == get_or text place 0 || b) (before.is byte below)
       ∙ (or_swap (byte == get_or text place 0) (contains (take place text) byte)
       ∙ (ap (λ b. contains (take place text) byte || b) (turned byte (get_or text place 0))
-      ∙ sym (ap (λ bytes. contains bytes byte) (take_more text place 0 within) ∙ list_any-append (λ other. other == byte) (take place text) (get_or text place 0 ∷ [])))));
+      ∙ sym (ap (λ bytes. contains bytes byte) (take_more text place 0 within)
+      ∙ list_any-append (λ other. other == byte) (take place text) (get_or text place 0 ∷ [])))));
 }
 
-pub text_whole : (cset : Cset) (text : List ℕ) (place : ℕ) → length text ≤ place → HasMembers cset (contains (take place text)) → members_of cset ≡ members (contains text)
+pub text_whole : (cset : Cset) (text : List ℕ) (place : ℕ) → length text ≤ place → HasMembers cset (contains (take place text))
+    → members_of cset ≡ members (contains text)
 text_whole cset text place past is = members_by cset (contains (take place text)) is ∙ ap (λ bytes. members (contains bytes)) (take_all place text past)
 
 -- Values as csets
 
-pub integer_cset : (cset : Cset) (text : List ℕ) (n : ℤ) (value : Value) → members_of cset ≡ members (contains text) → text ≡ signed_decimal n → value ≡ Integer n → Some (members_of cset) ≡ cset_of value
+pub integer_cset : (cset : Cset) (text : List ℕ) (n : ℤ) (value : Value) → members_of cset ≡ members (contains text) → text ≡ signed_decimal n
+    → value ≡ Integer n → Some (members_of cset) ≡ cset_of value
 integer_cset cset text n value is same integer = ap Some (is ∙ ap (λ bytes. members (contains bytes)) same) ∙ sym (ap cset_of integer)
 
-pub text_cset : (cset : Cset) (bytes text : List ℕ) (value : Value) → members_of cset ≡ members (contains bytes) → bytes ≡ text → value ≡ Text text → Some (members_of cset) ≡ cset_of value
+pub text_cset : (cset : Cset) (bytes text : List ℕ) (value : Value) → members_of cset ≡ members (contains bytes) → bytes ≡ text → value ≡ Text text
+    → Some (members_of cset) ≡ cset_of value
 text_cset cset bytes text value is same textual = ap Some (is ∙ ap (λ bytes. members (contains bytes)) same) ∙ sym (ap cset_of textual)

@@ -13,7 +13,10 @@ by_tests name false true = refl
 by_tests name false false = refl
 
 image_is : (names : Names) (number : ℕ) → kind_name (kind_of names number) ++ procedure_name names number ≡ procedure_image names number
-image_is names number = by_tests (procedure_name names number) (nat_lt number (length names.procedures)) (nat_lt number (length names.procedures + length names.records))
+image_is names number =
+    by_tests (procedure_name names number) (nat_lt number (length names.procedures)) (nat_lt number (length names.procedures + length names.records))
 
-pub procedure_shown : (names : Names) (number : ℕ) (out : List ℕ) → (out ++ kind_name (kind_of names number)) ++ procedure_name names number ≡ out ++ procedure_image names number
-procedure_shown names number out = append_assoc out (kind_name (kind_of names number)) (procedure_name names number) ∙ ap (λ shown. out ++ shown) (image_is names number)
+pub procedure_shown : (names : Names) (number : ℕ) (out : List ℕ)
+    → (out ++ kind_name (kind_of names number)) ++ procedure_name names number ≡ out ++ procedure_image names number
+procedure_shown names number out =
+    append_assoc out (kind_name (kind_of names number)) (procedure_name names number) ∙ ap (λ shown. out ++ shown) (image_is names number)

@@ -10,7 +10,8 @@ use Rattle.icn_heap.specs.Heaps.{extent_of, heap_of}
 use Rattle.icn_convert.proofs.RecordCounts.{record_count}
 use Rattle.icn_convert.specs.Naming.{AreRecordsNamed}
 
-pub kind_named : (names : Names) (heap : Heap) (id : ℕ) → AreRecordsNamed names (heap_of heap) → IsLive (extent_of heap) (Rec id) → (record_at (heap_of heap) id).kind < length names.records
+pub kind_named : (names : Names) (heap : Heap) (id : ℕ) → AreRecordsNamed names (heap_of heap) → IsLive (extent_of heap) (Rec id)
+    → (record_at (heap_of heap) id).kind < length names.records
 kind_named names heap id named live =
     let below : id < (extent_of heap).records = live.live in
     let within : id < length (heap_of heap).records = omega (arith, record_count heap) in

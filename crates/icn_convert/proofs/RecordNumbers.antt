@@ -20,15 +20,20 @@ at : (names : Names) (heap : Heap) (id place : ℕ) (t : Bool) → bytes_eq (rec
 at names heap id place t is =
     ap (is_namesake names heap id) (sym (unwrap_or-slice_get (heap_of heap).records place (record { kind = 0; fields = [] }))) ∙ is
 
-pub one_more : (names : Names) (heap : Heap) (id place : ℕ) → place < (extent_of heap).records → bytes_eq (record_name names (heap_of heap) place) (record_name names (heap_of heap) id) ≡ true
-    → count_by (is_namesake names heap id) (take (place + 1) (heap_of heap).records) ≡ count_by (is_namesake names heap id) (take place (heap_of heap).records) + 1
+pub one_more : (names : Names) (heap : Heap) (id place : ℕ) → place < (extent_of heap).records
+    → bytes_eq (record_name names (heap_of heap) place) (record_name names (heap_of heap) id) ≡ true
+    → count_by (is_namesake names heap id) (take (place + 1) (heap_of heap).records)
+    ≡ count_by (is_namesake names heap id) (take place (heap_of heap).records) + 1
 one_more names heap id place below is =
-    count_by_more_yes (is_namesake names heap id) (heap_of heap).records place (record { kind = 0; fields = [] }) (omega (arith, record_count heap)) (at names heap id place true is)
+    count_by_more_yes (is_namesake names heap id) (heap_of heap).records place (record { kind = 0; fields = [] }) (omega (arith, record_count heap))
+    (at names heap id place true is)
 
-pub no_more : (names : Names) (heap : Heap) (id place : ℕ) → place < (extent_of heap).records → bytes_eq (record_name names (heap_of heap) place) (record_name names (heap_of heap) id) ≡ false
+pub no_more : (names : Names) (heap : Heap) (id place : ℕ) → place < (extent_of heap).records
+    → bytes_eq (record_name names (heap_of heap) place) (record_name names (heap_of heap) id) ≡ false
     → count_by (is_namesake names heap id) (take (place + 1) (heap_of heap).records) ≡ count_by (is_namesake names heap id) (take place (heap_of heap).records)
 no_more names heap id place below is =
-    count_by_more_no (is_namesake names heap id) (heap_of heap).records place (record { kind = 0; fields = [] }) (omega (arith, record_count heap)) (at names heap id place false is)
+    count_by_more_no (is_namesake names heap id) (heap_of heap).records place (record { kind = 0; fields = [] }) (omega (arith, record_count heap))
+    (at names heap id place false is)
 
 pub tested : (a b shown wanted : List ℕ) (result t : Bool) → result ≡ bytes_eq a b → a ≡ shown → b ≡ wanted → result ≡ t → bytes_eq shown wanted ≡ t
 tested a b shown wanted result t is same alike found = rw (← same, ← alike) (sym is ∙ found)

@@ -25,7 +25,8 @@ first_kept [] b x e = absurd (none-some x (sym e))
 first_kept (y ∷ a) b x e = sym e
 
 -- names in two rows, one behind the other
-pub all_repeated-append : (rule : Rule) (met : NameTest) (xs ys : List Name) → all_repeated rule met (xs ++ ys) ≡ all_repeated rule met xs ++ all_repeated rule (with_names met xs) ys
+pub all_repeated-append : (rule : Rule) (met : NameTest) (xs ys : List Name)
+    → all_repeated rule met (xs ++ ys) ≡ all_repeated rule met xs ++ all_repeated rule (with_names met xs) ys
 all_repeated-append rule met [] ys = refl
 all_repeated-append rule met (x ∷ xs) ys =
     ap (λ later. fault_if_met rule met x ++ later) (all_repeated-append rule (with_name met x.text) xs ys)
@@ -45,13 +46,15 @@ checks_kept a b NoMemory h = tt
 -- names in the rows of some locals
 pub rows : (rule : Rule) (met : NameTest) (locals : List LocalsItem) (i : ℕ) (item : LocalsItem) → i < length locals → item ≡ get_or locals i item
     → all_repeated rule met (flat_map (λ row. row.names) (map locals_of (drop i locals)))
-    ≡ all_repeated rule met item.names.items ++ all_repeated rule (with_names met item.names.items) (flat_map (λ row. row.names) (map locals_of (drop (i + 1) locals)))
+    ≡ all_repeated rule met item.names.items
+    ++ all_repeated rule (with_names met item.names.items) (flat_map (λ row. row.names) (map locals_of (drop (i + 1) locals)))
 rows rule met locals i item within is =
     at_drop_more (λ rest. all_repeated rule met (flat_map (λ row. row.names) (map locals_of rest))) locals i item within
     ∙ ap (λ (row : LocalsItem). all_repeated rule met (flat_map (λ r. r.names) (map locals_of (row ∷ drop (i + 1) locals)))) (sym is)
     ∙ all_repeated-append rule met item.names.items (flat_map (λ row. row.names) (map locals_of (drop (i + 1) locals)))
 
 -- the same where a fault is passed on
-pub checks_passed : (a b all : List Fault) (fault : ContextFault) (result : Result (Unit {0}) ContextFault) → IsErrAnd result (λ passed. passed ≡ fault) → Checks a (Err fault) → first_of (a ++ b) ≡ first_of all → Checks all result
+pub checks_passed : (a b all : List Fault) (fault : ContextFault) (result : Result (Unit {0}) ContextFault) → IsErrAnd result (λ passed. passed ≡ fault)
+    → Checks a (Err fault) → first_of (a ++ b) ≡ first_of all → Checks all result
 checks_passed a b all fault (Ok done) is h e = absurd is
 checks_passed a b all fault (Err passed) is h e = rw is (checks_as (a ++ b) all (Err fault) e (checks_kept a b fault h))

@@ -3,7 +3,8 @@ use Rattle.std.proofs.Common.{◌≡◌, ℕ, Bool, true, false, cond, List, [],
 use Rattle.std.specs.Prelude.{find}
 use Rattle.std.proofs.lemmas.Bool.{eqb-true}
 
-chosen : {A : Type 0} (p : A → Bool) (x y : A) (rest : Option A) (t : Bool) → p x ≡ t → cond t (Some x) rest ≡ Some y → (rest ≡ Some y → p y ≡ true) → p y ≡ true
+chosen : {A : Type 0} (p : A → Bool) (x y : A) (rest : Option A) (t : Bool) → p x ≡ t → cond t (Some x) rest ≡ Some y → (rest ≡ Some y → p y ≡ true)
+    → p y ≡ true
 chosen p x y rest true e h more = let same : x ≡ y = cc in ap p (sym same) ∙ e
 chosen p x y rest false e h more = more h
 

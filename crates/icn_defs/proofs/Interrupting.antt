@@ -15,7 +15,8 @@ use Rattle.icn_defs.specs.Interruptions.{Streams, LosesPart, Ends, taken_of, Bre
 most : (input : List ℕ) (m n : ℕ) → m ≤ n → min m (length input) ≤ length input - length (drop n input)
 most input m n le = let e : length (drop n input) ≡ length input - n = length-drop n input in omega arith
 
-loses : (input : List ℕ) (m n : ℕ) (left : Option (List ℕ)) (seen : Observed) → m ≤ n → seen.outside.left ≡ drop n input → left ≡ Some (drop m input) → LosesPart input (taken_of input seen) left
+loses : (input : List ℕ) (m n : ℕ) (left : Option (List ℕ)) (seen : Observed) → m ≤ n → seen.outside.left ≡ drop n input → left ≡ Some (drop m input)
+    → LosesPart input (taken_of input seen) left
 loses input m n left seen le e is = record {
   count = min m (length input);
   within = subst (λ x. min m (length input) ≤ length input - length x) (sym e) (most input m n le);
@@ -28,14 +29,16 @@ whole {before} {after} text g = record { count = length text; appends = subst (A
 part : {before after : Option (List ℕ)} (text : List ℕ) (n : ℕ) → Gains before after (take n text) → GainsPart before after text
 part text n g = record { count = n; appends = g.appends }
 
-pub ending_breaks : (input : List ℕ) (seen : Observed) (before after : Streams) → IsOutsideOf input seen.outside → Ends seen before after → Breaks input seen before after
+pub ending_breaks : (input : List ℕ) (seen : Observed) (before after : Streams) → IsOutsideOf input seen.outside → Ends seen before after
+    → Breaks input seen before after
 ending_breaks input seen before after h e = record {
   left = loses input h.taken h.taken after.left seen (omega arith) h.left (e.left ∙ ap (λ x. Some x) h.left);
   output = whole seen.outside.output e.output;
   errors = whole seen.outside.errors e.errors;
 }
 
-pub reading_breaks : (input : List ℕ) (seen : Observed) (before after : Streams) → IsOutsideOf input seen.outside → BreaksReading seen before after → Breaks input seen before after
+pub reading_breaks : (input : List ℕ) (seen : Observed) (before after : Streams) → IsOutsideOf input seen.outside → BreaksReading seen before after
+    → Breaks input seen before after
 reading_breaks input seen before after h b =
     let r = h.readings b.place b.reading b.made in
     let le : r.taken + b.left.count ≤ r.taken + asked_of b.reading.asked b.reading.left + r.since = let w = b.left.within in omega arith in
@@ -48,7 +51,8 @@ reading_breaks input seen before after h b =
 
 -- What runs do to the outside keeps it one that a run comes to.
 
-none : (place : ℕ) {input : List ℕ} {outside : Outside} {reading : Reading} → slice_get {X = Reading} [] place ≡ Some reading → IsReadingOf input outside reading
+none : (place : ℕ) {input : List ℕ} {outside : Outside} {reading : Reading} → slice_get {X = Reading} [] place ≡ Some reading
+    → IsReadingOf input outside reading
 none zero e = absurd (cc e)
 none (suc place) e = absurd (cc e)
 
@@ -56,11 +60,14 @@ pub outside_begins : (input : List ℕ) → IsOutsideOf input (outside_of input)
 outside_begins input = record { taken = 0; left = refl; readings = λ place reading e. none place e }
 
 -- where as much or more is put, and the input and the readings are the same
-longer : {input : List ℕ} (old new : Outside) → new.left ≡ old.left → new.readings ≡ old.readings → length old.output ≤ length new.output → length old.errors ≤ length new.errors → IsOutsideOf input old → IsOutsideOf input new
-longer {input} old new e f out err h = record { taken = h.taken; left = e ∙ h.left; readings = λ place reading g. kept (h.readings place reading (ap (λ l. slice_get l place) (sym f) ∙ g)) }
+longer : {input : List ℕ} (old new : Outside) → new.left ≡ old.left → new.readings ≡ old.readings → length old.output ≤ length new.output
+    → length old.errors ≤ length new.errors → IsOutsideOf input old → IsOutsideOf input new
+longer {input} old new e f out err h =
+    record { taken = h.taken; left = e ∙ h.left; readings = λ place reading g. kept (h.readings place reading (ap (λ l. slice_get l place) (sym f) ∙ g)) }
   where
     kept : {reading : Reading} → IsReadingOf input old reading → IsReadingOf input new reading
-    kept r = let a = r.output in let b = r.errors in record { output = omega arith; errors = omega arith; taken = r.taken; left = r.left; since = r.since; now = e ∙ r.now }
+    kept r = let a = r.output in let b = r.errors in
+        record { output = omega arith; errors = omega arith; taken = r.taken; left = r.left; since = r.since; now = e ∙ r.now }
 
 longer_by : (a b : List ℕ) → length a ≤ length (a ++ b)
 longer_by a b = let e = length-append a b in omega arith
@@ -96,7 +103,8 @@ read_keeps input outside asked h = record {
       taken = r.taken;
       left = r.left;
       since = r.since + asked_of asked outside.left;
-      now = ap (drop (asked_of asked outside.left)) r.now ∙ drop-drop (asked_of asked outside.left) (r.taken + asked_of reading.asked reading.left + r.since) input ∙ ap (λ n. drop n input) (omega arith);
+      now = ap (drop (asked_of asked outside.left)) r.now
+          ∙ drop-drop (asked_of asked outside.left) (r.taken + asked_of reading.asked reading.left + r.since) input ∙ ap (λ n. drop n input) (omega arith);
     }
 
     at : (place : ℕ) (reading : Reading) → slice_get (this ∷ outside.readings) place ≡ Some reading → IsReadingOf input (after_reading asked outside) reading

@@ -41,11 +41,13 @@ k_suspends b i r s k = record { is = k }
 pub k_fails : (b : Setting) (s : Setting) → Keeps b s → KI b (Fails s)
 k_fails b s k = record { is = k }
 
-pub keeps : (b s : Setting) → length s.locals ≡ length b.locals → length s.world.globals ≡ length b.world.globals → length s.world.statics ≡ length b.world.statics → s.world.heap.bounds ≡ b.world.heap.bounds → Keeps b s
+pub keeps : (b s : Setting) → length s.locals ≡ length b.locals → length s.world.globals ≡ length b.world.globals
+    → length s.world.statics ≡ length b.world.statics → s.world.heap.bounds ≡ b.world.heap.bounds → Keeps b s
 keeps b s e g h f = record { locals = e; globals = g; statics = h; bounds = f }
 
 -- a setting with as many locals, globals and statics, and the same limits
-pub follows : (b s a : Setting) → Keeps b a → length s.locals ≡ length a.locals → length s.world.globals ≡ length a.world.globals → length s.world.statics ≡ length a.world.statics → s.world.heap.bounds ≡ a.world.heap.bounds → Keeps b s
+pub follows : (b s a : Setting) → Keeps b a → length s.locals ≡ length a.locals → length s.world.globals ≡ length a.world.globals
+    → length s.world.statics ≡ length a.world.statics → s.world.heap.bounds ≡ a.world.heap.bounds → Keeps b s
 follows b s a k e g h f = record { locals = e ∙ k.locals; globals = g ∙ k.globals; statics = h ∙ k.statics; bounds = f ∙ k.bounds }
 
 -- Words
@@ -54,7 +56,8 @@ pub k_check : (b : Setting) (t : Bool) (n : ℕ) (v : Option Value) (next : Row)
 k_check b true n v next a f = f
 k_check b false n v next a f = record { is = tt }
 
-pub k_present : {A : Type 0} (b : Setting) (o : Option A) (n : ℕ) (v : Option Value) (next : A → Row) (a : Setting) → ((x : A) → KI b (next x a)) → KI b (present o n v next a)
+pub k_present : {A : Type 0} (b : Setting) (o : Option A) (n : ℕ) (v : Option Value) (next : A → Row) (a : Setting) → ((x : A) → KI b (next x a))
+    → KI b (present o n v next a)
 k_present b (Some x) n v next a f = f x
 k_present b None n v next a f = record { is = tt }
 
@@ -76,7 +79,8 @@ k_natural b (negsuc n) v next a f = record { is = tt }
 
 pub ruleset first_words = (k_error, k_ends, k_gives, k_suspends, k_fails, follows, k_check, k_present, k_computed, k_passing, k_found, k_natural, length-set)
 
-pub k_made : (b : Setting) (o : Option (List ℕ)) (next : Row) (a : Setting) → Keeps b a → ((s : Setting) → Keeps b s → KI b (next s)) → KI b (costs_made o next a)
+pub k_made : (b : Setting) (o : Option (List ℕ)) (next : Row) (a : Setting) → Keeps b a → ((s : Setting) → Keeps b s → KI b (next s))
+    → KI b (costs_made o next a)
 k_made b None next a k f = f a k
 k_made b (Some text) next a k f = search (first_words, f)
 
@@ -104,13 +108,16 @@ pub ruleset words = (first_words, k_made, k_unless, k_reads, k_value, k_variable
 
 -- Assigning
 
-k_keyword : (b : Setting) (refused : Row) (word : KeywordVariable) (value : Value) (next : Row) (a : Setting) → Keeps b a → ((s : Setting) → Keeps b s → KI b (refused s)) → ((s : Setting) → Keeps b s → KI b (next s)) → KI b (assigns_keyword refused word value next a)
+k_keyword : (b : Setting) (refused : Row) (word : KeywordVariable) (value : Value) (next : Row) (a : Setting) → Keeps b a
+    → ((s : Setting) → Keeps b s → KI b (refused s)) → ((s : Setting) → Keeps b s → KI b (next s)) → KI b (assigns_keyword refused word value next a)
 k_keyword b refused Subject value next a k r f = search (words, f)
 k_keyword b refused Position value next a k r f = by_number (integer_of value) refl
   where
-    by_place : (n : ℤ) → integer_of value ≡ Some n → (o : Option ℕ) → place_of n (length a.world.subject) ≡ o → KI b (assigns_keyword refused Position value next a)
+    by_place : (n : ℤ) → integer_of value ≡ Some n → (o : Option ℕ) → place_of n (length a.world.subject) ≡ o
+        → KI b (assigns_keyword refused Position value next a)
     by_place n e None g = rw e (rw g (r a k))
-    by_place n e (Some place) g = rw e (rw g (f (having_position place a) (record { locals = k.locals; globals = k.globals; statics = k.statics; bounds = k.bounds })))
+    by_place n e (Some place) g =
+        rw e (rw g (f (having_position place a) (record { locals = k.locals; globals = k.globals; statics = k.statics; bounds = k.bounds })))
 
     by_number : (o : Option ℤ) → integer_of value ≡ o → KI b (assigns_keyword refused Position value next a)
     by_number None e = rw e (record { is = tt })
@@ -120,40 +127,53 @@ k_keyword b refused Random value next a k r f = search (words, f)
 local_set : (a b : Setting) (place : ℕ) (value : Value) → Keeps b a → Keeps b (record a { locals = slice_set a.locals place value })
 local_set a b place value k = record { locals = length-set a.locals place value ∙ k.locals; globals = k.globals; statics = k.statics; bounds = k.bounds }
 
-global_set : (a b : Setting) (place : ℕ) (value : Value) → Keeps b a → Keeps b (record a { world = record a.world { globals = slice_set a.world.globals place value } })
-global_set a b place value k = record { locals = k.locals; globals = length-set a.world.globals place value ∙ k.globals; statics = k.statics; bounds = k.bounds }
+global_set : (a b : Setting) (place : ℕ) (value : Value) → Keeps b a
+    → Keeps b (record a { world = record a.world { globals = slice_set a.world.globals place value } })
+global_set a b place value k =
+    record { locals = k.locals; globals = length-set a.world.globals place value ∙ k.globals; statics = k.statics; bounds = k.bounds }
 
-static_set : (a b : Setting) (place : ℕ) (value : Value) → Keeps b a → Keeps b (record a { world = record a.world { statics = slice_set a.world.statics place value } })
-static_set a b place value k = record { locals = k.locals; globals = k.globals; statics = length-set a.world.statics place value ∙ k.statics; bounds = k.bounds }
+static_set : (a b : Setting) (place : ℕ) (value : Value) → Keeps b a
+    → Keeps b (record a { world = record a.world { statics = slice_set a.world.statics place value } })
+static_set a b place value k =
+    record { locals = k.locals; globals = k.globals; statics = length-set a.world.statics place value ∙ k.statics; bounds = k.bounds }
 
-k_root : (b : Setting) (refused : Row) (root : Root) (value : Value) (next : Row) (a : Setting) → Keeps b a → ((s : Setting) → Keeps b s → KI b (refused s)) → ((s : Setting) → Keeps b s → KI b (next s)) → KI b (assigns_root refused root value next a)
-k_root b refused (Global place) value next a k r f = f (record a { world = record a.world { globals = slice_set a.world.globals place value } }) (global_set a b place value k)
-k_root b refused (Static place) value next a k r f = f (record a { world = record a.world { statics = slice_set a.world.statics place value } }) (static_set a b place value k)
+k_root : (b : Setting) (refused : Row) (root : Root) (value : Value) (next : Row) (a : Setting) → Keeps b a → ((s : Setting) → Keeps b s → KI b (refused s))
+    → ((s : Setting) → Keeps b s → KI b (next s)) → KI b (assigns_root refused root value next a)
+k_root b refused (Global place) value next a k r f =
+    f (record a { world = record a.world { globals = slice_set a.world.globals place value } }) (global_set a b place value k)
+k_root b refused (Static place) value next a k r f =
+    f (record a { world = record a.world { statics = slice_set a.world.statics place value } }) (static_set a b place value k)
 k_root b refused (Local place) value next a k r f = f (record a { locals = slice_set a.locals place value }) (local_set a b place value k)
 k_root b refused (Element id number) value next a k r f = search (words, f)
 k_root b refused (Field id place) value next a k r f = search (words, f)
 k_root b refused (Key table key) value next a k r f = search (words, f)
 k_root b refused (Keyword word) value next a k r f = k_keyword b refused word value next a k r f
 
-k_assigns : (b : Setting) (refused : Row) (x : Variable) (value : Value) (next : Variable → Row) (a : Setting) → Keeps b a → ((s : Setting) → Keeps b s → KI b (refused s)) → ((v : Variable) (s : Setting) → Keeps b s → KI b (next v s)) → KI b (assigns_or refused x value next a)
+k_assigns : (b : Setting) (refused : Row) (x : Variable) (value : Value) (next : Variable → Row) (a : Setting) → Keeps b a
+    → ((s : Setting) → Keeps b s → KI b (refused s)) → ((v : Variable) (s : Setting) → Keeps b s → KI b (next v s)) → KI b (assigns_or refused x value next a)
 k_assigns b refused (Whole root) value next a k r f = k_root b refused root value (next (Whole root)) a k r (f (Whole root))
 k_assigns b refused (Part root place size) value next a k r f = search (words, k_root, r, f) depth 12
 
-k_moved : (b : Setting) (old new : ℕ) (x : Variable) (next : Variable → Row) (a : Setting) → ((v : Variable) → KI b (next v a)) → KI b (move_part old new x next a)
+k_moved : (b : Setting) (old new : ℕ) (x : Variable) (next : Variable → Row) (a : Setting) → ((v : Variable) → KI b (next v a))
+    → KI b (move_part old new x next a)
 k_moved b old new (Whole root) next a f = f (Whole root)
 k_moved b old new (Part root place size) next a f = search (words, f)
 
-k_moved_left : (b : Setting) (m : Mover) (old new : ℕ) (x : Variable) (next : Variable → Row) (a : Setting) → ((v : Variable) → KI b (next v a)) → KI b (moved_by_left m old new x next a)
+k_moved_left : (b : Setting) (m : Mover) (old new : ℕ) (x : Variable) (next : Variable → Row) (a : Setting) → ((v : Variable) → KI b (next v a))
+    → KI b (moved_by_left m old new x next a)
 k_moved_left b Neither old new x next a f = f x
 k_moved_left b Left old new x next a f = k_moved b old new x next a f
 k_moved_left b Right old new x next a f = f x
 
-k_moved_right : (b : Setting) (m : Mover) (old new : ℕ) (x : Variable) (next : Variable → Row) (a : Setting) → ((v : Variable) → KI b (next v a)) → KI b (moved_by_right m old new x next a)
+k_moved_right : (b : Setting) (m : Mover) (old new : ℕ) (x : Variable) (next : Variable → Row) (a : Setting) → ((v : Variable) → KI b (next v a))
+    → KI b (moved_by_right m old new x next a)
 k_moved_right b Neither old new x next a f = f x
 k_moved_right b Left old new x next a f = f x
 k_moved_right b Right old new x next a f = k_moved b old new x next a f
 
-k_both : (b : Setting) (refused : Row) (m : Mover) (x y : Variable) (v w : Value) (next : Variable × Variable → Row) (a : Setting) → Keeps b a → ((s : Setting) → Keeps b s → KI b (refused s)) → ((p : Variable × Variable) (s : Setting) → Keeps b s → KI b (next p s)) → KI b (assigns_both refused m x y v w next a)
+k_both : (b : Setting) (refused : Row) (m : Mover) (x y : Variable) (v w : Value) (next : Variable × Variable → Row) (a : Setting) → Keeps b a
+    → ((s : Setting) → Keeps b s → KI b (refused s)) → ((p : Variable × Variable) (s : Setting) → Keeps b s → KI b (next p s))
+    → KI b (assigns_both refused m x y v w next a)
 k_both b refused m x y v w next a k r f = search (k_assigns, k_moved_left, k_moved_right, r, f)
 
 -- Rows by what they take
@@ -162,7 +182,8 @@ k_count : (b : Setting) (last step : ℤ) (o : Option ℤ) (a : Setting) → Kee
 k_count b last step None a k = record { is = k }
 k_count b last step (Some n) a k = search words
 
-k_sets : (b : Setting) (f : List Value → List Value → List Value) (g : Bool → Bool → Bool) (v w : Value) (o : Option (ℕ × ℕ)) (a : Setting) → Keeps b a → KI b (sets_or_csets f g v w o a)
+k_sets : (b : Setting) (f : List Value → List Value → List Value) (g : Bool → Bool → Bool) (v w : Value) (o : Option (ℕ × ℕ)) (a : Setting) → Keeps b a
+    → KI b (sets_or_csets f g v w o a)
 k_sets b f g v w (Some ids) a k = search (words)
 k_sets b f g v w None a k = search words
 
@@ -208,7 +229,8 @@ k_subscript b x v w (Filed file) a k = search (words) depth 12
 k_subscript b x v w (Activated id) a k = search (words) depth 12
 k_subscript b x v w Single a k = search (words) depth 12
 
-k_section : (b : Setting) (f : ℤ → ℤ → Result ℤ Arith) (x : Item) (v : Value) (u : Value) (w : Value) (g : Group) (a : Setting) → Keeps b a → KI b (section_of f x v u w g a)
+k_section : (b : Setting) (f : ℤ → ℤ → Result ℤ Arith) (x : Item) (v : Value) (u : Value) (w : Value) (g : Group) (a : Setting) → Keeps b a
+    → KI b (section_of f x v u w g a)
 k_section b f x v u w (Textual text) a k = search (words) depth 12
 k_section b f x v u w (Listed id) a k = search (words) depth 12
 k_section b f x v u w (Collected id) a k = search (words) depth 12
@@ -232,7 +254,8 @@ k_new_set : (b : Setting) (v : Value) (o : Option ℕ) (a : Setting) → Keeps b
 k_new_set b v (Some id) a k = search (words)
 k_new_set b v None a k = search (words)
 
-k_inserts : (b : Setting) (c : Keeper) (x y : Value) (next : Row) (a : Setting) → Keeps b a → ((s : Setting) → Keeps b s → KI b (next s)) → KI b (inserts c x y next a)
+k_inserts : (b : Setting) (c : Keeper) (x y : Value) (next : Row) (a : Setting) → Keeps b a → ((s : Setting) → Keeps b s → KI b (next s))
+    → KI b (inserts c x y next a)
 k_inserts b (SetKeeper id) x y next a k f = search (words, f)
 k_inserts b (TableKeeper id) x y next a k f = search (words, f)
 
@@ -243,11 +266,13 @@ bounds_without (TableKeeper id) x h = refl
 k_without : (b a : Setting) (c : Keeper) (x : Value) → Keeps b a → Keeps b (having_heap (without_key c x) a)
 k_without b a c x k = record { locals = k.locals; globals = k.globals; statics = k.statics; bounds = bounds_without c x a.world.heap ∙ k.bounds }
 
-k_pairs : (b : Setting) (xs : List (Value × Value)) (next : List Value → Row) (a : Setting) → Keeps b a → ((vs : List Value) (s : Setting) → Keeps b s → KI b (next vs s)) → KI b (pair_lists xs next a)
+k_pairs : (b : Setting) (xs : List (Value × Value)) (next : List Value → Row) (a : Setting) → Keeps b a
+    → ((vs : List Value) (s : Setting) → Keeps b s → KI b (next vs s)) → KI b (pair_lists xs next a)
 k_pairs b [] next a k f = f [] a k
 k_pairs b (x ∷ xs) next a k f = search (words, k_pairs b xs, f)
 
-k_table_sorted : (b : Setting) (names : Names) (h : Heap) (xs : List (Value × Value)) (n : ℤ) (v : Value) (a : Setting) → Keeps b a → KI b (table_sorted names h xs n v a)
+k_table_sorted : (b : Setting) (names : Names) (h : Heap) (xs : List (Value × Value)) (n : ℤ) (v : Value) (a : Setting) → Keeps b a
+    → KI b (table_sorted names h xs n v a)
 k_table_sorted b names h xs (pos (suc zero)) v a k = search (words, k_pairs)
 k_table_sorted b names h xs (pos (suc (suc zero))) v a k = search (words, k_pairs)
 k_table_sorted b names h xs (pos (suc (suc (suc zero)))) v a k = search (words)
@@ -270,7 +295,8 @@ k_pieces b (v ∷ vs) next a f = search (words, k_pieces b vs, f)
 
 -- All rows
 
-ruleset rows = (words, k_assigns, k_both, k_count, k_sets, k_elements, k_random_by, k_subscript, k_section, k_copy, k_new_set, k_inserts, k_without, k_sorted, k_pieces)
+ruleset rows =
+    (words, k_assigns, k_both, k_count, k_sets, k_elements, k_random_by, k_subscript, k_section, k_copy, k_new_set, k_inserts, k_without, k_sorted, k_pieces)
 
 k_operation : (b : Setting) (op : Op) (x y z : Item) (a : Setting) → Keeps b a → KI b (operation_on op x y z a)
 k_operation b Ops.IsNull x y z a k = search rows depth 16

@@ -24,4 +24,5 @@ module _ {S : Type 0} (step : S → S) (observed : S → Option Observed) where
 
   pub observed_once : Lasts → (start : S) (a b : Observed) → Observes step observed start a → Observes step observed start b → a ≡ b
   observed_once kept start a b x y =
-      inner (sym (lasts kept y.count (after_steps step x.count start) a x.is) ∙ ap observed (swap x.count y.count start) ∙ lasts kept x.count (after_steps step y.count start) b y.is)
+      inner (sym (lasts kept y.count (after_steps step x.count start) a x.is) ∙ ap observed (swap x.count y.count start)
+      ∙ lasts kept x.count (after_steps step y.count start) b y.is)

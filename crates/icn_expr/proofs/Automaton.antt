@@ -182,7 +182,8 @@ word_step level place Words.Suspend frames tokens = Starting 0 (frame level plac
 word_step level place _ frames tokens = Broken
 
 abbrev pub operator_step : ℕ → Place → Option (Operator × Option Operator) → List Frame → List Token → State
-operator_step level place None frames tokens = unless_broken (name_by (keyword_text (next tokens)) tokens) (λ name. Climbing level place (Keyword place name) frames (behind tokens))
+operator_step level place None frames tokens =
+    unless_broken (name_by (keyword_text (next tokens)) tokens) (λ name. Climbing level place (Keyword place name) frames (behind tokens))
 operator_step level place (Some found) frames tokens = Starting 12 (frame level place (PrefixOperand found.0) ∷ frames) (before place found.1 tokens)
 
 abbrev pub mark_step : ℕ → Place → Punctuation → List Frame → List Token → State
@@ -216,10 +217,12 @@ start_step level frames (token ∷ tokens) = start_by (kind_begins token.kind) l
 -- Climbing
 
 abbrev pub infix_step : ℕ → Place → Tree → Infix → List Frame → List Token → State
-infix_step level place tree operator frames tokens = Starting (right_level (infix_level operator)) (frame level place (RightOperand operator tree) ∷ frames) tokens
+infix_step level place tree operator frames tokens =
+    Starting (right_level (infix_level operator)) (frame level place (RightOperand operator tree) ∷ frames) tokens
 
 abbrev pub plain_step : Bool → ℕ → Place → Tree → Operator → List Frame → List Token → State
-plain_step true level place tree operator frames tokens = unless_broken (name_by (identifier_text (next tokens)) tokens) (λ name. Climbing level place (Field place tree name) frames (behind tokens))
+plain_step true level place tree operator frames tokens =
+    unless_broken (name_by (identifier_text (next tokens)) tokens) (λ name. Climbing level place (Field place tree name) frames (behind tokens))
 plain_step false level place tree operator frames tokens = infix_step level place tree (Plain operator) frames tokens
 
 abbrev pub suffix_step : ℕ → Place → Tree → Punctuation → List Frame → List Token → State
@@ -275,13 +278,17 @@ section_by (Some subject) (Some kind) level place from frames tokens = Starting 
 section_by _ _ level place from frames tokens = Broken
 
 abbrev pub element_by : Bool → Bool → Bracket → Trees → ℕ → Place → Tree → Bool → List Frame → List Token → State
-element_by true closer bracket trees level place tree present frames tokens = Starting 0 (frame level place (Elements bracket (with_last trees tree)) ∷ frames) (behind tokens)
-element_by false true bracket trees level place tree present frames tokens = Climbing level place (bracketed bracket place (with_last trees tree)) frames (behind tokens)
-element_by false false bracket trees level place tree present frames tokens = section_by (section_subject bracket trees present) (section_kind (next tokens)) level place tree frames (behind tokens)
+element_by true closer bracket trees level place tree present frames tokens =
+    Starting 0 (frame level place (Elements bracket (with_last trees tree)) ∷ frames) (behind tokens)
+element_by false true bracket trees level place tree present frames tokens =
+    Climbing level place (bracketed bracket place (with_last trees tree)) frames (behind tokens)
+element_by false false bracket trees level place tree present frames tokens =
+    section_by (section_subject bracket trees present) (section_kind (next tokens)) level place tree frames (behind tokens)
 
 -- a clause begins here
 abbrev pub clause_by : Bool → ℕ → Place → Tree → Clauses → List Frame → List Token → State
-clause_by true level place subject clauses frames tokens = provided (is_colon (next (behind tokens))) (Starting 1 (frame level place (DefaultValue subject clauses (place_of tokens)) ∷ frames) (behind (behind tokens)))
+clause_by true level place subject clauses frames tokens = provided (is_colon (next (behind tokens)))
+    (Starting 1 (frame level place (DefaultValue subject clauses (place_of tokens)) ∷ frames) (behind (behind tokens)))
 clause_by false level place subject clauses frames tokens = Starting 1 (frame level place (ClauseGuard subject clauses (place_of tokens)) ∷ frames) tokens
 
 abbrev pub clause_step : ℕ → Place → Tree → Clauses → List Frame → List Token → State
@@ -290,7 +297,8 @@ clause_step level place subject clauses frames tokens = clause_by (is_default (n
 -- a clause is complete
 abbrev pub clause_end : Bool → ℕ → Place → Tree → Clauses → List Frame → List Token → State
 clause_end true level place subject clauses frames tokens = clause_step level place subject clauses frames (behind tokens)
-clause_end false level place subject clauses frames tokens = provided (is_close_brace (next tokens)) (Climbing level place (Case place subject clauses) frames (behind tokens))
+clause_end false level place subject clauses frames tokens =
+    provided (is_close_brace (next tokens)) (Climbing level place (Case place subject clauses) frames (behind tokens))
 
 -- where this token stands next a further part follows, else the form is complete
 abbrev pub part_or : Bool → Frame → Tree → List Frame → List Token → State
@@ -302,27 +310,38 @@ by_or true more tree frames tokens = Starting 5 (more ∷ frames) (behind tokens
 by_or false more tree frames tokens = Climbing more.level more.place tree frames tokens
 
 abbrev pub close_by : Holding → ℕ → Place → Tree → Bool → List Frame → List Token → State
-close_by (Elements bracket trees) level place tree present frames tokens = element_by (is_separator (separator_of bracket) (next tokens)) (is_closer bracket (next tokens)) bracket trees level place tree present frames tokens
-close_by (SectionEnd kind subject from) level place tree present frames tokens = provided (is_close_bracket (next tokens)) (Climbing level place (Section place kind subject from tree) frames (behind tokens))
+close_by (Elements bracket trees) level place tree present frames tokens =
+    element_by (is_separator (separator_of bracket) (next tokens)) (is_closer bracket (next tokens)) bracket trees level place tree present frames tokens
+close_by (SectionEnd kind subject from) level place tree present frames tokens =
+    provided (is_close_bracket (next tokens)) (Climbing level place (Section place kind subject from tree) frames (behind tokens))
 close_by (PrefixOperand operator) level place tree present frames tokens = Climbing level place (Prefix place operator tree) frames tokens
 close_by NotOperand level place tree present frames tokens = Climbing level place (Not place tree) frames tokens
 close_by (RightOperand operator left) level place tree present frames tokens = Climbing level place (Binary place operator left tree) frames tokens
-close_by (ToOperand from) level place tree present frames tokens = by_or (is_by (next tokens)) (frame level place (ByOperand from tree)) (To place from tree Absent) frames tokens
+close_by (ToOperand from) level place tree present frames tokens =
+    by_or (is_by (next tokens)) (frame level place (ByOperand from tree)) (To place from tree Absent) frames tokens
 close_by (ByOperand from to) level place tree present frames tokens = Climbing level place (To place from to (Present tree)) frames tokens
-close_by Condition level place tree present frames tokens = provided (is_then (next tokens)) (Starting 1 (frame level place (Consequence tree) ∷ frames) (behind tokens))
-close_by (Consequence condition) level place tree present frames tokens = part_or (is_else (next tokens)) (frame level place (Alternative condition tree)) (If place condition tree Absent) frames tokens
+close_by Condition level place tree present frames tokens =
+    provided (is_then (next tokens)) (Starting 1 (frame level place (Consequence tree) ∷ frames) (behind tokens))
+close_by (Consequence condition) level place tree present frames tokens =
+    part_or (is_else (next tokens)) (frame level place (Alternative condition tree)) (If place condition tree Absent) frames tokens
 close_by (Alternative condition first) level place tree present frames tokens = Climbing level place (If place condition first (Present tree)) frames tokens
-close_by CaseSubject level place tree present frames tokens = provided (is_of (next tokens) && is_open_brace (next (behind tokens))) (clause_step level place tree NoClauses frames (behind (behind tokens)))
-close_by (ClauseGuard subject clauses at) level place tree present frames tokens = provided (is_colon (next tokens)) (Starting 1 (frame level place (GuardedValue subject clauses at tree) ∷ frames) (behind tokens))
-close_by (GuardedValue subject clauses at guard) level place tree present frames tokens = clause_end (is_separator BySemicolon (next tokens)) level place subject (with_last_clause clauses (Guarded at guard tree)) frames tokens
-close_by (DefaultValue subject clauses at) level place tree present frames tokens = clause_end (is_separator BySemicolon (next tokens)) level place subject (with_last_clause clauses (Default at tree)) frames tokens
-close_by (Control kind) level place tree present frames tokens = part_or (is_do (next tokens)) (frame level place (LoopBody kind tree)) (Loop place kind tree Absent) frames tokens
+close_by CaseSubject level place tree present frames tokens =
+    provided (is_of (next tokens) && is_open_brace (next (behind tokens))) (clause_step level place tree NoClauses frames (behind (behind tokens)))
+close_by (ClauseGuard subject clauses at) level place tree present frames tokens =
+    provided (is_colon (next tokens)) (Starting 1 (frame level place (GuardedValue subject clauses at tree) ∷ frames) (behind tokens))
+close_by (GuardedValue subject clauses at guard) level place tree present frames tokens =
+    clause_end (is_separator BySemicolon (next tokens)) level place subject (with_last_clause clauses (Guarded at guard tree)) frames tokens
+close_by (DefaultValue subject clauses at) level place tree present frames tokens =
+    clause_end (is_separator BySemicolon (next tokens)) level place subject (with_last_clause clauses (Default at tree)) frames tokens
+close_by (Control kind) level place tree present frames tokens =
+    part_or (is_do (next tokens)) (frame level place (LoopBody kind tree)) (Loop place kind tree Absent) frames tokens
 close_by (LoopBody kind control) level place tree present frames tokens = Climbing level place (Loop place kind control (Present tree)) frames tokens
 close_by RepeatBody level place tree present frames tokens = Climbing level place (Repeat place tree) frames tokens
 close_by CreateBody level place tree present frames tokens = Climbing level place (Create place tree) frames tokens
 close_by BreakValue level place tree present frames tokens = Climbing level place (Break place tree) frames tokens
 close_by ReturnValue level place tree present frames tokens = Climbing level place (Return place tree) frames tokens
-close_by SuspendValue level place tree present frames tokens = part_or (is_do (next tokens)) (frame level place (SuspendBody tree)) (Suspend place tree Absent) frames tokens
+close_by SuspendValue level place tree present frames tokens =
+    part_or (is_do (next tokens)) (frame level place (SuspendBody tree)) (Suspend place tree Absent) frames tokens
 close_by (SuspendBody value) level place tree present frames tokens = Climbing level place (Suspend place value (Present tree)) frames tokens
 
 abbrev pub close_step : Tree → Bool → List Frame → List Token → State

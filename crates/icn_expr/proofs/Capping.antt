@@ -34,8 +34,10 @@ two_law make x y h k = by_height h (λ b. capped_at (make x y) (suc (max h k)) �
     (λ f. above (make x y) (suc (max h k)) (omega (arith, leb-false k 2000 f))))
     (λ e. above (make x y) (suc (max h k)) (omega (arith, leb-false h 2000 e)))
 
-three_law : {A B D F : Type 0} (make : A → B → D → F) (x : A) (y : B) (z : D) (h k l : ℕ) → capped_at (make x y z) (suc (max h (max k l))) ≡ three make (capped_at x h) (capped_at y k) (capped_at z l)
-three_law make x y z h k l = by_height h (λ b. capped_at (make x y z) (suc (max h (max k l))) ≡ three make (cond b (Some (x, h)) None) (capped_at y k) (capped_at z l))
+three_law : {A B D F : Type 0} (make : A → B → D → F) (x : A) (y : B) (z : D) (h k l : ℕ)
+    → capped_at (make x y z) (suc (max h (max k l))) ≡ three make (capped_at x h) (capped_at y k) (capped_at z l)
+three_law make x y z h k l =
+    by_height h (λ b. capped_at (make x y z) (suc (max h (max k l))) ≡ three make (cond b (Some (x, h)) None) (capped_at y k) (capped_at z l))
     (λ e. by_height k (λ c. capped_at (make x y z) (suc (max h (max k l))) ≡ three make (Some (x, h)) (cond c (Some (y, k)) None) (capped_at z l))
     (λ f. by_height l (λ d. capped_at (make x y z) (suc (max h (max k l))) ≡ three make (Some (x, h)) (Some (y, k)) (cond d (Some (z, l)) None))
     (λ g. ap (capped_at (make x y z)) (sym (add-one (max h (max k l)))))
@@ -50,8 +52,10 @@ joined_law make x y h k = by_height h (λ b. capped_at (make x y) (max h k) ≡ 
     (λ f. above (make x y) (max h k) (omega (arith, leb-false k 2000 f))))
     (λ e. above (make x y) (max h k) (omega (arith, leb-false h 2000 e)))
 
-joined_three_law : {A B D F : Type 0} (make : A → B → D → F) (x : A) (y : B) (z : D) (h k l : ℕ) → capped_at (make x y z) (max h (max k l)) ≡ joined_three make (capped_at x h) (capped_at y k) (capped_at z l)
-joined_three_law make x y z h k l = by_height h (λ b. capped_at (make x y z) (max h (max k l)) ≡ joined_three make (cond b (Some (x, h)) None) (capped_at y k) (capped_at z l))
+joined_three_law : {A B D F : Type 0} (make : A → B → D → F) (x : A) (y : B) (z : D) (h k l : ℕ)
+    → capped_at (make x y z) (max h (max k l)) ≡ joined_three make (capped_at x h) (capped_at y k) (capped_at z l)
+joined_three_law make x y z h k l =
+    by_height h (λ b. capped_at (make x y z) (max h (max k l)) ≡ joined_three make (cond b (Some (x, h)) None) (capped_at y k) (capped_at z l))
     (λ e. by_height k (λ c. capped_at (make x y z) (max h (max k l)) ≡ joined_three make (Some (x, h)) (cond c (Some (y, k)) None) (capped_at z l))
     (λ f. by_height l (λ d. capped_at (make x y z) (max h (max k l)) ≡ joined_three make (Some (x, h)) (Some (y, k)) (cond d (Some (z, l)) None))
     (λ g. kept (make x y z) (max h (max k l)) (le-leb (max h (max k l)) 2000 (omega (arith, leb-true h 2000 e, leb-true k 2000 f, leb-true l 2000 g))))
@@ -63,7 +67,8 @@ joined_three_law make x y z h k l = by_height h (λ b. capped_at (make x y z) (m
 one_absent : {A B : Type 0} (make : A → B) (x : A) (h : ℕ) → capped_at (make x) (suc (max h 0)) ≡ one make (capped_at x h)
 one_absent make x h = ap (capped_at (make x)) (omega arith) ∙ one_law make x h
 
-two_absent : {A B D : Type 0} (make : A → B → D) (x : A) (y : B) (h k : ℕ) → capped_at (make x y) (suc (max h (max k 0))) ≡ two make (capped_at x h) (capped_at y k)
+two_absent : {A B D : Type 0} (make : A → B → D) (x : A) (y : B) (h k : ℕ)
+    → capped_at (make x y) (suc (max h (max k 0))) ≡ two make (capped_at x h) (capped_at y k)
 two_absent make x y h k = ap (capped_at (make x y)) (omega arith) ∙ two_law make x y h k
 
 highest_last : (trees : Trees) (last : Tree) → highest (with_last trees last) ≡ max (highest trees) (height last)
@@ -107,18 +112,23 @@ capped_shows = record {
   to_form = λ place from to. two_absent (λ x y. To place x y Absent) from to (height from) (height to);
   to_form_and = λ place from to part. three_law (λ x y z. To place x y (Present z)) from to part (height from) (height to) (height part);
   if_form = λ place condition first. two_absent (λ x y. If place x y Absent) condition first (height condition) (height first);
-  if_form_and = λ place condition first part. three_law (λ x y z. If place x y (Present z)) condition first part (height condition) (height first) (height part);
+  if_form_and = λ place condition first part. three_law (λ x y z. If place x y (Present z)) condition first part (height condition) (height first)
+      (height part);
   loop_form = λ place kind control. one_absent (λ x. Loop place kind x Absent) control (height control);
   loop_form_and = λ place kind control part. two_law (λ x y. Loop place kind x (Present y)) control part (height control) (height part);
   suspend_form = λ place value. one_absent (λ x. Suspend place x Absent) value (height value);
   suspend_form_and = λ place value part. two_law (λ x y. Suspend place x (Present y)) value part (height value) (height part);
   no_elements = refl;
-  with_element = λ elements last. ap (capped_at (with_last elements last)) (highest_last elements last) ∙ joined_law with_last elements last (highest elements) (height last);
+  with_element = λ elements last. ap (capped_at (with_last elements last)) (highest_last elements last)
+      ∙ joined_law with_last elements last (highest elements) (height last);
   has_none = refl;
   has_some = λ first others. has_some_at first others (highest (More first others));
   no_clauses = refl;
-  with_default = λ clauses place value. ap (capped_at (with_last_clause clauses (Default place value))) (highest_last_clause clauses (Default place value)) ∙ joined_law (λ c v. with_last_clause c (Default place v)) clauses value (highest_clause clauses) (height value);
-  with_guarded = λ clauses place guard value. ap (capped_at (with_last_clause clauses (Guarded place guard value))) (highest_last_clause clauses (Guarded place guard value)) ∙ joined_three_law (λ c g v. with_last_clause c (Guarded place g v)) clauses guard value (highest_clause clauses) (height guard) (height value);
+  with_default = λ clauses place value. ap (capped_at (with_last_clause clauses (Default place value))) (highest_last_clause clauses (Default place value))
+      ∙ joined_law (λ c v. with_last_clause c (Default place v)) clauses value (highest_clause clauses) (height value);
+  with_guarded = λ clauses place guard value.
+      ap (capped_at (with_last_clause clauses (Guarded place guard value))) (highest_last_clause clauses (Guarded place guard value))
+      ∙ joined_three_law (λ c g v. with_last_clause c (Guarded place g v)) clauses guard value (highest_clause clauses) (height guard) (height value);
 }
 
 pub shown_tree : (tree : Tree) → capped_shows.tree tree ≡ capped_at tree (height tree)

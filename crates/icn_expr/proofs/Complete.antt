@@ -98,7 +98,8 @@ mutual
 
   pub found_more_clauses : (clauses : Clauses) → FoundMoreClauses clauses
   found_more_clauses NoClauses = no_more_clauses_found
-  found_more_clauses (MoreClauses clause others) = more_clauses_found clause others (clauses_found clause others (found_clause clause) (found_more_clauses others))
+  found_more_clauses (MoreClauses clause others) =
+      more_clauses_found clause others (clauses_found clause others (found_clause clause) (found_more_clauses others))
 
 -- what stands behind a part does not go on with it
 abbrev pub Ends : ℕ → Tree → List Token → Type 0

@@ -19,9 +19,11 @@ closed : (tree : Tree) (present : Bool) (after : List Token) → Leads (Closing 
 unfolding run
 closed tree present after = one_more _ tree after (record { steps = 0; is = refl })
 
-leads : (level : ℕ) (tree : Tree) (here after : List Token) → Part level tree (Spells tree) here after → Ends level tree after → Leads (Starting level [] here) tree after
+leads : (level : ℕ) (tree : Tree) (here after : List Token) → Part level tree (Spells tree) here after → Ends level tree after
+    → Leads (Starting level [] here) tree after
 leads zero tree here after p e = optional_read tree (found tree) [] here after tree after p e (closed tree _ after)
-leads (suc level) tree here after p e = part_read level tree (found tree) [] here after tree after p (ends_alone level tree here after p e) (closed tree true after)
+leads (suc level) tree here after p e =
+    part_read level tree (found tree) [] here after tree after p (ends_alone level tree here after p e) (closed tree true after)
 
 -- a part in front of the tokens
 pub record IsPart {V : Type 0} (show : Tree → V) (level : ℕ) (value : V) (here after : List Token) : Type 0 where
@@ -31,13 +33,16 @@ pub record IsPart {V : Type 0} (show : Tree → V) (level : ℕ) (value : V) (he
   pub is : value ≡ show tree
 
 module _ (V L C : Type 0) (make : Builds V L C) (show : Shows V L C make) where
-  pub expression_found : (level : ℕ) (tree : Tree) (here after : List Token) → Part level tree (Spells tree) here after → Ends level tree after → expression_read make level here ≡ Some (show.tree tree, after)
+  pub expression_found : (level : ℕ) (tree : Tree) (here after : List Token) → Part level tree (Spells tree) here after → Ends level tree after
+      → expression_read make level here ≡ Some (show.tree tree, after)
   expression_found level tree here after p e =
       let l = leads level tree here after p e in
-      let there : G.run make l.steps (G.Starting level [] here) ≡ G.Finished (show.tree tree) after = sym (run_shown V L C make show l.steps (Starting level [] here)) ∙ ap (shown V L C make show) l.is in
+      let there : G.run make l.steps (G.Starting level [] here)
+      ≡ G.Finished (show.tree tree) after = sym (run_shown V L C make show l.steps (Starting level [] here)) ∙ ap (shown V L C make show) l.is in
       ap result (comes_to V L C make l.steps (G.Starting level [] here) (show.tree tree) after there)
 
-  finished_at : (state : State) (value : V) (after : List Token) → result (shown V L C make show state) ≡ Some (value, after) → (tree : Tree) × (state ≡ Finished tree after) × (value ≡ show.tree tree)
+  finished_at : (state : State) (value : V) (after : List Token) → result (shown V L C make show state) ≡ Some (value, after)
+      → (tree : Tree) × (state ≡ Finished tree after) × (value ≡ show.tree tree)
   finished_at (Starting level frames tokens) value after e = absurd (none-some (value, after) e)
   finished_at (Climbing level place tree frames tokens) value after e = absurd (none-some (value, after) e)
   finished_at (Closing tree present frames tokens) value after e = absurd (none-some (value, after) e)
@@ -46,7 +51,8 @@ module _ (V L C : Type 0) (make : Builds V L C) (show : Shows V L C make) where
       (tree, ap (λ (r : V × List Token). Finished tree r.1) same, sym (ap (λ (r : V × List Token). r.0) same))
   finished_at Broken value after e = absurd (none-some (value, after) e)
 
-  pub expression_sound : (level : ℕ) (here after : List Token) (value : V) → level ≤ 12 → expression_read make level here ≡ Some (value, after) → IsPart show.tree level value here after
+  pub expression_sound : (level : ℕ) (here after : List Token) (value : V) → level ≤ 12 → expression_read make level here ≡ Some (value, after)
+      → IsPart show.tree level value here after
   expression_sound level here after value bound e =
       let n : ℕ = steps_left {V = V} {L = L} {C = C} (G.Starting level [] here) in
       let f = finished_at (run n (Starting level [] here)) value after (ap result (run_shown V L C make show n (Starting level [] here)) ∙ e) in

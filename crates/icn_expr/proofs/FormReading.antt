@@ -36,7 +36,8 @@ begins_literal (Integer n) = refl
 begins_literal (Text bytes) = refl
 begins_literal (Cset set) = refl
 
-constant_step : (level : ℕ) (place : Place) (literal : Literal) (frames : List Frame) (tokens : List Token) → operand_step level place (literal_kind literal) frames tokens ≡ Climbing level place (Constant place literal) frames tokens
+constant_step : (level : ℕ) (place : Place) (literal : Literal) (frames : List Frame) (tokens : List Token)
+    → operand_step level place (literal_kind literal) frames tokens ≡ Climbing level place (Constant place literal) frames tokens
 constant_step level place (Integer n) frames tokens = refl
 constant_step level place (Text bytes) frames tokens = refl
 constant_step level place (Cset set) frames tokens = refl
@@ -46,19 +47,23 @@ so state other r t e g = subst (λ s. Leads s r t) (sym e) g
 
 pub found_constant : (place : Place) (literal : Literal) → Found (Constant place literal)
 found_constant place literal level frames here after r t fits s longest ends g =
-    begun_at place (literal_kind literal) level frames here after after (Constant place literal) r t s (begins_literal literal) (λ h. so _ _ r t (constant_step (climbing_level level) place literal frames after) h) g
+    begun_at place (literal_kind literal) level frames here after after (Constant place literal) r t s (begins_literal literal)
+    (λ h. so _ _ r t (constant_step (climbing_level level) place literal frames after) h) g
 
 pub found_identifier : (name : Name) → Found (Identifier name)
 found_identifier name level frames here after r t fits s longest ends g =
     begun_at name.place (IdentifierKind name.text) level frames here after after (Identifier name) r t s refl (λ h. h) g
 
-keyword_step_is : (level : ℕ) (place : Place) (name : Name) (frames : List Frame) (here after : List Token) → keyword name here after → operator_step level place None frames here ≡ Climbing level place (Keyword place name) frames after
+keyword_step_is : (level : ℕ) (place : Place) (name : Name) (frames : List Frame) (here after : List Token) → keyword name here after
+    → operator_step level place None frames here ≡ Climbing level place (Keyword place name) frames after
 keyword_step_is level place name frames here after (inl e) = ap (operator_step level place None frames) e
-keyword_step_is level place name frames here after (inr s) = ap (operator_step level place None frames) s.1 ∙ ap (λ text. Climbing level place (Keyword place (record { text = text; place = name.place })) frames after) (sym s.0)
+keyword_step_is level place name frames here after (inr s) = ap (operator_step level place None frames) s.1
+    ∙ ap (λ text. Climbing level place (Keyword place (record { text = text; place = name.place })) frames after) (sym s.0)
 
 pub found_keyword : (place : Place) (name : Name) → Found (Keyword place name)
 found_keyword place name level frames here after r t fits s longest ends g =
-    begun_at place (OperatorKind Ampersand) level frames here s.0 after (Keyword place name) r t s.1 refl (λ h. so _ _ r t (keyword_step_is (climbing_level level) place name frames s.0 after s.2) h) g
+    begun_at place (OperatorKind Ampersand) level frames here s.0 after (Keyword place name) r t s.1 refl
+    (λ h. so _ _ r t (keyword_step_is (climbing_level level) place name frames s.0 after s.2) h) g
 
 more_in_front : (first : Tree) (done trees : Trees) → appended (More first done) trees ≡ More first (appended done trees)
 more_in_front first done NoTrees = refl
@@ -68,7 +73,8 @@ pub all_appended : (trees : Trees) → appended NoTrees trees ≡ trees
 all_appended NoTrees = refl
 all_appended (More tree trees) = more_in_front tree NoTrees trees ∙ ap (More tree) (all_appended trees)
 
-clauses_in_front : (first : Clause) (done further : Clauses) → appended_clauses (MoreClauses first done) further ≡ MoreClauses first (appended_clauses done further)
+clauses_in_front : (first : Clause) (done further : Clauses)
+    → appended_clauses (MoreClauses first done) further ≡ MoreClauses first (appended_clauses done further)
 clauses_in_front first done NoClauses = refl
 clauses_in_front first done (MoreClauses clause others) = clauses_in_front first (with_last_clause done clause) others
 
@@ -77,12 +83,17 @@ all_clauses NoClauses = refl
 all_clauses (MoreClauses clause others) = clauses_in_front clause NoClauses others ∙ ap (MoreClauses clause) (all_clauses others)
 
 -- a list in brackets, closed by this kind
-list_read : (bracket : Bracket) (trees : Trees) → FoundList trees → (close : Punctuation) → is_separator (separator_of bracket) (Some (PunctuationKind close)) ≡ false → is_closer bracket (Some (PunctuationKind close)) ≡ true → goes_on 1 (Some (PunctuationKind close)) ≡ false
-    → (level : ℕ) (place : Place) (frames : List Frame) (here middle after : List Token) (r : Tree) (t : List Token) → SpellsList (separator_of bracket) trees here middle → sign (PunctuationKind close) middle after
-    → Leads (Climbing level place (bracketed bracket place trees) frames after) r t → Leads (Starting 0 (frame level place (Elements bracket NoTrees) ∷ frames) here) r t
+list_read : (bracket : Bracket) (trees : Trees) → FoundList trees → (close : Punctuation)
+    → is_separator (separator_of bracket) (Some (PunctuationKind close)) ≡ false → is_closer bracket (Some (PunctuationKind close)) ≡ true
+    → goes_on 1 (Some (PunctuationKind close)) ≡ false
+    → (level : ℕ) (place : Place) (frames : List Frame) (here middle after : List Token) (r : Tree) (t : List Token)
+    → SpellsList (separator_of bracket) trees here middle → sign (PunctuationKind close) middle after
+    → Leads (Climbing level place (bracketed bracket place trees) frames after) r t
+    → Leads (Starting 0 (frame level place (Elements bracket NoTrees) ∷ frames) here) r t
 list_read bracket trees f close e c ends level place frames here middle after r t s p g =
     let kind : Kind = PunctuationKind close in
-    f bracket NoTrees level place frames here middle r t s (ap (is_separator (separator_of bracket)) (next_sign kind middle after p) ∙ e) (ap (is_closer bracket) (next_sign kind middle after p) ∙ c) (ends_at 1 kind middle after p ends)
+    f bracket NoTrees level place frames here middle r t s (ap (is_separator (separator_of bracket)) (next_sign kind middle after p) ∙ e)
+    (ap (is_closer bracket) (next_sign kind middle after p) ∙ c) (ends_at 1 kind middle after p ends)
     (past (Climbing level place (bracketed bracket place (appended NoTrees trees)) frames) kind middle after r t p
     (subst (λ all. Leads (Climbing level place (bracketed bracket place all) frames after) r t) (sym (all_appended trees)) g))
 
@@ -103,16 +114,22 @@ found_compound place exprs f level frames here after r t fits s longest ends g =
 
 -- Forms that go on with an operand
 
-extended : (level : ℕ) (place at : Place) (left : Tree) (kind : Kind) (frames : List Frame) (tokens : List Token) (r : Tree) (t : List Token) → level ≤ kind_goes_on kind → Leads (extend_step level place left kind frames tokens) r t → Leads (Climbing level place left frames (token_at at kind ∷ tokens)) r t
-extended level place at left kind frames tokens r t h g = one_more _ r t (subst (λ b. Leads (climb_by b level place left (token_at at kind) frames tokens) r t) (sym (le-leb level (kind_goes_on kind) h)) g)
+extended : (level : ℕ) (place at : Place) (left : Tree) (kind : Kind) (frames : List Frame) (tokens : List Token) (r : Tree) (t : List Token)
+    → level ≤ kind_goes_on kind → Leads (extend_step level place left kind frames tokens) r t
+    → Leads (Climbing level place left frames (token_at at kind ∷ tokens)) r t
+extended level place at left kind frames tokens r t h g =
+    one_more _ r t (subst (λ b. Leads (climb_by b level place left (token_at at kind) frames tokens) r t) (sym (le-leb level (kind_goes_on kind) h)) g)
 
-extends_by : (level : ℕ) (left : Tree) → Found left → (kind : Kind) (frames : List Frame) (here middle after : List Token) (r : Tree) (t : List Token) → climbing_level level ≤ kind_goes_on kind
+extends_by : (level : ℕ) (left : Tree) → Found left → (kind : Kind) (frames : List Frame) (here middle after : List Token) (r : Tree) (t : List Token)
+    → climbing_level level ≤ kind_goes_on kind
     → Part (left_level (kind_goes_on kind)) left (Spells left) here middle → sign kind middle after
     → Leads (extend_step (climbing_level level) (place_of here) left kind frames after) r t → Leads (Starting level frames here) r t
 extends_by level left f kind frames here middle after r t h p s g =
-    let ends : goes_on (edge left) (next middle) ≡ false = ap (goes_on (edge left)) (next_sign kind middle after s) ∙ lt-leb (edge left) (kind_goes_on kind) (operand_edge (kind_goes_on kind) left p.fits) in
+    let ends : goes_on (edge left) (next middle) ≡ false = ap (goes_on (edge left)) (next_sign kind middle after s)
+    ∙ lt-leb (edge left) (kind_goes_on kind) (operand_edge (kind_goes_on kind) left p.fits) in
     f level frames here middle r t (le_trans h (left_up (kind_goes_on kind) left p.fits)) p.spells p.longest ends
-    (subst (λ (tokens : List Token). Leads (Climbing (climbing_level level) (place_of here) left frames tokens) r t) (sym s.1) (extended (climbing_level level) (place_of here) s.0 left kind frames after r t h g))
+    (subst (λ (tokens : List Token). Leads (Climbing (climbing_level level) (place_of here) left frames tokens) r t) (sym s.1)
+    (extended (climbing_level level) (place_of here) s.0 left kind frames after r t h g))
 
 -- the place of the whole is that of its first token
 placed : (make : Place → State) (place other : Place) (r : Tree) (t : List Token) → other ≡ place → Leads (make place) r t → Leads (make other) r t
@@ -150,10 +167,14 @@ section_ends Forward = refl
 section_ends Backward = refl
 
 -- the first position of a section is complete
-position_step : (kind : SectionKind) (subject from : Tree) (level : ℕ) (place : Place) (frames : List Frame) (tokens : List Token) (r : Tree) (t : List Token) → next tokens ≡ Some (PunctuationKind (section_sign kind))
-    → Leads (Starting 1 (frame level place (SectionEnd kind subject from) ∷ frames) (behind tokens)) r t → Leads (Closing from true (frame level place (Elements (Subscripts subject) NoTrees) ∷ frames) tokens) r t
+position_step : (kind : SectionKind) (subject from : Tree) (level : ℕ) (place : Place) (frames : List Frame) (tokens : List Token) (r : Tree) (t : List Token)
+    → next tokens ≡ Some (PunctuationKind (section_sign kind))
+    → Leads (Starting 1 (frame level place (SectionEnd kind subject from) ∷ frames) (behind tokens)) r t
+    → Leads (Closing from true (frame level place (Elements (Subscripts subject) NoTrees) ∷ frames) tokens) r t
 position_step kind subject from level place frames tokens r t e g =
-    one_more _ r t (subst (λ b. Leads (element_by b (is_closer (Subscripts subject) (next tokens)) (Subscripts subject) NoTrees level place from true frames tokens) r t) (sym (ap (is_separator ByComma) e ∙ no_separator kind))
+    one_more _ r t
+    (subst (λ b. Leads (element_by b (is_closer (Subscripts subject) (next tokens)) (Subscripts subject) NoTrees level place from true frames tokens) r t)
+    (sym (ap (is_separator ByComma) e ∙ no_separator kind))
     (subst (λ b. Leads (element_by false b (Subscripts subject) NoTrees level place from true frames tokens) r t) (sym (ap is_close_bracket e ∙ no_closer kind))
     (subst (λ k. Leads (section_by (Some subject) k level place from frames (behind tokens)) r t) (sym (ap section_kind e ∙ section_is kind)) g)))
   where
@@ -167,7 +188,8 @@ position_step kind subject from level place frames tokens r t e g =
     no_closer Forward = refl
     no_closer Backward = refl
 
-pub found_section : (place : Place) (kind : SectionKind) (subject from to : Tree) → Found subject → Found from → Found to → Found (Section place kind subject from to)
+pub found_section : (place : Place) (kind : SectionKind) (subject from to : Tree) → Found subject → Found from → Found to
+    → Found (Section place kind subject from to)
 found_section place kind subject from to f h b level frames here after r t fits s longest ends g =
     let close : Kind = PunctuationKind CloseBracket in
     let colon : Kind = PunctuationKind (section_sign kind) in
@@ -184,10 +206,14 @@ found_section place kind subject from to f h b level frames here after r t fits 
     (past (Climbing (climbing_level level) (place_of here) (Section (place_of here) kind subject from to) frames) close q.0 after r t q.2
     (placed (λ p. Climbing (climbing_level level) (place_of here) (Section p kind subject from to) frames after) place (place_of here) r t s.0 g))))))))
   where
-    first_position : (tree : Tree) → Found tree → (frames : List Frame) (here after : List Token) (r : Tree) (t : List Token) → Part 1 tree (Spells tree) here after → goes_on 1 (next after) ≡ false → Leads (Closing tree true frames after) r t → Leads (Starting 0 frames here) r t
-    first_position tree f frames here after r t p e g = f 0 frames here after r t p.fits p.spells p.longest (goes_on_up 1 (edge tree) (le_trans p.fits (level_edge tree)) (next after) e) (climbed_to 1 (place_of here) tree frames after r t e g)
+    first_position : (tree : Tree) → Found tree → (frames : List Frame) (here after : List Token) (r : Tree) (t : List Token)
+        → Part 1 tree (Spells tree) here after → goes_on 1 (next after) ≡ false → Leads (Closing tree true frames after) r t
+        → Leads (Starting 0 frames here) r t
+    first_position tree f frames here after r t p e g = f 0 frames here after r t p.fits p.spells p.longest
+        (goes_on_up 1 (edge tree) (le_trans p.fits (level_edge tree)) (next after) e) (climbed_to 1 (place_of here) tree frames after r t e g)
 
-field_step_is : (level : ℕ) (place : Place) (left : Tree) (name : Name) (frames : List Frame) (here after : List Token) → identifier name here after → plain_step true level place left Dot frames here ≡ Climbing level place (Field place left name) frames after
+field_step_is : (level : ℕ) (place : Place) (left : Tree) (name : Name) (frames : List Frame) (here after : List Token) → identifier name here after
+    → plain_step true level place left Dot frames here ≡ Climbing level place (Field place left name) frames after
 field_step_is level place left name frames here after e = ap (plain_step true level place left Dot frames) e
 
 pub found_field : (place : Place) (subject : Tree) (name : Name) → Found subject → Found (Field place subject name)
@@ -200,11 +226,14 @@ not_dot : (operator : Operator) → 1 ≤ infix_level (Plain operator) → is_do
 not_dot Dot h = absurd (omega arith)
 not_dot _ h = refl
 
-extended_infix : (level : ℕ) (place : Place) (left : Tree) (operator : Infix) (frames : List Frame) (tokens : List Token) → 1 ≤ infix_level operator → extend_step level place left (infix_kind operator) frames tokens ≡ infix_step level place left operator frames tokens
+extended_infix : (level : ℕ) (place : Place) (left : Tree) (operator : Infix) (frames : List Frame) (tokens : List Token) → 1 ≤ infix_level operator
+    → extend_step level place left (infix_kind operator) frames tokens ≡ infix_step level place left operator frames tokens
 extended_infix level place left (Plain operator) frames tokens h = ap (λ b. plain_step b level place left operator frames tokens) (not_dot operator h)
 extended_infix level place left (Augmented operator) frames tokens h = refl
 
-any_part_read : (level : ℕ) (tree : Tree) → Found tree → 1 ≤ level → (frames : List Frame) (here after : List Token) (r : Tree) (t : List Token) → Part level tree (Spells tree) here after → goes_on level (next after) ≡ false → Leads (Closing tree true frames after) r t → Leads (Starting level frames here) r t
+any_part_read : (level : ℕ) (tree : Tree) → Found tree → 1 ≤ level → (frames : List Frame) (here after : List Token) (r : Tree) (t : List Token)
+    → Part level tree (Spells tree) here after → goes_on level (next after) ≡ false → Leads (Closing tree true frames after) r t
+    → Leads (Starting level frames here) r t
 any_part_read zero tree f one frames here after r t p e g = absurd (omega arith)
 any_part_read (suc level) tree f one frames here after r t p e g = part_read level tree f frames here after r t p e g
 
@@ -212,12 +241,14 @@ pub found_binary : (place : Place) (operator : Infix) (left right : Tree) → Fo
 found_binary place operator left right l h level frames here after r t fits s longest ends g =
     let present : 1 ≤ infix_level operator = s.1.2.1.0 in
     let its_level : kind_goes_on (infix_kind operator) ≡ infix_level operator = goes_on_infix operator present in
-    let first : Part (left_level (kind_goes_on (infix_kind operator))) left (Spells left) here s.1.0 = subst (λ n. Part (left_level n) left (Spells left) here s.1.0) (sym its_level) s.1.1 in
+    let first : Part (left_level (kind_goes_on (infix_kind operator))) left (Spells left) here s.1.0 =
+    subst (λ n. Part (left_level n) left (Spells left) here s.1.0) (sym its_level) s.1.1 in
     let below : climbing_level level ≤ kind_goes_on (infix_kind operator) = subst (λ n. climbing_level level ≤ n) (sym its_level) fits in
     extends_by level left l (infix_kind operator) frames here s.1.0 s.1.2.0 r t below first s.1.2.1.1
     (so _ _ r t (extended_infix (climbing_level level) (place_of here) left operator frames s.1.2.0 present)
     (any_part_read (right_level (infix_level operator)) right h (right_one (infix_level operator) present) _ s.1.2.0 after r t s.1.2.2 ends
-    (one_more _ r t (placed (λ p. Climbing (climbing_level level) (place_of here) (Binary p operator left right) frames after) place (place_of here) r t s.0 g))))
+    (one_more _ r t
+    (placed (λ p. Climbing (climbing_level level) (place_of here) (Binary p operator left right) frames after) place (place_of here) r t s.0 g))))
 
 pub found_to : (place : Place) (from to : Tree) → Found from → Found to → Found (To place from to Absent)
 found_to place from to f b level frames here after r t fits s longest ends g =
@@ -242,14 +273,16 @@ found_to_by place from to by f b c level frames here after r t fits s longest en
 pub found_prefix : (place : Place) (operator : Operator) (operand : Tree) → Found operand → Found (Prefix place operator operand)
 found_prefix place operator operand f level frames here after r t fits s longest ends g =
     let i = s.1 in
-    begun_at place (OperatorKind i.characters) level frames here i.behind after (Prefix place operator operand) r t i.is_here (begins_prefix i.characters (operator, i.others) i.first) (λ h.
+    begun_at place (OperatorKind i.characters) level frames here i.behind after (Prefix place operator operand) r t i.is_here
+    (begins_prefix i.characters (operator, i.others) i.first) (λ h.
     subst (λ found. Leads (operator_step (climbing_level level) place found frames i.behind) r t) (sym i.first)
     (subst (λ (tokens : List Token). Leads (Starting 12 (frame (climbing_level level) place (PrefixOperand operator) ∷ frames) tokens) r t) i.is_after
     (part_read 11 operand f _ s.0 after r t s.2 ends (one_more _ r t h)))) g
 
 pub found_not : (place : Place) (operand : Tree) → Found operand → Found (Not place operand)
 found_not place operand f level frames here after r t fits s longest ends g =
-    begun_at place (WordKind Words.Not) level frames here s.0 after (Not place operand) r t s.1 refl (λ h. part_read 11 operand f _ s.0 after r t s.2 ends (one_more _ r t h)) g
+    begun_at place (WordKind Words.Not) level frames here s.0 after (Not place operand) r t s.1 refl
+    (λ h. part_read 11 operand f _ s.0 after r t s.2 ends (one_more _ r t h)) g
 
 pub found_if : (place : Place) (condition first : Tree) → Found condition → Found first → Found (If place condition first Absent)
 found_if place condition first c f level frames here after r t fits s longest ends g =
@@ -262,7 +295,8 @@ found_if place condition first c f level frames here after r t fits s longest en
     (past (Starting 1 (frame (climbing_level level) place (Consequence condition) ∷ frames)) then s.2.0 q.0 r t q.1
     (part_read 0 first f _ q.0 after r t q.2 free.1 (one_more _ r t (part_or_no (is_else (next after)) _ _ _ _ r t free.0 h))))))) g
 
-pub found_if_else : (place : Place) (condition first other : Tree) → Found condition → Found first → Found other → Found (If place condition first (Present other))
+pub found_if_else : (place : Place) (condition first other : Tree) → Found condition → Found first → Found other
+    → Found (If place condition first (Present other))
 found_if_else place condition first other c f o level frames here after r t fits s longest ends g =
     let then : Kind = WordKind Words.Then in
     let else : Kind = WordKind Words.Else in
@@ -285,7 +319,8 @@ found_case place subject clauses f c level frames here after r t fits s longest 
     let q = s.2.2 in
     let m = q.2.2 in
     let inside : behind (behind s.2.0) ≡ q.2.0 = ap behind (behind_sign of s.2.0 q.0 q.1) ∙ behind_sign open_brace q.0 q.2.0 q.2.1 in
-    let opened : is_open_brace (next (behind s.2.0)) ≡ true = ap (λ tokens. is_open_brace (next tokens)) (behind_sign of s.2.0 q.0 q.1) ∙ ap is_open_brace (next_sign open_brace q.0 q.2.0 q.2.1) in
+    let opened : is_open_brace (next (behind s.2.0)) ≡ true = ap (λ tokens. is_open_brace (next tokens)) (behind_sign of s.2.0 q.0 q.1)
+    ∙ ap is_open_brace (next_sign open_brace q.0 q.2.0 q.2.1) in
     begun_at place (WordKind Words.Case) level frames here s.0 after (Case place subject clauses) r t s.1 refl (λ h.
     part_read 0 subject f _ s.0 s.2.0 r t s.2.1 (ends_at 1 of s.2.0 q.0 q.1 refl)
     (one_more _ r t (provided_so (is_of (next s.2.0) && is_open_brace (next (behind s.2.0))) _ r t (and_from _ _ (ap is_of (next_sign of s.2.0 q.0 q.1)) opened)
@@ -299,7 +334,8 @@ begins_loop Loops.While = refl
 begins_loop Loops.Until = refl
 begins_loop Loops.Every = refl
 
-loop_step_is : (level : ℕ) (place : Place) (kind : LoopKind) (frames : List Frame) (tokens : List Token) → word_step level place (loop_word kind) frames tokens ≡ Starting 1 (frame level place (Control kind) ∷ frames) tokens
+loop_step_is : (level : ℕ) (place : Place) (kind : LoopKind) (frames : List Frame) (tokens : List Token)
+    → word_step level place (loop_word kind) frames tokens ≡ Starting 1 (frame level place (Control kind) ∷ frames) tokens
 loop_step_is level place Loops.While frames tokens = refl
 loop_step_is level place Loops.Until frames tokens = refl
 loop_step_is level place Loops.Every frames tokens = refl
@@ -324,25 +360,31 @@ found_loop_do place kind control body c b level frames here after r t fits s lon
 
 pub found_repeat : (place : Place) (body : Tree) → Found body → Found (Repeat place body)
 found_repeat place body f level frames here after r t fits s longest ends g =
-    begun_at place (WordKind Words.Repeat) level frames here s.0 after (Repeat place body) r t s.1 refl (λ h. part_read 0 body f _ s.0 after r t s.2 longest (one_more _ r t h)) g
+    begun_at place (WordKind Words.Repeat) level frames here s.0 after (Repeat place body) r t s.1 refl
+    (λ h. part_read 0 body f _ s.0 after r t s.2 longest (one_more _ r t h)) g
 
 pub found_create : (place : Place) (body : Tree) → Found body → Found (Create place body)
 found_create place body f level frames here after r t fits s longest ends g =
-    begun_at place (WordKind Words.Create) level frames here s.0 after (Create place body) r t s.1 refl (λ h. part_read 0 body f _ s.0 after r t s.2 longest (one_more _ r t h)) g
+    begun_at place (WordKind Words.Create) level frames here s.0 after (Create place body) r t s.1 refl
+    (λ h. part_read 0 body f _ s.0 after r t s.2 longest (one_more _ r t h)) g
 
 pub found_next : (place : Place) → Found (Next place)
-found_next place level frames here after r t fits s longest ends g = begun_at place (WordKind Words.Next) level frames here after after (Next place) r t s refl (λ h. h) g
+found_next place level frames here after r t fits s longest ends g =
+    begun_at place (WordKind Words.Next) level frames here after after (Next place) r t s refl (λ h. h) g
 
 pub found_fail : (place : Place) → Found (Fail place)
-found_fail place level frames here after r t fits s longest ends g = begun_at place (WordKind Words.Fail) level frames here after after (Fail place) r t s refl (λ h. h) g
+found_fail place level frames here after r t fits s longest ends g =
+    begun_at place (WordKind Words.Fail) level frames here after after (Fail place) r t s refl (λ h. h) g
 
 pub found_break : (place : Place) (value : Tree) → Found value → Found (Break place value)
 found_break place value f level frames here after r t fits s longest ends g =
-    begun_at place (WordKind Words.Break) level frames here s.0 after (Break place value) r t s.1 refl (λ h. optional_read value f _ s.0 after r t s.2 longest (one_more _ r t h)) g
+    begun_at place (WordKind Words.Break) level frames here s.0 after (Break place value) r t s.1 refl
+    (λ h. optional_read value f _ s.0 after r t s.2 longest (one_more _ r t h)) g
 
 pub found_return : (place : Place) (value : Tree) → Found value → Found (Return place value)
 found_return place value f level frames here after r t fits s longest ends g =
-    begun_at place (WordKind Words.Return) level frames here s.0 after (Return place value) r t s.1 refl (λ h. optional_read value f _ s.0 after r t s.2 longest (one_more _ r t h)) g
+    begun_at place (WordKind Words.Return) level frames here s.0 after (Return place value) r t s.1 refl
+    (λ h. optional_read value f _ s.0 after r t s.2 longest (one_more _ r t h)) g
 
 pub found_suspend : (place : Place) (value : Tree) → Found value → Found (Suspend place value Absent)
 found_suspend place value f level frames here after r t fits s longest ends g =

@@ -59,18 +59,23 @@ CaseHead subject place = word_at place Words.Case ⨾ Part 1 subject (Spells sub
 -- what an open form has read
 abbrev pub Held : Holding → Place → ℕ → Phrase
 Held (Elements bracket done) place level = Opened bracket place ⨾ SoFar (separator_of bracket) done
-Held (SectionEnd kind subject from) place level = starts_at place (Part 13 subject (Spells subject) ⨾ mark OpenBracket ⨾ Part 1 from (Spells from) ⨾ mark (section_sign kind))
+Held (SectionEnd kind subject from) place level =
+    starts_at place (Part 13 subject (Spells subject) ⨾ mark OpenBracket ⨾ Part 1 from (Spells from) ⨾ mark (section_sign kind))
 Held (PrefixOperand operator) place level = IsPrefix place operator
 Held NotOperand place level = word_at place Words.Not
-Held (RightOperand operator left) place level = λ here after. (level ≤ infix_level operator) × starts_at place (Part (left_level (infix_level operator)) left (Spells left) ⨾ infix_sign operator) here after
+Held (RightOperand operator left) place level = λ here after. (level ≤ infix_level operator)
+    × starts_at place (Part (left_level (infix_level operator)) left (Spells left) ⨾ infix_sign operator) here after
 Held (ToOperand from) place level = λ here after. (level ≤ 4) × starts_at place (Part 4 from (Spells from) ⨾ word Words.To) here after
-Held (ByOperand from to) place level = λ here after. (level ≤ 4) × starts_at place (Part 4 from (Spells from) ⨾ word Words.To ⨾ Part 5 to (Spells to) ⨾ word Words.By) here after
+Held (ByOperand from to) place level =
+    λ here after. (level ≤ 4) × starts_at place (Part 4 from (Spells from) ⨾ word Words.To ⨾ Part 5 to (Spells to) ⨾ word Words.By) here after
 Held Condition place level = word_at place Words.If
 Held (Consequence condition) place level = word_at place Words.If ⨾ Part 1 condition (Spells condition) ⨾ word Words.Then
-Held (Alternative condition first) place level = word_at place Words.If ⨾ Part 1 condition (Spells condition) ⨾ word Words.Then ⨾ Part 1 first (Spells first) ⨾ word Words.Else
+Held (Alternative condition first) place level =
+    word_at place Words.If ⨾ Part 1 condition (Spells condition) ⨾ word Words.Then ⨾ Part 1 first (Spells first) ⨾ word Words.Else
 Held CaseSubject place level = word_at place Words.Case
 Held (ClauseGuard subject clauses at) place level = λ here after. (CaseHead subject place ⨾ ClausesSoFar clauses) here after × (place_of after ≡ at)
-Held (GuardedValue subject clauses at guard) place level = (CaseHead subject place ⨾ ClausesSoFar clauses) ⨾ starts_at at (Part 1 guard (Spells guard) ⨾ mark Colon)
+Held (GuardedValue subject clauses at guard) place level =
+    (CaseHead subject place ⨾ ClausesSoFar clauses) ⨾ starts_at at (Part 1 guard (Spells guard) ⨾ mark Colon)
 Held (DefaultValue subject clauses at) place level = (CaseHead subject place ⨾ ClausesSoFar clauses) ⨾ word_at at Words.Default ⨾ mark Colon
 Held (Control kind) place level = word_at place (loop_word kind)
 Held (LoopBody kind control) place level = word_at place (loop_word kind) ⨾ Part 1 control (Spells control) ⨾ word Words.Do
@@ -230,7 +235,8 @@ ends_of b true e f = present_ends b e
 ends_of b false e f = absurd (false≢true f)
 
 -- a part that is not empty ends where nothing goes on with it
-pub ends_alone : (level : ℕ) (tree : Tree) (here after : List Token) → Part (suc level) tree (Spells tree) here after → Ends (suc level) tree after → goes_on (suc level) (next after) ≡ false
+pub ends_alone : (level : ℕ) (tree : Tree) (here after : List Token) → Part (suc level) tree (Spells tree) here after → Ends (suc level) tree after
+    → goes_on (suc level) (next after) ≡ false
 ends_alone level tree here after p e = ends_of (goes_on (suc level) (next after)) (is_present tree) e (present_of tree (omega (arith, p.fits)))
 
 -- Signs
@@ -238,7 +244,8 @@ ends_alone level tree here after p e = ends_of (goes_on (suc level) (next after)
 pub sign_of : (token : Token) (tokens : List Token) (kind : Kind) → token.kind ≡ kind → sign kind (token ∷ tokens) tokens
 sign_of token tokens kind e = (record { line = token.line; file = token.file }, ap (λ k. record { kind = k; line = token.line; file = token.file } ∷ tokens) e)
 
-pub at_sign : (test : Option Kind → Bool) (kind : Kind) → ((k : Kind) → test (Some k) ≡ true → k ≡ kind) → test None ≡ false → (here : List Token) → test (next here) ≡ true → sign kind here (behind here)
+pub at_sign : (test : Option Kind → Bool) (kind : Kind) → ((k : Kind) → test (Some k) ≡ true → k ≡ kind) → test None ≡ false → (here : List Token)
+    → test (next here) ≡ true → sign kind here (behind here)
 at_sign test kind f n [] e = absurd (false≢true (sym n ∙ e))
 at_sign test kind f n (token ∷ tokens) e = sign_of token tokens kind (f token.kind e)
 
@@ -310,26 +317,35 @@ section_mark kind (token ∷ tokens) e = sign_of token tokens (PunctuationKind (
 
 -- Lists of what was read so far
 
-pub more_of_list : (by : Separator) (trees : Trees) (here middle after : List Token) → mark (separator by) here middle → SpellsList by trees middle after → SpellsMore by trees here after
+pub more_of_list : (by : Separator) (trees : Trees) (here middle after : List Token) → mark (separator by) here middle → SpellsList by trees middle after
+    → SpellsMore by trees here after
 more_of_list by NoTrees here middle after s l = absurd l
 more_of_list by (More tree trees) here middle after s l = (middle, s, l)
 
-pub list_so_far : (by : Separator) (done : Trees) (tree : Tree) (begin here after : List Token) → SoFar by done begin here → Part 0 tree (Spells tree) here after → SpellsList by (with_last done tree) begin after
+pub list_so_far : (by : Separator) (done : Trees) (tree : Tree) (begin here after : List Token) → SoFar by done begin here
+    → Part 0 tree (Spells tree) here after → SpellsList by (with_last done tree) begin after
 list_so_far by NoTrees tree begin here after s p = (after, subst (λ tokens. Part 0 tree (Spells tree) tokens after) (sym s) p, refl)
-list_so_far by (More first done) tree begin here after s p = (s.0, s.1, more_of_list by (with_last done tree) s.0 s.2.0 after s.2.1 (list_so_far by done tree s.2.0 here after s.2.2 p))
+list_so_far by (More first done) tree begin here after s p =
+    (s.0, s.1, more_of_list by (with_last done tree) s.0 s.2.0 after s.2.1 (list_so_far by done tree s.2.0 here after s.2.2 p))
 
-pub more_so_far : (by : Separator) (done : Trees) (tree : Tree) (begin here middle after : List Token) → SoFar by done begin here → Part 0 tree (Spells tree) here middle → mark (separator by) middle after → SoFar by (with_last done tree) begin after
+pub more_so_far : (by : Separator) (done : Trees) (tree : Tree) (begin here middle after : List Token) → SoFar by done begin here
+    → Part 0 tree (Spells tree) here middle → mark (separator by) middle after → SoFar by (with_last done tree) begin after
 more_so_far by NoTrees tree begin here middle after s p m = (middle, subst (λ tokens. Part 0 tree (Spells tree) tokens middle) (sym s) p, (after, m, refl))
 more_so_far by (More first done) tree begin here middle after s p m = (s.0, s.1, (s.2.0, s.2.1, more_so_far by done tree s.2.0 here middle after s.2.2 p m))
 
-pub more_of_clauses : (further : Clauses) (here middle after : List Token) → mark Semicolon here middle → SpellsClauses further middle after → SpellsMoreClauses further here after
+pub more_of_clauses : (further : Clauses) (here middle after : List Token) → mark Semicolon here middle → SpellsClauses further middle after
+    → SpellsMoreClauses further here after
 more_of_clauses NoClauses here middle after s l = absurd l
 more_of_clauses (MoreClauses clause others) here middle after s l = (middle, s, l)
 
-pub clauses_list : (done : Clauses) (clause : Clause) (begin here after : List Token) → ClausesSoFar done begin here → SpellsClause clause here after → SpellsClauses (with_last_clause done clause) begin after
+pub clauses_list : (done : Clauses) (clause : Clause) (begin here after : List Token) → ClausesSoFar done begin here → SpellsClause clause here after
+    → SpellsClauses (with_last_clause done clause) begin after
 clauses_list NoClauses clause begin here after s p = (after, subst (λ tokens. SpellsClause clause tokens after) (sym s) p, refl)
-clauses_list (MoreClauses first done) clause begin here after s p = (s.0, s.1, more_of_clauses (with_last_clause done clause) s.0 s.2.0 after s.2.1 (clauses_list done clause s.2.0 here after s.2.2 p))
+clauses_list (MoreClauses first done) clause begin here after s p =
+    (s.0, s.1, more_of_clauses (with_last_clause done clause) s.0 s.2.0 after s.2.1 (clauses_list done clause s.2.0 here after s.2.2 p))
 
-pub clauses_more : (done : Clauses) (clause : Clause) (begin here middle after : List Token) → ClausesSoFar done begin here → SpellsClause clause here middle → mark Semicolon middle after → ClausesSoFar (with_last_clause done clause) begin after
+pub clauses_more : (done : Clauses) (clause : Clause) (begin here middle after : List Token) → ClausesSoFar done begin here → SpellsClause clause here middle
+    → mark Semicolon middle after → ClausesSoFar (with_last_clause done clause) begin after
 clauses_more NoClauses clause begin here middle after s p m = (middle, subst (λ tokens. SpellsClause clause tokens middle) (sym s) p, (after, m, refl))
-clauses_more (MoreClauses first done) clause begin here middle after s p m = (s.0, s.1, (s.2.0, s.2.1, clauses_more done clause s.2.0 here middle after s.2.2 p m))
+clauses_more (MoreClauses first done) clause begin here middle after s p m =
+    (s.0, s.1, (s.2.0, s.2.1, clauses_more done clause s.2.0 here middle after s.2.2 p m))

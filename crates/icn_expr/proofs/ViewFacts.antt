@@ -12,10 +12,12 @@ pub all_of_last : (exprs : List Expr) (last : Expr) → all_of (exprs ++ last �
 all_of_last [] last = refl
 all_of_last (expr ∷ exprs) last = ap (More (tree_of expr)) (all_of_last exprs last)
 
-pub all_clauses_last : (clauses : List ClauseExpr) (last : ClauseExpr) → all_clauses_of (clauses ++ last ∷ []) ≡ with_last_clause (all_clauses_of clauses) (clause_of last)
+pub all_clauses_last : (clauses : List ClauseExpr) (last : ClauseExpr)
+    → all_clauses_of (clauses ++ last ∷ []) ≡ with_last_clause (all_clauses_of clauses) (clause_of last)
 all_clauses_last [] last = refl
 all_clauses_last (clause ∷ clauses) last = ap (MoreClauses (clause_of clause)) (all_clauses_last clauses last)
 
-pub newest_first : (frames : List FrameValue) (newest : FrameValue) (below : List OpenFrame) → frames_onto (frames ++ newest ∷ []) below ≡ frame_of newest ∷ frames_onto frames below
+pub newest_first : (frames : List FrameValue) (newest : FrameValue) (below : List OpenFrame)
+    → frames_onto (frames ++ newest ∷ []) below ≡ frame_of newest ∷ frames_onto frames below
 newest_first [] newest below = refl
 newest_first (frame ∷ frames) newest below = newest_first frames newest (frame_of frame ∷ below)

@@ -19,14 +19,16 @@ set_same [] n x e = cc
 set_same (y ∷ s) zero x e = let k : y ≡ x = cc in ap (λ w. w ∷ s) (sym k)
 set_same (y ∷ s) (suc n) x e = ap (λ w. y ∷ w) (set_same s n x e)
 
-pub sound_set : (s s' : List Cell) (r : Registers) (h : ℕ) (x y : Cell) → Sound s r → cell_at h s ≡ Some x → shape y ≡ shape x → s' ≡ set_cell h y s → Sound s' r
+pub sound_set : (s s' : List Cell) (r : Registers) (h : ℕ) (x y : Cell) → Sound s r → cell_at h s ≡ Some x → shape y ≡ shape x → s' ≡ set_cell h y s
+    → Sound s' r
 sound_set s s' r h x y t e k n =
     let a : map shape s' ≡ map shape s
     = ap (map shape) n ∙ map-set shape s (length s - h) y ∙ ap (λ (w : Shape). slice_set (map shape s) (length s - h) w) k
     ∙ set_same (map shape s) (length s - h) (shape x) (get_map shape s (length s - h) x e) in
     record { stands = subst (λ (w : List Shape). Stands w r) (sym a) t.stands; fit = subst Fit (sym a) t.fit }
 
-pub sound_set_shape : (s s' : List Cell) (r : Registers) (h : ℕ) (y : Cell) → Sound s r → cell_at h (map shape s) ≡ Some (shape y) → s' ≡ set_cell h y s → Sound s' r
+pub sound_set_shape : (s s' : List Cell) (r : Registers) (h : ℕ) (y : Cell) → Sound s r → cell_at h (map shape s) ≡ Some (shape y) → s' ≡ set_cell h y s
+    → Sound s' r
 sound_set_shape s s' r h y t e n =
     let f : slice_get (map shape s) (length s - h) ≡ Some (shape y) = ap (λ (w : ℕ). slice_get (map shape s) (w - h)) (sym (length-map s shape)) ∙ e in
     let a : map shape s' ≡ map shape s = ap (map shape) n ∙ map-set shape s (length s - h) y ∙ set_same (map shape s) (length s - h) (shape y) f in
@@ -54,7 +56,8 @@ count_at s h = count_get s (length s - h) ∙ ap (λ (w : ℕ). count_of (slice_
 pub within : (s : List Cell) (h : ℕ) → h ≤ length (map shape s) → h ≤ length s
 within s h p = omega (arith, length-map s shape)
 
-pub sound_cut : (s s' : List Cell) (r : Registers) (h : ℕ) (x : Cell) (outer : Registers) → Sound s r → 1 ≤ h → h ≤ length s → cell_at (h - 1 + 1) s ≡ Some x → outer_of (shape x) ≡ Some outer → s' ≡ cut (h - 1) s → Sound s' outer
+pub sound_cut : (s s' : List Cell) (r : Registers) (h : ℕ) (x : Cell) (outer : Registers) → Sound s r → 1 ≤ h → h ≤ length s → cell_at (h - 1 + 1) s ≡ Some x
+    → outer_of (shape x) ≡ Some outer → s' ≡ cut (h - 1) s → Sound s' outer
 sound_cut s s' r h x outer t a b e o n = rw n (sound_saved s r h x (cut (h - 1) s) outer t (cut_at s h x a b e) o)
 
 -- the newest suspension
@@ -62,7 +65,8 @@ sound_cut s s' r h x outer t a b e o n = rw n (sound_saved s r h x (cut (h - 1) 
 pub newest_at : (s : List Cell) (r : Registers) (h : ℕ) → Sound s r → r.newest ≡ Some h → KindAt IsSuspended (map shape s) h
 newest_at s r h t e = subst (λ (w : Option ℕ). MayBeAt IsSuspended (map shape s) w) e t.stands.leads.newest
 
-pub kind_of : (Kind : Option Shape → Type 0) (s : List Cell) (h : ℕ) (x : Cell) → KindAt Kind (map shape s) h → cell_at (h - 1 + 1) s ≡ Some x → Kind (Some (shape x))
+pub kind_of : (Kind : Option Shape → Type 0) (s : List Cell) (h : ℕ) (x : Cell) → KindAt Kind (map shape s) h → cell_at (h - 1 + 1) s ≡ Some x
+    → Kind (Some (shape x))
 kind_of Kind s h x k e = subst Kind (shape_at s h x (at_height s h x k.from e)) k.is
 
 pub suspension_is : (x : Cell) → IsSuspended (Some (shape x)) → (why : Why) × (r : Registers) × (place : ℕ) × (x ≡ Suspension why r place)
@@ -75,7 +79,8 @@ suspension_is (Limit count registers) k = absurd k
 suspension_is (Operand x) k = absurd k
 
 pub resume_is : (m : FlatStack) (h : ℕ) (why : Why) (outer : Registers) (place : ℕ) (s' : List Cell) → m.registers.newest ≡ Some h → 1 ≤ h → h ≤ length m.cells
-    → cell_at (h - 1 + 1) m.cells ≡ Some (Suspension why outer place) → s' ≡ cut (h - 1) m.cells → resume m ≡ Some (why, record { cells = s'; registers = outer; place = place })
+    → cell_at (h - 1 + 1) m.cells ≡ Some (Suspension why outer place) → s' ≡ cut (h - 1) m.cells
+    → resume m ≡ Some (why, record { cells = s'; registers = outer; place = place })
 resume_is m h why outer place s' e a b k n =
     ap (λ (w : Option ℕ). option_and_then (λ (height : ℕ). resume_from (cut height m.cells)) w) e
     ∙ ap resume_from (cut_at m.cells h (Suspension why outer place) a b k)
@@ -83,7 +88,8 @@ resume_is m h why outer place s' e a b k n =
 
 -- the frame
 
-pub call_is : (x : Cell) → IsFramed (Some (shape x)) → is_base_cell (Some x) ≡ false → (proc locals level : ℕ) × (r : Registers) × (place : ℕ) × (x ≡ Call proc locals level r place)
+pub call_is : (x : Cell) → IsFramed (Some (shape x)) → is_base_cell (Some x) ≡ false
+    → (proc locals level : ℕ) × (r : Registers) × (place : ℕ) × (x ≡ Call proc locals level r place)
 call_is (Call proc locals level r place) k n = (proc, locals, level, r, place, refl)
 call_is (Base proc locals) k n = cc
 call_is (Suspension why r place) k n = absurd k
@@ -95,10 +101,13 @@ call_is (Operand x) k n = absurd k
 pub frame_kind : (s : List Cell) (h : ℕ) → FrameAt (map shape s) h → KindAt IsFramed (map shape s) h
 frame_kind s h f = record { from = f.from; to = base_within (map shape s) h f; is = f.is }
 
-pub leave_is : (m : FlatStack) (proc locals level : ℕ) (outer : Registers) (place : ℕ) (s' : List Cell) → 1 ≤ m.registers.base → m.registers.base ≤ length m.cells
-    → cell_at (m.registers.base - 1 + 1) m.cells ≡ Some (Call proc locals level outer place) → s' ≡ cut (m.registers.base - 1) m.cells → leave m ≡ Some (record { cells = s'; registers = outer; place = place })
+pub leave_is : (m : FlatStack) (proc locals level : ℕ) (outer : Registers) (place : ℕ) (s' : List Cell) → 1 ≤ m.registers.base
+    → m.registers.base ≤ length m.cells
+    → cell_at (m.registers.base - 1 + 1) m.cells ≡ Some (Call proc locals level outer place) → s' ≡ cut (m.registers.base - 1) m.cells
+    → leave m ≡ Some (record { cells = s'; registers = outer; place = place })
 leave_is m proc locals level outer place s' a b k n =
-    ap leave_from (cut_at m.cells m.registers.base (Call proc locals level outer place) a b k) ∙ ap (λ (w : List Cell). leave_from (Call proc locals level outer place ∷ w)) (sym n)
+    ap leave_from (cut_at m.cells m.registers.base (Call proc locals level outer place) a b k)
+    ∙ ap (λ (w : List Cell). leave_from (Call proc locals level outer place ∷ w)) (sym n)
 
 -- the operand below the mark
 
@@ -130,10 +139,12 @@ get_drop zero k s = let e : k ≡ 0 + k = omega arith in ap (λ (w : ℕ). slice
 get_drop (suc n) k [] = refl
 get_drop (suc n) k (x ∷ s) = let e : suc (n + k) ≡ suc n + k = omega arith in get_drop n k s ∙ ap (λ (w : ℕ). slice_get (x ∷ s) w) e
 
-pub below_get : (m : FlatStack) (x : Cell) → 2 ≤ m.registers.mark → m.registers.mark ≤ length m.cells → cell_at (m.registers.mark - 2 + 1) m.cells ≡ Some x → below m ≡ below_of (Some x)
+pub below_get : (m : FlatStack) (x : Cell) → 2 ≤ m.registers.mark → m.registers.mark ≤ length m.cells → cell_at (m.registers.mark - 2 + 1) m.cells ≡ Some x
+    → below m ≡ below_of (Some x)
 below_get m x a b e =
     let p : (length m.cells - m.registers.mark) + 1 ≡ length m.cells - (m.registers.mark - 2 + 1) = omega arith in
-    below_second (cut m.registers.mark m.cells) ∙ ap below_of (get_drop (length m.cells - m.registers.mark) 1 m.cells ∙ ap (λ (w : ℕ). slice_get m.cells w) p ∙ e)
+    below_second (cut m.registers.mark m.cells)
+    ∙ ap below_of (get_drop (length m.cells - m.registers.mark) 1 m.cells ∙ ap (λ (w : ℕ). slice_get m.cells w) p ∙ e)
 
 pub operand_is : (x : Cell) → IsSome (below_of (Some x)) → (item : Item) × (x ≡ Operand item)
 operand_is (Operand x) k = (x, refl)

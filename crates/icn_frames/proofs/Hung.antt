@@ -17,7 +17,8 @@ use Rattle.icn_frames.proofs.CellFacts.{sound_cut, within, kind_of}
 -- what a lower part leads to, the whole leads to
 
 pub split_is : (s : List Cell) (to : ℕ) → take (length s - to) (map shape s) ++ map shape (cut to s) ≡ map shape s
-split_is s to = ap (λ (w : List Shape). take (length s - to) (map shape s) ++ w) (map_drop shape (length s - to) s) ∙ take-append-drop (length s - to) (map shape s)
+split_is s to =
+    ap (λ (w : List Shape). take (length s - to) (map shape s) ++ w) (map_drop shape (length s - to) s) ∙ take-append-drop (length s - to) (map shape s)
 
 pub leads_lower : (s : List Cell) (to : ℕ) (r : Registers) → Leads (map shape (cut to s)) r → Leads (map shape s) r
 leads_lower s to r l = subst (λ (w : List Shape). Leads w r) (split_is s to) (leads_above (take (length s - to) (map shape s)) (map shape (cut to s)) r l)
@@ -38,7 +39,8 @@ cut_all s = let e : length s - length s ≡ 0 = omega arith in ap (λ (n : ℕ).
 
 -- the code's cells are the definition's
 
-pub hung_is : (x : Cell) (s s' : List Cell) (r0 : Registers) (from to : ℕ) (given : Option Item) → Sound (cut to s) r0 → to ≤ length s → from ≡ bottom (map shape s) r0
+pub hung_is : (x : Cell) (s s' : List Cell) (r0 : Registers) (from to : ℕ) (given : Option Item) → Sound (cut to s) r0 → to ≤ length s
+    → from ≡ bottom (map shape s) r0
     → s' ≡ with_given given (with_copy from to (x ∷ s)) → s' ≡ with_given given (copy_up (cut to s) (x ∷ s))
 hung_is x s s' r0 from to given t h e n =
     n ∙ ap (with_given given) (copied_is x s (cut to s) r0 from to t h refl (e ∙ bottom_lower s to r0 t.stands.leads))
@@ -48,14 +50,16 @@ sound_given None s r t = t
 sound_given (Some x) s r t = sound_push x s r t
 
 pub sound_hung : (why : Why) (s s' : List Cell) (r r0 : Registers) (place n from to : ℕ) (given : Option Item) (scan : Option ℕ)
-    → Sound s r → Sound (cut to s) r0 → to ≤ length s → from ≡ bottom (map shape s) r0 → n ≡ length s + 1 → MayBeAt IsScan (map shape (Suspension why r place ∷ s)) scan
+    → Sound s r → Sound (cut to s) r0 → to ≤ length s → from ≡ bottom (map shape s) r0 → n ≡ length s + 1
+    → MayBeAt IsScan (map shape (Suspension why r place ∷ s)) scan
     → s' ≡ with_given given (with_copy from to (Suspension why r place ∷ s)) → Sound s' (record r0 { newest = Some n; scan = scan })
 sound_hung why s s' r r0 place n from to given scan t u h e m k b =
     subst (λ (w : List Cell). Sound w (record r0 { newest = Some n; scan = scan })) (sym (hung_is (Suspension why r place) s s' r0 from to given u h e b))
     (sound_given given (copy_up (cut to s) (Suspension why r place ∷ s)) (record r0 { newest = Some n; scan = scan })
     (sound_suspend why s (cut to s) r r0 place n scan to t refl u (m ∙ add-one (length s)) k))
 
-pub scan_lower : (why : Why) (s : List Cell) (to place : ℕ) (r r0 : Registers) → Sound (cut to s) r0 → MayBeAt IsScan (map shape (Suspension why r place ∷ s)) r0.scan
+pub scan_lower : (why : Why) (s : List Cell) (to place : ℕ) (r r0 : Registers) → Sound (cut to s) r0
+    → MayBeAt IsScan (map shape (Suspension why r place ∷ s)) r0.scan
 scan_lower why s to place r r0 t = maybe_on IsScan (shape (Suspension why r place)) (map shape s) r0.scan (leads_lower s to r0 t.stands.leads).scan
 
 pub given_is : (given : Option Item) (cells s' : List Cell) (r : Registers) (place : ℕ) → s' ≡ with_given given cells
@@ -65,8 +69,10 @@ given_is (Some x) cells s' r place e = let F : List Cell → Option FlatStack = 
 
 -- a mark
 
-pub mark_suspended_is : (m : FlatStack) (x : Cell) (below : List Cell) (r : Registers) → shape x ≡ AMark r → suspend_mark_from m (x ∷ below) ≡ Some (suspend_onto Alt m below r m.place)
-mark_suspended_is m (Mark label changed registers) below r e = let k : registers ≡ r = cc in ap (λ (w : Registers). suspend_mark_from m (Mark label changed w ∷ below)) k
+pub mark_suspended_is : (m : FlatStack) (x : Cell) (below : List Cell) (r : Registers) → shape x ≡ AMark r
+    → suspend_mark_from m (x ∷ below) ≡ Some (suspend_onto Alt m below r m.place)
+mark_suspended_is m (Mark label changed registers) below r e =
+    let k : registers ≡ r = cc in ap (λ (w : Registers). suspend_mark_from m (Mark label changed w ∷ below)) k
 mark_suspended_is m (Limit count registers) below r e = let k : registers ≡ r = cc in ap (λ (w : Registers). suspend_mark_from m (Limit count w ∷ below)) k
 mark_suspended_is m (Base proc locals) below r e = cc
 mark_suspended_is m (Call proc locals level registers place) below r e = cc
@@ -74,7 +80,8 @@ mark_suspended_is m (Local value) below r e = cc
 mark_suspended_is m (Suspension why registers place) below r e = cc
 mark_suspended_is m (Operand item) below r e = cc
 
-pub marked_kind : (s : List Cell) (r : Registers) (x : Cell) → Sound s r → (r.mark == r.base) ≡ false → cell_at (r.mark - 1 + 1) s ≡ Some x → IsMarked (Some (shape x))
+pub marked_kind : (s : List Cell) (r : Registers) (x : Cell) → Sound s r → (r.mark == r.base) ≡ false → cell_at (r.mark - 1 + 1) s ≡ Some x
+    → IsMarked (Some (shape x))
 marked_kind s r x t e k =
     let a : MarkOr (r.mark == r.base) (Some (shape x)) = kind_of (MarkOr (r.mark == r.base)) s r.mark x t.stands.leads.mark k in
     subst (λ (b : Bool). MarkOr b (Some (shape x))) e a
@@ -88,7 +95,11 @@ suspend_mark_is m x s' r0 n from given t k e u f h b =
     let h1 : 1 ≤ m.registers.mark = t.stands.leads.mark.from in
     let h2 : m.registers.mark ≤ length m.cells = within m.cells m.registers.mark t.stands.leads.mark.to in
     let h3 : m.registers.mark - 1 ≤ length m.cells = omega arith in
-    let F : ℕ → Option FlatStack = λ w. given_to given (Some (record { cells = copy_up (cut (m.registers.mark - 1) m.cells) (Suspension Alt m.registers m.place ∷ m.cells); registers = record r0 { newest = Some w }; place = m.place })) in
+    let F : ℕ → Option FlatStack = λ w. given_to given (Some (record {
+      cells = copy_up (cut (m.registers.mark - 1) m.cells) (Suspension Alt m.registers m.place ∷ m.cells);
+      registers = record r0 { newest = Some w };
+      place = m.place;
+    })) in
     ap (λ (w : List Cell). given_to given (suspend_mark_from m w)) (cut_at m.cells m.registers.mark x h1 h2 k)
     ∙ ap (given_to given) (mark_suspended_is m x (cut (m.registers.mark - 1) m.cells) r0 e)
     ∙ ap F (sym (h ∙ add-one (length m.cells)))
@@ -97,7 +108,8 @@ suspend_mark_is m x s' r0 n from given t k e u f h b =
 
 -- a procedure
 
-pub suspend_proc_is : (m : FlatStack) (proc locals level place : ℕ) (s' : List Cell) (r0 : Registers) (n from : ℕ) (given : Option Item) → Sound m.cells m.registers
+pub suspend_proc_is : (m : FlatStack) (proc locals level place : ℕ) (s' : List Cell) (r0 : Registers) (n from : ℕ) (given : Option Item)
+    → Sound m.cells m.registers
     → cell_at (m.registers.base - 1 + 1) m.cells ≡ Some (Call proc locals level r0 place) → Sound (cut (m.registers.base - 1) m.cells) r0
     → from ≡ bottom (map shape m.cells) r0 → n ≡ length m.cells + 1
     → s' ≡ with_given given (with_copy from (m.registers.base - 1) (Suspension Proc m.registers m.place ∷ m.cells))
@@ -106,7 +118,11 @@ suspend_proc_is m proc locals level place s' r0 n from given t k u f h b =
     let h1 : 1 ≤ m.registers.base = t.stands.leads.base.from in
     let h2 : m.registers.base ≤ length m.cells = within m.cells m.registers.base (base_within (map shape m.cells) m.registers.base t.stands.leads.base) in
     let h3 : m.registers.base - 1 ≤ length m.cells = omega arith in
-    let F : ℕ → Option FlatStack = λ w. given_to given (Some (record { cells = copy_up (cut (m.registers.base - 1) m.cells) (Suspension Proc m.registers m.place ∷ m.cells); registers = record r0 { newest = Some w }; place = place })) in
+    let F : ℕ → Option FlatStack = λ w. given_to given (Some (record {
+      cells = copy_up (cut (m.registers.base - 1) m.cells) (Suspension Proc m.registers m.place ∷ m.cells);
+      registers = record r0 { newest = Some w };
+      place = place;
+    })) in
     ap (λ (w : List Cell). given_to given (suspend_proc_from m w)) (cut_at m.cells m.registers.base (Call proc locals level r0 place) h1 h2 k)
     ∙ ap F (sym (h ∙ add-one (length m.cells)))
     ∙ given_is given (copy_up (cut (m.registers.base - 1) m.cells) (Suspension Proc m.registers m.place ∷ m.cells)) s' (record r0 { newest = Some n }) place
@@ -141,10 +157,12 @@ suspend_is m why s' scan n from given t f h q b =
 pub scan_at : (s : List Cell) (r : Registers) (h : ℕ) → Sound s r → r.scan ≡ Some h → KindAt IsScan (map shape s) h
 scan_at s r h t e = subst (λ (w : Option ℕ). MayBeAt IsScan (map shape s) w) e t.stands.leads.scan
 
-pub older_at : (s : List Cell) (r : Registers) (h : ℕ) (c : Option Cell) → cell_at h s ≡ c → 1 ≤ h → h ≤ length s → Sound s r → MayBeAt IsScan (map shape s) (scan_of c)
+pub older_at : (s : List Cell) (r : Registers) (h : ℕ) (c : Option Cell) → cell_at h s ≡ c → 1 ≤ h → h ≤ length s → Sound s r
+    → MayBeAt IsScan (map shape s) (scan_of c)
 older_at s r h (Some (Suspension why r0 place)) e a b t =
     let p : h - 1 + 1 ≡ h = omega arith in
-    (leads_lower s (h - 1) r0 (sound_cut s (cut (h - 1) s) r h (Suspension why r0 place) r0 t a b (ap (λ (n : ℕ). cell_at n s) p ∙ e) refl refl).stands.leads).scan
+    (leads_lower s (h - 1) r0
+    (sound_cut s (cut (h - 1) s) r h (Suspension why r0 place) r0 t a b (ap (λ (n : ℕ). cell_at n s) p ∙ e) refl refl).stands.leads).scan
 older_at s r h (Some (Base proc locals)) e a b t = tt
 older_at s r h (Some (Call proc locals level registers place)) e a b t = tt
 older_at s r h (Some (Local value)) e a b t = tt
@@ -153,7 +171,8 @@ older_at s r h (Some (Limit count registers)) e a b t = tt
 older_at s r h (Some (Operand item)) e a b t = tt
 older_at s r h None e a b t = tt
 
-pub older_in : (s : List Cell) (r : Registers) (scan : Option ℕ) → Sound s r → MayBeAt IsScan (map shape s) scan → MayBeAt IsScan (map shape s) (older_scan s scan)
+pub older_in : (s : List Cell) (r : Registers) (scan : Option ℕ) → Sound s r → MayBeAt IsScan (map shape s) scan
+    → MayBeAt IsScan (map shape s) (older_scan s scan)
 older_in s r None t k = tt
 older_in s r (Some h) t k = older_at s r h (cell_at h s) refl k.from (within s h k.to) t
 
@@ -170,13 +189,19 @@ scan_here why s r place n scan t h e =
         let m : n ≡ suc (length (map shape s)) = h ∙ add-one (length s) ∙ ap (λ (w : ℕ). suc w) (sym (length-map s shape)) in
         let a : 1 ≤ n = omega arith in
         let b : n ≤ suc (length (map shape s)) = omega arith in
-        record { from = a; to = b; is = subst IsScan (sym (ap (λ (w : ℕ). cell_at w (map shape (Suspension (Scan pair) r place ∷ s))) m ∙ cell_at_top (ASuspension true r) (map shape s))) tt }
+        record {
+          from = a;
+          to = b;
+          is = subst IsScan
+              (sym (ap (λ (w : ℕ). cell_at w (map shape (Suspension (Scan pair) r place ∷ s))) m ∙ cell_at_top (ASuspension true r) (map shape s))) tt;
+        }
     here Escan = on Escan (older_scan s r.scan) (older_in s r r.scan t t.stands.leads.scan)
     here Alt = on Alt r.scan t.stands.leads.scan
     here (Op rest) = on (Op rest) r.scan t.stands.leads.scan
     here Proc = on Proc r.scan t.stands.leads.scan
 
-pub bottom_is : (s : List Cell) (r : Registers) (x : Cell) (n : ℕ) → r.newest ≡ None → r.mark ≡ r.base → 1 ≤ r.base → cell_at (r.base - 1 + 1) s ≡ Some x → count_of (Some (shape x)) ≡ n → r.base + n ≡ bottom (map shape s) r
+pub bottom_is : (s : List Cell) (r : Registers) (x : Cell) (n : ℕ) → r.newest ≡ None → r.mark ≡ r.base → 1 ≤ r.base → cell_at (r.base - 1 + 1) s ≡ Some x
+    → count_of (Some (shape x)) ≡ n → r.base + n ≡ bottom (map shape s) r
 bottom_is s r x n e m h k c =
     let a : cell_at r.base (map shape s) ≡ Some (shape x) = shape_at s r.base x (at_height s r.base x h k) in
     let b : (r.mark == r.base) ≡ true = grind (arith, nat_tests) in

@@ -23,7 +23,8 @@ lower_may s to r h l = at r.scan l.scan
     at None k = omega arith
     at (Some n) k = omega (arith, k.to, length-map (cut to s) shape, length-drop (length s - to) s)
 
-pub saved_stands : (s : List Cell) (h : ℕ) (x : Cell) (outer : Registers) → Fit (map shape s) → 1 ≤ h → h ≤ length s → cell_at h s ≡ Some x → outer_of (shape x) ≡ Some outer → Stands (map shape (cut (h - 1) s)) outer
+pub saved_stands : (s : List Cell) (h : ℕ) (x : Cell) (outer : Registers) → Fit (map shape s) → 1 ≤ h → h ≤ length s → cell_at h s ≡ Some x
+    → outer_of (shape x) ≡ Some outer → Stands (map shape (cut (h - 1) s)) outer
 saved_stands s h x outer t a b e o =
     let p : h - 1 + 1 ≡ h = omega arith in
     let c : cut h s ≡ x ∷ cut (h - 1) s = cut_at s h x a b (ap (λ (n : ℕ). cell_at n s) p ∙ e) in
@@ -65,7 +66,8 @@ pub oldest_none : (n : ℕ) (s : List Cell) (until : Option ℕ) → oldest_from
 oldest_none zero s until = refl
 oldest_none (suc n) s until = none_case (is_same None until) (oldest_from n s until None) (oldest_none n s until)
 
-pub enough : (n k : ℕ) (s : List Cell) (until scan : Option ℕ) → Fit (map shape s) → MayBeAt IsScan (map shape s) scan → height_of scan ≤ n → height_of scan ≤ k → oldest_from n s until scan ≡ oldest_from k s until scan
+pub enough : (n k : ℕ) (s : List Cell) (until scan : Option ℕ) → Fit (map shape s) → MayBeAt IsScan (map shape s) scan → height_of scan ≤ n → height_of scan ≤ k
+    → oldest_from n s until scan ≡ oldest_from k s until scan
 enough n k s until None t m p q = oldest_none n s until ∙ sym (oldest_none k s until)
 enough zero k s until (Some h) t m p q = absurd (omega (arith, m.from))
 enough (suc n) zero s until (Some h) t m p q = absurd (omega (arith, m.from))
@@ -74,7 +76,8 @@ enough (suc n) (suc k) s until (Some h) t m p q =
     same_case (is_same (older_scan s (Some h)) until) (Some h) (oldest_from n s until (older_scan s (Some h))) (oldest_from k s until (older_scan s (Some h)))
     (enough n k s until (older_scan s (Some h)) t l.is (omega (arith, l.below)) (omega (arith, l.below)))
 
-pub oldest_here : (s : List Cell) (until : Option ℕ) (h : ℕ) → KindAt IsScan (map shape s) h → is_same (older_scan s (Some h)) until ≡ true → oldest_from (length s) s until (Some h) ≡ Some h
+pub oldest_here : (s : List Cell) (until : Option ℕ) (h : ℕ) → KindAt IsScan (map shape s) h → is_same (older_scan s (Some h)) until ≡ true
+    → oldest_from (length s) s until (Some h) ≡ Some h
 oldest_here s until h k e =
     let b : h ≤ length s = within s h k.to in
     let p : length s ≡ suc (length s - 1) = omega (arith, k.from) in
@@ -93,7 +96,8 @@ oldest_on s until h t k e =
 
 -- dropping a mark
 
-pub unmarked_is : (m : FlatStack) (x : Cell) (below : List Cell) (r : Registers) → shape x ≡ AMark r → unmark_from m (x ∷ below) ≡ Some (record m { cells = below; registers = r }, pair_at m.cells (oldest r.scan m))
+pub unmarked_is : (m : FlatStack) (x : Cell) (below : List Cell) (r : Registers) → shape x ≡ AMark r
+    → unmark_from m (x ∷ below) ≡ Some (record m { cells = below; registers = r }, pair_at m.cells (oldest r.scan m))
 unmarked_is m (Mark label changed registers) below r e = let k : registers ≡ r = cc in ap (λ (w : Registers). unmark_from m (Mark label changed w ∷ below)) k
 unmarked_is m (Limit count registers) below r e = let k : registers ≡ r = cc in ap (λ (w : Registers). unmark_from m (Limit count w ∷ below)) k
 unmarked_is m (Base proc locals) below r e = cc
@@ -102,8 +106,10 @@ unmarked_is m (Local value) below r e = cc
 unmarked_is m (Suspension why registers place) below r e = cc
 unmarked_is m (Operand item) below r e = cc
 
-pub unmark_is : (m : FlatStack) (x : Cell) (s' : List Cell) (r : Registers) (pair : Option Pair) → Sound m.cells m.registers → cell_at (m.registers.mark - 1 + 1) m.cells ≡ Some x → shape x ≡ AMark r
-    → s' ≡ cut (m.registers.mark - 1) m.cells → pair ≡ pair_at m.cells (oldest r.scan m) → unmark m ≡ Some (record { cells = s'; registers = r; place = m.place }, pair)
+pub unmark_is : (m : FlatStack) (x : Cell) (s' : List Cell) (r : Registers) (pair : Option Pair) → Sound m.cells m.registers
+    → cell_at (m.registers.mark - 1 + 1) m.cells ≡ Some x → shape x ≡ AMark r
+    → s' ≡ cut (m.registers.mark - 1) m.cells → pair ≡ pair_at m.cells (oldest r.scan m)
+    → unmark m ≡ Some (record { cells = s'; registers = r; place = m.place }, pair)
 unmark_is m x s' r pair t k e b p =
     let F : List Cell → Option Pair → Option (FlatStack × Option Pair) = λ v w. Some (record { cells = v; registers = r; place = m.place }, w) in
     ap (unmark_from m) (cut_at m.cells m.registers.mark x t.stands.leads.mark.from (within m.cells m.registers.mark t.stands.leads.mark.to) k)
@@ -113,7 +119,8 @@ unmark_is m x s' r pair t k e b p =
 
 -- exchanging a pair
 
-some_case : (n : ℕ) (s : List Cell) (h : ℕ) (o : Option ℕ) → ((k : ℕ) → IsSome (oldest_from n s None (Some k))) → IsSome (elim (is_same o None) as (λ x. Option ℕ) [ true ↦ Some h | false ↦ oldest_from n s None o ])
+some_case : (n : ℕ) (s : List Cell) (h : ℕ) (o : Option ℕ) → ((k : ℕ) → IsSome (oldest_from n s None (Some k)))
+    → IsSome (elim (is_same o None) as (λ x. Option ℕ) [ true ↦ Some h | false ↦ oldest_from n s None o ])
 some_case n s h None f = refl
 some_case n s h (Some k) f = f k
 
@@ -131,11 +138,13 @@ pub scan_some : (old : Bool) (m : FlatStack) → IsSome m.registers.scan → IsS
 scan_some true m k = oldest_some m m.registers.scan refl k
 scan_some false m k = k
 
-pub swapped_is : (m : FlatStack) (h : ℕ) (pair was : Pair) (s' : List Cell) (scan : Option ℕ) → scan ≡ Some h → SwapsAt h pair m.cells was s' → swap_at pair m scan ≡ Some (was, record m { cells = s' })
+pub swapped_is : (m : FlatStack) (h : ℕ) (pair was : Pair) (s' : List Cell) (scan : Option ℕ) → scan ≡ Some h → SwapsAt h pair m.cells was s'
+    → swap_at pair m scan ≡ Some (was, record m { cells = s' })
 swapped_is m h pair was s' scan e k =
     let F : List Cell → Option (Pair × FlatStack) = λ v. Some (was, record m { cells = v }) in
     ap (swap_at pair m) e ∙ ap (with_pair pair h m) k.was ∙ ap F (sym k.is)
 
-pub swap_is : (old : Bool) (m : FlatStack) (h : ℕ) (pair was : Pair) (s' : List Cell) → scan_chosen old m ≡ Some h → SwapsAt h pair m.cells was s' → swap_by old pair m ≡ Some (was, record m { cells = s' })
+pub swap_is : (old : Bool) (m : FlatStack) (h : ℕ) (pair was : Pair) (s' : List Cell) → scan_chosen old m ≡ Some h → SwapsAt h pair m.cells was s'
+    → swap_by old pair m ≡ Some (was, record m { cells = s' })
 swap_is true m h pair was s' e k = swapped_is m h pair was s' (oldest None m) e k
 swap_is false m h pair was s' e k = swapped_is m h pair was s' m.registers.scan e k

@@ -15,7 +15,8 @@ use Rattle.icn_frames_laws.proofs.CellsRead.{cut_read, at_read, set_read, above_
 
 -- a new stack, and one that a procedure enters
 
-pub begin_read : (read : Interpretation) (proc : ℕ) (values : List Val) (place : ℕ) (m : code.Frames) → code.begin proc (map read.value values) place m ≡ stack_read read (flat.begin proc values place)
+pub begin_read : (read : Interpretation) (proc : ℕ) (values : List Val) (place : ℕ) (m : code.Frames)
+    → code.begin proc (map read.value values) place m ≡ stack_read read (flat.begin proc values place)
 begin_read read proc values place m =
     let F : List code.Cell → code.Frames = λ cells. record { cells = cells; registers = registers_read (flat.registers_at 1); place = place } in
     ap (λ (n : ℕ). F (code.put_above (map read.value values) (code.base proc n ∷ []))) (length-map values read.value)
@@ -74,7 +75,8 @@ locals_of_read read (Some (Limit count registers)) = refl
 locals_of_read read (Some (Suspension why registers place)) = refl
 locals_of_read read (Some (Operand item)) = refl
 
-locals_down_read : (read : Interpretation) (n : ℕ) (s : List Cell) (values : List Val) → code.locals_down n (map (cell_read read) s) (map read.value values) ≡ map read.value (flat.locals_down n s values)
+locals_down_read : (read : Interpretation) (n : ℕ) (s : List Cell) (values : List Val)
+    → code.locals_down n (map (cell_read read) s) (map read.value values) ≡ map read.value (flat.locals_down n s values)
 locals_down_read read zero s values = refl
 locals_down_read read (suc n) [] values = refl
 locals_down_read read (suc n) (Local value ∷ s) values = locals_down_read read n s (value ∷ values)
@@ -88,7 +90,8 @@ locals_down_read read (suc n) (Operand item ∷ s) values = refl
 pub locals_read : (read : Interpretation) (m : FlatStack) → code.locals (stack_read read m) ≡ map read.value (flat.locals m)
 locals_read read m =
     let n : ℕ = flat.locals_of (flat.frame m) in
-    ap (λ (k : ℕ). code.locals_down k (code.cut (m.registers.base + k) (map (cell_read read) m.cells)) []) (ap code.locals_of (at_read read m.registers.base m.cells) ∙ locals_of_read read (flat.frame m))
+    ap (λ (k : ℕ). code.locals_down k (code.cut (m.registers.base + k) (map (cell_read read) m.cells)) [])
+    (ap code.locals_of (at_read read m.registers.base m.cells) ∙ locals_of_read read (flat.frame m))
     ∙ ap (λ (w : List code.Cell). code.locals_down n w []) (cut_read read (m.registers.base + n) m.cells)
     ∙ locals_down_read read n (cut (m.registers.base + n) m.cells) []
 
@@ -103,20 +106,24 @@ set_local_read read h value s (Some (Limit count registers)) = refl
 set_local_read read h value s (Some (Suspension why registers place)) = refl
 set_local_read read h value s (Some (Operand item)) = refl
 
-set_from_read : (read : Interpretation) (h : ℕ) (values : List Val) (s : List Cell) → code.set_from h (map read.value values) (map (cell_read read) s) ≡ map (cell_read read) (flat.set_from h values s)
+set_from_read : (read : Interpretation) (h : ℕ) (values : List Val) (s : List Cell)
+    → code.set_from h (map read.value values) (map (cell_read read) s) ≡ map (cell_read read) (flat.set_from h values s)
 set_from_read read h [] s = refl
 set_from_read read h (value ∷ values) s =
-    ap (λ (w : Option code.Cell). code.set_from (suc h) (map read.value values) (code.set_local (suc h) (read.value value) (map (cell_read read) s) w)) (at_read read (suc h) s)
+    ap (λ (w : Option code.Cell). code.set_from (suc h) (map read.value values) (code.set_local (suc h) (read.value value) (map (cell_read read) s) w))
+    (at_read read (suc h) s)
     ∙ ap (λ (w : List code.Cell). code.set_from (suc h) (map read.value values) w) (set_local_read read (suc h) value s (cell_at (suc h) s))
     ∙ set_from_read read (suc h) values (flat.set_local (suc h) value s (cell_at (suc h) s))
 
-pub set_locals_read : (read : Interpretation) (values : List Val) (m : FlatStack) → code.set_locals (map read.value values) (stack_read read m) ≡ stack_read read (flat.set_locals values m)
+pub set_locals_read : (read : Interpretation) (values : List Val) (m : FlatStack)
+    → code.set_locals (map read.value values) (stack_read read m) ≡ stack_read read (flat.set_locals values m)
 set_locals_read read values m =
     ap (λ (w : List code.Cell). let k : code.Frames = record (stack_read read m) { cells = w } in k) (set_from_read read m.registers.base values m.cells)
 
 -- operands
 
-pop_from_read : (read : Interpretation) (m : FlatStack) (s : List Cell) → code.pop_from (stack_read read m) (map (cell_read read) s) ≡ option_map (popped_read read) (flat.pop_from m s)
+pop_from_read : (read : Interpretation) (m : FlatStack) (s : List Cell)
+    → code.pop_from (stack_read read m) (map (cell_read read) s) ≡ option_map (popped_read read) (flat.pop_from m s)
 pop_from_read read m [] = refl
 pop_from_read read m (Operand item ∷ s) = refl
 pop_from_read read m (Base proc locals ∷ s) = refl
@@ -131,7 +138,8 @@ pop_read read m = pop_from_read read m m.cells
 
 -- to take operands is to pop them
 pub taken_pop : (n : ℕ) (m : code.Frames) (items : List rows.Item)
-    → code.take_top (suc n) m m.cells items ≡ option_and_then (λ (pair : rows.Item × code.Frames). code.take_top n pair.1 pair.1.cells (pair.0 ∷ items)) (code.pop m)
+    → code.take_top (suc n) m m.cells items
+    ≡ option_and_then (λ (pair : rows.Item × code.Frames). code.take_top n pair.1 pair.1.cells (pair.0 ∷ items)) (code.pop m)
 taken_pop n m items = by_cells m.cells
   where
     over : (k : ℕ) (s t : List code.Cell) (xs : List rows.Item) → code.take_top k m s xs ≡ code.take_top k (record m { cells = t }) s xs
@@ -145,7 +153,8 @@ taken_pop n m items = by_cells m.cells
     over (suc k) (code.limit count registers ∷ s) t xs = refl
     over (suc k) (code.suspension why registers place ∷ s) t xs = refl
 
-    by_cells : (s : List code.Cell) → code.take_top (suc n) m s items ≡ option_and_then (λ (pair : rows.Item × code.Frames). code.take_top n pair.1 pair.1.cells (pair.0 ∷ items)) (code.pop_from m s)
+    by_cells : (s : List code.Cell) → code.take_top (suc n) m s items
+        ≡ option_and_then (λ (pair : rows.Item × code.Frames). code.take_top n pair.1 pair.1.cells (pair.0 ∷ items)) (code.pop_from m s)
     by_cells [] = refl
     by_cells (code.operand x ∷ s) = over n s s (x ∷ items)
     by_cells (code.base proc locals ∷ s) = refl
@@ -171,21 +180,26 @@ below_read read m = ap code.below_in (cut_read read m.registers.mark m.cells) �
 
 -- marks
 
-pub open_read : (read : Interpretation) (x : Cell) (m : FlatStack) → code.push_mark (cell_read read x) (stack_read read m) ≡ stack_read read (flat.open_with x m)
+pub open_read : (read : Interpretation) (x : Cell) (m : FlatStack)
+    → code.push_mark (cell_read read x) (stack_read read m) ≡ stack_read read (flat.open_with x m)
 open_read read x m =
-    ap (λ (n : ℕ). let k : code.Frames = record (stack_read read m) { cells = cell_read read x ∷ map (cell_read read) m.cells; registers = record (registers_read m.registers) { mark = suc n; newest = None } } in k)
+    ap (λ (n : ℕ). let k : code.Frames = record (stack_read read
+    m) { cells = cell_read read x ∷ map (cell_read read) m.cells; registers = record (registers_read m.registers) { mark = suc n; newest = None } } in k)
     (length-map m.cells (cell_read read))
 
-pub open_mark_read : (read : Interpretation) (label : Option ℕ) (m : FlatStack) → code.open_mark label (stack_read read m) ≡ stack_read read (flat.open_either label None m)
+pub open_mark_read : (read : Interpretation) (label : Option ℕ) (m : FlatStack)
+    → code.open_mark label (stack_read read m) ≡ stack_read read (flat.open_either label None m)
 open_mark_read read label m = open_read read (Mark label false m.registers) m
 
-pub open_limit_read : (read : Interpretation) (label : Option ℕ) (count : ℕ) (m : FlatStack) → code.open_limit count (stack_read read m) ≡ stack_read read (flat.open_either label (Some count) m)
+pub open_limit_read : (read : Interpretation) (label : Option ℕ) (count : ℕ) (m : FlatStack)
+    → code.open_limit count (stack_read read m) ≡ stack_read read (flat.open_either label (Some count) m)
 open_limit_read read label count m = open_read read (Limit count m.registers) m
 
 relabel_at_read : (read : Interpretation) (label : ℕ) (m : FlatStack) (cell : Option Cell)
     → code.relabel_in label (stack_read read m) (option_map (cell_read read) cell) ≡ option_map (stack_read read) (flat.relabel_at label m cell)
 relabel_at_read read label m (Some (Mark old changed registers)) =
-    ap (λ (w : List code.Cell). let k : code.Frames = record (stack_read read m) { cells = w } in Some k) (set_read read m.registers.mark (Mark (Some label) true registers) m.cells)
+    ap (λ (w : List code.Cell). let k : code.Frames = record (stack_read read m) { cells = w } in Some k)
+    (set_read read m.registers.mark (Mark (Some label) true registers) m.cells)
 relabel_at_read read label m None = refl
 relabel_at_read read label m (Some (Base proc locals)) = refl
 relabel_at_read read label m (Some (Call proc locals level registers place)) = refl
@@ -194,13 +208,16 @@ relabel_at_read read label m (Some (Limit count registers)) = refl
 relabel_at_read read label m (Some (Suspension why registers place)) = refl
 relabel_at_read read label m (Some (Operand item)) = refl
 
-pub relabel_read : (read : Interpretation) (label : ℕ) (m : FlatStack) → code.relabel label (stack_read read m) ≡ option_map (stack_read read) (flat.relabel label m)
-relabel_read read label m = ap (code.relabel_in label (stack_read read m)) (at_read read m.registers.mark m.cells) ∙ relabel_at_read read label m (cell_at m.registers.mark m.cells)
+pub relabel_read : (read : Interpretation) (label : ℕ) (m : FlatStack)
+    → code.relabel label (stack_read read m) ≡ option_map (stack_read read) (flat.relabel label m)
+relabel_read read label m =
+    ap (code.relabel_in label (stack_read read m)) (at_read read m.registers.mark m.cells) ∙ relabel_at_read read label m (cell_at m.registers.mark m.cells)
 
 count_at_read : (read : Interpretation) (m : FlatStack) (cell : Option Cell) → IsSome (flat.count_down_at m cell)
     → code.count_in (stack_read read m) (option_map (cell_read read) cell) ≡ option_map (counted_read read) (flat.count_down_at m cell)
 count_at_read read m (Some (Limit (suc count) registers)) k =
-    ap (λ (w : List code.Cell). let k : code.Frames = record (stack_read read m) { cells = w } in let pair : ℕ × code.Frames = (count, k) in Some pair) (set_read read m.registers.mark (Limit count registers) m.cells)
+    ap (λ (w : List code.Cell). let k : code.Frames = record (stack_read read m) { cells = w } in let pair : ℕ × code.Frames = (count, k) in Some pair)
+    (set_read read m.registers.mark (Limit count registers) m.cells)
 count_at_read read m (Some (Limit zero registers)) k = cc
 count_at_read read m None k = cc
 count_at_read read m (Some (Base proc locals)) k = cc
@@ -211,5 +228,7 @@ count_at_read read m (Some (Suspension why registers place)) k = cc
 count_at_read read m (Some (Operand item)) k = cc
 
 -- above 0
-pub count_down_read : (read : Interpretation) (m : FlatStack) → IsSome (flat.count_down m) → code.count_down (stack_read read m) ≡ option_map (counted_read read) (flat.count_down m)
-count_down_read read m k = ap (code.count_in (stack_read read m)) (at_read read m.registers.mark m.cells) ∙ count_at_read read m (cell_at m.registers.mark m.cells) k
+pub count_down_read : (read : Interpretation) (m : FlatStack) → IsSome (flat.count_down m)
+    → code.count_down (stack_read read m) ≡ option_map (counted_read read) (flat.count_down m)
+count_down_read read m k =
+    ap (code.count_in (stack_read read m)) (at_read read m.registers.mark m.cells) ∙ count_at_read read m (cell_at m.registers.mark m.cells) k

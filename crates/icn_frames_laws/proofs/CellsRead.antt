@@ -22,14 +22,18 @@ cut_read read h s = ap (λ (n : ℕ). drop (n - h) (map (cell_read read) s)) (le
 pub at_read : (read : Interpretation) (h : ℕ) (s : List Cell) → code.cell_at h (map (cell_read read) s) ≡ option_map (cell_read read) (cell_at h s)
 at_read read h s = ap (λ (n : ℕ). slice_get (map (cell_read read) s) (n - h)) (length-map s (cell_read read)) ∙ slice_get-map (cell_read read) s (length s - h)
 
-pub set_read : (read : Interpretation) (h : ℕ) (x : Cell) (s : List Cell) → code.set_cell h (cell_read read x) (map (cell_read read) s) ≡ map (cell_read read) (set_cell h x s)
-set_read read h x s = ap (λ (n : ℕ). slice_set (map (cell_read read) s) (n - h) (cell_read read x)) (length-map s (cell_read read)) ∙ sym (map-set (cell_read read) s (length s - h) x)
+pub set_read : (read : Interpretation) (h : ℕ) (x : Cell) (s : List Cell)
+    → code.set_cell h (cell_read read x) (map (cell_read read) s) ≡ map (cell_read read) (set_cell h x s)
+set_read read h x s = ap (λ (n : ℕ). slice_set (map (cell_read read) s) (n - h) (cell_read read x)) (length-map s (cell_read read))
+    ∙ sym (map-set (cell_read read) s (length s - h) x)
 
-pub above_read : (read : Interpretation) (values : List Val) (s : List Cell) → code.put_above (map read.value values) (map (cell_read read) s) ≡ map (cell_read read) (flat.put_above values s)
+pub above_read : (read : Interpretation) (values : List Val) (s : List Cell)
+    → code.put_above (map read.value values) (map (cell_read read) s) ≡ map (cell_read read) (flat.put_above values s)
 above_read read [] s = refl
 above_read read (value ∷ values) s = above_read read values (Local value ∷ s)
 
-pub copy_read : (read : Interpretation) (s onto : List Cell) → code.copy_up (map (cell_read read) s) (map (cell_read read) onto) ≡ map (cell_read read) (flat.copy_up s onto)
+pub copy_read : (read : Interpretation) (s onto : List Cell)
+    → code.copy_up (map (cell_read read) s) (map (cell_read read) onto) ≡ map (cell_read read) (flat.copy_up s onto)
 copy_read read [] onto = refl
 copy_read read (Operand item ∷ s) onto = ap (λ (w : List code.Cell). code.operand (read.item item) ∷ w) (copy_read read s onto)
 copy_read read (Base proc locals ∷ s) onto = refl

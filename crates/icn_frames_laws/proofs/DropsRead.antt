@@ -17,7 +17,8 @@ outside : Option (FlatStack × Option Pair) → FlatStack → FlatStack
 outside (Some pair) m = pair.0
 outside None m = m
 
-outside_is : (m n k : FlatStack) (p q : Option Pair) → (let u : FlatStack × Option Pair = (m, p) in let v : FlatStack × Option Pair = (n, q) in Some u ≡ Some v) → m ≡ n
+outside_is : (m n k : FlatStack) (p q : Option Pair) → (let u : FlatStack × Option Pair = (m, p) in let v : FlatStack × Option Pair = (n, q) in Some u ≡ Some v)
+    → m ≡ n
 unfolding outside
 outside_is m n k p q e = ap (λ (w : Option (FlatStack × Option Pair)). outside w k) e
 
@@ -34,7 +35,8 @@ by_head read m n (Local value ∷ s) pair e = cc
 by_head read m n (Suspension why registers place ∷ s) pair e = cc
 by_head read m n (Operand item ∷ s) pair e = cc
 
-by_none : (read : Interpretation) (m : FlatStack) (s : List Cell) → flat.unmark_from m s ≡ None → code.drop_from (stack_read read m) (map (cell_read read) s) ≡ calls.NoMark
+by_none : (read : Interpretation) (m : FlatStack) (s : List Cell) → flat.unmark_from m s ≡ None
+    → code.drop_from (stack_read read m) (map (cell_read read) s) ≡ calls.NoMark
 by_none read m (Mark label again r ∷ s) e = cc
 by_none read m (Limit count r ∷ s) e = cc
 by_none read m [] e = refl
@@ -49,7 +51,8 @@ first_drop zero s = refl
 first_drop (suc n) [] = refl
 first_drop (suc n) (x ∷ s) = first_drop n s
 
-pub drop_read : (read : Interpretation) (m n : FlatStack) (pair : Option Pair) → flat.unmark m ≡ Some (n, pair) → code.drop_mark (stack_read read m) ≡ drop_by read (flat.label m) (flat.is_relabelled m) n
+pub drop_read : (read : Interpretation) (m n : FlatStack) (pair : Option Pair) → flat.unmark m ≡ Some (n, pair)
+    → code.drop_mark (stack_read read m) ≡ drop_by read (flat.label m) (flat.is_relabelled m) n
 drop_read read m n pair e =
     ap (code.drop_from (stack_read read m)) (cut_read read m.registers.mark m.cells)
     ∙ by_head read m n (cut m.registers.mark m.cells) pair e

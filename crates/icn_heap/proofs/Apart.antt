@@ -16,7 +16,8 @@ use Rattle.icn_heap.specs.Parts.{member_in, pair_in, IsSoundMember, IsSoundPair}
 use Rattle.icn_heap.proofs.KeyValues.{same_keys}
 
 module _ (all : Extent) where
-  no_member : (key : Key) → IsKey key → (set : List (Key × Val)) → All (IsSoundMember all) set → AllByRecursion (λ other. key_eq key other ≡ false) (keys_of set)
+  no_member : (key : Key) → IsKey key → (set : List (Key × Val)) → All (IsSoundMember all) set
+      → AllByRecursion (λ other. key_eq key other ≡ false) (keys_of set)
       → AllByRecursion (λ other. same (key_value key) other ≡ false) (map member_in set)
   no_member key is [] are apart = tt
   no_member key is (member ∷ set) are apart =
@@ -33,7 +34,8 @@ module _ (all : Extent) where
       (no_member member.0 first.formed set rest (IsDistinct-head key_eq member.0 (keys_of set) differ))
       (members_apart set rest (IsDistinct-tail key_eq member.0 (keys_of set) differ))
 
-  no_key : (key : Key) → IsKey key → (pairs : List (Key × Entry)) → All (IsSoundPair all) pairs → AllByRecursion (λ other. key_eq key other ≡ false) (keys_of pairs)
+  no_key : (key : Key) → IsKey key → (pairs : List (Key × Entry)) → All (IsSoundPair all) pairs
+      → AllByRecursion (λ other. key_eq key other ≡ false) (keys_of pairs)
       → AllByRecursion (λ other. same (key_value key) other ≡ false) (keys_of (map (pair_in all) pairs))
   no_key key is [] are apart = tt
   no_key key is (pair ∷ pairs) are apart =

@@ -20,7 +20,8 @@ pub strings_fit : (heap : Heap) (count sum : ℕ) → sum ≡ heap.strings + cou
 unfolding charged_strings
 strings_fit heap count sum is fits = rw (le-leb (heap.strings + count) heap.bounds.strings (omega arith), is) refl
 
-pub strings_full_is : (heap : Heap) (count : ℕ) → heap.bounds.strings < heap.strings + count → charged_strings heap count ≡ Err (Strings heap.strings heap.bounds.strings)
+pub strings_full_is : (heap : Heap) (count : ℕ) → heap.bounds.strings < heap.strings + count
+    → charged_strings heap count ≡ Err (Strings heap.strings heap.bounds.strings)
 unfolding charged_strings
 strings_full_is heap count full = rw (lt-leb (heap.strings + count) heap.bounds.strings full) refl
 

@@ -63,11 +63,13 @@ fold_all ys differ = fold_new [] ys differ ∙ all_new ys
 pub fold_both : (xs ys : List Value) → IsDistinct same xs → IsDistinct same ys → fold with_member [] (xs ++ ys) ≡ xs ++ difference ys xs
 fold_both xs ys differ differ' = fold-append with_member [] xs ys ∙ (ap (λ zs. fold with_member zs ys) (fold_all xs differ) ∙ fold_new xs ys differ')
 
-filter_apart : (p : Value → Bool) (x : Value) (ys : List Value) → AllByRecursion (λ y. same x y ≡ false) ys → AllByRecursion (λ y. same x y ≡ false) (filter p ys)
+filter_apart : (p : Value → Bool) (x : Value) (ys : List Value) → AllByRecursion (λ y. same x y ≡ false) ys
+    → AllByRecursion (λ y. same x y ≡ false) (filter p ys)
 filter_apart p x [] apart = apart
 filter_apart p x (y ∷ ys) apart = by_test (p y) (filter_apart p x ys apart.1)
   where
-    by_test : (b : Bool) → AllByRecursion (λ y. same x y ≡ false) (filter p ys) → AllByRecursion (λ y. same x y ≡ false) (cond b (y ∷ filter p ys) (filter p ys))
+    by_test : (b : Bool) → AllByRecursion (λ y. same x y ≡ false) (filter p ys)
+        → AllByRecursion (λ y. same x y ≡ false) (cond b (y ∷ filter p ys) (filter p ys))
     by_test true later = (apart.0, later)
     by_test false later = later
 
@@ -77,7 +79,8 @@ filter_differs p [] differ = differ
 filter_differs p (x ∷ xs) differ =
     by_test (p x) (filter_apart p x xs (IsDistinct-head same x xs differ)) (filter_differs p xs (IsDistinct-tail same x xs differ))
   where
-    by_test : (b : Bool) → AllByRecursion (λ y. same x y ≡ false) (filter p xs) → IsDistinct same (filter p xs) → IsDistinct same (cond b (x ∷ filter p xs) (filter p xs))
+    by_test : (b : Bool) → AllByRecursion (λ y. same x y ≡ false) (filter p xs) → IsDistinct same (filter p xs)
+        → IsDistinct same (cond b (x ∷ filter p xs) (filter p xs))
     by_test true apart later = IsDistinct-cons same x (filter p xs) apart later
     by_test false apart later = later
 
@@ -90,7 +93,8 @@ fold_some p xs differ = fold_all (filter p xs) (filter_differs p xs differ)
 NoneIn : List (Value × Value) → List (Value × Value) → Type 0
 NoneIn xs ys = AllByRecursion (λ (pair : Value × Value). is_some (value_of same xs pair.0) ≡ false) ys
 
-not_more : (xs : List (Value × Value)) (x : Value × Value) (key : Value) → is_some (value_of same xs key) ≡ false → same key x.0 ≡ false → is_some (value_of same (xs ++ x ∷ []) key) ≡ false
+not_more : (xs : List (Value × Value)) (x : Value × Value) (key : Value) → is_some (value_of same xs key) ≡ false → same key x.0 ≡ false
+    → is_some (value_of same (xs ++ x ∷ []) key) ≡ false
 not_more [] x key none apart = rw apart refl
 not_more (pair ∷ xs) x key none apart = by_test (same key pair.0) none (λ none. not_more xs x key none apart)
   where
@@ -100,7 +104,8 @@ not_more (pair ∷ xs) x key none apart = by_test (same key pair.0) none (λ non
     by_test true none later = absurd (true≢false none)
     by_test false none later = later none
 
-none_more : (xs : List (Value × Value)) (x : Value × Value) (ys : List (Value × Value)) → AllByRecursion (λ other. same x.0 other ≡ false) (keys_of ys) → NoneIn xs ys → NoneIn (xs ++ x ∷ []) ys
+none_more : (xs : List (Value × Value)) (x : Value × Value) (ys : List (Value × Value)) → AllByRecursion (λ other. same x.0 other ≡ false) (keys_of ys)
+    → NoneIn xs ys → NoneIn (xs ++ x ∷ []) ys
 unfolding NoneIn
 none_more xs x [] apart none = none
 none_more xs x (y ∷ ys) apart none = (not_more xs x y.0 none.0 (same_turned x.0 y.0 apart.0), none_more xs x ys apart.1 none.1)

@@ -13,7 +13,8 @@ range_more xs from place x order at =
     let more : place + 1 - from ≡ place - from + 1 = omega arith in
     let inside : place - from < length (drop from xs) = rw length-drop (omega arith) in
     let same : from + (place - from) ≡ place = omega arith in
-    let read : get_or (drop from xs) (place - from) x ≡ x = get_or-drop from xs (place - from) x ∙ (ap (λ n. get_or xs n x) same ∙ get_or_from_slice_get xs place x x at) in
+    let read : get_or (drop from xs) (place - from) x ≡ x = get_or-drop from xs (place - from) x
+    ∙ (ap (λ n. get_or xs n x) same ∙ get_or_from_slice_get xs place x x at) in
     ap (λ n. take n (drop from xs)) more ∙ (take_more (drop from xs) (place - from) x inside ∙ ap (λ y. take (place - from) (drop from xs) ++ y ∷ []) read)
 
 -- one more is taken out

@@ -121,8 +121,26 @@ module _ {a b : Extent} (keeps : Keeps a b) where
     where
       heap_by : {lists lists' : List (Numbered Value)} {tables tables' : List Table} {records records' : List Record}
           → lists' ≡ lists → tables' ≡ tables → records' ≡ records
-          → (let s : Heap = record { lists = lists'; sets = map set_in parts.sets; tables = tables'; records = records'; coexps = parts.coexps; strings = sum_of parts.strings; cells = parts.cells; bounds = limits_of parts.limits } in s)
-          ≡ (let t : Heap = record { lists = lists; sets = map set_in parts.sets; tables = tables; records = records; coexps = parts.coexps; strings = sum_of parts.strings; cells = parts.cells; bounds = limits_of parts.limits } in t)
+          → (let s : Heap = record {
+            lists = lists';
+            sets = map set_in parts.sets;
+            tables = tables';
+            records = records';
+            coexps = parts.coexps;
+            strings = sum_of parts.strings;
+            cells = parts.cells;
+            bounds = limits_of parts.limits;
+          } in s)
+          ≡ (let t : Heap = record {
+            lists = lists;
+            sets = map set_in parts.sets;
+            tables = tables;
+            records = records;
+            coexps = parts.coexps;
+            strings = sum_of parts.strings;
+            cells = parts.cells;
+            bounds = limits_of parts.limits;
+          } in t)
       heap_by lists tables records = cc
 
   sound_list_stays : (cells : ℕ) (list : Numbered Val) → IsSoundList a cells list → IsSoundList b cells list
@@ -132,10 +150,16 @@ module _ {a b : Extent} (keeps : Keeps a b) where
   member_stays member is = record { live = keeps.live member.1 is.live; formed = is.formed; alike = rw (keeps.value member.1 is.live) is.alike }
 
   pair_stays : (pair : Key × Entry) → IsSoundPair a pair → IsSoundPair b pair
-  pair_stays pair is = record { key = keeps.live pair.1.key is.key; value = keeps.live pair.1.value is.value; formed = is.formed; alike = rw (keeps.value pair.1.key is.key) is.alike }
+  pair_stays pair is = record {
+    key = keeps.live pair.1.key is.key;
+    value = keeps.live pair.1.value is.value;
+    formed = is.formed;
+    alike = rw (keeps.value pair.1.key is.key) is.alike;
+  }
 
   table_stays : (table : Entries) → IsSoundTable a table → IsSoundTable b table
-  table_stays table is = record { default = keeps.live table.default is.default; pairs = All-weaker (IsSoundPair a) (IsSoundPair b) pair_stays table.pairs is.pairs }
+  table_stays table is =
+      record { default = keeps.live table.default is.default; pairs = All-weaker (IsSoundPair a) (IsSoundPair b) pair_stays table.pairs is.pairs }
 
   record_stays : (held : HeldRecord) → IsSoundRecord a held → IsSoundRecord b held
   record_stays held is = record { live = live_kept held.values is.live; few = is.few }
@@ -157,7 +181,8 @@ sound_list_later all cells sum more list is = record {
 }
 
 -- lists are sound once more cells are charged
-pub lists_later : (all : Extent) (cells sum : ℕ) → cells ≤ sum → (lists : List (Numbered Val)) → All (IsSoundList all cells) lists → All (IsSoundList all sum) lists
+pub lists_later : (all : Extent) (cells sum : ℕ) → cells ≤ sum → (lists : List (Numbered Val)) → All (IsSoundList all cells) lists
+    → All (IsSoundList all sum) lists
 lists_later all cells sum more lists are = All-weaker _ _ (sound_list_later all cells sum more) lists are
 
 -- The parts become others, which stand for this heap: every value stays, and what each heap keeps holds.
@@ -167,7 +192,8 @@ pub record Becomes (old new : Parts) (heap : Heap) : Type 0 where
   pub stands : heap_over (extent_in new) new ≡ heap
 
 -- it is enough that the new parts are sound, and stand for this, by the extent before
-pub becomes : {old new : Parts} {heap : Heap} → Extends (extent_in old) (extent_in new) → AreSound (extent_in old) new → IsCharged new → heap_over (extent_in old) new ≡ heap
+pub becomes : {old new : Parts} {heap : Heap} → Extends (extent_in old) (extent_in new) → AreSound (extent_in old) new → IsCharged new
+    → heap_over (extent_in old) new ≡ heap
     → Becomes old new heap
 becomes {old} {new} {heap} more are charged same =
     let keeps : Keeps (extent_in old) (extent_in new) = keeps_by more in

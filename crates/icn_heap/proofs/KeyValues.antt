@@ -47,7 +47,8 @@ pub same_keys : (a b : Key) → IsKey a → IsKey b → same (key_value a) (key_
 unfolding key_eq number_in integer_in bytes_in
 same_keys Null Null is is' = refl
 same_keys (Integer a) (Integer b) is is' = decided _ _ _ (λ e. (Decides-int_eq a b).1 (ap integer_in e)) (λ t. ap IntegerValue ((Decides-int_eq a b).0 t))
-same_keys (Text a) (Text b) is is' = decided _ _ _ (λ e. (bytes_eq-Decides a.items b.items).1 (ap bytes_in e)) (λ t. ap TextValue ((bytes_eq-Decides a.items b.items).0 t))
+same_keys (Text a) (Text b) is is' =
+    decided _ _ _ (λ e. (bytes_eq-Decides a.items b.items).1 (ap bytes_in e)) (λ t. ap TextValue ((bytes_eq-Decides a.items b.items).0 t))
 same_keys (Chars a) (Chars b) is is' =
     decided _ _ _
     (λ e. (bytes_eq-Decides a.bits b.bits).1 (bits_alike a b is.formed.length is'.formed.length is.formed.bytes is'.formed.bytes (ap bytes_in e)))

@@ -31,7 +31,8 @@ at_view f xs k d = unwrap_or-slice_get (map f xs) k (f d) ∙ get_or-map f xs k 
 pub list_view : (all : Extent) (parts : Parts) (id : ℕ) → list_at (heap_over all parts) id ≡ list_in all (slice_index_or parts.lists id no_vals)
 list_view all parts id = at_view (list_in all) parts.lists id no_vals
 
-pub list_sound : (parts : Parts) → IsSound parts → (id : ℕ) → id < length parts.lists → IsSoundList (extent_in parts) parts.cells (slice_index_or parts.lists id no_vals)
+pub list_sound : (parts : Parts) → IsSound parts → (id : ℕ) → id < length parts.lists
+    → IsSoundList (extent_in parts) parts.cells (slice_index_or parts.lists id no_vals)
 list_sound parts is id there = is.structures.lists id no_vals there
 
 -- Lists that stay sound
@@ -101,7 +102,8 @@ module _ (all : Extent) (cells : ℕ) (list : Numbered Val) (is : IsSoundList al
 -- What is done to a list is done to the values of its items
 
 pub right_in : (all : Extent) (list : Numbered Val) (val : Val) → list_in all (with_right list val) ≡ with_right (list_in all list) (value_in all val)
-right_in all list val = ap (λ items. let it : Numbered Value = record { items = items; number = list.number } in it) (map-append (value_in all) list.items (val ∷ []))
+right_in all list val =
+    ap (λ items. let it : Numbered Value = record { items = items; number = list.number } in it) (map-append (value_in all) list.items (val ∷ []))
 
 after_in : (all : Extent) (items : List Val) (number : ℤ) → list_in all (after_first items number) ≡ after_first (map (value_in all) items) number
 after_in all [] number = refl
@@ -121,12 +123,15 @@ front_in all list =
     ap (λ items. let it : Numbered Value = record { items = items; number = list.number } in it)
     (map-take all (length list.items - 1) list.items ∙ ap (λ n. take (n - 1) (map (value_in all) list.items)) size)
 
-items_with_in : (all : Extent) (items : List Val) (place : ℤ) (val : Val) → map (value_in all) (items_with items place val) ≡ items_with (map (value_in all) items) place (value_in all val)
+items_with_in : (all : Extent) (items : List Val) (place : ℤ) (val : Val)
+    → map (value_in all) (items_with items place val) ≡ items_with (map (value_in all) items) place (value_in all val)
 items_with_in all items (pos place) val = map-set (value_in all) items place val
 items_with_in all items (negsuc place) val = refl
 
-pub numbered_in : (all : Extent) (list : Numbered Val) (n : ℤ) (val : Val) → list_in all (with_numbered list n val) ≡ with_numbered (list_in all list) n (value_in all val)
-numbered_in all list n val = ap (λ items. let it : Numbered Value = record { items = items; number = list.number } in it) (items_with_in all list.items (n -ℤ list.number) val)
+pub numbered_in : (all : Extent) (list : Numbered Val) (n : ℤ) (val : Val)
+    → list_in all (with_numbered list n val) ≡ with_numbered (list_in all list) n (value_in all val)
+numbered_in all list n val =
+    ap (λ items. let it : Numbered Value = record { items = items; number = list.number } in it) (items_with_in all list.items (n -ℤ list.number) val)
 
 pub item_in : (all : Extent) (list : Numbered Val) (n : ℤ) → item_numbered (list_in all list) n ≡ option_map (value_in all) (item_numbered list n)
 item_in all list n = at_place (n -ℤ list.number)
@@ -158,7 +163,8 @@ module _ (parts : Parts) (is : IsSound parts) {sum : ℕ} (more : parts.cells �
   lists_more = lists_later (extent_in parts) parts.cells sum more parts.lists is.structures.lists
 
   pub list_changes : (id : ℕ) {list : Numbered Val} {value : Numbered Value} → IsSoundList (extent_in parts) sum list → list_in (extent_in parts) list ≡ value
-      → Becomes parts (record parts { lists = slice_set parts.lists id list; cells = sum }) (with_list id value (with_cells sum (heap_over (extent_in parts) parts)))
+      → Becomes parts (record parts { lists = slice_set parts.lists id list; cells = sum })
+      (with_list id value (with_cells sum (heap_over (extent_in parts) parts)))
   list_changes id {list} {value} sound same =
       let size : length (slice_set parts.lists id list) ≡ length parts.lists = length-set parts.lists id list in
       let charged : IsCharged parts = is.charged in
@@ -175,16 +181,20 @@ module _ (parts : Parts) (is : IsSound parts) {sum : ℕ} (more : parts.cells �
       (ap (λ lists. let heap : Heap = record (with_cells sum (heap_over (extent_in parts) parts)) { lists = lists } in heap)
       (map-set (list_in (extent_in parts)) parts.lists id list ∙ ap (slice_set (map (list_in (extent_in parts)) parts.lists) id) same))
 
-  pub list_joins : {list : Numbered Val} {items : List Val} → sum ≡ parts.cells + (1 + length items) → list.items ≡ items → list.number ≡ pos 1 → All (IsLive (extent_in parts)) items
-      → Becomes parts (record parts { lists = parts.lists ++ list ∷ []; cells = sum }) (having_list (map (value_in (extent_in parts)) items) (with_cells sum (heap_over (extent_in parts) parts)))
+  pub list_joins : {list : Numbered Val} {items : List Val} → sum ≡ parts.cells + (1 + length items) → list.items ≡ items → list.number ≡ pos 1
+      → All (IsLive (extent_in parts)) items
+      → Becomes parts (record parts { lists = parts.lists ++ list ∷ []; cells = sum })
+      (having_list (map (value_in (extent_in parts)) items) (with_cells sum (heap_over (extent_in parts) parts)))
   list_joins {list} {items} paid are number live =
       let size : length (parts.lists ++ list ∷ []) ≡ length parts.lists + 1 = length-append parts.lists (list ∷ []) in
       let charged : IsCharged parts = is.charged in
-      let made : list_in (extent_in parts) list ≡ new_list (map (value_in (extent_in parts)) items) = new_by (ap (map (value_in (extent_in parts))) are) number in
+      let made : list_in (extent_in parts) list
+      ≡ new_list (map (value_in (extent_in parts)) items) = new_by (ap (map (value_in (extent_in parts))) are) number in
       becomes
       (record { texts = texts_stay parts.strings; lists = omega arith; sets = le_refl _; tables = le_refl _; records = le_refl _; coexps = le_refl _ })
       (record {
-        lists = All-push (IsSoundList (extent_in parts) sum) parts.lists list lists_more (record { live = rw are live; low = rw number (omega (arith, ints)); high = rw (number, are) (omega (arith, ints)) });
+        lists = All-push (IsSoundList (extent_in parts) sum) parts.lists list lists_more
+            (record { live = rw are live; low = rw number (omega (arith, ints)); high = rw (number, are) (omega (arith, ints)) });
         sets = is.structures.sets;
         tables = is.structures.tables;
         records = is.structures.records;
@@ -192,9 +202,11 @@ module _ (parts : Parts) (is : IsSound parts) {sum : ℕ} (more : parts.cells �
       })
       (record { limit = charged.limit; within = within; counted = (let few = charged.counted in omega arith); main = charged.main })
       (ap (λ lists. let heap : Heap = record (with_cells sum (heap_over (extent_in parts) parts)) { lists = lists } in heap)
-      (map-append (list_in (extent_in parts)) parts.lists (list ∷ []) ∙ ap (λ (it : Numbered Value). map (list_in (extent_in parts)) parts.lists ++ it ∷ []) made))
+      (map-append (list_in (extent_in parts)) parts.lists (list ∷ [])
+      ∙ ap (λ (it : Numbered Value). map (list_in (extent_in parts)) parts.lists ++ it ∷ []) made))
     where
-      new_by : {a b : List Value} {n m : ℤ} → a ≡ b → n ≡ m → (let x : Numbered Value = record { items = a; number = n } in x) ≡ (let y : Numbered Value = record { items = b; number = m } in y)
+      new_by : {a b : List Value} {n m : ℤ} → a ≡ b → n ≡ m
+          → (let x : Numbered Value = record { items = a; number = n } in x) ≡ (let y : Numbered Value = record { items = b; number = m } in y)
       new_by a b = cc
 
 -- The calls on one list
@@ -208,14 +220,17 @@ module _ (parts : Parts) (is : IsSound parts) (id : ℕ) (there : id < length pa
 
   pub list_puts : {sum : ℕ} → sum ≡ parts.cells + (1 + 0) → sum ≤ parts.limits.cells → (val : Val) → IsLive (extent_in parts) val
       → Becomes parts (record parts { lists = slice_set parts.lists id (with_right (slice_index_or parts.lists id no_vals) val); cells = sum })
-      (with_list id (with_right (list_at (heap_over (extent_in parts) parts) id) (value_in (extent_in parts) val)) (with_cells sum (heap_over (extent_in parts) parts)))
+      (with_list id (with_right (list_at (heap_over (extent_in parts) parts) id) (value_in (extent_in parts) val))
+      (with_cells sum (heap_over (extent_in parts) parts)))
   list_puts {sum} paid within val live =
       list_changes parts is (omega arith) within id (sound_right _ _ _ found_sound sum paid val live)
-      (right_in (extent_in parts) (slice_index_or parts.lists id no_vals) val ∙ ap (λ (list : Numbered Value). with_right list (value_in (extent_in parts) val)) view)
+      (right_in (extent_in parts) (slice_index_or parts.lists id no_vals) val
+      ∙ ap (λ (list : Numbered Value). with_right list (value_in (extent_in parts) val)) view)
 
   pub list_pushes : {sum : ℕ} → sum ≡ parts.cells + (1 + 0) → sum ≤ parts.limits.cells → (val : Val) → IsLive (extent_in parts) val
       → Becomes parts (record parts { lists = slice_set parts.lists id (with_left (slice_index_or parts.lists id no_vals) val); cells = sum })
-      (with_list id (with_left (list_at (heap_over (extent_in parts) parts) id) (value_in (extent_in parts) val)) (with_cells sum (heap_over (extent_in parts) parts)))
+      (with_list id (with_left (list_at (heap_over (extent_in parts) parts) id) (value_in (extent_in parts) val))
+      (with_cells sum (heap_over (extent_in parts) parts)))
   list_pushes {sum} paid within val live =
       list_changes parts is (omega arith) within id (sound_left _ _ _ found_sound sum paid val live)
       (ap (λ (list : Numbered Value). with_left list (value_in (extent_in parts) val)) view)
@@ -237,7 +252,8 @@ module _ (parts : Parts) (is : IsSound parts) (id : ℕ) (there : id < length pa
       (with_list id (with_numbered (list_at (heap_over (extent_in parts) parts) id) n (value_in (extent_in parts) val)) (heap_over (extent_in parts) parts))
   list_sets n val live =
       list_changes parts is (le_refl _) is.charged.within id (sound_numbered _ _ _ found_sound n val live)
-      (numbered_in (extent_in parts) (slice_index_or parts.lists id no_vals) n val ∙ ap (λ (list : Numbered Value). with_numbered list n (value_in (extent_in parts) val)) view)
+      (numbered_in (extent_in parts) (slice_index_or parts.lists id no_vals) n val
+      ∙ ap (λ (list : Numbered Value). with_numbered list n (value_in (extent_in parts) val)) view)
 
   -- what is found there
   pub first_live : IfSome (leftmost (slice_index_or parts.lists id no_vals)) (IsLive (extent_in parts))
@@ -246,19 +262,24 @@ module _ (parts : Parts) (is : IsSound parts) (id : ℕ) (there : id < length pa
   pub last_live : IfSome (rightmost (slice_index_or parts.lists id no_vals)) (IsLive (extent_in parts))
   last_live = get_live _ _ _ found_sound.live
 
-  pub first_is : option_map (value_in (extent_in parts)) (leftmost (slice_index_or parts.lists id no_vals)) ≡ leftmost (list_at (heap_over (extent_in parts) parts) id)
+  pub first_is : option_map (value_in (extent_in parts)) (leftmost (slice_index_or parts.lists id no_vals))
+      ≡ leftmost (list_at (heap_over (extent_in parts) parts) id)
   first_is = sym (first_in (extent_in parts) (slice_index_or parts.lists id no_vals)) ∙ ap leftmost view
 
-  pub last_is : option_map (value_in (extent_in parts)) (rightmost (slice_index_or parts.lists id no_vals)) ≡ rightmost (list_at (heap_over (extent_in parts) parts) id)
+  pub last_is : option_map (value_in (extent_in parts)) (rightmost (slice_index_or parts.lists id no_vals))
+      ≡ rightmost (list_at (heap_over (extent_in parts) parts) id)
   last_is = sym (last_in (extent_in parts) (slice_index_or parts.lists id no_vals)) ∙ ap rightmost view
 
-  pub numbered_is : (n : ℤ) → is_some (item_numbered (slice_index_or parts.lists id no_vals) n) ≡ is_some (item_numbered (list_at (heap_over (extent_in parts) parts) id) n)
+  pub numbered_is : (n : ℤ)
+      → is_some (item_numbered (slice_index_or parts.lists id no_vals) n) ≡ is_some (item_numbered (list_at (heap_over (extent_in parts) parts) id) n)
   numbered_is n =
       sym (is_some_map (value_in (extent_in parts)) (item_numbered (slice_index_or parts.lists id no_vals) n))
-      ∙ (ap is_some (sym (item_in (extent_in parts) (slice_index_or parts.lists id no_vals) n)) ∙ ap (λ (list : Numbered Value). is_some (item_numbered list n)) view)
+      ∙ (ap is_some (sym (item_in (extent_in parts) (slice_index_or parts.lists id no_vals) n))
+      ∙ ap (λ (list : Numbered Value). is_some (item_numbered list n)) view)
 
 -- an item that was found, as the heap afterwards sees it
-pub item_kept : {a b : Extent} {item : Option Value} (found : Option Val) → Keeps a b → IfSome found (IsLive a) → option_map (value_in a) found ≡ item → option_map (value_in b) found ≡ item
+pub item_kept : {a b : Extent} {item : Option Value} (found : Option Val) → Keeps a b → IfSome found (IsLive a) → option_map (value_in a) found ≡ item
+    → option_map (value_in b) found ≡ item
 item_kept found keeps live same = optional_kept keeps found live ∙ same
 
 pub item_stays : {a b : Extent} (found : Option Val) → Keeps a b → IfSome found (IsLive a) → IfSome found (IsLive b)
@@ -270,12 +291,14 @@ map-replicate all zero fill = refl
 map-replicate all (suc n) fill = ap (λ rest. value_in all fill ∷ rest) (map-replicate all n fill)
 
 -- a list of one value so many times joins a heap
-pub list_repeats : (parts : Parts) → IsSound parts → {sum : ℕ} {list : Numbered Val} (n : ℕ) (fill : Val) → sum ≡ parts.cells + (1 + n) → sum ≤ parts.limits.cells
+pub list_repeats : (parts : Parts) → IsSound parts → {sum : ℕ} {list : Numbered Val} (n : ℕ) (fill : Val) → sum ≡ parts.cells + (1 + n)
+    → sum ≤ parts.limits.cells
     → list.items ≡ replicate n fill → list.number ≡ pos 1 → IsLive (extent_in parts) fill
     → Becomes parts (record parts { lists = parts.lists ++ list ∷ []; cells = sum })
     (having_list (replicate n (value_in (extent_in parts) fill)) (with_cells sum (heap_over (extent_in parts) parts)))
 list_repeats parts is {sum} {list} n fill paid within are number live =
     let size : length (replicate n fill) ≡ n = length-replicate n fill in
-    subst (λ items. Becomes parts (record parts { lists = parts.lists ++ list ∷ []; cells = sum }) (having_list items (with_cells sum (heap_over (extent_in parts) parts))))
+    subst (λ items. Becomes parts (record parts { lists = parts.lists ++ list ∷ []; cells = sum })
+    (having_list items (with_cells sum (heap_over (extent_in parts) parts))))
     (map-replicate (extent_in parts) n fill)
     (list_joins parts is (omega arith) within (omega arith) are number (All-replicate (IsLive (extent_in parts)) n fill live))

@@ -9,7 +9,8 @@ use Rattle.icn_heap.specs.Parts.{Parts, heap_over, extent_in, no_vals, IsSound}
 use Rattle.icn_heap.proofs.ListChanges.{item_in, get_live, list_sound, list_view}
 
 module _ (parts : Parts) (is : IsSound parts) (id : ℕ) (there : id < length parts.lists) (n : ℤ) where
-  pub item_is : option_map (value_in (extent_in parts)) (item_numbered (slice_index_or parts.lists id no_vals) n) ≡ item_numbered (list_at (heap_over (extent_in parts) parts) id) n
+  pub item_is : option_map (value_in (extent_in parts)) (item_numbered (slice_index_or parts.lists id no_vals) n)
+      ≡ item_numbered (list_at (heap_over (extent_in parts) parts) id) n
   item_is =
       sym (item_in (extent_in parts) (slice_index_or parts.lists id no_vals) n)
       ∙ ap (λ (list : Numbered Value). item_numbered list n) (sym (list_view (extent_in parts) parts id))

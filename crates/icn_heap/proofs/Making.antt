@@ -19,7 +19,8 @@ use Rattle.icn_heap.specs.Making.{stands, with_stored}
 use Rattle.icn_heap.specs.Parts.{member_in, set_in, pair_in, with_entry, IsSoundMember, IsSoundPair}
 use Rattle.icn_heap.proofs.PairViews.{stored_new, member_found, pair_stored, stored_sound}
 
-module _ (all : Extent) (key : Key) (formed : IsKey key) (val : Val) (live : IsLive all val) (alike : key_value key ≡ value_in all val) (members : List (Key × Val)) (are : All (IsSoundMember all) members) where
+module _ (all : Extent) (key : Key) (formed : IsKey key) (val : Val) (live : IsLive all val) (alike : key_value key ≡ value_in all val)
+    (members : List (Key × Val)) (are : All (IsSoundMember all) members) where
   pub joins : set_in (with_entry members key val) ≡ with_member (set_in members) (value_in all val)
   joins =
       by_test (is_some (value_of key_eq members key)) (has_value (set_in members) (value_in all val))
@@ -28,17 +29,20 @@ module _ (all : Extent) (key : Key) (formed : IsKey key) (val : Val) (live : IsL
       by_test : (b c : Bool) → b ≡ c → (b ≡ false → stored key_eq members key val ≡ members ++ (key, val) ∷ [])
           → set_in (if b then members else stored key_eq members key val) ≡ (if c then set_in members else set_in members ++ value_in all val ∷ [])
       by_test true true same new = refl
-      by_test false false same new = ap set_in (new refl) ∙ (map-append member_in members ((key, val) ∷ []) ∙ ap (λ (v : Value). set_in members ++ v ∷ []) alike)
+      by_test false false same new =
+          ap set_in (new refl) ∙ (map-append member_in members ((key, val) ∷ []) ∙ ap (λ (v : Value). set_in members ++ v ∷ []) alike)
       by_test true false same new = absurd (true≢false same)
       by_test false true same new = absurd (true≢false (sym same))
 
   pub joins_soundly : All (IsSoundMember all) (with_entry members key val)
   joins_soundly = by_test (is_some (value_of key_eq members key)) (stored_new key_eq members key val)
     where
-      by_test : (b : Bool) → (b ≡ false → stored key_eq members key val ≡ members ++ (key, val) ∷ []) → All (IsSoundMember all) (if b then members else stored key_eq members key val)
+      by_test : (b : Bool) → (b ≡ false → stored key_eq members key val ≡ members ++ (key, val) ∷ [])
+          → All (IsSoundMember all) (if b then members else stored key_eq members key val)
       by_test true new = are
       by_test false new =
-          rw (new refl) (All-push (IsSoundMember all) members (key, val) are (record { live = live; formed = formed; alike = rw alike (same_self (value_in all val)) }))
+          rw (new refl)
+          (All-push (IsSoundMember all) members (key, val) are (record { live = live; formed = formed; alike = rw alike (same_self (value_in all val)) }))
 
 -- one step more of a fold over what is made of each element
 pub fold_more : {X Y Z : Type 0} (step : Z → Y → Z) (start : Z) (f : X → Y) (xs : List X) (i : ℕ) (d : X) → i < length xs
@@ -62,13 +66,15 @@ pub filters_more : {X : Type 0} (f : X → Value) (test : Value → Bool) (xs : 
     → filter test (map f (take (i + 1) xs)) ≡ filter test (map f (take i xs)) ++ filter test (f (get_or xs i d) ∷ [])
 filters_more f test xs i d there = ap (filter test) (map_more f xs i d there) ∙ filter-append test (map f (take i xs)) (f (get_or xs i d) ∷ [])
 
-pub passes : (inside found : Bool) (others : List Value) (value : Value) → found ≡ has_value others value → beq found inside ≡ true → filter (stands inside others) (value ∷ []) ≡ value ∷ []
+pub passes : (inside found : Bool) (others : List Value) (value : Value) → found ≡ has_value others value → beq found inside ≡ true
+    → filter (stands inside others) (value ∷ []) ≡ value ∷ []
 passes true true others value is same = rw (sym is) refl
 passes true false others value is same = absurd (true≢false (sym same))
 passes false true others value is same = absurd (true≢false (sym same))
 passes false false others value is same = rw (sym is) refl
 
-pub fails : (inside found : Bool) (others : List Value) (value : Value) → found ≡ has_value others value → beq found inside ≡ false → filter (stands inside others) (value ∷ []) ≡ []
+pub fails : (inside found : Bool) (others : List Value) (value : Value) → found ≡ has_value others value → beq found inside ≡ false
+    → filter (stands inside others) (value ∷ []) ≡ []
 fails true true others value is other = absurd (true≢false other)
 fails true false others value is other = rw (sym is) refl
 fails false true others value is other = rw (sym is) refl

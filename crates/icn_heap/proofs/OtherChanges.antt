@@ -43,12 +43,19 @@ module _ (parts : Parts) (is : IsSound parts) {sum : ℕ} (more : parts.cells �
   lists_more = lists_later (extent_in parts) parts.cells sum more parts.lists is.structures.lists
 
   pub set_changes : (id : ℕ) (one : List (Key × Val)) {value : List Value} → All (IsSoundMember (extent_in parts)) one → set_in one ≡ value
-      → Becomes parts (record parts { sets = slice_set parts.sets id one; cells = sum }) (with_set id value (with_cells sum (heap_over (extent_in parts) parts)))
+      → Becomes parts (record parts { sets = slice_set parts.sets id one; cells = sum })
+      (with_set id value (with_cells sum (heap_over (extent_in parts) parts)))
   set_changes id one {value} sound alike =
       let size : length (slice_set parts.sets id one) ≡ length parts.sets = length-set parts.sets id one in
       let charged : IsCharged parts = is.charged in
       becomes (record { texts = texts_stay parts.strings; lists = le_refl _; sets = omega arith; tables = le_refl _; records = le_refl _; coexps = le_refl _ })
-      (record { lists = lists_more; sets = All-set (All (IsSoundMember (extent_in parts))) parts.sets id one sound is.structures.sets; tables = is.structures.tables; records = is.structures.records; coexps = is.structures.coexps })
+      (record {
+        lists = lists_more;
+        sets = All-set (All (IsSoundMember (extent_in parts))) parts.sets id one sound is.structures.sets;
+        tables = is.structures.tables;
+        records = is.structures.records;
+        coexps = is.structures.coexps;
+      })
       (record { limit = charged.limit; within = within; counted = (let few = charged.counted in omega arith); main = charged.main })
       (ap (λ structures. let heap : Heap = record (with_cells sum (heap_over (extent_in parts) parts)) { sets = structures } in heap)
       (map-set (set_in) parts.sets id one ∙ ap (slice_set (map (set_in) parts.sets) id) alike))
@@ -60,63 +67,105 @@ module _ (parts : Parts) (is : IsSound parts) {sum : ℕ} (more : parts.cells �
       let size : length (parts.sets ++ one ∷ []) ≡ length parts.sets + 1 = length-append parts.sets (one ∷ []) in
       let charged : IsCharged parts = is.charged in
       becomes (record { texts = texts_stay parts.strings; lists = le_refl _; sets = omega arith; tables = le_refl _; records = le_refl _; coexps = le_refl _ })
-      (record { lists = lists_more; sets = All-push (All (IsSoundMember (extent_in parts))) parts.sets one is.structures.sets sound; tables = is.structures.tables; records = is.structures.records; coexps = is.structures.coexps })
+      (record {
+        lists = lists_more;
+        sets = All-push (All (IsSoundMember (extent_in parts))) parts.sets one is.structures.sets sound;
+        tables = is.structures.tables;
+        records = is.structures.records;
+        coexps = is.structures.coexps;
+      })
       (record { limit = charged.limit; within = within; counted = (let few = charged.counted in omega arith); main = charged.main })
       (ap (λ structures. let heap : Heap = record (with_cells sum (heap_over (extent_in parts) parts)) { sets = structures } in heap)
       (map-append (set_in) parts.sets (one ∷ []) ∙ ap (λ (it : List Value). map (set_in) parts.sets ++ it ∷ []) alike))
 
   pub table_changes : (id : ℕ) {one : Entries} {value : Table} → IsSoundTable (extent_in parts) one → table_in (extent_in parts) one ≡ value
-      → Becomes parts (record parts { tables = slice_set parts.tables id one; cells = sum }) (with_table id value (with_cells sum (heap_over (extent_in parts) parts)))
+      → Becomes parts (record parts { tables = slice_set parts.tables id one; cells = sum })
+      (with_table id value (with_cells sum (heap_over (extent_in parts) parts)))
   table_changes id {one} {value} sound alike =
       let size : length (slice_set parts.tables id one) ≡ length parts.tables = length-set parts.tables id one in
       let charged : IsCharged parts = is.charged in
       becomes (record { texts = texts_stay parts.strings; lists = le_refl _; sets = le_refl _; tables = omega arith; records = le_refl _; coexps = le_refl _ })
-      (record { lists = lists_more; sets = is.structures.sets; tables = All-set (IsSoundTable (extent_in parts)) parts.tables id one sound is.structures.tables; records = is.structures.records; coexps = is.structures.coexps })
+      (record {
+        lists = lists_more;
+        sets = is.structures.sets;
+        tables = All-set (IsSoundTable (extent_in parts)) parts.tables id one sound is.structures.tables;
+        records = is.structures.records;
+        coexps = is.structures.coexps;
+      })
       (record { limit = charged.limit; within = within; counted = (let few = charged.counted in omega arith); main = charged.main })
       (ap (λ structures. let heap : Heap = record (with_cells sum (heap_over (extent_in parts) parts)) { tables = structures } in heap)
       (map-set (table_in (extent_in parts)) parts.tables id one ∙ ap (slice_set (map (table_in (extent_in parts)) parts.tables) id) alike))
 
   pub table_joins : {one : Entries} {value : Table} → parts.cells + 1 ≤ sum → IsSoundTable (extent_in parts) one → table_in (extent_in parts) one ≡ value
       → Becomes parts (record parts { tables = parts.tables ++ one ∷ []; cells = sum })
-      (let heap : Heap = record (with_cells sum (heap_over (extent_in parts) parts)) { tables = map (table_in (extent_in parts)) parts.tables ++ value ∷ [] } in heap)
+      (let heap : Heap = record (with_cells sum (heap_over (extent_in parts) parts)) { tables = map (table_in (extent_in parts)) parts.tables ++ value ∷ [] } in
+      heap)
   table_joins {one} {value} paid sound alike =
       let size : length (parts.tables ++ one ∷ []) ≡ length parts.tables + 1 = length-append parts.tables (one ∷ []) in
       let charged : IsCharged parts = is.charged in
       becomes (record { texts = texts_stay parts.strings; lists = le_refl _; sets = le_refl _; tables = omega arith; records = le_refl _; coexps = le_refl _ })
-      (record { lists = lists_more; sets = is.structures.sets; tables = All-push (IsSoundTable (extent_in parts)) parts.tables one is.structures.tables sound; records = is.structures.records; coexps = is.structures.coexps })
+      (record {
+        lists = lists_more;
+        sets = is.structures.sets;
+        tables = All-push (IsSoundTable (extent_in parts)) parts.tables one is.structures.tables sound;
+        records = is.structures.records;
+        coexps = is.structures.coexps;
+      })
       (record { limit = charged.limit; within = within; counted = (let few = charged.counted in omega arith); main = charged.main })
       (ap (λ structures. let heap : Heap = record (with_cells sum (heap_over (extent_in parts) parts)) { tables = structures } in heap)
       (map-append (table_in (extent_in parts)) parts.tables (one ∷ []) ∙ ap (λ (it : Table). map (table_in (extent_in parts)) parts.tables ++ it ∷ []) alike))
 
   pub record_changes : (id : ℕ) {one : HeldRecord} {value : Record} → IsSoundRecord (extent_in parts) one → record_in (extent_in parts) one ≡ value
-      → Becomes parts (record parts { records = slice_set parts.records id one; cells = sum }) (with_record id value (with_cells sum (heap_over (extent_in parts) parts)))
+      → Becomes parts (record parts { records = slice_set parts.records id one; cells = sum })
+      (with_record id value (with_cells sum (heap_over (extent_in parts) parts)))
   record_changes id {one} {value} sound alike =
       let size : length (slice_set parts.records id one) ≡ length parts.records = length-set parts.records id one in
       let charged : IsCharged parts = is.charged in
       becomes (record { texts = texts_stay parts.strings; lists = le_refl _; sets = le_refl _; tables = le_refl _; records = omega arith; coexps = le_refl _ })
-      (record { lists = lists_more; sets = is.structures.sets; tables = is.structures.tables; records = All-set (IsSoundRecord (extent_in parts)) parts.records id one sound is.structures.records; coexps = is.structures.coexps })
+      (record {
+        lists = lists_more;
+        sets = is.structures.sets;
+        tables = is.structures.tables;
+        records = All-set (IsSoundRecord (extent_in parts)) parts.records id one sound is.structures.records;
+        coexps = is.structures.coexps;
+      })
       (record { limit = charged.limit; within = within; counted = (let few = charged.counted in omega arith); main = charged.main })
       (ap (λ structures. let heap : Heap = record (with_cells sum (heap_over (extent_in parts) parts)) { records = structures } in heap)
       (map-set (record_in (extent_in parts)) parts.records id one ∙ ap (slice_set (map (record_in (extent_in parts)) parts.records) id) alike))
 
   pub record_joins : {one : HeldRecord} {value : Record} → parts.cells + 1 ≤ sum → IsSoundRecord (extent_in parts) one → record_in (extent_in parts) one ≡ value
       → Becomes parts (record parts { records = parts.records ++ one ∷ []; cells = sum })
-      (let heap : Heap = record (with_cells sum (heap_over (extent_in parts) parts)) { records = map (record_in (extent_in parts)) parts.records ++ value ∷ [] } in heap)
+      (let heap : Heap =
+      record (with_cells sum (heap_over (extent_in parts) parts)) { records = map (record_in (extent_in parts)) parts.records ++ value ∷ [] } in heap)
   record_joins {one} {value} paid sound alike =
       let size : length (parts.records ++ one ∷ []) ≡ length parts.records + 1 = length-append parts.records (one ∷ []) in
       let charged : IsCharged parts = is.charged in
       becomes (record { texts = texts_stay parts.strings; lists = le_refl _; sets = le_refl _; tables = le_refl _; records = omega arith; coexps = le_refl _ })
-      (record { lists = lists_more; sets = is.structures.sets; tables = is.structures.tables; records = All-push (IsSoundRecord (extent_in parts)) parts.records one is.structures.records sound; coexps = is.structures.coexps })
+      (record {
+        lists = lists_more;
+        sets = is.structures.sets;
+        tables = is.structures.tables;
+        records = All-push (IsSoundRecord (extent_in parts)) parts.records one is.structures.records sound;
+        coexps = is.structures.coexps;
+      })
       (record { limit = charged.limit; within = within; counted = (let few = charged.counted in omega arith); main = charged.main })
       (ap (λ structures. let heap : Heap = record (with_cells sum (heap_over (extent_in parts) parts)) { records = structures } in heap)
-      (map-append (record_in (extent_in parts)) parts.records (one ∷ []) ∙ ap (λ (it : Record). map (record_in (extent_in parts)) parts.records ++ it ∷ []) alike))
+      (map-append (record_in (extent_in parts)) parts.records (one ∷ [])
+      ∙ ap (λ (it : Record). map (record_in (extent_in parts)) parts.records ++ it ∷ []) alike))
 
-  pub coexp_joins : parts.cells + 1 ≤ sum → Becomes parts (record parts { coexps = parts.coexps ++ 0 ∷ []; cells = sum }) (having_coexp (with_cells sum (heap_over (extent_in parts) parts)))
+  pub coexp_joins : parts.cells + 1 ≤ sum
+      → Becomes parts (record parts { coexps = parts.coexps ++ 0 ∷ []; cells = sum }) (having_coexp (with_cells sum (heap_over (extent_in parts) parts)))
   coexp_joins paid =
       let size : length (parts.coexps ++ 0 ∷ []) ≡ length parts.coexps + 1 = length-append parts.coexps (0 ∷ []) in
       let charged : IsCharged parts = is.charged in
       becomes (record { texts = texts_stay parts.strings; lists = le_refl _; sets = le_refl _; tables = le_refl _; records = le_refl _; coexps = omega arith })
-      (record { lists = lists_more; sets = is.structures.sets; tables = is.structures.tables; records = is.structures.records; coexps = All-push (λ count. count < 2 ^ 63) parts.coexps 0 is.structures.coexps (omega arith) })
+      (record {
+        lists = lists_more;
+        sets = is.structures.sets;
+        tables = is.structures.tables;
+        records = is.structures.records;
+        coexps = All-push (λ count. count < 2 ^ 63) parts.coexps 0 is.structures.coexps (omega arith);
+      })
       (record { limit = charged.limit; within = within; counted = (let few = charged.counted in omega arith); main = (let some = charged.main in omega arith) })
       refl
 
@@ -126,8 +175,19 @@ coexp_counts parts is id few =
     let size : length (slice_set parts.coexps id (slice_index parts.coexps id + 1)) ≡ length parts.coexps = length-set parts.coexps id _ in
     let charged : IsCharged parts = is.charged in
     becomes (record { texts = texts_stay parts.strings; lists = le_refl _; sets = le_refl _; tables = le_refl _; records = le_refl _; coexps = omega arith })
-    (record { lists = is.structures.lists; sets = is.structures.sets; tables = is.structures.tables; records = is.structures.records; coexps = All-set (λ count. count < 2 ^ 63) parts.coexps id (slice_index parts.coexps id + 1) (omega arith) is.structures.coexps })
-    (record { limit = charged.limit; within = charged.within; counted = (let few = charged.counted in omega arith); main = (let some = charged.main in omega arith) })
+    (record {
+      lists = is.structures.lists;
+      sets = is.structures.sets;
+      tables = is.structures.tables;
+      records = is.structures.records;
+      coexps = All-set (λ count. count < 2 ^ 63) parts.coexps id (slice_index parts.coexps id + 1) (omega arith) is.structures.coexps;
+    })
+    (record {
+      limit = charged.limit;
+      within = charged.within;
+      counted = (let few = charged.counted in omega arith);
+      main = (let some = charged.main in omega arith);
+    })
     refl
 
 -- Sets: a member is found, joins and leaves
@@ -136,12 +196,14 @@ module _ (parts : Parts) (is : IsSound parts) (id : ℕ) (there : id < length pa
   pub members_sound : All (IsSoundMember (extent_in parts)) (slice_index_or parts.sets id [])
   members_sound = is.structures.sets id [] there
 
-  pub has_is : (key : Key) → IsKey key → is_some (value_of key_eq (slice_index_or parts.sets id []) key) ≡ has_value (set_at (heap_over (extent_in parts) parts) id) (key_value key)
+  pub has_is : (key : Key) → IsKey key
+      → is_some (value_of key_eq (slice_index_or parts.sets id []) key) ≡ has_value (set_at (heap_over (extent_in parts) parts) id) (key_value key)
   has_is key formed =
       member_found (extent_in parts) key formed (slice_index_or parts.sets id []) members_sound
       ∙ ap (λ members. has_value members (key_value key)) (sym (set_view (extent_in parts) parts id))
 
-  pub member_adds : {sum : ℕ} → parts.cells ≤ sum → sum ≤ parts.limits.cells → (key : Key) (val : Val) → IsKey key → IsLive (extent_in parts) val → key_value key ≡ value_in (extent_in parts) val
+  pub member_adds : {sum : ℕ} → parts.cells ≤ sum → sum ≤ parts.limits.cells → (key : Key) (val : Val) → IsKey key → IsLive (extent_in parts) val
+      → key_value key ≡ value_in (extent_in parts) val
       → has_value (set_at (heap_over (extent_in parts) parts) id) (key_value key) ≡ false
       → Becomes parts (record parts { sets = slice_set parts.sets id (stored key_eq (slice_index_or parts.sets id []) key val); cells = sum })
       (having_member id (value_in (extent_in parts) val) (with_cells sum (heap_over (extent_in parts) parts)))
@@ -169,18 +231,23 @@ module _ (parts : Parts) (is : IsSound parts) (id : ℕ) (there : id < length pa
       ∙ ap (λ members. filter (λ member. not (same (key_value key) member)) members) (sym (set_view (extent_in parts) parts id)))
 
   pub member_live : (place : ℕ) → IfSome (option_map member_val (slice_get (slice_index_or parts.sets id []) place)) (IsLive (extent_in parts))
-  member_live place = by_place (slice_get (slice_index_or parts.sets id []) place) (get_live (IsSoundMember (extent_in parts)) (slice_index_or parts.sets id []) place members_sound)
+  member_live place = by_place (slice_get (slice_index_or parts.sets id []) place)
+      (get_live (IsSoundMember (extent_in parts)) (slice_index_or parts.sets id []) place members_sound)
     where
       by_place : (found : Option (Key × Val)) → IfSome found (IsSoundMember (extent_in parts)) → IfSome (option_map member_val found) (IsLive (extent_in parts))
       by_place None is = tt
       by_place (Some member) is = is.live
 
-  pub member_is : (place : ℕ) → option_map (value_in (extent_in parts)) (option_map member_val (slice_get (slice_index_or parts.sets id []) place)) ≡ slice_get (set_at (heap_over (extent_in parts) parts) id) place
+  pub member_is : (place : ℕ) → option_map (value_in (extent_in parts)) (option_map member_val (slice_get (slice_index_or parts.sets id []) place))
+      ≡ slice_get (set_at (heap_over (extent_in parts) parts) id) place
   member_is place =
-      by_place (slice_get (slice_index_or parts.sets id []) place) (get_live (IsSoundMember (extent_in parts)) (slice_index_or parts.sets id []) place members_sound)
-      ∙ (sym (slice_get-map member_in (slice_index_or parts.sets id []) place) ∙ ap (λ (members : List Value). slice_get members place) (sym (set_view (extent_in parts) parts id)))
+      by_place (slice_get (slice_index_or parts.sets id []) place)
+      (get_live (IsSoundMember (extent_in parts)) (slice_index_or parts.sets id []) place members_sound)
+      ∙ (sym (slice_get-map member_in (slice_index_or parts.sets id []) place)
+      ∙ ap (λ (members : List Value). slice_get members place) (sym (set_view (extent_in parts) parts id)))
     where
-      by_place : (found : Option (Key × Val)) → IfSome found (IsSoundMember (extent_in parts)) → option_map (value_in (extent_in parts)) (option_map member_val found) ≡ option_map member_in found
+      by_place : (found : Option (Key × Val)) → IfSome found (IsSoundMember (extent_in parts))
+          → option_map (value_in (extent_in parts)) (option_map member_val found) ≡ option_map member_in found
       by_place None is = refl
       by_place (Some member) is = ap Some (sym (same_is (key_value member.0) (value_in (extent_in parts) member.1) is.alike))
 
@@ -188,7 +255,8 @@ module _ (parts : Parts) (is : IsSound parts) (id : ℕ) (there : id < length pa
 pub member_there : (heap : Heap) (id : ℕ) (value : Value) → has_value (set_at heap id) value ≡ true → added_in heap id value ≡ Ok heap
 member_there heap id value there =
     let members : with_member (set_at heap id) value ≡ set_at heap id = as_old (set_at heap id) there in
-    let sets : slice_set heap.sets id (set_at heap id) ≡ heap.sets = ap (slice_set heap.sets id) (unwrap_or-slice_get heap.sets id []) ∙ set-get_or heap.sets id [] in
+    let sets : slice_set heap.sets id (set_at heap id) ≡ heap.sets = ap (slice_set heap.sets id) (unwrap_or-slice_get heap.sets id [])
+    ∙ set-get_or heap.sets id [] in
     ap (λ b. and_then (charged_unless b heap) (λ paid. let r : Result Heap Full = Ok (having_member id value paid) in r)) there
     ∙ ap Ok (ap (λ one. with_set id one heap) members ∙ ap (λ sets. let h : Heap = record heap { sets = sets } in h) sets)
   where
@@ -205,17 +273,21 @@ module _ (parts : Parts) (is : IsSound parts) (id : ℕ) (there : id < length pa
   table_sound = is.structures.tables id no_entries there
 
   pub looked_is : (key : Key) → IsKey key
-      → option_map (value_in (extent_in parts)) (option_map entry_value (value_of key_eq (slice_index_or parts.tables id no_entries).pairs key)) ≡ value_at_key (heap_over (extent_in parts) parts) id (key_value key)
+      → option_map (value_in (extent_in parts)) (option_map entry_value (value_of key_eq (slice_index_or parts.tables id no_entries).pairs key))
+      ≡ value_at_key (heap_over (extent_in parts) parts) id (key_value key)
   looked_is key formed =
       value_found (extent_in parts) key formed (slice_index_or parts.tables id no_entries).pairs table_sound.pairs
       ∙ ap (λ (table : Table). value_of same table.pairs (key_value key)) (sym (table_view (extent_in parts) parts id))
 
-  pub looked_live : (key : Key) → IsKey key → IfSome (option_map entry_value (value_of key_eq (slice_index_or parts.tables id no_entries).pairs key)) (IsLive (extent_in parts))
+  pub looked_live : (key : Key) → IsKey key
+      → IfSome (option_map entry_value (value_of key_eq (slice_index_or parts.tables id no_entries).pairs key)) (IsLive (extent_in parts))
   looked_live key formed = found_live (extent_in parts) key formed (slice_index_or parts.tables id no_entries).pairs table_sound.pairs
 
-  pub looked_found : (key : Key) → IsKey key → is_some (value_of key_eq (slice_index_or parts.tables id no_entries).pairs key) ≡ is_some (value_at_key (heap_over (extent_in parts) parts) id (key_value key))
+  pub looked_found : (key : Key) → IsKey key → is_some (value_of key_eq (slice_index_or parts.tables id no_entries).pairs key)
+      ≡ is_some (value_at_key (heap_over (extent_in parts) parts) id (key_value key))
   looked_found key formed =
-      sym (is_some_map entry_value (value_of key_eq (slice_index_or parts.tables id no_entries).pairs key)) ∙ (sym (is_some_map (value_in (extent_in parts)) _) ∙ ap is_some (looked_is key formed))
+      sym (is_some_map entry_value (value_of key_eq (slice_index_or parts.tables id no_entries).pairs key))
+      ∙ (sym (is_some_map (value_in (extent_in parts)) _) ∙ ap is_some (looked_is key formed))
 
   pub pair_stores : {sum : ℕ} → parts.cells ≤ sum → sum ≤ parts.limits.cells → (key : Key) (entry : Entry) → IsKey key
       → IsLive (extent_in parts) entry.key → IsLive (extent_in parts) entry.value → key_value key ≡ value_in (extent_in parts) entry.key
@@ -228,26 +300,32 @@ module _ (parts : Parts) (is : IsSound parts) (id : ℕ) (there : id < length pa
       (ap (λ pairs. let t : Table = record { default = value_in (extent_in parts) table.default; pairs = pairs } in t)
       (pair_stored (extent_in parts) key formed table.pairs table_sound.pairs entry
       ∙ ap (λ k. stored same (map (pair_in (extent_in parts)) table.pairs) k (value_in (extent_in parts) entry.value)) alike)
-      ∙ ap (λ (t : Table). let u : Table = record { default = t.default; pairs = stored same t.pairs (value_in (extent_in parts) entry.key) (value_in (extent_in parts) entry.value) } in u)
+      ∙ ap (λ (t : Table). let u : Table =
+      record { default = t.default; pairs = stored same t.pairs (value_in (extent_in parts) entry.key) (value_in (extent_in parts) entry.value) } in u)
       (sym (table_view (extent_in parts) parts id)))
 
   pub pair_leaves : (key : Key) → IsKey key
       → Becomes parts (record parts { tables = slice_set parts.tables id (table_without (slice_index_or parts.tables id no_entries) key) })
-      (with_table id (record (table_at (heap_over (extent_in parts) parts) id) { pairs = without same (table_at (heap_over (extent_in parts) parts) id).pairs (key_value key) }) (heap_over (extent_in parts) parts))
+      (with_table id (record (table_at (heap_over (extent_in parts) parts)
+      id) { pairs = without same (table_at (heap_over (extent_in parts) parts) id).pairs (key_value key) }) (heap_over (extent_in parts) parts))
   pair_leaves key formed =
       let table : Entries = slice_index_or parts.tables id no_entries in
       table_changes parts is (le_refl _) is.charged.within id
       (record { default = table_sound.default; pairs = all_without (IsSoundPair (extent_in parts)) (key_eq key) table.pairs table_sound.pairs })
-      (ap (λ pairs. let t : Table = record { default = value_in (extent_in parts) table.default; pairs = pairs } in t) (pair_removed (extent_in parts) key formed table.pairs table_sound.pairs)
-      ∙ ap (λ (t : Table). let u : Table = record { default = t.default; pairs = without same t.pairs (key_value key) } in u) (sym (table_view (extent_in parts) parts id)))
+      (ap (λ pairs. let t : Table = record { default = value_in (extent_in parts) table.default; pairs = pairs } in t)
+      (pair_removed (extent_in parts) key formed table.pairs table_sound.pairs)
+      ∙ ap (λ (t : Table). let u : Table = record { default = t.default; pairs = without same t.pairs (key_value key) } in u)
+      (sym (table_view (extent_in parts) parts id)))
 
   pub default_is : value_in (extent_in parts) (slice_index_or parts.tables id no_entries).default ≡ (table_at (heap_over (extent_in parts) parts) id).default
   default_is = sym (ap (λ (t : Table). t.default) (table_view (extent_in parts) parts id))
 
-  pub pair_is : (place : ℕ) → option_map (values_in (extent_in parts)) (option_map entry_vals (option_map entry_of (slice_get (slice_index_or parts.tables id no_entries).pairs place)))
+  pub pair_is : (place : ℕ) → option_map (values_in (extent_in parts))
+      (option_map entry_vals (option_map entry_of (slice_get (slice_index_or parts.tables id no_entries).pairs place)))
       ≡ slice_get (table_at (heap_over (extent_in parts) parts) id).pairs place
   pair_is place =
-      by_place (slice_get (slice_index_or parts.tables id no_entries).pairs place) (get_live (IsSoundPair (extent_in parts)) (slice_index_or parts.tables id no_entries).pairs place table_sound.pairs)
+      by_place (slice_get (slice_index_or parts.tables id no_entries).pairs place)
+      (get_live (IsSoundPair (extent_in parts)) (slice_index_or parts.tables id no_entries).pairs place table_sound.pairs)
       ∙ (sym (slice_get-map (pair_in (extent_in parts)) (slice_index_or parts.tables id no_entries).pairs place)
       ∙ ap (λ (t : Table). slice_get t.pairs place) (sym (table_view (extent_in parts) parts id)))
     where
@@ -258,19 +336,25 @@ module _ (parts : Parts) (is : IsSound parts) (id : ℕ) (there : id < length pa
           ap (λ (k : Value). let o : Option (Value × Value) = Some (k, value_in (extent_in parts) pair.1.value) in o)
           (sym (same_is (key_value pair.0) (value_in (extent_in parts) pair.1.key) is.alike))
 
-  pub key_live : (place : ℕ) → IfSome (option_map entry_vals (option_map entry_of (slice_get (slice_index_or parts.tables id no_entries).pairs place))) (λ pair. IsLive (extent_in parts) pair.0)
+  pub key_live : (place : ℕ) → IfSome (option_map entry_vals (option_map entry_of (slice_get (slice_index_or parts.tables id no_entries).pairs place)))
+      (λ pair. IsLive (extent_in parts) pair.0)
   key_live place =
-      by_place (slice_get (slice_index_or parts.tables id no_entries).pairs place) (get_live (IsSoundPair (extent_in parts)) (slice_index_or parts.tables id no_entries).pairs place table_sound.pairs)
+      by_place (slice_get (slice_index_or parts.tables id no_entries).pairs place)
+      (get_live (IsSoundPair (extent_in parts)) (slice_index_or parts.tables id no_entries).pairs place table_sound.pairs)
     where
-      by_place : (found : Option (Key × Entry)) → IfSome found (IsSoundPair (extent_in parts)) → IfSome (option_map entry_vals (option_map entry_of found)) (λ pair. IsLive (extent_in parts) pair.0)
+      by_place : (found : Option (Key × Entry)) → IfSome found (IsSoundPair (extent_in parts))
+          → IfSome (option_map entry_vals (option_map entry_of found)) (λ pair. IsLive (extent_in parts) pair.0)
       by_place None is = tt
       by_place (Some pair) is = is.key
 
-  pub value_live : (place : ℕ) → IfSome (option_map entry_vals (option_map entry_of (slice_get (slice_index_or parts.tables id no_entries).pairs place))) (λ pair. IsLive (extent_in parts) pair.1)
+  pub value_live : (place : ℕ) → IfSome (option_map entry_vals (option_map entry_of (slice_get (slice_index_or parts.tables id no_entries).pairs place)))
+      (λ pair. IsLive (extent_in parts) pair.1)
   value_live place =
-      by_place (slice_get (slice_index_or parts.tables id no_entries).pairs place) (get_live (IsSoundPair (extent_in parts)) (slice_index_or parts.tables id no_entries).pairs place table_sound.pairs)
+      by_place (slice_get (slice_index_or parts.tables id no_entries).pairs place)
+      (get_live (IsSoundPair (extent_in parts)) (slice_index_or parts.tables id no_entries).pairs place table_sound.pairs)
     where
-      by_place : (found : Option (Key × Entry)) → IfSome found (IsSoundPair (extent_in parts)) → IfSome (option_map entry_vals (option_map entry_of found)) (λ pair. IsLive (extent_in parts) pair.1)
+      by_place : (found : Option (Key × Entry)) → IfSome found (IsSoundPair (extent_in parts))
+          → IfSome (option_map entry_vals (option_map entry_of found)) (λ pair. IsLive (extent_in parts) pair.1)
       by_place None is = tt
       by_place (Some pair) is = is.value
 
@@ -283,7 +367,8 @@ module _ (parts : Parts) (is : IsSound parts) (id : ℕ) (there : id < length pa
   pub record_sound : IsSoundRecord (extent_in parts) (slice_index_or parts.records id no_fields)
   record_sound = is.structures.records id no_fields there
 
-  pub fields_are : map (value_in (extent_in parts)) (slice_index_or parts.records id no_fields).values ≡ (record_at (heap_over (extent_in parts) parts) id).fields
+  pub fields_are : map (value_in (extent_in parts)) (slice_index_or parts.records id no_fields).values
+      ≡ (record_at (heap_over (extent_in parts) parts) id).fields
   fields_are = sym (ap (λ (r : Record). r.fields) (record_view (extent_in parts) parts id))
 
   pub field_count : length (slice_index_or parts.records id no_fields).values ≡ length (record_at (heap_over (extent_in parts) parts) id).fields
@@ -292,14 +377,20 @@ module _ (parts : Parts) (is : IsSound parts) (id : ℕ) (there : id < length pa
   pub kind_is : (slice_index_or parts.records id no_fields).kind ≡ (record_at (heap_over (extent_in parts) parts) id).kind
   kind_is = sym (ap (λ (r : Record). r.kind) (record_view (extent_in parts) parts id))
 
-  pub field_is : (place : ℕ) → value_in (extent_in parts) (slice_index_or (slice_index_or parts.records id no_fields).values place NullVal) ≡ value_at (record_at (heap_over (extent_in parts) parts) id).fields place
-  field_is place = sym (at_view (value_in (extent_in parts)) (slice_index_or parts.records id no_fields).values place NullVal) ∙ ap (λ fields. value_at fields place) fields_are
+  pub field_is : (place : ℕ) → value_in (extent_in parts) (slice_index_or (slice_index_or parts.records id no_fields).values place NullVal)
+      ≡ value_at (record_at (heap_over (extent_in parts) parts) id).fields place
+  field_is place = sym (at_view (value_in (extent_in parts)) (slice_index_or parts.records id no_fields).values place NullVal)
+      ∙ ap (λ fields. value_at fields place) fields_are
 
-  pub field_live : (place : ℕ) → place < length (slice_index_or parts.records id no_fields).values → IsLive (extent_in parts) (slice_index_or (slice_index_or parts.records id no_fields).values place NullVal)
+  pub field_live : (place : ℕ) → place < length (slice_index_or parts.records id no_fields).values
+      → IsLive (extent_in parts) (slice_index_or (slice_index_or parts.records id no_fields).values place NullVal)
   field_live place few = record_sound.live place NullVal few
 
   pub field_changes : (place : ℕ) (val : Val) → IsLive (extent_in parts) val
-      → Becomes parts (record parts { records = slice_set parts.records id (held_record (slice_index_or parts.records id no_fields).kind (slice_set (slice_index_or parts.records id no_fields).values place val)) })
+      → Becomes parts (record parts {
+        records = slice_set parts.records id
+            (held_record (slice_index_or parts.records id no_fields).kind (slice_set (slice_index_or parts.records id no_fields).values place val));
+      })
       (with_field id place (value_in (extent_in parts) val) (heap_over (extent_in parts) parts))
   field_changes place val live =
       record_changes parts is (le_refl _) is.charged.within id
@@ -307,8 +398,10 @@ module _ (parts : Parts) (is : IsSound parts) (id : ℕ) (there : id < length pa
         live = All-set (IsLive (extent_in parts)) (slice_index_or parts.records id no_fields).values place val live record_sound.live;
         few = rw (length-set (slice_index_or parts.records id no_fields).values place val) record_sound.few;
       })
-      (ap (λ fields. let r : Record = record { kind = (slice_index_or parts.records id no_fields).kind; fields = fields } in r) (map-set (value_in (extent_in parts)) (slice_index_or parts.records id no_fields).values place val)
-      ∙ ap (λ (r : Record). let q : Record = record { kind = r.kind; fields = slice_set r.fields place (value_in (extent_in parts) val) } in q) (sym (record_view (extent_in parts) parts id)))
+      (ap (λ fields. let r : Record = record { kind = (slice_index_or parts.records id no_fields).kind; fields = fields } in r)
+      (map-set (value_in (extent_in parts)) (slice_index_or parts.records id no_fields).values place val)
+      ∙ ap (λ (r : Record). let q : Record = record { kind = r.kind; fields = slice_set r.fields place (value_in (extent_in parts) val) } in q)
+      (sym (record_view (extent_in parts) parts id)))
 
 -- Texts
 
@@ -318,7 +411,13 @@ pub texts_join : (parts : Parts) → IsSound parts → (strings : Region) → Ke
 texts_join parts is strings texts =
     let charged : IsCharged parts = is.charged in
     becomes (record { texts = texts; lists = le_refl _; sets = le_refl _; tables = le_refl _; records = le_refl _; coexps = le_refl _ })
-    (record { lists = is.structures.lists; sets = is.structures.sets; tables = is.structures.tables; records = is.structures.records; coexps = is.structures.coexps })
+    (record {
+      lists = is.structures.lists;
+      sets = is.structures.sets;
+      tables = is.structures.tables;
+      records = is.structures.records;
+      coexps = is.structures.coexps;
+    })
     (record { limit = texts.limit ∙ charged.limit; within = charged.within; counted = charged.counted; main = charged.main })
     refl
 
@@ -330,5 +429,6 @@ items_count all list same = sym (rw length-map refl) ∙ ap (λ (it : Numbered V
 pub members_count : (parts : Parts) (id : ℕ) → length (slice_index_or parts.sets id []) ≡ length (set_at (heap_over (extent_in parts) parts) id)
 members_count parts id = sym (ap length (set_view (extent_in parts) parts id) ∙ (rw length-map refl))
 
-pub pairs_count : (parts : Parts) (id : ℕ) → length (slice_index_or parts.tables id no_entries).pairs ≡ length (table_at (heap_over (extent_in parts) parts) id).pairs
+pub pairs_count : (parts : Parts) (id : ℕ)
+    → length (slice_index_or parts.tables id no_entries).pairs ≡ length (table_at (heap_over (extent_in parts) parts) id).pairs
 pairs_count parts id = sym (ap (λ (t : Table). length t.pairs) (table_view (extent_in parts) parts id) ∙ (rw length-map refl))

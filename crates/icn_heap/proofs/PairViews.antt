@@ -46,7 +46,8 @@ filter_all test (x ∷ xs) are = rw (All-head (λ x. test x ≡ true) x xs are, 
 -- Sets
 
 module _ (all : Extent) (key : Key) (is : IsKey key) where
-  pub member_found : (set : List (Key × Val)) → All (IsSoundMember all) set → is_some (value_of key_eq set key) ≡ list_any (same (key_value key)) (map member_in set)
+  pub member_found : (set : List (Key × Val)) → All (IsSoundMember all) set
+      → is_some (value_of key_eq set key) ≡ list_any (same (key_value key)) (map member_in set)
   member_found [] are = refl
   member_found (member ∷ set) are =
       let first : IsSoundMember all member = All-head (IsSoundMember all) member set are in
@@ -59,13 +60,15 @@ module _ (all : Extent) (key : Key) (is : IsKey key) where
       by_test true false alike later = absurd (true≢false (sym alike))
       by_test false true alike later = absurd (true≢false alike)
 
-  apart : (k : Key) → IsKey k → same (key_value key) (key_value k) ≡ true → (set : List (Key × Val)) → All (IsSoundMember all) set → AllByRecursion (λ other. key_eq k other ≡ false) (keys_of set)
+  apart : (k : Key) → IsKey k → same (key_value key) (key_value k) ≡ true → (set : List (Key × Val)) → All (IsSoundMember all) set
+      → AllByRecursion (λ other. key_eq k other ≡ false) (keys_of set)
       → filter (λ member. not (same (key_value key) member)) (map member_in set) ≡ map member_in set
   apart k is' alike [] are differ = refl
   apart k is' alike (member ∷ set) are differ =
       let first : IsSoundMember all member = All-head (IsSoundMember all) member set are in
       let one : key_value key ≡ key_value k = same_is (key_value key) (key_value k) alike in
-      let other : same (key_value key) (key_value member.0) ≡ false = ap (λ v. same v (key_value member.0)) one ∙ (same_keys k member.0 is' first.formed ∙ differ.0) in
+      let other : same (key_value key) (key_value member.0) ≡ false = ap (λ v. same v (key_value member.0)) one
+      ∙ (same_keys k member.0 is' first.formed ∙ differ.0) in
       rw other (ap (λ rest. key_value member.0 ∷ rest) (apart k is' alike set (All-tail (IsSoundMember all) member set are) differ.1))
 
   pub member_removed : (set : List (Key × Val)) → All (IsSoundMember all) set → KeysDiffer key_eq set
@@ -82,7 +85,8 @@ module _ (all : Extent) (key : Key) (is : IsKey key) where
           → (c ≡ true → filter (λ member. not (same (key_value key) member)) (map member_in set) ≡ map member_in set)
           → map member_in (without key_eq set key) ≡ filter (λ member. not (same (key_value key) member)) (map member_in set)
           → map member_in (cond b set (member ∷ without key_eq set key))
-          ≡ cond (not c) (key_value member.0 ∷ filter (λ member. not (same (key_value key) member)) (map member_in set)) (filter (λ member. not (same (key_value key) member)) (map member_in set))
+          ≡ cond (not c) (key_value member.0 ∷ filter (λ member. not (same (key_value key) member)) (map member_in set))
+          (filter (λ member. not (same (key_value key) member)) (map member_in set))
       by_test true true alike none later = sym (none refl)
       by_test false false alike none later = ap (λ rest. key_value member.0 ∷ rest) later
       by_test true false alike none later = absurd (true≢false (sym alike))
@@ -98,7 +102,8 @@ module _ (all : Extent) (key : Key) (is : IsKey key) where
       let first : IsSoundPair all pair = All-head (IsSoundPair all) pair pairs are in
       by_test (key_eq key pair.0) _ (same_keys key pair.0 is first.formed) (value_found pairs (All-tail (IsSoundPair all) pair pairs are))
     where
-      by_test : (b c : Bool) → c ≡ b → option_map (value_in all) (option_map entry_value (value_of key_eq pairs key)) ≡ value_of same (map (pair_in all) pairs) (key_value key)
+      by_test : (b c : Bool) → c ≡ b
+          → option_map (value_in all) (option_map entry_value (value_of key_eq pairs key)) ≡ value_of same (map (pair_in all) pairs) (key_value key)
           → option_map (value_in all) (option_map entry_value (cond b (Some pair.1) (value_of key_eq pairs key)))
           ≡ cond c (Some (value_in all pair.1.value)) (value_of same (map (pair_in all) pairs) (key_value key))
       by_test true true alike later = refl
@@ -124,9 +129,11 @@ module _ (all : Extent) (key : Key) (is : IsKey key) where
       let first : IsSoundPair all pair = All-head (IsSoundPair all) pair pairs are in
       by_test (key_eq key pair.0) _ (same_keys key pair.0 is first.formed) (pair_stored pairs (All-tail (IsSoundPair all) pair pairs are) entry)
     where
-      by_test : (b c : Bool) → c ≡ b → map (pair_in all) (stored key_eq pairs key entry) ≡ stored same (map (pair_in all) pairs) (key_value key) (value_in all entry.value)
+      by_test : (b c : Bool) → c ≡ b
+          → map (pair_in all) (stored key_eq pairs key entry) ≡ stored same (map (pair_in all) pairs) (key_value key) (value_in all entry.value)
           → map (pair_in all) (if b then (pair.0, entry) ∷ pairs else pair ∷ stored key_eq pairs key entry)
-          ≡ (if c then (key_value pair.0, value_in all entry.value) ∷ map (pair_in all) pairs else pair_in all pair ∷ stored same (map (pair_in all) pairs) (key_value key) (value_in all entry.value))
+          ≡ (if c then (key_value pair.0, value_in all entry.value) ∷ map (pair_in all) pairs
+          else pair_in all pair ∷ stored same (map (pair_in all) pairs) (key_value key) (value_in all entry.value))
       by_test true true alike later = refl
       by_test false false alike later = ap (λ (rest : List (Value × Value)). pair_in all pair ∷ rest) later
       by_test true false alike later = absurd (true≢false (sym alike))
@@ -140,24 +147,28 @@ module _ (all : Extent) (key : Key) (is : IsKey key) where
       by_test (key_eq key pair.0) _ (same_keys key pair.0 is first.formed) (pair_removed pairs (All-tail (IsSoundPair all) pair pairs are))
     where
       by_test : (b c : Bool) → c ≡ b → map (pair_in all) (without key_eq pairs key) ≡ without same (map (pair_in all) pairs) (key_value key)
-          → map (pair_in all) (cond b pairs (pair ∷ without key_eq pairs key)) ≡ cond c (map (pair_in all) pairs) (pair_in all pair ∷ without same (map (pair_in all) pairs) (key_value key))
+          → map (pair_in all) (cond b pairs (pair ∷ without key_eq pairs key))
+          ≡ cond c (map (pair_in all) pairs) (pair_in all pair ∷ without same (map (pair_in all) pairs) (key_value key))
       by_test true true alike later = refl
       by_test false false alike later = ap (λ (rest : List (Value × Value)). pair_in all pair ∷ rest) later
       by_test true false alike later = absurd (true≢false (sym alike))
       by_test false true alike later = absurd (true≢false alike)
 
-  pub stored_sound : (pairs : List (Key × Entry)) → All (IsSoundPair all) pairs → (entry : Entry) → IsLive all entry.key → IsLive all entry.value → key_value key ≡ value_in all entry.key
+  pub stored_sound : (pairs : List (Key × Entry)) → All (IsSoundPair all) pairs → (entry : Entry) → IsLive all entry.key → IsLive all entry.value
+      → key_value key ≡ value_in all entry.key
       → All (IsSoundPair all) (stored key_eq pairs key entry)
   stored_sound [] are entry live live' alike =
       All-cons (IsSoundPair all) (key, entry) [] (record { key = live; value = live'; formed = is; alike = rw alike (same_self (value_in all entry.key)) }) are
   stored_sound (pair ∷ pairs) are entry live live' alike =
       let first : IsSoundPair all pair = All-head (IsSoundPair all) pair pairs are in
-      by_test (key_eq key pair.0) (same_keys key pair.0 is first.formed) first (stored_sound pairs (All-tail (IsSoundPair all) pair pairs are) entry live live' alike)
+      by_test (key_eq key pair.0) (same_keys key pair.0 is first.formed) first
+      (stored_sound pairs (All-tail (IsSoundPair all) pair pairs are) entry live live' alike)
     where
       by_test : (b : Bool) → same (key_value key) (key_value pair.0) ≡ b → IsSoundPair all pair → All (IsSoundPair all) (stored key_eq pairs key entry)
           → All (IsSoundPair all) (if b then (pair.0, entry) ∷ pairs else pair ∷ stored key_eq pairs key entry)
       by_test true here first later =
           let one : key_value pair.0 ≡ value_in all entry.key = sym (same_is (key_value key) (key_value pair.0) here) ∙ alike in
-          All-cons (IsSoundPair all) (pair.0, entry) pairs (record { key = live; value = live'; formed = first.formed; alike = rw one (same_self (value_in all entry.key)) })
+          All-cons (IsSoundPair all) (pair.0, entry) pairs
+          (record { key = live; value = live'; formed = first.formed; alike = rw one (same_self (value_in all entry.key)) })
           (All-tail (IsSoundPair all) pair pairs are)
       by_test false here first later = All-cons (IsSoundPair all) pair (stored key_eq pairs key entry) first later

@@ -53,7 +53,8 @@ pub stands_as : {old new now : Parts} {heap : Heap} → now ≡ new → Becomes 
 stands_as same done = ap (λ parts. heap_over (extent_in parts) parts) same ∙ done.stands
 
 -- a change that is charged, and is made of the heap that paid for it
-pub steps_as : {old new now : Parts} {paid : Heap} (charge : Result Heap Full) (change : Heap → Heap) → charge ≡ Ok paid → now ≡ new → Becomes old new (change paid)
+pub steps_as : {old new now : Parts} {paid : Heap} (charge : Result Heap Full) (change : Heap → Heap) → charge ≡ Ok paid → now ≡ new
+    → Becomes old new (change paid)
     → and_then charge (λ heap. let r : Result Heap Full = Ok (change heap) in r) ≡ Ok (heap_over (extent_in now) now)
 steps_as {old} {new} {now} {paid} charge change is same done =
     ap (λ c. and_then c (λ heap. let r : Result Heap Full = Ok (change heap) in r)) is ∙ ap Ok (sym (stands_as same done))

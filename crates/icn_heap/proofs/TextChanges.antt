@@ -21,21 +21,24 @@ use Rattle.icn_heap.proofs.OtherChanges.{texts_join}
 pub text_is : (all : Extent) (span : Span) {place : Place} → place_of span ≡ place → IsOf all.strings place → IsText all span
 text_is all span {place} same is = record { of = rw same is }
 
-pub text_has : (all : Extent) (span : Span) {place : Place} {bytes : List ℕ} → place_of span ≡ place → bytes_of all.strings place ≡ bytes → text_in all span ≡ bytes
+pub text_has : (all : Extent) (span : Span) {place : Place} {bytes : List ℕ} → place_of span ≡ place → bytes_of all.strings place ≡ bytes
+    → text_in all span ≡ bytes
 unfolding text_in
 text_has all span {place} same is = rw same is
 
 module _ (parts : Parts) (is : IsSound parts) (strings : Region) (texts : KeepsTexts parts.strings strings) where
   -- texts that are charged
   pub texts_charged : (n : ℕ) → sum_of strings ≡ sum_of parts.strings + n → sum_of strings ≤ limit_of strings
-      → charged_strings (heap_over (extent_in parts) parts) n ≡ Ok (heap_over (extent_in (record parts { strings = strings })) (record parts { strings = strings }))
+      → charged_strings (heap_over (extent_in parts) parts) n
+      ≡ Ok (heap_over (extent_in (record parts { strings = strings })) (record parts { strings = strings }))
   texts_charged n sum within =
       let limit : limit_of strings ≡ parts.limits.strings = texts.limit ∙ is.charged.limit in
       let done : Becomes parts (record parts { strings = strings }) _ = texts_join parts is strings texts in
       strings_fit (heap_over (extent_in parts) parts) n (sum_of strings) sum (rw (← limit) within) ∙ ap Ok (sym done.stands)
 
   -- texts that are not
-  pub texts_same : sum_of strings ≡ sum_of parts.strings → heap_over (extent_in (record parts { strings = strings })) (record parts { strings = strings }) ≡ heap_over (extent_in parts) parts
+  pub texts_same : sum_of strings ≡ sum_of parts.strings
+      → heap_over (extent_in (record parts { strings = strings })) (record parts { strings = strings }) ≡ heap_over (extent_in parts) parts
   texts_same same =
       let done : Becomes parts (record parts { strings = strings }) _ = texts_join parts is strings texts in
       done.stands ∙ ap (λ sum. let heap : Heap = record (heap_over (extent_in parts) parts) { strings = sum } in heap) same
@@ -43,7 +46,8 @@ module _ (parts : Parts) (is : IsSound parts) (strings : Region) (texts : KeepsT
 -- why the region refused is why the heap does
 
 module _ (parts : Parts) (is : IsSound parts) (n : ℕ) {full : FullRegion}
-    (exact : (let refused : Result Place FullRegion = Err full in refused ≡ Err (StringsRegion (sum_of parts.strings) (limit_of parts.strings))) ↔ (limit_of parts.strings < sum_of parts.strings + n))
+    (exact : (let refused : Result Place FullRegion = Err full in refused ≡ Err (StringsRegion (sum_of parts.strings) (limit_of parts.strings)))
+    ↔ (limit_of parts.strings < sum_of parts.strings + n))
     (memory : sum_of parts.strings + n ≤ limit_of parts.strings → (let refused : Result Place FullRegion = Err full in refused ≡ Err NoRoom)) where
   limit : limit_of parts.strings ≡ parts.limits.strings
   limit = is.charged.limit
@@ -62,7 +66,8 @@ module _ (parts : Parts) (is : IsSound parts) (n : ℕ) {full : FullRegion}
             inl (rw is refl)
       ]
 
-  pub text_limits : {A : Type 0} (result : Result A Full) → result ≡ Err (strings_full full) → LimitsFirst (charged_strings (heap_over (extent_in parts) parts) n) result
+  pub text_limits : {A : Type 0} (result : Result A Full) → result ≡ Err (strings_full full)
+      → LimitsFirst (charged_strings (heap_over (extent_in parts) parts) n) result
   text_limits result answer =
       elim (cases_lt (limit_of parts.strings) (sum_of parts.strings + n)) [
         | inl past ↦ limits_err (refused_past past) answer
@@ -70,7 +75,8 @@ module _ (parts : Parts) (is : IsSound parts) (n : ℕ) {full : FullRegion}
       ]
 
 -- how long two texts are together, by their places
-pub joined_len : (all : Extent) (a b : Span) {p q : Place} → p ≡ place_of a → q ≡ place_of b → length (bytes_of all.strings p) ≡ p.len → length (bytes_of all.strings q) ≡ q.len
+pub joined_len : (all : Extent) (a b : Span) {p q : Place} → p ≡ place_of a → q ≡ place_of b → length (bytes_of all.strings p) ≡ p.len
+    → length (bytes_of all.strings q) ≡ q.len
     → length (text_in all a ++ text_in all b) ≡ p.len + q.len
 unfolding text_in
 joined_len all a b {p} {q} is is' first second =

@@ -23,7 +23,8 @@ plain_part : (xs ys : List ℕ) → position_or_len is_newline (xs ++ ys) ≡ le
 plain_part xs ys h = let within : position_or_len is_newline xs ≤ length xs = prefix_len-le-length _ xs in grind (arith, nat_tests, prefix_len-append)
 
 -- what stands before the first newline has none
-plain_first : (bytes : List ℕ) → position_or_len is_newline (take (position_or_len is_newline bytes) bytes) ≡ length (take (position_or_len is_newline bytes) bytes)
+plain_first : (bytes : List ℕ)
+    → position_or_len is_newline (take (position_or_len is_newline bytes) bytes) ≡ length (take (position_or_len is_newline bytes) bytes)
 plain_first bytes =
     let n : ℕ = position_or_len is_newline bytes in
     plain_part (take n bytes) (drop n bytes) (ap (λ s. position_or_len is_newline s) (take-append-drop n bytes) ∙ sym (length-prefix_len _ bytes))

@@ -25,12 +25,14 @@ puts_nothing sink = record { gains = gains_nothing sink.held; faults = refl; wan
 -- a put of all
 pub all_of : (before after : SinkState) (line : List ℕ) (r : Result (Unit {0}) Fault) → OnOk r (Gains before.held after.held line)
     → CountsOnce before.faults after.faults (IsErrOf r Failed) → CountsOnce before.wants after.wants (IsErrOf r NoMemory) → OnOk r (PutsAll before after line)
-all_of before after line (Ok done) ok cause want = record { gains = ok; faults = cause.stayed (ok_not_err done Failed); wants = want.stayed (ok_not_err done NoMemory) }
+all_of before after line (Ok done) ok cause want =
+    record { gains = ok; faults = cause.stayed (ok_not_err done Failed); wants = want.stayed (ok_not_err done NoMemory) }
 all_of before after line (Err fault) ok cause want = tt
 
 -- a put that gave up
 pub stops_by : (before after : SinkState) (line : List ℕ) (r : Result (Unit {0}) Fault) → OnErr r (GainsPart before.held after.held line)
-    → CountsOnce before.faults after.faults (IsErrOf r Failed) → CountsOnce before.wants after.wants (IsErrOf r NoMemory) → IfErr r (λ fault. StopsBy fault before after line)
+    → CountsOnce before.faults after.faults (IsErrOf r Failed) → CountsOnce before.wants after.wants (IsErrOf r NoMemory)
+    → IfErr r (λ fault. StopsBy fault before after line)
 stops_by before after line (Ok done) err cause want = tt
 stops_by before after line (Err Failed) err cause want = record { part = err; faults = cause.rose refl; wants = want.stayed failed_no_want }
 stops_by before after line (Err NoMemory) err cause want = record { part = err; faults = cause.stayed want_not_failed; wants = want.rose refl }
@@ -51,7 +53,8 @@ leads_of before after line NoMemory (inr stops) = inr (wanted stops)
 
 -- a put, whatever it answers
 pub puts_of : (before after : SinkState) (line : List ℕ) (r : Result (Unit {0}) Fault) → OnOk r (Gains before.held after.held line)
-    → OnErr r (GainsPart before.held after.held line) → CountsOnce before.faults after.faults (IsErrOf r Failed) → CountsOnce before.wants after.wants (IsErrOf r NoMemory)
+    → OnErr r (GainsPart before.held after.held line) → CountsOnce before.faults after.faults (IsErrOf r Failed)
+    → CountsOnce before.wants after.wants (IsErrOf r NoMemory)
     → Puts before after line
 puts_of before after line (Ok done) ok err cause want = all (all_of before after line (Ok done) ok cause want)
 puts_of before after line (Err fault) ok err cause want = part (stops_of before after line fault (stops_by before after line (Err fault) err cause want))

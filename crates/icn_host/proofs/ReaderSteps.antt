@@ -74,7 +74,8 @@ pub slice_split : (bytes : List ℕ) (at end room count : ℕ) → at ≤ end �
 slice_split bytes at end room count h k e =
     let rest : List ℕ = drop at bytes in
     let long : length rest ≡ length bytes - at = length-drop at bytes in
-    let counted : count ≡ min room (end - at) = e ∙ (length-take room (take (end - at) rest) ∙ ap (λ n. min room n) (length-take-le (end - at) rest (omega arith))) in
+    let counted : count ≡ min room (end - at) = e
+    ∙ (length-take room (take (end - at) rest) ∙ ap (λ n. min room n) (length-take-le (end - at) rest (omega arith))) in
     let parts : end - at ≡ count + (end - (at + count)) = omega arith in
     ap (λ n. take n rest) parts
     ∙ (take-add count (end - (at + count)) rest

@@ -76,7 +76,8 @@ bytes_take n bytes x fits e =
     let g = guard_ok (ltb (length bytes) n) I2 (take n bytes, drop n bytes) x e in
     let long : n ≤ length bytes = ltb-false _ _ g.0 in
     let took : Takes bytes (take n bytes) (drop n bytes) = record { parts = sym (take-append-drop n bytes); rest_fits = IsBytes-drop n bytes fits } in
-    subst (λ (y : List ℕ × List ℕ). Takes bytes y.0 y.1 × (length y.0 ≡ n) × IsBytes y.0) g.1 (took, omega (arith, length-take n bytes), IsBytes-take n bytes fits)
+    subst (λ (y : List ℕ × List ℕ). Takes bytes y.0 y.1 × (length y.0 ≡ n) × IsBytes y.0) g.1
+    (took, omega (arith, length-take n bytes), IsBytes-take n bytes fits)
 
 pub bytes_again : (text rest : List ℕ) (n : ℕ) → length text ≡ n → bytes_at n (text ++ rest) ≡ Ok (text, rest)
 bytes_again text rest n len =
@@ -115,13 +116,15 @@ wide64 = record {
   below = λ bytes fits. omega (arith, fits 0, fits 1, fits 2, fits 3, fits 4, fits 5, fits 6, fits 7);
 }
 
-number_takes : (w : Width) (limit : ℕ) → IsWide w limit → (bytes : List ℕ) (x : ℕ × List ℕ) → IsBytes bytes → number_at w bytes ≡ Ok x → Takes bytes (to_le_bytes w x.0) x.1 × (nat_lt x.0 limit ≡ true)
+number_takes : (w : Width) (limit : ℕ) → IsWide w limit → (bytes : List ℕ) (x : ℕ × List ℕ) → IsBytes bytes → number_at w bytes ≡ Ok x
+    → Takes bytes (to_le_bytes w x.0) x.1 × (nat_lt x.0 limit ≡ true)
 unfolding number_at
 number_takes w limit wide bytes x fits e =
     let a = bind_ok (bytes_at (byte_len w) bytes) (λ n. Ok (from_le_bytes w n.0, n.1)) x e in
     let t = bytes_take (byte_len w) bytes a.0 fits a.1 in
     let took : Takes bytes (to_le_bytes w (from_le_bytes w a.0.0)) a.0.1 = rw (wide.back a.0.0 t.1 t.2) t.0 in
-    subst (λ (y : ℕ × List ℕ). Takes bytes (to_le_bytes w y.0) y.1 × (nat_lt y.0 limit ≡ true)) (ok_is (from_le_bytes w a.0.0, a.0.1) x a.2) (took, lt-ltb _ _ (wide.below a.0.0 t.2))
+    subst (λ (y : ℕ × List ℕ). Takes bytes (to_le_bytes w y.0) y.1 × (nat_lt y.0 limit ≡ true)) (ok_is (from_le_bytes w a.0.0, a.0.1) x a.2)
+    (took, lt-ltb _ _ (wide.below a.0.0 t.2))
 
 number_again : (w : Width) (limit : ℕ) → IsWide w limit → (n : ℕ) (rest : List ℕ) → nat_lt n limit ≡ true → number_at w (to_le_bytes w n ++ rest) ≡ Ok (n, rest)
 unfolding number_at
@@ -138,7 +141,8 @@ below_count n e = lt-ltb n 65536 (omega (arith, leb-true n 65535 e))
 
 -- ---- places
 
-place_takes : (w : Width) → IsWide w 65536 → (count : ℕ) (bytes : List ℕ) (x : ℕ × List ℕ) → IsBytes bytes → place_at w count bytes ≡ Ok x → Takes bytes (to_le_bytes w x.0) x.1 × (nat_lt x.0 count ≡ true)
+place_takes : (w : Width) → IsWide w 65536 → (count : ℕ) (bytes : List ℕ) (x : ℕ × List ℕ) → IsBytes bytes → place_at w count bytes ≡ Ok x
+    → Takes bytes (to_le_bytes w x.0) x.1 × (nat_lt x.0 count ≡ true)
 unfolding place_at
 place_takes w wide count bytes x fits e =
     let a = bind_ok (number_at w bytes) (λ n. cond (ltb n.0 count) (Ok n) (Err I4)) x e in
@@ -146,7 +150,8 @@ place_takes w wide count bytes x fits e =
     let g = passed_ok (ltb a.0.0 count) I4 a.0 x a.2 in
     subst (λ (y : ℕ × List ℕ). Takes bytes (to_le_bytes w y.0) y.1 × (nat_lt y.0 count ≡ true)) g.1 (t.0, g.0)
 
-place_again : (w : Width) → IsWide w 65536 → (count : ℕ) → count ≤ 65535 → (n : ℕ) (rest : List ℕ) → nat_lt n count ≡ true → place_at w count (to_le_bytes w n ++ rest) ≡ Ok (n, rest)
+place_again : (w : Width) → IsWide w 65536 → (count : ℕ) → count ≤ 65535 → (n : ℕ) (rest : List ℕ) → nat_lt n count ≡ true
+    → place_at w count (to_le_bytes w n ++ rest) ≡ Ok (n, rest)
 unfolding place_at
 place_again w wide count few n rest lt = rw ((number_reads w 65536 wide).again n rest (lt-ltb n 65536 (omega (arith, ltb-true n count lt, few))), lt) refl
 
@@ -155,32 +160,39 @@ place_reads w wide count few = record { takes = place_takes w wide count; again 
 
 -- ---- entries one behind the other
 
-pub times_takes : (A : Type 0) (read : Reader A) (spelling : A → List ℕ) (keeps : A → Bool) → Reads A read spelling keeps → (n : ℕ) (bytes : List ℕ) (x : List A × List ℕ) → IsBytes bytes → times read n bytes ≡ Ok x
+pub times_takes : (A : Type 0) (read : Reader A) (spelling : A → List ℕ) (keeps : A → Bool) → Reads A read spelling keeps
+    → (n : ℕ) (bytes : List ℕ) (x : List A × List ℕ) → IsBytes bytes → times read n bytes ≡ Ok x
     → Takes bytes (flat_map spelling x.0) x.1 × (length x.0 ≡ n) × (list_all keeps x.0 ≡ true)
 unfolding times
 times_takes A read spelling keeps reads zero bytes x fits e =
-    subst (λ (y : List A × List ℕ). Takes bytes (flat_map spelling y.0) y.1 × (length y.0 ≡ 0) × (list_all keeps y.0 ≡ true)) (ok_is ([], bytes) x e) (record { parts = refl; rest_fits = fits }, refl, refl)
+    subst (λ (y : List A × List ℕ). Takes bytes (flat_map spelling y.0) y.1 × (length y.0 ≡ 0) × (list_all keeps y.0 ≡ true)) (ok_is ([], bytes) x e)
+    (record { parts = refl; rest_fits = fits }, refl, refl)
 times_takes A read spelling keeps reads (suc n) bytes x fits e =
     let a = bind_ok (read bytes) (λ first. times read n first.1 >>= λ others. Ok (first.0 ∷ others.0, others.1)) x e in
     let b = bind_ok (times read n a.0.1) (λ others. Ok (a.0.0 ∷ others.0, others.1)) x a.2 in
     let first = reads.takes bytes a.0 fits a.1 in
     let second = times_takes A read spelling keeps reads n a.0.1 b.0 first.0.rest_fits b.1 in
     let both = takes_then bytes (spelling a.0.0) a.0.1 (flat_map spelling b.0.0) b.0.1 first.0 second.0 in
-    subst (λ (y : List A × List ℕ). Takes bytes (flat_map spelling y.0) y.1 × (length y.0 ≡ suc n) × (list_all keeps y.0 ≡ true)) (ok_is (a.0.0 ∷ b.0.0, b.0.1) x b.2) (rw flat_map-cons both, ap suc second.1, and_from (keeps a.0.0) (list_all keeps b.0.0) first.1 second.2)
+    subst (λ (y : List A × List ℕ). Takes bytes (flat_map spelling y.0) y.1 × (length y.0 ≡ suc n) × (list_all keeps y.0 ≡ true))
+    (ok_is (a.0.0 ∷ b.0.0, b.0.1) x b.2) (rw flat_map-cons both, ap suc second.1, and_from (keeps a.0.0) (list_all keeps b.0.0) first.1 second.2)
 
-pub times_again : (A : Type 0) (read : Reader A) (spelling : A → List ℕ) (keeps : A → Bool) → Reads A read spelling keeps → (xs : List A) (rest : List ℕ) → list_all keeps xs ≡ true → times read (length xs) (flat_map spelling xs ++ rest) ≡ Ok (xs, rest)
+pub times_again : (A : Type 0) (read : Reader A) (spelling : A → List ℕ) (keeps : A → Bool) → Reads A read spelling keeps → (xs : List A) (rest : List ℕ)
+    → list_all keeps xs ≡ true → times read (length xs) (flat_map spelling xs ++ rest) ≡ Ok (xs, rest)
 unfolding times
 times_again A read spelling keeps reads [] rest all = refl
 times_again A read spelling keeps reads (x ∷ xs) rest all =
     let p = and_parts (keeps x) (list_all keeps xs) all in
-    let regrouped : flat_map spelling (x ∷ xs) ++ rest ≡ spelling x ++ (flat_map spelling xs ++ rest) = ap (λ (t : List ℕ). t ++ rest) (flat_map-cons spelling x xs) ∙ append_assoc (spelling x) (flat_map spelling xs) rest in
-    ap (times read (suc (length xs))) regrouped ∙ rw (reads.again x (flat_map spelling xs ++ rest) p.0, times_again A read spelling keeps reads xs rest p.1) refl
+    let regrouped : flat_map spelling (x ∷ xs) ++ rest ≡ spelling x
+    ++ (flat_map spelling xs ++ rest) = ap (λ (t : List ℕ). t ++ rest) (flat_map-cons spelling x xs) ∙ append_assoc (spelling x) (flat_map spelling xs) rest in
+    ap (times read (suc (length xs))) regrouped
+    ∙ rw (reads.again x (flat_map spelling xs ++ rest) p.0, times_again A read spelling keeps reads xs rest p.1) refl
 
 -- a table: how many entries, and the entries
 abbrev pub all_keep : {A : Type 0} → (A → Bool) → List A → Bool
 all_keep keeps xs = is_count (length xs) && list_all keeps xs
 
-table_takes : (w : Width) → IsWide w 65536 → (A : Type 0) (read : Reader A) (spelling : A → List ℕ) (keeps : A → Bool) → Reads A read spelling keeps → (bytes : List ℕ) (x : List A × List ℕ) → IsBytes bytes → table_at w read bytes ≡ Ok x
+table_takes : (w : Width) → IsWide w 65536 → (A : Type 0) (read : Reader A) (spelling : A → List ℕ) (keeps : A → Bool) → Reads A read spelling keeps
+    → (bytes : List ℕ) (x : List A × List ℕ) → IsBytes bytes → table_at w read bytes ≡ Ok x
     → Takes bytes (table w spelling x.0) x.1 × (all_keep keeps x.0 ≡ true)
 unfolding table_at
 table_takes w wide A read spelling keeps reads bytes x fits e =
@@ -190,12 +202,16 @@ table_takes w wide A read spelling keeps reads bytes x fits e =
     let both = takes_then bytes (to_le_bytes w a.0.0) a.0.1 (flat_map spelling x.0) x.1 t.0 s.0 in
     (rw s.1 both, and_from (is_count (length x.0)) (list_all keeps x.0) (le-leb _ _ (omega (arith, s.1, ltb-true _ _ t.1))) s.2)
 
-table_again : (w : Width) → IsWide w 65536 → (A : Type 0) (read : Reader A) (spelling : A → List ℕ) (keeps : A → Bool) → Reads A read spelling keeps → (xs : List A) (rest : List ℕ) → all_keep keeps xs ≡ true → table_at w read (table w spelling xs ++ rest) ≡ Ok (xs, rest)
+table_again : (w : Width) → IsWide w 65536 → (A : Type 0) (read : Reader A) (spelling : A → List ℕ) (keeps : A → Bool) → Reads A read spelling keeps
+    → (xs : List A) (rest : List ℕ) → all_keep keeps xs ≡ true → table_at w read (table w spelling xs ++ rest) ≡ Ok (xs, rest)
 unfolding table_at
 table_again w wide A read spelling keeps reads xs rest all =
     let p = and_parts (is_count (length xs)) (list_all keeps xs) all in
     let lt : nat_lt (length xs) 65536 ≡ true = lt-ltb _ _ (omega (arith, leb-true _ _ p.0)) in
-    ap (table_at w read) (append_assoc (to_le_bytes w (length xs)) (flat_map spelling xs) rest) ∙ rw ((number_reads w 65536 wide).again (length xs) (flat_map spelling xs ++ rest) lt) (times_again A read spelling keeps reads xs rest p.1)
+    ap (table_at w read) (append_assoc (to_le_bytes w (length xs)) (flat_map spelling xs) rest)
+    ∙ rw ((number_reads w 65536 wide).again (length xs) (flat_map spelling xs ++ rest) lt) (times_again A read spelling keeps reads xs rest p.1)
 
-pub table_reads : (w : Width) → IsWide w 65536 → (A : Type 0) (read : Reader A) (spelling : A → List ℕ) (keeps : A → Bool) → Reads A read spelling keeps → Reads (List A) (table_at w read) (table w spelling) (all_keep keeps)
-table_reads w wide A read spelling keeps reads = record { takes = table_takes w wide A read spelling keeps reads; again = table_again w wide A read spelling keeps reads }
+pub table_reads : (w : Width) → IsWide w 65536 → (A : Type 0) (read : Reader A) (spelling : A → List ℕ) (keeps : A → Bool) → Reads A read spelling keeps
+    → Reads (List A) (table_at w read) (table w spelling) (all_keep keeps)
+table_reads w wide A read spelling keeps reads =
+    record { takes = table_takes w wide A read spelling keeps reads; again = table_again w wide A read spelling keeps reads }

@@ -14,14 +14,16 @@ between : (n : ℕ) → is_between n ≡ true → (0 < n) × (n < 38)
 unfolding is_between
 between n e = let p = and_parts (nat_lt 0 n) (nat_lt n 38) e in (ltb-true 0 n p.0, ltb-true n 38 p.1)
 
-passed : (i : Instr) (n : ℕ) (rest : Option Instr) (t : Bool) → eqb (instr_number i) n ≡ t → is_between (instr_number i) ≡ true → (0 < n → n < 38 → ⊥) → rest ≡ None → cond t (Some i) rest ≡ None
+passed : (i : Instr) (n : ℕ) (rest : Option Instr) (t : Bool) → eqb (instr_number i) n ≡ t → is_between (instr_number i) ≡ true → (0 < n → n < 38 → ⊥)
+    → rest ≡ None → cond t (Some i) rest ≡ None
 passed i n rest true e b outside h =
     let same : instr_number i ≡ n = eqb-true (instr_number i) n e in
     let low = between (instr_number i) b in
     absurd (outside (rw (← same) low.0) (rw (← same) low.1))
 passed i n rest false e b outside h = h
 
-none_found : (xs : List Instr) (n : ℕ) → list_all (λ i. is_between (instr_number i)) xs ≡ true → (0 < n → n < 38 → ⊥) → find (λ i. eqb (instr_number i) n) xs ≡ None
+none_found : (xs : List Instr) (n : ℕ) → list_all (λ i. is_between (instr_number i)) xs ≡ true → (0 < n → n < 38 → ⊥)
+    → find (λ i. eqb (instr_number i) n) xs ≡ None
 none_found [] n all outside = refl
 none_found (x ∷ xs) n all outside =
     let p = and_parts (is_between (instr_number x)) (list_all (λ i. is_between (instr_number i)) xs) all in

@@ -29,7 +29,8 @@ use Rattle.icn_image.proofs.Fields.{IsBytes, IsBytes-rest, bind_ok, ok_is, passe
 
 -- ---- what a search finds
 
-found_here : {A : Type 0} (p q : A → Bool) (x : A) (xs : List A) (y : A) (t : Bool) → q x ≡ true → (find p xs ≡ Found y → q y ≡ true) → cond t (Found x) (find p xs) ≡ Found y → q y ≡ true
+found_here : {A : Type 0} (p q : A → Bool) (x : A) (xs : List A) (y : A) (t : Bool) → q x ≡ true → (find p xs ≡ Found y → q y ≡ true)
+    → cond t (Found x) (find p xs) ≡ Found y → q y ≡ true
 found_here p q x xs y true keeps more h = let same : x ≡ y = cc in ap q (sym same) ∙ keeps
 found_here p q x xs y false keeps more h = more h
 
@@ -39,7 +40,8 @@ found_keeps p q (x ∷ xs) y all h =
     let parts = and_parts (q x) (list_all q xs) all in
     found_here p q x xs y (p x) parts.0 (found_keeps p q xs y parts.1) h
 
-all_here : {A : Type 0} (p : A → Bool) (Q : A → Type 0) (x : A) (xs : List A) (y : A) (t : Bool) → Q x → (find p xs ≡ Found y → Q y) → cond t (Found x) (find p xs) ≡ Found y → Q y
+all_here : {A : Type 0} (p : A → Bool) (Q : A → Type 0) (x : A) (xs : List A) (y : A) (t : Bool) → Q x → (find p xs ≡ Found y → Q y)
+    → cond t (Found x) (find p xs) ≡ Found y → Q y
 all_here p Q x xs y true keeps more h = let same : x ≡ y = cc in subst Q same keeps
 all_here p Q x xs y false keeps more h = more h
 
@@ -54,7 +56,8 @@ mapped f (Found x) y e = (x, refl, cc)
 -- ---- numbers and operands
 
 keyword_small : (keyword : Keyword) → keyword_number keyword < 65536
-keyword_small keyword = ltb-true _ _ (found_keeps (λ x. eqb (keyword_number x) (keyword_number keyword)) (λ x. nat_lt (keyword_number x) 65536) keywords keyword refl (keyword_back keyword))
+keyword_small keyword = ltb-true _ _ (found_keeps (λ x. eqb (keyword_number x) (keyword_number keyword))
+    (λ x. nat_lt (keyword_number x) 65536) keywords keyword refl (keyword_back keyword))
 
 op_small : (op : Operation) → op_number op < 65536
 op_small op = ltb-true _ _ (found_keeps (λ x. eqb (op_number x) (op_number op)) (λ x. nat_lt (op_number x) 65536) ops op refl (op_back op))
@@ -108,7 +111,8 @@ all_same : (k : ℕ) → AllByRecursion (Same k) (instrs k)
 all_same k = (inl refl, (inr refl, (inr refl, (inr refl, (inr refl, (inr refl, (inr refl, (inl refl, (inl refl, (inr refl, (inr refl, (inr refl, (inl refl, (inr refl, (inl refl, (inl refl, (inl refl, (inl refl, (inl refl, (inl refl, (inl refl, (inr refl, (inr refl, (inr refl, (inl refl, (inl refl, (inl refl, (inr refl, (inl refl, (inl refl, (inl refl, (inr refl, (inl refl, (inl refl, (inl refl, tt)))))))))))))))))))))))))))))))))))
 
 found : (n k : ℕ) (instr : Instr) (t u : Bool) → eqb n 8 ≡ t → eqb n 11 ≡ u
-    → cond t (option_map Keywd (keyword_of k)) (cond u (option_map Apply (op_of k)) (find (λ i. eqb (instr_number i) n) (instrs k))) ≡ Found instr → (instr_number instr ≡ n) × Same k instr
+    → cond t (option_map Keywd (keyword_of k)) (cond u (option_map Apply (op_of k)) (find (λ i. eqb (instr_number i) n) (instrs k))) ≡ Found instr
+    → (instr_number instr ≡ n) × Same k instr
 found n k instr true u at_8 at_11 e =
     let m = mapped Keywd (keyword_of k) instr e in
     let number : 8 ≡ n = sym (eqb-true n 8 at_8) in
@@ -117,7 +121,8 @@ found n k instr false true at_8 at_11 e =
     let m = mapped Apply (op_of k) instr e in
     let number : 11 ≡ n = sym (eqb-true n 11 at_11) in
     subst (λ (i : Instr). (instr_number i ≡ n) × Same k i) m.2 (number, inr (numbered op_number ops k m.0 m.1))
-found n k instr false false at_8 at_11 e = (numbered instr_number (instrs k) n instr e, found_all (λ i. eqb (instr_number i) n) (Same k) (instrs k) instr (all_same k) e)
+found n k instr false false at_8 at_11 e =
+    (numbered instr_number (instrs k) n instr e, found_all (λ i. eqb (instr_number i) n) (Same k) (instrs k) instr (all_same k) e)
 
 instr_found : (n k : ℕ) (instr : Instr) → instr_of n k ≡ Found instr → (instr_number instr ≡ n) × Same k instr
 unfolding instr_of
@@ -142,7 +147,8 @@ HasRoom (Found Nothing) n = n ≡ 0
 HasRoom (Found Number) n = nat_lt n 65536 ≡ true
 HasRoom (Found Label) n = nat_lt n (2 ^ 32) ≡ true
 
-has_room : (scope : Scope) → IsBounded scope → (instr : Instr) → names_there scope instr ≡ true → HasRoom (operand_of (instr_number instr)) (operand_value instr)
+has_room : (scope : Scope) → IsBounded scope → (instr : Instr) → names_there scope instr ≡ true
+    → HasRoom (operand_of (instr_number instr)) (operand_value instr)
 has_room scope bounded Pnull e = refl
 has_room scope bounded (Int n) e = lt-ltb _ _ (omega (arith, ltb-true n scope.integers e, bounded.integers))
 has_room scope bounded (Str n) e = lt-ltb _ _ (omega (arith, ltb-true n scope.strings e, bounded.strings))
@@ -181,13 +187,16 @@ has_room scope bounded Coact e = refl
 has_room scope bounded Coret e = refl
 has_room scope bounded Cofail e = refl
 
-operand_takes : (w : Width) → IsWide w 65536 → (form : Option Operand) (bytes : List ℕ) (x : ℕ × List ℕ) → IsBytes bytes → operand_at w form bytes ≡ Ok x → Takes bytes (operand w form x.0) x.1
+operand_takes : (w : Width) → IsWide w 65536 → (form : Option Operand) (bytes : List ℕ) (x : ℕ × List ℕ) → IsBytes bytes → operand_at w form bytes ≡ Ok x
+    → Takes bytes (operand w form x.0) x.1
 operand_takes w wide Missing bytes x fits e = absurd cc
-operand_takes w wide (Found Nothing) bytes x fits e = record { parts = ap (λ (y : ℕ × List ℕ). y.1) (ok_is (0, bytes) x e); rest_fits = subst (λ (y : ℕ × List ℕ). IsBytes y.1) (ok_is (0, bytes) x e) fits }
+operand_takes w wide (Found Nothing) bytes x fits e =
+    record { parts = ap (λ (y : ℕ × List ℕ). y.1) (ok_is (0, bytes) x e); rest_fits = subst (λ (y : ℕ × List ℕ). IsBytes y.1) (ok_is (0, bytes) x e) fits }
 operand_takes w wide (Found Number) bytes x fits e = ((number_reads w 65536 wide).takes bytes x fits e).0
 operand_takes w wide (Found Label) bytes x fits e = ((number_reads w32 (2 ^ 32) wide32).takes bytes x fits e).0
 
-operand_again : (w : Width) → IsWide w 65536 → (form : Option Operand) (n : ℕ) (rest : List ℕ) → HasRoom form n → operand_at w form (operand w form n ++ rest) ≡ Ok (n, rest)
+operand_again : (w : Width) → IsWide w 65536 → (form : Option Operand) (n : ℕ) (rest : List ℕ) → HasRoom form n
+    → operand_at w form (operand w form n ++ rest) ≡ Ok (n, rest)
 operand_again w wide Missing n rest room = absurd room
 operand_again w wide (Found Nothing) n rest room = ap (λ (m : ℕ). Ok (m, rest)) (sym room)
 operand_again w wide (Found Number) n rest room = (number_reads w 65536 wide).again n rest room
@@ -211,7 +220,8 @@ there_ok scope (Found i) instr e =
     let g = passed_ok (names_there scope i) I4 i instr e in
     (ap (λ (j : Instr). Found j) g.1, subst (λ (j : Instr). names_there scope j ≡ true) g.1 g.0)
 
-instr_takes : (w : Width) → IsWide w 65536 → (scope : Scope) (bytes : List ℕ) (x : Instr × List ℕ) → IsBytes bytes → instr_at w scope bytes ≡ Ok x → Takes bytes (instruction w x.0) x.1 × (names_there scope x.0 ≡ true)
+instr_takes : (w : Width) → IsWide w 65536 → (scope : Scope) (bytes : List ℕ) (x : Instr × List ℕ) → IsBytes bytes → instr_at w scope bytes ≡ Ok x
+    → Takes bytes (instruction w x.0) x.1 × (names_there scope x.0 ≡ true)
 unfolding instr_at
 instr_takes w wide scope [] x fits e = absurd cc
 instr_takes w wide scope (n ∷ bytes) x fits e =
@@ -220,15 +230,19 @@ instr_takes w wide scope (n ∷ bytes) x fits e =
     let t = operand_takes w wide (operand_of n) bytes a.0 (IsBytes-rest n bytes fits) a.1 in
     let names = there_ok scope (instr_of n a.0.0) b.0 b.1 in
     let number = instr_found n a.0.0 b.0 names.0 in
-    let took : Takes (n ∷ bytes) (instruction w b.0) a.0.1 = subst (λ (text : List ℕ). Takes (n ∷ bytes) text a.0.1) (same_operand w n a.0.0 b.0 number.0 number.1) (takes_byte n bytes (operand w (operand_of n) a.0.0) a.0.1 fits t) in
+    let took : Takes (n ∷ bytes) (instruction w b.0) a.0.1 = subst (λ (text : List ℕ). Takes (n ∷ bytes) text a.0.1)
+    (same_operand w n a.0.0 b.0 number.0 number.1) (takes_byte n bytes (operand w (operand_of n) a.0.0) a.0.1 fits t) in
     subst (λ (y : Instr × List ℕ). Takes (n ∷ bytes) (instruction w y.0) y.1 × (names_there scope y.0 ≡ true)) (ok_is (b.0, a.0.1) x b.2) (took, names.1)
 
-instr_again : (w : Width) → IsWide w 65536 → (scope : Scope) → IsBounded scope → (instr : Instr) (rest : List ℕ) → names_there scope instr ≡ true → instr_at w scope (instruction w instr ++ rest) ≡ Ok (instr, rest)
+instr_again : (w : Width) → IsWide w 65536 → (scope : Scope) → IsBounded scope → (instr : Instr) (rest : List ℕ) → names_there scope instr ≡ true
+    → instr_at w scope (instruction w instr ++ rest) ≡ Ok (instr, rest)
 unfolding instr_at
 instr_again w wide scope bounded instr rest names =
-    let read : operand_at w (operand_of (instr_number instr)) (operand w (operand_of (instr_number instr)) (operand_value instr) ++ rest) ≡ Ok (operand_value instr, rest) =
+    let read : operand_at w (operand_of (instr_number instr)) (operand w (operand_of (instr_number instr)) (operand_value instr) ++ rest)
+    ≡ Ok (operand_value instr, rest) =
     operand_again w wide (operand_of (instr_number instr)) (operand_value instr) rest (has_room scope bounded instr names) in
-    let made : there scope (instr_of (instr_number instr) (operand_value instr)) ≡ Ok instr = ap (there scope) (instr_back instr) ∙ cond-true (names_there scope instr) _ _ names in
+    let made : there scope (instr_of (instr_number instr) (operand_value instr)) ≡ Ok instr = ap (there scope) (instr_back instr)
+    ∙ cond-true (names_there scope instr) _ _ names in
     ap (λ r. r >>= λ k. there scope (instr_of (instr_number instr) k.0) >>= λ i. Ok (i, k.1)) read ∙ ap (λ r. r >>= λ i. Ok (i, rest)) made
 
 pub instr_reads : (w : Width) → IsWide w 65536 → (scope : Scope) → IsBounded scope → Reads Instr (instr_at w scope) (instruction w) (names_there scope)

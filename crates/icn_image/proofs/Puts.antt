@@ -9,7 +9,8 @@ use Rattle.icn_code.specs.Codes.{proc_of, procs_of}
 use Rattle.icn_image.specs.Fronts.{head_of}
 use Rattle.icn_image.specs.Spelling.{head}
 
-pub put_more : {A : Type 0} (f : A → List ℕ) (old front : List ℕ) (xs : List A) (i : ℕ) (d : A) (before after : List ℕ) → i < length xs → before ≡ old ++ (front ++ flat_map f (take i xs)) → after ≡ before ++ f (get_or xs i d)
+pub put_more : {A : Type 0} (f : A → List ℕ) (old front : List ℕ) (xs : List A) (i : ℕ) (d : A) (before after : List ℕ) → i < length xs
+    → before ≡ old ++ (front ++ flat_map f (take i xs)) → after ≡ before ++ f (get_or xs i d)
     → after ≡ old ++ (front ++ flat_map f (take (i + 1) xs))
 put_more {A} f old front xs i d before after lt h e =
     let more : take (i + 1) xs ≡ take i xs ++ get_or xs i d ∷ [] = take_more xs i d lt in
@@ -23,11 +24,15 @@ pub heads_at_once : (w : Width) (procs : List Procedure) → flat_map (head w) (
 unfolding head_at_once
 heads_at_once w [] = refl
 heads_at_once w (proc ∷ procs) =
-    flat_map-cons (head w) (head_of (proc_of proc)) (map head_of (procs_of procs)) ∙ (ap (λ (t : List ℕ). head w (head_of (proc_of proc)) ++ t) (heads_at_once w procs) ∙ sym (flat_map-cons (head_at_once w) proc procs))
+    flat_map-cons (head w) (head_of (proc_of proc)) (map head_of (procs_of procs))
+    ∙ (ap (λ (t : List ℕ). head w (head_of (proc_of proc)) ++ t) (heads_at_once w procs) ∙ sym (flat_map-cons (head_at_once w) proc procs))
 
-pub put_head_more : (w : Width) (old front : List ℕ) (procs : List Procedure) (i : ℕ) (d : Procedure) (before after : List ℕ) → i < length procs → before ≡ old ++ (front ++ flat_map (head w) (map head_of (procs_of (take i procs))))
-    → after ≡ before ++ head w (head_of (proc_of (get_or procs i d))) → after ≡ old ++ (front ++ flat_map (head w) (map head_of (procs_of (take (i + 1) procs))))
+pub put_head_more : (w : Width) (old front : List ℕ) (procs : List Procedure) (i : ℕ) (d : Procedure) (before after : List ℕ) → i < length procs
+    → before ≡ old ++ (front ++ flat_map (head w) (map head_of (procs_of (take i procs))))
+    → after ≡ before ++ head w (head_of (proc_of (get_or procs i d)))
+    → after ≡ old ++ (front ++ flat_map (head w) (map head_of (procs_of (take (i + 1) procs))))
 unfolding head_at_once
 put_head_more w old front procs i d before after lt h e =
-    let at : (n : ℕ) → old ++ (front ++ flat_map (head w) (map head_of (procs_of (take n procs)))) ≡ old ++ (front ++ flat_map (head_at_once w) (take n procs)) = λ n. ap (λ (t : List ℕ). old ++ (front ++ t)) (heads_at_once w (take n procs)) in
+    let at : (n : ℕ) → old ++ (front ++ flat_map (head w) (map head_of (procs_of (take n procs)))) ≡ old
+    ++ (front ++ flat_map (head_at_once w) (take n procs)) = λ n. ap (λ (t : List ℕ). old ++ (front ++ t)) (heads_at_once w (take n procs)) in
     put_more (head_at_once w) old front procs i d before after lt (h ∙ at i) e ∙ sym (at (i + 1))

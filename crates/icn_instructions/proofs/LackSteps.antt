@@ -217,7 +217,8 @@ unmark_lacks all tables reach m st k d = unmarks_off m k.root
     (read_there (unmarked_read (reading_of all)) (held.unmark m) (there_as _ _ (unmark_read (reading_of all) m)
     (found_there (flat.unmark (stack_in all m)) _ d)))
 
-pub esusp_operand : (all : Extent) (tables : Tables) (m : FlatStack) (st : Store Frames) → instruction_state all tables Instrs.Esusp m st ≢ stuck → IsSome (held.pop m)
+pub esusp_operand : (all : Extent) (tables : Tables) (m : FlatStack) (st : Store Frames) → instruction_state all tables Instrs.Esusp m st ≢ stuck
+    → IsSome (held.pop m)
 esusp_operand all tables m st d = pop_there all m _ d
 
 pub esusp_mark : (all : Extent) (tables : Tables) (reach : Reach) (m : FlatStack) (st : Store Frames) → IsLiveStack tables reach m
@@ -243,12 +244,14 @@ lsusp_mark all tables reach m st k d =
     counts_off popped.1 rest.root
     (counts_there tables reach all popped.1 rest (found_there (flat.count_down (stack_in all popped.1)) _ (pop_on all m popped.1 popped.0 _ e d))))
 
-pub chfail_lacks : (all : Extent) (tables : Tables) (m : FlatStack) (label : ℕ) (st : Store Frames) → instruction_state all tables (Instrs.Chfail label) m st ≢ stuck
+pub chfail_lacks : (all : Extent) (tables : Tables) (m : FlatStack) (label : ℕ) (st : Store Frames)
+    → instruction_state all tables (Instrs.Chfail label) m st ≢ stuck
     → IsSome (held.relabel label m)
 chfail_lacks all tables m label st d = read_there (stack_in all) (held.relabel label m)
     (there_as _ _ (relabel_read (reading_of all) label m) (found_there (flat.relabel label (stack_in all m)) _ d))
 
-pub ccase_operand : (all : Extent) (tables : Tables) (m : FlatStack) (st : Store Frames) → instruction_state all tables Instrs.Ccase m st ≢ stuck → IsSome (held.below m)
+pub ccase_operand : (all : Extent) (tables : Tables) (m : FlatStack) (st : Store Frames) → instruction_state all tables Instrs.Ccase m st ≢ stuck
+    → IsSome (held.below m)
 ccase_operand all tables m st d = read_there (item_in all) (held.below m)
     (there_as _ _ (below_read (reading_of all) m) (found_there (flat.below (stack_in all m)) _ d))
 
@@ -260,7 +263,8 @@ pub ccase_mark : (all : Extent) (m : FlatStack) → IsSome (code.unmark (stack_i
 ccase_mark all m h = not_none (held.unmark m) (read_there (unmarked_read (reading_of all)) (held.unmark m) (there_as _ _ (unmark_read (reading_of all) m) h))
 
 -- the value that is given out comes before its mark is asked for
-pub eret_operand : (all : Extent) (tables : Tables) (m : FlatStack) (st : Store Frames) → instruction_state all tables Instrs.Eret m st ≢ stuck → IsSome (held.pop m)
+pub eret_operand : (all : Extent) (tables : Tables) (m : FlatStack) (st : Store Frames) → instruction_state all tables Instrs.Eret m st ≢ stuck
+    → IsSome (held.pop m)
 eret_operand all tables m st d = pop_there all m _ d
 
 pub eret_mark : (w : World) (tables t : Tables) (reach : Reach) (m k : FlatStack) (item : Item) (val : Val) (st : Store Frames)
@@ -278,7 +282,8 @@ exchanged_lacks : (all : Extent) (k : FlatStack) (next : Frames → Store Frames
     → with_exchange (flat.swap_newest (pair_now st) (stack_in all k)) next st ≡ stuck
 exchanged_lacks all k next st q = ap (λ (scan : Option ℕ). with_exchange (code.swap_at (pair_now st) (stack_in all k) scan) next st) q
 
-pub escan_scan : (all : Extent) (tables : Tables) (m : FlatStack) (st : Store Frames) → instruction_state all tables Instrs.Escan m st ≢ stuck → IsSome m.registers.scan
+pub escan_scan : (all : Extent) (tables : Tables) (m : FlatStack) (st : Store Frames) → instruction_state all tables Instrs.Escan m st ≢ stuck
+    → IsSome m.registers.scan
 escan_scan all tables m st d = by_pop (held.pop m) refl (pop_there all m _ d)
   where
     by_scan : (k : FlatStack) (item : Item) → held.pop m ≡ Some (item, k) → (scan : Option ℕ) → m.registers.scan ≡ scan → IsSome scan
@@ -313,7 +318,8 @@ pub coret_body : (all : Extent) (tables : Tables) (m : FlatStack) (st : Store Fr
     → (held.is_base m ≡ true) × (0 < st.active)
 coret_body all tables m st d = let is = (body_is (flat.is_base (stack_in all m)) st.active _ d).0 in (sym (is_base_read (reading_of all) m) ∙ is.0, is.1)
 
-pub coret_operand : (all : Extent) (tables : Tables) (m : FlatStack) (st : Store Frames) → instruction_state all tables Instrs.Coret m st ≢ stuck → IsSome (held.pop m)
+pub coret_operand : (all : Extent) (tables : Tables) (m : FlatStack) (st : Store Frames) → instruction_state all tables Instrs.Coret m st ≢ stuck
+    → IsSome (held.pop m)
 coret_operand all tables m st d = pop_there all m _ (body_is (flat.is_base (stack_in all m)) st.active _ d).1
 
 pub cofail_body : (all : Extent) (tables : Tables) (m : FlatStack) (st : Store Frames) → instruction_state all tables Instrs.Cofail m st ≢ stuck

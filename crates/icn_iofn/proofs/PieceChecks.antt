@@ -35,18 +35,22 @@ checks_at vals rest other same so = subst (ChecksSo vals) same so
 
 module _ (vals rest : List Val) (first : Val) (others : List Val) (is : rest ≡ first ∷ others) (so : ChecksSo vals rest) where
   -- one argument passed
-  pub checks_go_on : ((all : Extent) (setting : Setting) → GoesOn (one_piece (value_in all first)) setting (piece_in (value_in all first)) setting) → ChecksSo vals others
+  pub checks_go_on : ((all : Extent) (setting : Setting) → GoesOn (one_piece (value_in all first)) setting (piece_in (value_in all first)) setting)
+      → ChecksSo vals others
   checks_go_on found =
       let at = checks_at vals rest (first ∷ others) is so in
       record {
         passes = λ all setting left. at.passes all setting
-            (λ next. found all setting (λ piece. pieces (map (value_in all) others) (λ more. next (piece ∷ more))) ∙ left (λ more. next (piece_in (value_in all first) ∷ more)));
+            (λ next. found all setting (λ piece. pieces (map (value_in all) others) (λ more. next (piece ∷ more)))
+            ∙ left (λ more. next (piece_in (value_in all first) ∷ more)));
         halts = λ all setting outcome left. at.halts all setting outcome
-            (λ next. found all setting (λ piece. pieces (map (value_in all) others) (λ more. next (piece ∷ more))) ∙ left (λ more. next (piece_in (value_in all first) ∷ more)));
+            (λ next. found all setting (λ piece. pieces (map (value_in all) others) (λ more. next (piece ∷ more)))
+            ∙ left (λ more. next (piece_in (value_in all first) ∷ more)));
         live = λ all live. All-tail (IsLive all) first others (at.live all live);
       }
 
-  stops_so : (all : Extent) (setting : Setting) (stop : Stop) → StopsFinding all (one_piece (value_in all first)) setting setting stop → StopsFinding all (pieces (map (value_in all) vals)) setting setting stop
+  stops_so : (all : Extent) (setting : Setting) (stop : Stop) → StopsFinding all (one_piece (value_in all first)) setting setting stop
+      → StopsFinding all (pieces (map (value_in all) vals)) setting setting stop
   stops_so all setting (ErrorStop number offending) halt =
       let at = checks_at vals rest (first ∷ others) is so in
       at.halts all setting _ (λ next. halt (λ piece. pieces (map (value_in all) others) (λ more. next (piece ∷ more))))
@@ -57,7 +61,8 @@ module _ (vals rest : List Val) (first : Val) (others : List Val) (is : rest ≡
       → StopsFinding all (one_piece (value_in all first)) setting setting stop
       → Found all (pieces (map (value_in all) vals)) setting setting (λ (done : Unit {0}). pieces_in (map (value_in all) vals)) result
   check_stops all setting (Ok done) stop same halt = absurd same
-  check_stops all setting (Err other) stop same halt = subst (StopsFinding all (pieces (map (value_in all) vals)) setting setting) (sym same) (stops_so all setting stop halt)
+  check_stops all setting (Err other) stop same halt =
+      subst (StopsFinding all (pieces (map (value_in all) vals)) setting setting) (sym same) (stops_so all setting stop halt)
 
   pub check_lives : (all : Extent) → All (IsLive all) vals → (result : Result (Unit {0}) Stop) (stop : Stop) → IsErrAnd result (λ other. other ≡ stop)
       → (IsLive all first → IsLiveStop all stop) → IfErr result (IsLiveStop all)
@@ -67,6 +72,7 @@ module _ (vals rest : List Val) (first : Val) (others : List Val) (is : rest ≡
       subst (IsLiveStop all) (sym same) (lives (All-head (IsLive all) first others (at.live all live)))
 
 -- all passed
-pub checks_end : (vals rest : List Val) → ChecksSo vals rest → length rest ≡ 0 → (all : Extent) (setting : Setting) → GoesOn (pieces (map (value_in all) vals)) setting (pieces_in (map (value_in all) vals)) setting
+pub checks_end : (vals rest : List Val) → ChecksSo vals rest → length rest ≡ 0 → (all : Extent) (setting : Setting)
+    → GoesOn (pieces (map (value_in all) vals)) setting (pieces_in (map (value_in all) vals)) setting
 checks_end vals rest so none all setting =
     let at = checks_at vals rest [] (nothing_left rest none) so in at.passes all setting (λ next. refl)

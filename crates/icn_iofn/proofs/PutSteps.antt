@@ -109,8 +109,16 @@ then_gained_part first second = record { output = then_puts_part first.output se
 
 pub part_grows : {a b : Outputs} {o p q : Outside} → GainedPart a b o p → Grows p q → GainedPart a b o q
 part_grows {a} {b} {o} {p} {q} part more = record {
-  output = record { text = part.output.text ++ more.output; is = more_then o.output p.output q.output part.output.text more.output part.output.is more.output_is; gains = part_more more.output part.output.gains };
-  errors = record { text = part.errors.text ++ more.errors; is = more_then o.errors p.errors q.errors part.errors.text more.errors part.errors.is more.errors_is; gains = part_more more.errors part.errors.gains };
+  output = record {
+    text = part.output.text ++ more.output;
+    is = more_then o.output p.output q.output part.output.text more.output part.output.is more.output_is;
+    gains = part_more more.output part.output.gains;
+  };
+  errors = record {
+    text = part.errors.text ++ more.errors;
+    is = more_then o.errors p.errors q.errors part.errors.text more.errors part.errors.is more.errors_is;
+    gains = part_more more.errors part.errors.gains;
+  };
 }
 
 -- nothing was put yet of what is to come
@@ -136,7 +144,8 @@ gained_on {file} {text} puts o = record {
   errors = record { text = errors_part file text; is = errors_is file text o; gains = puts.errors };
 }
 
-pub gained_part_on : {file : File} {text : List ℕ} {a b : Outputs} {fault : Fault} → PutsPartOn file text a b fault → (o : Outside) → GainedPart a b o (put_on file text o)
+pub gained_part_on : {file : File} {text : List ℕ} {a b : Outputs} {fault : Fault} → PutsPartOn file text a b fault → (o : Outside)
+    → GainedPart a b o (put_on file text o)
 gained_part_on {file} {text} puts o = record {
   output = record { text = output_part file text; is = output_is file text o; gains = puts.output };
   errors = record { text = errors_part file text; is = errors_is file text o; gains = puts.errors };
@@ -145,7 +154,8 @@ gained_part_on {file} {text} puts o = record {
 -- One put
 
 pub output_broken : (r : Result (Unit {0}) Fault) (a b e : SinkState) (file : File) (text : List ℕ) → file ≡ Output → OnErr r (GainsPart a.held b.held text)
-    → CountsOnce a.faults b.faults (IsErrOf r Failed) → CountsOnce a.wants b.wants (IsErrOf r NoMemory) → IfErr r (PutsPartOn file text (outputs a e) (outputs b e))
+    → CountsOnce a.faults b.faults (IsErrOf r Failed) → CountsOnce a.wants b.wants (IsErrOf r NoMemory)
+    → IfErr r (PutsPartOn file text (outputs a e) (outputs b e))
 output_broken (Ok _) a b e file text is gains faults wants = tt
 output_broken (Err Failed) a b e file text is gains faults wants = rw is (record {
   output = gains;
@@ -159,7 +169,8 @@ output_broken (Err NoMemory) a b e file text is gains faults wants = rw is (reco
 })
 
 pub errors_broken : (r : Result (Unit {0}) Fault) (a b o : SinkState) (file : File) (text : List ℕ) → file ≡ Errout → OnErr r (GainsPart a.held b.held text)
-    → CountsOnce a.faults b.faults (IsErrOf r Failed) → CountsOnce a.wants b.wants (IsErrOf r NoMemory) → IfErr r (PutsPartOn file text (outputs o a) (outputs o b))
+    → CountsOnce a.faults b.faults (IsErrOf r Failed) → CountsOnce a.wants b.wants (IsErrOf r NoMemory)
+    → IfErr r (PutsPartOn file text (outputs o a) (outputs o b))
 errors_broken (Ok _) a b o file text is gains faults wants = tt
 errors_broken (Err Failed) a b o file text is gains faults wants = rw is (record {
   output = part_nothing o.held [];
@@ -175,7 +186,8 @@ errors_broken (Err NoMemory) a b o file text is gains faults wants = rw is (reco
 -- One piece
 
 -- a text waits with what waits on the file
-pub waits_more : (file now : File) (text more later : List ℕ) (a : Outputs) → now ≡ file → later ≡ text ++ more → Advances (waiting_text file text a) (waiting_text now later a) (put_on file more)
+pub waits_more : (file now : File) (text more later : List ℕ) (a : Outputs) → now ≡ file → later ≡ text ++ more
+    → Advances (waiting_text file text a) (waiting_text now later a) (put_on file more)
 waits_more file now text more later a same is = record {
   reached = λ was. was;
   gained = λ was. gained_all a was;
@@ -189,19 +201,22 @@ pub puts_waiting : (file other : File) (text more whole rest : List ℕ) (a b : 
 puts_waiting file other text more whole rest a b puts is empty = record {
   reached = λ was. put_on file whole was;
   gained = λ was. gained_on puts was;
-  same = λ was. ap (λ t. put_on other t (put_on file whole was)) empty ∙ (put_nothing other (put_on file whole was) ∙ (ap (λ t. put_on file t was) is ∙ sym (put_more file text more was)));
+  same = λ was. ap (λ t. put_on other t (put_on file whole was)) empty
+      ∙ (put_nothing other (put_on file whole was) ∙ (ap (λ t. put_on file t was) is ∙ sym (put_more file text more was)));
   counts = puts.counts;
 }
 
 -- memory was wanting before anything was put
-pub stops_idle : (file : File) (text more : List ℕ) (a : Outputs) (fault : Fault) → fault ≡ NoMemory → Stops (waiting_text file text a) a (put_on file more) fault
+pub stops_idle : (file : File) (text more : List ℕ) (a : Outputs) (fault : Fault) → fault ≡ NoMemory
+    → Stops (waiting_text file text a) a (put_on file more) fault
 stops_idle file text more a fault is = record {
   gained = λ was. part_idle a (grows_then (grows_on file text was) (grows_on file more (put_on file text was)));
   cause = subst (BrokenBy a a) (sym is) (uncounted (both_all a));
 }
 
 -- the put of what waits was broken off
-pub stops_putting : (file : File) (text more whole : List ℕ) (a b : Outputs) (fault : Fault) → PutsPartOn file whole a b fault → whole ≡ text ++ more → Stops (waiting_text file text a) b (put_on file more) fault
+pub stops_putting : (file : File) (text more whole : List ℕ) (a b : Outputs) (fault : Fault) → PutsPartOn file whole a b fault → whole ≡ text ++ more
+    → Stops (waiting_text file text a) b (put_on file more) fault
 stops_putting file text more whole a b fault puts is = record {
   gained = λ was. subst (GainedPart a b was) (ap (λ t. put_on file t was) is ∙ sym (put_more file text more was)) (gained_part_on puts was);
   cause = puts.cause;
@@ -253,11 +268,13 @@ end_of ends = if ends then newline else []
 pub record LineSo (all : Extent) (vals rest : List Val) (ends is_first : Bool) (start now : File) (text : List ℕ) (before after : Outputs) : Type 0 where
   pub reached : Outside → Outside
   pub gained : (was : Outside) → GainsOutputs before after was (reached was)
-  pub same : (was : Outside) → line_put (end_of ends) is_first (pieces_in (map (value_in all) rest)) now (put_on now text (reached was)) ≡ line_put (end_of ends) true (pieces_in (map (value_in all) vals)) start was
+  pub same : (was : Outside) → line_put (end_of ends) is_first (pieces_in (map (value_in all) rest)) now (put_on now text (reached was))
+      ≡ line_put (end_of ends) true (pieces_in (map (value_in all) vals)) start was
   pub counts : KeepsBoth before after
   pub live : All (IsLive all) rest
 
-pub line_begins : (all : Extent) (vals : List Val) (ends : Bool) (start : File) (text : List ℕ) (a : Outputs) → text ≡ [] → All (IsLive all) vals → LineSo all vals vals ends true start start text a a
+pub line_begins : (all : Extent) (vals : List Val) (ends : Bool) (start : File) (text : List ℕ) (a : Outputs) → text ≡ [] → All (IsLive all) vals
+    → LineSo all vals vals ends true start start text a a
 line_begins all vals ends start text a empty live = record {
   reached = λ was. was;
   gained = λ was. gained_all a was;
@@ -281,7 +298,8 @@ line_step end is_first (Selects other) parts file o = refl
 -- what is left, said again
 pub line_at : (all : Extent) (vals rest other : List Val) (ends is_first : Bool) (start now : File) (text : List ℕ) (before between : Outputs) → rest ≡ other
     → LineSo all vals rest ends is_first start now text before between → LineSo all vals other ends is_first start now text before between
-line_at all vals rest other ends is_first start now text before between same so = subst (λ r. LineSo all vals r ends is_first start now text before between) same so
+line_at all vals rest other ends is_first start now text before between same so =
+    subst (λ r. LineSo all vals r ends is_first start now text before between) same so
 
 module _ (all : Extent) (vals : List Val) (first : Val) (others : List Val) (ends is_first : Bool) (start now : File) (text : List ℕ) (before between : Outputs)
     (b : Bool) (test : b ≡ (ends && not is_first)) (so : LineSo all vals (first ∷ others) ends is_first start now text before between) where
@@ -291,9 +309,11 @@ module _ (all : Extent) (vals : List Val) (first : Val) (others : List Val) (end
       (put_on now (text_of_piece newline (not b) (piece_in (value_in all first))) (put_on now text (so.reached was)))
       ≡ line_put (end_of ends) true (pieces_in (map (value_in all) vals)) start was
   behind was =
-      ap (λ t. line_put (end_of ends) false (pieces_in (map (value_in all) others)) (file_after now (piece_in (value_in all first))) (put_on now t (put_on now text (so.reached was))))
+      ap (λ t. line_put (end_of ends) false (pieces_in (map (value_in all) others)) (file_after now (piece_in (value_in all first)))
+      (put_on now t (put_on now text (so.reached was))))
       (ap (λ t. text_of_piece newline (not t) (piece_in (value_in all first))) test ∙ piece_text ends is_first (piece_in (value_in all first)))
-      ∙ (sym (line_step (end_of ends) is_first (piece_in (value_in all first)) (pieces_in (map (value_in all) others)) now (put_on now text (so.reached was))) ∙ so.same was)
+      ∙ (sym (line_step (end_of ends) is_first (piece_in (value_in all first)) (pieces_in (map (value_in all) others)) now (put_on now text (so.reached was)))
+      ∙ so.same was)
 
   pub line_goes_on : (later : File) (waits : List ℕ) (after : Outputs)
       → Advances (waiting_text now text between) (waiting_text later waits after) (put_on now (text_of_piece newline (not b) (piece_in (value_in all first))))
@@ -303,13 +323,15 @@ module _ (all : Extent) (vals : List Val) (first : Val) (others : List Val) (end
     gained = λ was. gained_then (so.gained was) (adv.gained (so.reached was));
     same = λ was.
         ap (λ o. line_put (end_of ends) false (pieces_in (map (value_in all) others)) later o) (adv.same (so.reached was))
-        ∙ (ap (λ f. line_put (end_of ends) false (pieces_in (map (value_in all) others)) f (put_on now (text_of_piece newline (not b) (piece_in (value_in all first))) (put_on now text (so.reached was)))) is
+        ∙ (ap (λ f. line_put (end_of ends) false (pieces_in (map (value_in all) others)) f
+        (put_on now (text_of_piece newline (not b) (piece_in (value_in all first))) (put_on now text (so.reached was)))) is
         ∙ behind was);
     counts = both_then so.counts adv.counts;
     live = All-tail (IsLive all) first others so.live;
   }
 
-  pub line_stops : (after : Outputs) (fault : Fault) → Stops (waiting_text now text between) after (put_on now (text_of_piece newline (not b) (piece_in (value_in all first)))) fault
+  pub line_stops : (after : Outputs) (fault : Fault)
+      → Stops (waiting_text now text between) after (put_on now (text_of_piece newline (not b) (piece_in (value_in all first)))) fault
       → (was : Outside) → GainedPart before after was (line_put (end_of ends) true (pieces_in (map (value_in all) vals)) start was)
   line_stops after fault stops was =
       subst (GainedPart before after was) (behind was)
@@ -317,19 +339,22 @@ module _ (all : Extent) (vals : List Val) (first : Val) (others : List Val) (end
       (grows_line (end_of ends) false (pieces_in (map (value_in all) others)) (file_after now (piece_in (value_in all first)))
       (put_on now (text_of_piece newline (not b) (piece_in (value_in all first))) (put_on now text (so.reached was)))))
 
-  pub line_stopped_by : (after : Outputs) (fault : Fault) → Stops (waiting_text now text between) after (put_on now (text_of_piece newline (not b) (piece_in (value_in all first)))) fault
+  pub line_stopped_by : (after : Outputs) (fault : Fault)
+      → Stops (waiting_text now text between) after (put_on now (text_of_piece newline (not b) (piece_in (value_in all first)))) fault
       → BrokenBy before after fault
   line_stopped_by after fault stops = broken_then fault so.counts stops.cause
 
 module _ (all : Extent) (vals : List Val) (ends is_first : Bool) (start now : File) (text : List ℕ) (before between : Outputs)
     (so : LineSo all vals [] ends is_first start now text before between) where
-  last : (was : Outside) (whole : List ℕ) → whole ≡ text ++ end_of ends → put_on now whole (so.reached was) ≡ line_put (end_of ends) true (pieces_in (map (value_in all) vals)) start was
+  last : (was : Outside) (whole : List ℕ) → whole ≡ text ++ end_of ends
+      → put_on now whole (so.reached was) ≡ line_put (end_of ends) true (pieces_in (map (value_in all) vals)) start was
   last was whole is = ap (λ t. put_on now t (so.reached was)) is ∙ (sym (put_more now text (end_of ends) (so.reached was)) ∙ so.same was)
 
   -- no memory for the end of the line
   pub line_wants : (was : Outside) → GainedPart before between was (line_put (end_of ends) true (pieces_in (map (value_in all) vals)) start was)
   line_wants was =
-      then_gained_part (so.gained was) (part_idle between (subst (Grows (so.reached was)) (last was (text ++ end_of ends) refl) (grows_on now (text ++ end_of ends) (so.reached was))))
+      then_gained_part (so.gained was)
+      (part_idle between (subst (Grows (so.reached was)) (last was (text ++ end_of ends) refl) (grows_on now (text ++ end_of ends) (so.reached was))))
 
   pub line_ends : (whole : List ℕ) (after : Outputs) → whole ≡ text ++ end_of ends → PutsOn now whole between after
       → (was : Outside) → GainsOutputs before after was (line_put (end_of ends) true (pieces_in (map (value_in all) vals)) start was)
@@ -337,7 +362,8 @@ module _ (all : Extent) (vals : List Val) (ends is_first : Bool) (start now : Fi
 
   pub line_breaks : (whole : List ℕ) (after : Outputs) (fault : Fault) → whole ≡ text ++ end_of ends → PutsPartOn now whole between after fault
       → (was : Outside) → GainedPart before after was (line_put (end_of ends) true (pieces_in (map (value_in all) vals)) start was)
-  line_breaks whole after fault is puts was = subst (GainedPart before after was) (last was whole is) (then_gained_part (so.gained was) (gained_part_on puts (so.reached was)))
+  line_breaks whole after fault is puts was =
+      subst (GainedPart before after was) (last was whole is) (then_gained_part (so.gained was) (gained_part_on puts (so.reached was)))
 
 pub nothing_left : (vals : List Val) → length vals ≡ 0 → vals ≡ []
 nothing_left [] is = refl

@@ -11,13 +11,16 @@ use Rattle.icn_vars.specs.declared.stop.Stop.TheVariants.{Error as ErrorStop, No
 use Rattle.icn_args.specs.Words.{Found}
 
 -- a thing is found, and what is looked for then is answered so
-pub found_behind : {A B C : Type 0} (all : Extent) (find : Finds A) (thing : A) (rest : A → Finds B) (before between after : Setting) (shown : C → B) (result : Result C Stop)
-    → GoesOn find before thing between → Found all (rest thing) between after shown result → Found all (λ next. find (λ thing. rest thing next)) before after shown result
+pub found_behind : {A B C : Type 0} (all : Extent) (find : Finds A) (thing : A) (rest : A → Finds B) (before between after : Setting) (shown : C → B)
+    (result : Result C Stop)
+    → GoesOn find before thing between → Found all (rest thing) between after shown result
+    → Found all (λ next. find (λ thing. rest thing next)) before after shown result
 found_behind all find thing rest before between after shown (Ok value) goes is = λ next. goes (λ thing. rest thing next) ∙ is next
 found_behind all find thing rest before between after shown (Err (ErrorStop number offending)) goes is = λ next. goes (λ thing. rest thing next) ∙ is next
 found_behind all find thing rest before between after shown (Err NoMemoryStop) goes is = tt
 
 -- what a call stopped with is of the heap
-pub err_lives : {C : Type 0} (all : Extent) (stop : Stop) (result : Result C Stop) → IsErrAnd result (λ other. other ≡ stop) → IsLiveStop all stop → IfErr result (IsLiveStop all)
+pub err_lives : {C : Type 0} (all : Extent) (stop : Stop) (result : Result C Stop) → IsErrAnd result (λ other. other ≡ stop) → IsLiveStop all stop
+    → IfErr result (IsLiveStop all)
 err_lives all stop (Ok value) same live = absurd same
 err_lives all stop (Err other) same live = subst (IsLiveStop all) (sym same) live

@@ -25,14 +25,16 @@ use Rattle.icn_iofn.specs.Putting.{BrokenBy, GainsOutputs, GainedPart, KeepsBoth
 use Rattle.icn_iofn.specs.Writing.{lines_then}
 use Rattle.icn_iofn.proofs.PutSteps.{grows_line}
 
-failing_by : (o o' e e' : SinkState) (left : Option (List ℕ)) (faults : ℕ) (fault : Fault) → fault ≡ Failed → BrokenBy (outputs o e) (outputs o' e') fault → WritingFails (call_streams left faults o e) (call_streams left faults o' e')
+failing_by : (o o' e e' : SinkState) (left : Option (List ℕ)) (faults : ℕ) (fault : Fault) → fault ≡ Failed → BrokenBy (outputs o e) (outputs o' e') fault
+    → WritingFails (call_streams left faults o e) (call_streams left faults o' e')
 failing_by o o' e e' left faults _ same (output_failed x y) = output_fails refl refl x y
 failing_by o o' e e' left faults _ same (errors_failed x y) = errors_fail refl refl x y
 failing_by o o' e e' left faults _ same (output_wanted x y) = absurd (cc)
 failing_by o o' e e' left faults _ same (errors_wanted x y) = absurd (cc)
 failing_by o o' e e' left faults _ same (uncounted x) = absurd (cc)
 
-wanting_by : (o o' e e' : SinkState) (left : Option (List ℕ)) (faults : ℕ) (fault : Fault) → fault ≡ NoMemoryFault → BrokenBy (outputs o e) (outputs o' e') fault → WantsMemory (call_streams left faults o e) (call_streams left faults o' e')
+wanting_by : (o o' e e' : SinkState) (left : Option (List ℕ)) (faults : ℕ) (fault : Fault) → fault ≡ NoMemoryFault
+    → BrokenBy (outputs o e) (outputs o' e') fault → WantsMemory (call_streams left faults o e) (call_streams left faults o' e')
 wanting_by o o' e e' left faults _ same (output_failed x y) = absurd (cc)
 wanting_by o o' e e' left faults _ same (errors_failed x y) = absurd (cc)
 wanting_by o o' e e' left faults _ same (output_wanted x y) = output_wants refl x y
@@ -40,14 +42,16 @@ wanting_by o o' e e' left faults _ same (errors_wanted x y) = errors_want refl x
 wanting_by o o' e e' left faults _ same (uncounted x) = nothing_counted (record { faults = refl; output = x.output; errors = x.errors })
 
 module _ (end : List ℕ) (file : File) (args : List Value) (next : Row) (quiet : (s : Setting) → outside_after (next s) ≡ s.outside)
-    (found : (s : Setting) → GoesOn (pieces args) s (pieces_in args) s) (w : World) (locals : List Val) (left : Option (List ℕ)) (faults : ℕ) (o o' e e' : SinkState)
+    (found : (s : Setting) → GoesOn (pieces args) s (pieces_in args) s) (w : World) (locals : List Val) (left : Option (List ℕ)) (faults : ℕ)
+    (o o' e e' : SinkState)
     (lives : All (IsLive (extent_of w.heap)) locals) where
   -- the row goes on behind its line
   goes : (s : Setting) → lines_then end file args next s ≡ next (record s { outside = line_put end true (pieces_in args) file s.outside })
   goes s = found s (λ parts. puts_line end file parts next)
 
   -- it follows the outside, whatever the input tells
-  followed : (tells : Option (List ℕ)) (was : Outside) → tells ≡ Some was.left → GainsOutputs (outputs o e) (outputs o' e') was (line_put end true (pieces_in args) file was)
+  followed : (tells : Option (List ℕ)) (was : Outside) → tells ≡ Some was.left
+      → GainsOutputs (outputs o e) (outputs o' e') was (line_put end true (pieces_in args) file was)
       → Follows (call_streams tells faults o e) (call_streams tells faults o' e') was (line_put end true (pieces_in args) file was)
   followed tells was told gained = record {
     left = told ∙ ap Some (sym (grows_line end true (pieces_in args) file was).left);
@@ -68,8 +72,10 @@ module _ (end : List ℕ) (file : File) (args : List Value) (next : Row) (quiet 
 
   -- the line was put, and the row gives an item
   pub wrote_gives : (outcome : Outcome) → ((s : Setting) → next s ≡ outcome_in (extent_of w.heap) outcome s)
-      → ((was : Outside) → GainsOutputs (outputs o e) (outputs o' e') was (line_put end true (pieces_in args) file was)) → KeepsBoth (outputs o e) (outputs o' e')
-      → IsLiveOutcome (reach_of w locals) outcome → Applies (lines_then end file args next) (call_state w locals (call_streams left faults o e)) (call_state w locals (call_streams left faults o' e')) (Ok outcome)
+      → ((was : Outside) → GainsOutputs (outputs o e) (outputs o' e') was (line_put end true (pieces_in args) file was))
+      → KeepsBoth (outputs o e) (outputs o' e')
+      → IsLiveOutcome (reach_of w locals) outcome → Applies (lines_then end file args next) (call_state w locals (call_streams left faults o e))
+      (call_state w locals (call_streams left faults o' e')) (Ok outcome)
   wrote_gives outcome is gained counts live = record {
     answers = λ was told. record {
       now = line_put end true (pieces_in args) file was;
@@ -93,8 +99,10 @@ module _ (end : List ℕ) (file : File) (args : List Value) (next : Row) (quiet 
 
   -- the line was put, and the program ends
   pub wrote_ends : (status : ℕ) → ((s : Setting) → next s ≡ Ends status s)
-      → ((was : Outside) → GainsOutputs (outputs o e) (outputs o' e') was (line_put end true (pieces_in args) file was)) → KeepsBoth (outputs o e) (outputs o' e')
-      → Applies (lines_then end file args next) (call_state w locals (call_streams left faults o e)) (call_state w locals (call_streams left faults o' e')) (Err (EndsHalt status))
+      → ((was : Outside) → GainsOutputs (outputs o e) (outputs o' e') was (line_put end true (pieces_in args) file was))
+      → KeepsBoth (outputs o e) (outputs o' e')
+      → Applies (lines_then end file args next) (call_state w locals (call_streams left faults o e)) (call_state w locals (call_streams left faults o' e'))
+      (Err (EndsHalt status))
   wrote_ends status is gained counts = record {
     answers = λ was told. record {
       now = line_put end true (pieces_in args) file was;
@@ -117,8 +125,10 @@ module _ (end : List ℕ) (file : File) (args : List Value) (next : Row) (quiet 
   }
 
   -- an output failed
-  pub write_fails : ((was : Outside) → GainedPart (outputs o e) (outputs o' e') was (line_put end true (pieces_in args) file was)) → BrokenBy (outputs o e) (outputs o' e') Failed
-      → Applies (lines_then end file args next) (call_state w locals (call_streams left faults o e)) (call_state w locals (call_streams left faults o' e')) (Err WriteFault)
+  pub write_fails : ((was : Outside) → GainedPart (outputs o e) (outputs o' e') was (line_put end true (pieces_in args) file was))
+      → BrokenBy (outputs o e) (outputs o' e') Failed
+      → Applies (lines_then end file args next) (call_state w locals (call_streams left faults o e)) (call_state w locals (call_streams left faults o' e'))
+      (Err WriteFault)
   write_fails part cause = record {
     answers = λ was told. broken left was (part was);
     meant = record { had = []; has = []; answers = λ was first. broken (Some []) was (part was) };
@@ -129,8 +139,10 @@ module _ (end : List ℕ) (file : File) (args : List Value) (next : Row) (quiet 
   }
 
   -- memory was wanting
-  pub write_wants : ((was : Outside) → GainedPart (outputs o e) (outputs o' e') was (line_put end true (pieces_in args) file was)) → BrokenBy (outputs o e) (outputs o' e') NoMemoryFault
-      → Applies (lines_then end file args next) (call_state w locals (call_streams left faults o e)) (call_state w locals (call_streams left faults o' e')) (Err NoMemory)
+  pub write_wants : ((was : Outside) → GainedPart (outputs o e) (outputs o' e') was (line_put end true (pieces_in args) file was))
+      → BrokenBy (outputs o e) (outputs o' e') NoMemoryFault
+      → Applies (lines_then end file args next) (call_state w locals (call_streams left faults o e)) (call_state w locals (call_streams left faults o' e'))
+      (Err NoMemory)
   write_wants part cause = record {
     answers = λ was told. putting (broken left was (part was));
     meant = record { had = []; has = []; answers = λ was first. putting (broken (Some []) was (part was)) };

@@ -26,7 +26,8 @@ judged_at : (sense : Result Kind Rule) (count : ℕ) → front_token (Some (sens
 judged_at (Ok kind) count = refl
 judged_at (Err rule) count = refl
 
-judged_sized : (text : List ℕ) (sense : Result Kind Rule) (count : ℕ) → length text ≡ count → front_token (Some (sized text sense, count)) ≡ with_length count sense
+judged_sized : (text : List ℕ) (sense : Result Kind Rule) (count : ℕ) → length text ≡ count
+    → front_token (Some (sized text sense, count)) ≡ with_length count sense
 judged_sized text sense count same = ap (λ n. front_token (Some (cond (nat_le n 65535) sense (Err L7), count))) same ∙ by_test (nat_le count 65535) where
   by_test : (test : Bool) → front_token (Some (cond test sense (Err L7), count)) ≡ cond test (with_count count sense) (Err L7)
   by_test true = judged_at sense count
@@ -41,19 +42,23 @@ spelled_name : (b : ℕ) (rest : List ℕ) → begins_identifier b ≡ true → 
 unfolding spelled
 spelled_name b rest h = cond-true (begins_identifier b) _ _ h
 
-name_at : (b : ℕ) (rest : List ℕ) → begins_identifier b ≡ true → list_all continues_identifier rest ≡ true → spelled (b ∷ rest) ≡ Some (sized (b ∷ rest) (Ok (name_of (b ∷ rest))))
+name_at : (b : ℕ) (rest : List ℕ) → begins_identifier b ≡ true → list_all continues_identifier rest ≡ true
+    → spelled (b ∷ rest) ≡ Some (sized (b ∷ rest) (Ok (name_of (b ∷ rest))))
 name_at b rest h all = spelled_name b rest h ∙ cond-true (list_all continues_identifier rest) _ _ all
 
-no_name : (b : ℕ) (rest : List ℕ) → begins_identifier b ≡ true → (m : ℕ) → suc (prefix_len continues_identifier rest) < m → m ≤ suc (length rest) → spelled (take m (b ∷ rest)) ≡ None
+no_name : (b : ℕ) (rest : List ℕ) → begins_identifier b ≡ true → (m : ℕ) → suc (prefix_len continues_identifier rest) < m → m ≤ suc (length rest)
+    → spelled (take m (b ∷ rest)) ≡ None
 no_name b rest h zero l g = absurd (omega arith)
-no_name b rest h (suc m) l g = spelled_name b (take m rest) h ∙ cond-false (list_all continues_identifier (take m rest)) _ _ (front_fails continues_identifier rest m (omega arith) (omega arith))
+no_name b rest h (suc m) l g = spelled_name b (take m rest) h
+    ∙ cond-false (list_all continues_identifier (take m rest)) _ _ (front_fails continues_identifier rest m (omega arith) (omega arith))
 
 first_name : (b : ℕ) (rest : List ℕ) → begins_identifier b ≡ true → front_token (longest spelled (suc (length rest)) (b ∷ rest)) ≡ name_read b rest
 first_name b rest h =
     let n = prefix_len continues_identifier rest in
     let within : n ≤ length rest = prefix_len-le-length continues_identifier rest in
     let size : length (b ∷ take n rest) ≡ suc n = omega (arith, length-take-le n rest within) in
-    judged_found _ _ (longest_is spelled (suc (length rest)) (suc n) (b ∷ rest) _ (omega arith) (omega arith) (name_at b (take n rest) h (front_passes continues_identifier rest n (omega arith))) (no_name b rest h))
+    judged_found _ _ (longest_is spelled (suc (length rest)) (suc n) (b ∷ rest) _ (omega arith) (omega arith)
+    (name_at b (take n rest) h (front_passes continues_identifier rest n (omega arith))) (no_name b rest h))
     ∙ (judged_sized (b ∷ take n rest) (Ok (name_of (b ∷ take n rest))) (suc n) size ∙ rw add-one refl)
 
 -- Numbers
@@ -89,7 +94,8 @@ some_digit b rest d = by_test (is_digit b) d where
   by_test true h = omega arith
   by_test false h = absurd (false≢true h)
 
-spelled_front : (b : ℕ) (rest : List ℕ) (m : ℕ) → begins_identifier b ≡ false → is_digit b ≡ true → 0 < m → spelled (take m (b ∷ rest)) ≡ number (take m (b ∷ rest))
+spelled_front : (b : ℕ) (rest : List ℕ) (m : ℕ) → begins_identifier b ≡ false → is_digit b ≡ true → 0 < m
+    → spelled (take m (b ∷ rest)) ≡ number (take m (b ∷ rest))
 spelled_front b rest zero h d p = absurd (omega arith)
 spelled_front b rest (suc m) h d p = spelled_number b (take m rest) h d
 
@@ -103,7 +109,8 @@ behind b rest m h d l =
     spelled_front b rest m h d (omega arith) ∙ (ap (λ k. number (take k (b ∷ rest))) same ∙ number_front (b ∷ rest) (m - n))
 
 -- a tail that is no part of the number
-no_radix : (digits : List ℕ) (c : ℕ) (rest : List ℕ) → (is_radix_mark c && list_all is_alphanumeric rest) ≡ false → (is_real_mark c && is_nothing rest) ≡ false → number_by digits (c ∷ rest) ≡ None
+no_radix : (digits : List ℕ) (c : ℕ) (rest : List ℕ) → (is_radix_mark c && list_all is_alphanumeric rest) ≡ false → (is_real_mark c && is_nothing rest) ≡ false
+    → number_by digits (c ∷ rest) ≡ None
 no_radix digits c rest r e = cond-false (is_radix_mark c && list_all is_alphanumeric rest) _ _ r ∙ cond-false (is_real_mark c && is_nothing rest) _ _ e
 
 and_false : (x y : Bool) → y ≡ false → (x && y) ≡ false
@@ -116,11 +123,13 @@ and_left x y e = rw e refl
 radix_not_real : (c : ℕ) → is_radix_mark c ≡ true → is_real_mark c ≡ false
 radix_not_real c h = grind (arith, nat_tests)
 
-longer_none : (digits tail : List ℕ) (k limit : ℕ) → limit < k → ((j : ℕ) → limit < j → number_by digits (take j tail) ≡ None) → number_by digits (take k tail) ≡ None
+longer_none : (digits tail : List ℕ) (k limit : ℕ) → limit < k → ((j : ℕ) → limit < j → number_by digits (take j tail) ≡ None)
+    → number_by digits (take k tail) ≡ None
 longer_none digits tail k limit l none = none k l
 
 -- the longest number is the one with this much behind its digits
-number_of : (b : ℕ) (rest : List ℕ) (k : ℕ) (sense : Result Kind Rule) → begins_identifier b ≡ false → is_digit b ≡ true → let n = prefix_len is_digit (b ∷ rest) in k ≤ length (drop n (b ∷ rest))
+number_of : (b : ℕ) (rest : List ℕ) (k : ℕ) (sense : Result Kind Rule) → begins_identifier b ≡ false → is_digit b ≡ true
+    → let n = prefix_len is_digit (b ∷ rest) in k ≤ length (drop n (b ∷ rest))
     → number_by (take n (b ∷ rest)) (take k (drop n (b ∷ rest))) ≡ Some sense
     → ((j : ℕ) → k < j → j ≤ length (drop n (b ∷ rest)) → number_by (take n (b ∷ rest)) (take j (drop n (b ∷ rest))) ≡ None)
     → longest spelled (suc (length rest)) (b ∷ rest) ≡ Some (sense, n + k)
@@ -138,7 +147,8 @@ digits_len : (b : ℕ) (rest : List ℕ) → let n = prefix_len is_digit (b ∷ 
 digits_len b rest = length-take-le (prefix_len is_digit (b ∷ rest)) (b ∷ rest) (prefix_len-le-length is_digit (b ∷ rest))
 
 decimal_read : (b : ℕ) (rest : List ℕ) → let n = prefix_len is_digit (b ∷ rest) in
-    front_token (Some (sized (take n (b ∷ rest)) (integer_kind (number_in 10 (take n (b ∷ rest)))), n + 0)) ≡ with_length n (bounded_by (value_in 10 (take n (b ∷ rest))))
+    front_token (Some (sized (take n (b ∷ rest)) (integer_kind (number_in 10 (take n (b ∷ rest)))), n + 0))
+    ≡ with_length n (bounded_by (value_in 10 (take n (b ∷ rest))))
 decimal_read b rest =
     let n = prefix_len is_digit (b ∷ rest) in
     let digits = take n (b ∷ rest) in
@@ -164,18 +174,21 @@ radix_at : (digits : List ℕ) (c : ℕ) (more : List ℕ) → is_radix_mark c �
     → number_by digits (c ∷ more) ≡ Some (sized (digits ++ c ∷ more) (integer (number_in 10 digits) more))
 radix_at digits c more r all = cond-true (is_radix_mark c && list_all is_alphanumeric more) _ _ (rw (r, all) refl)
 
-not_longer_radix : (digits : List ℕ) (c : ℕ) (more : List ℕ) → is_radix_mark c ≡ true → (j : ℕ) → suc (prefix_len is_alphanumeric more) < j → j ≤ suc (length more)
+not_longer_radix : (digits : List ℕ) (c : ℕ) (more : List ℕ) → is_radix_mark c ≡ true → (j : ℕ) → suc (prefix_len is_alphanumeric more) < j
+    → j ≤ suc (length more)
     → number_by digits (take j (c ∷ more)) ≡ None
 not_longer_radix digits c more r zero l g = absurd (omega arith)
 not_longer_radix digits c more r (suc j) l g =
-    no_radix digits c (take j more) (and_false (is_radix_mark c) _ (front_fails is_alphanumeric more j (omega arith) (omega arith))) (and_left (is_real_mark c) _ (radix_not_real c r))
+    no_radix digits c (take j more) (and_false (is_radix_mark c) _ (front_fails is_alphanumeric more j (omega arith) (omega arith)))
+    (and_left (is_real_mark c) _ (radix_not_real c r))
 
 radix_size : (digits : List ℕ) (n c w : ℕ) (more : List ℕ) → length digits ≡ n → w ≤ length more → length (digits ++ c ∷ take w more) ≡ n + suc w
 radix_size digits n c w more size fits = omega (arith, length-append digits (c ∷ take w more), length-take-le w more fits)
 
 radix_read : (b : ℕ) (rest : List ℕ) (c : ℕ) (more : List ℕ) → begins_identifier b ≡ false → is_digit b ≡ true → Tail b rest c more → is_radix_mark c ≡ true
     → let n = prefix_len is_digit (b ∷ rest) in let written = prefix_len is_alphanumeric more in
-    front_token (longest spelled (suc (length rest)) (b ∷ rest)) ≡ with_length (n + 1 + written) (integer (number_in 10 (take n (b ∷ rest))) (take written more))
+    front_token (longest spelled (suc (length rest)) (b ∷ rest))
+    ≡ with_length (n + 1 + written) (integer (number_in 10 (take n (b ∷ rest))) (take written more))
 radix_read b rest c more h d is r =
     let n = prefix_len is_digit (b ∷ rest) in
     let digits = take n (b ∷ rest) in
@@ -187,19 +200,23 @@ radix_read b rest c more h d is r =
     judged_found _ _ (number_of b rest (suc w) sense h d (omega (arith, size, fits))
     (tail_at b rest c more (suc w) is ∙ radix_at digits c (take w more) r (front_passes is_alphanumeric more w (omega arith)))
     (λ j l g. tail_at b rest c more j is ∙ not_longer_radix digits c more r j l (omega (arith, size, g))))
-    ∙ (judged_sized (digits ++ c ∷ take w more) (integer (number_in 10 digits) (take w more)) (n + suc w) (radix_size digits n c w more (digits_len b rest) fits)
+    ∙ (judged_sized (digits ++ c ∷ take w more) (integer (number_in 10 digits) (take w more)) (n + suc w)
+    (radix_size digits n c w more (digits_len b rest) fits)
     ∙ ap (λ k. with_length k (integer (number_in 10 digits) (take w more))) total)
 
 real_at : (digits : List ℕ) (c : ℕ) → is_radix_mark c ≡ false → is_real_mark c ≡ true → number_by digits (c ∷ []) ≡ Some (Err L6)
 real_at digits c r e = cond-false (is_radix_mark c && true) _ _ (rw r refl) ∙ cond-true (is_real_mark c && true) _ _ (rw e refl)
 
-not_longer_real : (digits : List ℕ) (c : ℕ) (more : List ℕ) → is_radix_mark c ≡ false → (j : ℕ) → 1 < j → j ≤ suc (length more) → number_by digits (take j (c ∷ more)) ≡ None
+not_longer_real : (digits : List ℕ) (c : ℕ) (more : List ℕ) → is_radix_mark c ≡ false → (j : ℕ) → 1 < j → j ≤ suc (length more)
+    → number_by digits (take j (c ∷ more)) ≡ None
 not_longer_real digits c more r zero l g = absurd (omega arith)
 not_longer_real digits c more r (suc zero) l g = absurd (omega arith)
 not_longer_real digits c [] r (suc (suc j)) l g = absurd (omega arith)
-not_longer_real digits c (x ∷ more) r (suc (suc j)) l g = no_radix digits c (x ∷ take j more) (and_left (is_radix_mark c) _ r) (and_false (is_real_mark c) _ refl)
+not_longer_real digits c (x ∷ more) r (suc (suc j)) l g =
+    no_radix digits c (x ∷ take j more) (and_left (is_radix_mark c) _ r) (and_false (is_real_mark c) _ refl)
 
-real_read : (b : ℕ) (rest : List ℕ) (c : ℕ) (more : List ℕ) → begins_identifier b ≡ false → is_digit b ≡ true → Tail b rest c more → is_radix_mark c ≡ false → is_real_mark c ≡ true
+real_read : (b : ℕ) (rest : List ℕ) (c : ℕ) (more : List ℕ) → begins_identifier b ≡ false → is_digit b ≡ true → Tail b rest c more → is_radix_mark c ≡ false
+    → is_real_mark c ≡ true
     → front_token (longest spelled (suc (length rest)) (b ∷ rest)) ≡ Err L6
 real_read b rest c more h d is r e =
     let digits = take (prefix_len is_digit (b ∷ rest)) (b ∷ rest) in
@@ -207,12 +224,15 @@ real_read b rest c more h d is r e =
     judged_found _ _ (number_of b rest 1 (Err L6) h d (omega (arith, size)) (tail_at b rest c more 1 is ∙ real_at digits c r e)
     (λ j l g. tail_at b rest c more j is ∙ not_longer_real digits c more r j l (omega (arith, size, g))))
 
-not_longer_decimal : (digits : List ℕ) (c : ℕ) (more : List ℕ) → is_radix_mark c ≡ false → is_real_mark c ≡ false → (j : ℕ) → 0 < j → number_by digits (take j (c ∷ more)) ≡ None
+not_longer_decimal : (digits : List ℕ) (c : ℕ) (more : List ℕ) → is_radix_mark c ≡ false → is_real_mark c ≡ false → (j : ℕ) → 0 < j
+    → number_by digits (take j (c ∷ more)) ≡ None
 not_longer_decimal digits c more r e zero l = absurd (omega arith)
 not_longer_decimal digits c more r e (suc j) l = no_radix digits c (take j more) (and_left (is_radix_mark c) _ r) (and_left (is_real_mark c) _ e)
 
-plain_read : (b : ℕ) (rest : List ℕ) (c : ℕ) (more : List ℕ) → begins_identifier b ≡ false → is_digit b ≡ true → Tail b rest c more → is_radix_mark c ≡ false → is_real_mark c ≡ false
-    → let n = prefix_len is_digit (b ∷ rest) in front_token (longest spelled (suc (length rest)) (b ∷ rest)) ≡ with_length n (bounded_by (value_in 10 (take n (b ∷ rest))))
+plain_read : (b : ℕ) (rest : List ℕ) (c : ℕ) (more : List ℕ) → begins_identifier b ≡ false → is_digit b ≡ true → Tail b rest c more → is_radix_mark c ≡ false
+    → is_real_mark c ≡ false
+    → let n = prefix_len is_digit (b ∷ rest) in
+    front_token (longest spelled (suc (length rest)) (b ∷ rest)) ≡ with_length n (bounded_by (value_in 10 (take n (b ∷ rest))))
 plain_read b rest c more h d is r e =
     let n = prefix_len is_digit (b ∷ rest) in
     let digits = take n (b ∷ rest) in
@@ -220,28 +240,35 @@ plain_read b rest c more h d is r e =
     (λ j l g. tail_at b rest c more j is ∙ not_longer_decimal digits c more r e j l))
     ∙ decimal_read b rest
 
-by_real : (b : ℕ) (rest : List ℕ) (c : ℕ) (more : List ℕ) → begins_identifier b ≡ false → is_digit b ≡ true → Tail b rest c more → is_radix_mark c ≡ false → (real : Bool) → is_real_mark c ≡ real
-    → let n = prefix_len is_digit (b ∷ rest) in front_token (longest spelled (suc (length rest)) (b ∷ rest)) ≡ cond real (Err L6) (with_length n (bounded_by (value_in 10 (take n (b ∷ rest)))))
+by_real : (b : ℕ) (rest : List ℕ) (c : ℕ) (more : List ℕ) → begins_identifier b ≡ false → is_digit b ≡ true → Tail b rest c more → is_radix_mark c ≡ false
+    → (real : Bool) → is_real_mark c ≡ real
+    → let n = prefix_len is_digit (b ∷ rest) in
+    front_token (longest spelled (suc (length rest)) (b ∷ rest)) ≡ cond real (Err L6) (with_length n (bounded_by (value_in 10 (take n (b ∷ rest)))))
 by_real b rest c more h d is r true e = real_read b rest c more h d is r e
 by_real b rest c more h d is r false e = plain_read b rest c more h d is r e
 
-by_radix : (b : ℕ) (rest : List ℕ) (c : ℕ) (more : List ℕ) → begins_identifier b ≡ false → is_digit b ≡ true → Tail b rest c more → (radix : Bool) → is_radix_mark c ≡ radix
+by_radix : (b : ℕ) (rest : List ℕ) (c : ℕ) (more : List ℕ) → begins_identifier b ≡ false → is_digit b ≡ true → Tail b rest c more → (radix : Bool)
+    → is_radix_mark c ≡ radix
     → let n = prefix_len is_digit (b ∷ rest) in let written = prefix_len is_alphanumeric more in
     front_token (longest spelled (suc (length rest)) (b ∷ rest))
-    ≡ cond radix (with_length (n + 1 + written) (integer (number_in 10 (take n (b ∷ rest))) (take written more))) (cond (is_real_mark c) (Err L6) (with_length n (bounded_by (value_in 10 (take n (b ∷ rest))))))
+    ≡ cond radix (with_length (n + 1 + written) (integer (number_in 10 (take n (b ∷ rest))) (take written more)))
+    (cond (is_real_mark c) (Err L6) (with_length n (bounded_by (value_in 10 (take n (b ∷ rest))))))
 by_radix b rest c more h d is true r = radix_read b rest c more h d is r
 by_radix b rest c more h d is false r = by_real b rest c more h d is r (is_real_mark c) refl
 
-first_number_by : (b : ℕ) (rest tail : List ℕ) → begins_identifier b ≡ false → is_digit b ≡ true → let n = prefix_len is_digit (b ∷ rest) in drop n (b ∷ rest) ≡ tail
+first_number_by : (b : ℕ) (rest tail : List ℕ) → begins_identifier b ≡ false → is_digit b ≡ true → let n = prefix_len is_digit (b ∷ rest) in
+    drop n (b ∷ rest) ≡ tail
     → front_token (longest spelled (suc (length rest)) (b ∷ rest)) ≡ number_read_by (take n (b ∷ rest)) n tail
 first_number_by b rest [] h d is =
     let n = prefix_len is_digit (b ∷ rest) in
     let size : length (drop n (b ∷ rest)) ≡ 0 = ap length is in
-    judged_found _ _ (number_of b rest 0 (sized (take n (b ∷ rest)) (integer_kind (number_in 10 (take n (b ∷ rest))))) h d (omega arith) refl (λ j l g. absurd (omega arith)))
+    judged_found _ _ (number_of b rest 0 (sized (take n (b ∷ rest)) (integer_kind (number_in 10 (take n (b ∷ rest))))) h d (omega arith) refl
+    (λ j l g. absurd (omega arith)))
     ∙ decimal_read b rest
 first_number_by b rest (c ∷ more) h d is = by_radix b rest c more h d is (is_radix_mark c) refl
 
-pub first_number : (b : ℕ) (rest : List ℕ) → begins_identifier b ≡ false → is_digit b ≡ true → front_token (longest spelled (suc (length rest)) (b ∷ rest)) ≡ number_read (b ∷ rest)
+pub first_number : (b : ℕ) (rest : List ℕ) → begins_identifier b ≡ false → is_digit b ≡ true
+    → front_token (longest spelled (suc (length rest)) (b ∷ rest)) ≡ number_read (b ∷ rest)
 first_number b rest h d = first_number_by b rest (drop (prefix_len is_digit (b ∷ rest)) (b ∷ rest)) h d refl
 
 -- The dot
@@ -264,14 +291,18 @@ after_dot b rest (suc zero) d l g = absurd (omega arith)
 after_dot b rest (suc (suc zero)) d l g = spelled_dot (b ∷ []) ∙ cond-false (is_digit b) _ _ d
 after_dot b rest (suc (suc (suc m))) d l g = longer_dot (b ∷ rest) (suc (suc (suc m))) (omega arith) g
 
-dot_by : (b : ℕ) (rest : List ℕ) (digit : Bool) → is_digit b ≡ digit → front_token (longest spelled (suc (suc (length rest))) (46 ∷ b ∷ rest)) ≡ cond digit (Err L6) (Ok (Operator Dot, 1))
+dot_by : (b : ℕ) (rest : List ℕ) (digit : Bool) → is_digit b ≡ digit
+    → front_token (longest spelled (suc (suc (length rest))) (46 ∷ b ∷ rest)) ≡ cond digit (Err L6) (Ok (Operator Dot, 1))
 dot_by b rest true d =
-    judged_found _ _ (longest_is spelled (suc (suc (length rest))) 2 (46 ∷ b ∷ rest) (Err L6) (omega arith) (omega arith) (spelled_dot (b ∷ []) ∙ cond-true (is_digit b) _ _ d) (longer_dot (b ∷ rest)))
+    judged_found _ _ (longest_is spelled (suc (suc (length rest))) 2 (46 ∷ b ∷ rest) (Err L6) (omega arith) (omega arith)
+    (spelled_dot (b ∷ []) ∙ cond-true (is_digit b) _ _ d) (longer_dot (b ∷ rest)))
 dot_by b rest false d =
-    judged_found _ _ (longest_is spelled (suc (suc (length rest))) 1 (46 ∷ b ∷ rest) (Ok (Operator Dot)) (omega arith) (omega arith) (spelled_dot []) (λ m l g. after_dot b rest m d l g))
+    judged_found _ _ (longest_is spelled (suc (suc (length rest))) 1 (46 ∷ b ∷ rest) (Ok (Operator Dot)) (omega arith) (omega arith) (spelled_dot [])
+    (λ m l g. after_dot b rest m d l g))
 
 first_dot : (rest : List ℕ) → front_token (longest spelled (suc (length rest)) (46 ∷ rest)) ≡ dot_read rest
-first_dot [] = judged_found _ _ (longest_is spelled 1 1 (46 ∷ []) (Ok (Operator Dot)) (omega arith) (omega arith) (spelled_dot []) (λ m l g. absurd (omega arith)))
+first_dot [] =
+    judged_found _ _ (longest_is spelled 1 1 (46 ∷ []) (Ok (Operator Dot)) (omega arith) (omega arith) (spelled_dot []) (λ m l g. absurd (omega arith)))
 first_dot (b ∷ rest) = dot_by b rest (is_digit b) refl
 
 -- Operators and punctuation marks
@@ -324,16 +355,19 @@ not_nothing [] h = absurd (false≢true h)
 not_nothing (b ∷ rest) h = omega arith
 
 -- the first row is a front of the bytes
-row_found : (row : List ℕ × Kind) (rows : List (List ℕ × Kind)) (bytes : List ℕ) → 0 < length row.0 → list_all (row_fits (length row.0)) rows ≡ true → starts_with nat_eq bytes row.0 ≡ true
+row_found : (row : List ℕ × Kind) (rows : List (List ℕ × Kind)) (bytes : List ℕ) → 0 < length row.0 → list_all (row_fits (length row.0)) rows ≡ true
+    → starts_with nat_eq bytes row.0 ≡ true
     → longest (sense_in (row ∷ rows)) (length bytes) bytes ≡ Some (Ok row.1, length row.0)
 row_found row rows bytes p fits starts =
     let n = length row.0 in
     let is : row.0 ≡ take n bytes = same_bytes row.0 (take n bytes) starts in
     let size : n ≡ min n (length bytes) = ap length is ∙ length-take n bytes in
-    let here : lookup_text (row ∷ rows) (take n bytes) ≡ Some row.1 = cond-true (bytes_eq (take n bytes) row.0) _ _ (equal_bytes (take n bytes) row.0 (sym is)) in
+    let here : lookup_text (row ∷ rows) (take n bytes)
+    ≡ Some row.1 = cond-true (bytes_eq (take n bytes) row.0) _ _ (equal_bytes (take n bytes) row.0 (sym is)) in
     longest_is (sense_in (row ∷ rows)) (length bytes) n bytes (Ok row.1) p (omega arith) (ap (option_map (λ kind. Ok kind)) here)
     (λ m l g. let long : length (take m bytes) ≡ m = length-take-le m bytes g in
-    ap (option_map (λ kind. Ok kind)) (cond-false (bytes_eq (take m bytes) row.0) _ _ (other_bytes (take m bytes) row.0 (λ e. let same : length (take m bytes) ≡ n = ap length e in omega arith))
+    ap (option_map (λ kind. Ok kind))
+    (cond-false (bytes_eq (take m bytes) row.0) _ _ (other_bytes (take m bytes) row.0 (λ e. let same : length (take m bytes) ≡ n = ap length e in omega arith))
     ∙ lookup_longer rows n (take m bytes) fits (omega arith)))
 
 take_least : (m : ℕ) (bytes : List ℕ) → take (length (take m bytes)) bytes ≡ take m bytes
@@ -342,45 +376,57 @@ take_least (suc m) [] = refl
 take_least (suc m) (b ∷ rest) = ap (λ xs. b ∷ xs) (take_least m rest)
 
 -- the first row is no front of the bytes
-row_passed : (row : List ℕ × Kind) (rows : List (List ℕ × Kind)) (bytes : List ℕ) → starts_with nat_eq bytes row.0 ≡ false → (m : ℕ) → sense_in (row ∷ rows) (take m bytes) ≡ sense_in rows (take m bytes)
+row_passed : (row : List ℕ × Kind) (rows : List (List ℕ × Kind)) (bytes : List ℕ) → starts_with nat_eq bytes row.0 ≡ false → (m : ℕ)
+    → sense_in (row ∷ rows) (take m bytes) ≡ sense_in rows (take m bytes)
 row_passed row rows bytes starts m =
     ap (option_map (λ kind. Ok kind)) (cond-false (bytes_eq (take m bytes) row.0) _ _ (other_bytes (take m bytes) row.0
     (λ e. other_text row.0 (take (length row.0) bytes) (sym starts) (sym (ap (λ text. take (length text) bytes) (sym e) ∙ (take_least m bytes ∙ e))))))
 
-first_by : (row : List ℕ × Kind) (rows : List (List ℕ × Kind)) (bytes : List ℕ) (starts : Bool) → starts_with nat_eq bytes row.0 ≡ starts → are_in_order (row ∷ rows) ≡ true
+first_by : (row : List ℕ × Kind) (rows : List (List ℕ × Kind)) (bytes : List ℕ) (starts : Bool) → starts_with nat_eq bytes row.0 ≡ starts
+    → are_in_order (row ∷ rows) ≡ true
     → longest (sense_in rows) (length bytes) bytes ≡ found_in (first_match rows bytes)
     → longest (sense_in (row ∷ rows)) (length bytes) bytes ≡ found_in (cond starts (Some (row.1, length row.0)) (first_match rows bytes))
 first_by row rows bytes true starts order below =
-    row_found row rows bytes (not_nothing row.0 (both_left (not (is_nothing row.0)) _ (both_left (not (is_nothing row.0) && list_all (row_fits (length row.0)) rows) _ order)))
+    row_found row rows bytes
+    (not_nothing row.0 (both_left (not (is_nothing row.0)) _ (both_left (not (is_nothing row.0) && list_all (row_fits (length row.0)) rows) _ order)))
     (both_right (not (is_nothing row.0)) _ (both_left (not (is_nothing row.0) && list_all (row_fits (length row.0)) rows) _ order)) starts
 first_by row rows bytes false starts order below =
     longest_same (sense_in (row ∷ rows)) (sense_in rows) (length bytes) bytes (λ m p h. row_passed row rows bytes starts m) ∙ below
 
-first_in_order : (rows : List (List ℕ × Kind)) (bytes : List ℕ) → are_in_order rows ≡ true → longest (sense_in rows) (length bytes) bytes ≡ found_in (first_match rows bytes)
+first_in_order : (rows : List (List ℕ × Kind)) (bytes : List ℕ) → are_in_order rows ≡ true
+    → longest (sense_in rows) (length bytes) bytes ≡ found_in (first_match rows bytes)
 first_in_order [] bytes order = longest_none (sense_in []) (length bytes) bytes (λ m p h. refl)
 first_in_order (row ∷ rows) bytes order =
     first_by row rows bytes (starts_with nat_eq bytes row.0) refl order
     (first_in_order rows bytes (both_right (not (is_nothing row.0) && list_all (row_fits (length row.0)) rows) _ order))
 
-order_of_choice : (test : Bool) (rows others : List (List ℕ × Kind)) → are_in_order rows ≡ true → are_in_order others ≡ true → are_in_order (cond test rows others) ≡ true
+order_of_choice : (test : Bool) (rows others : List (List ℕ × Kind)) → are_in_order rows ≡ true → are_in_order others ≡ true
+    → are_in_order (cond test rows others) ≡ true
 order_of_choice true rows others h g = h
 order_of_choice false rows others h g = g
 
 marks_in_order : (b : ℕ) → are_in_order (marks_of b) ≡ true
 unfolding marks_of
 marks_in_order b =
-    order_of_choice (b == 33) _ _ refl (order_of_choice (b == 36) _ _ refl (order_of_choice (b == 37) _ _ refl (order_of_choice (b == 38) _ _ refl (order_of_choice (b == 40) _ _ refl
-    (order_of_choice (b == 41) _ _ refl (order_of_choice (b == 42) _ _ refl (order_of_choice (b == 43) _ _ refl (order_of_choice (b == 44) _ _ refl (order_of_choice (b == 45) _ _ refl
-    (order_of_choice (b == 47) _ _ refl (order_of_choice (b == 58) _ _ refl (order_of_choice (b == 59) _ _ refl (order_of_choice (b == 60) _ _ refl (order_of_choice (b == 61) _ _ refl
-    (order_of_choice (b == 62) _ _ refl (order_of_choice (b == 63) _ _ refl (order_of_choice (b == 64) _ _ refl (order_of_choice (b == 91) _ _ refl (order_of_choice (b == 92) _ _ refl
-    (order_of_choice (b == 93) _ _ refl (order_of_choice (b == 94) _ _ refl (order_of_choice (b == 123) _ _ refl (order_of_choice (b == 124) _ _ refl (order_of_choice (b == 125) _ _ refl
+    order_of_choice (b == 33)
+    _ _ refl (order_of_choice (b == 36) _ _ refl (order_of_choice (b == 37) _ _ refl (order_of_choice (b == 38) _ _ refl (order_of_choice (b == 40) _ _ refl
+    (order_of_choice (b == 41)
+    _ _ refl (order_of_choice (b == 42) _ _ refl (order_of_choice (b == 43) _ _ refl (order_of_choice (b == 44) _ _ refl (order_of_choice (b == 45) _ _ refl
+    (order_of_choice (b == 47)
+    _ _ refl (order_of_choice (b == 58) _ _ refl (order_of_choice (b == 59) _ _ refl (order_of_choice (b == 60) _ _ refl (order_of_choice (b == 61) _ _ refl
+    (order_of_choice (b == 62)
+    _ _ refl (order_of_choice (b == 63) _ _ refl (order_of_choice (b == 64) _ _ refl (order_of_choice (b == 91) _ _ refl (order_of_choice (b == 92) _ _ refl
+    (order_of_choice (b == 93)
+    _ _ refl (order_of_choice (b == 94) _ _ refl (order_of_choice (b == 123) _ _ refl (order_of_choice (b == 124) _ _ refl (order_of_choice (b == 125) _ _ refl
     (order_of_choice (b == 126) _ _ refl refl)))))))))))))))))))))))))
 
-spelled_mark : (b : ℕ) (rest : List ℕ) → begins_identifier b ≡ false → is_digit b ≡ false → (b == 46) ≡ false → spelled (b ∷ rest) ≡ sense_in (marks_of b) (b ∷ rest)
+spelled_mark : (b : ℕ) (rest : List ℕ) → begins_identifier b ≡ false → is_digit b ≡ false → (b == 46) ≡ false
+    → spelled (b ∷ rest) ≡ sense_in (marks_of b) (b ∷ rest)
 unfolding spelled
 spelled_mark b rest h d dot = cond-false (begins_identifier b) _ _ h ∙ (cond-false (is_digit b) _ _ d ∙ cond-false (b == 46) _ _ dot)
 
-marks_same : (b : ℕ) (rest : List ℕ) → begins_identifier b ≡ false → is_digit b ≡ false → (b == 46) ≡ false → (m : ℕ) → 0 < m → spelled (take m (b ∷ rest)) ≡ sense_in (marks_of b) (take m (b ∷ rest))
+marks_same : (b : ℕ) (rest : List ℕ) → begins_identifier b ≡ false → is_digit b ≡ false → (b == 46) ≡ false → (m : ℕ) → 0 < m
+    → spelled (take m (b ∷ rest)) ≡ sense_in (marks_of b) (take m (b ∷ rest))
 marks_same b rest h d dot zero p = absurd (omega arith)
 marks_same b rest h d dot (suc m) p = spelled_mark b (take m rest) h d dot
 
@@ -388,9 +434,11 @@ judged_match : (found : Option (Kind × ℕ)) → front_token (found_in found) �
 judged_match None = refl
 judged_match (Some match) = refl
 
-first_mark : (b : ℕ) (rest : List ℕ) → begins_identifier b ≡ false → is_digit b ≡ false → (b == 46) ≡ false → front_token (longest spelled (suc (length rest)) (b ∷ rest)) ≡ ok_or (first_match (marks_of b) (b ∷ rest)) L1
+first_mark : (b : ℕ) (rest : List ℕ) → begins_identifier b ≡ false → is_digit b ≡ false → (b == 46) ≡ false
+    → front_token (longest spelled (suc (length rest)) (b ∷ rest)) ≡ ok_or (first_match (marks_of b) (b ∷ rest)) L1
 first_mark b rest h d dot =
-    judged_found _ _ (longest_same spelled (sense_in (marks_of b)) (suc (length rest)) (b ∷ rest) (λ m p g. marks_same b rest h d dot m p) ∙ first_in_order (marks_of b) (b ∷ rest) (marks_in_order b))
+    judged_found _ _ (longest_same spelled (sense_in (marks_of b)) (suc (length rest)) (b ∷ rest) (λ m p g. marks_same b rest h d dot m p)
+    ∙ first_in_order (marks_of b) (b ∷ rest) (marks_in_order b))
     ∙ judged_match (first_match (marks_of b) (b ∷ rest))
 
 -- All together
@@ -401,7 +449,8 @@ by_dot b rest h d true dot = let is : b ≡ 46 = eqb-true b 46 dot in ap (λ c. 
 by_dot b rest h d false dot = first_mark b rest h d dot
 
 by_digit : (b : ℕ) (rest : List ℕ) → begins_identifier b ≡ false → (digit : Bool) → is_digit b ≡ digit
-    → front_token (longest spelled (suc (length rest)) (b ∷ rest)) ≡ cond digit (number_read (b ∷ rest)) (cond (b == 46) (dot_read rest) (ok_or (first_match (marks_of b) (b ∷ rest)) L1))
+    → front_token (longest spelled (suc (length rest)) (b ∷ rest))
+    ≡ cond digit (number_read (b ∷ rest)) (cond (b == 46) (dot_read rest) (ok_or (first_match (marks_of b) (b ∷ rest)) L1))
 by_digit b rest h true d = first_number b rest h d
 by_digit b rest h false d = by_dot b rest h d (b == 46) refl
 

@@ -24,25 +24,29 @@ pub at_backslash : (line : SourceLine) (literal : Literal) (b : ℕ) (rest : Lis
 unfolding bytes_from
 at_backslash line literal b rest later h e = cond-false (b == literal.quote) _ _ (ne_eqb b literal.quote h) ∙ cond-true (b == 92) _ _ (quote_test b 92 e)
 
-pub at_line_end : (line : SourceLine) (literal : Literal) (b : ℕ) (rest : List ℕ) (later : Later) → (b ≡ literal.quote → ⊥) → (b ≡ 92 → ⊥) → (b == 95 && is_nothing rest) ≡ true
+pub at_line_end : (line : SourceLine) (literal : Literal) (b : ℕ) (rest : List ℕ) (later : Later) → (b ≡ literal.quote → ⊥) → (b ≡ 92 → ⊥)
+    → (b == 95 && is_nothing rest) ≡ true
     → scan_inside line literal (b ∷ rest) later ≡ later (Some literal)
 unfolding bytes_from
 at_line_end line literal b rest later h e n =
     cond-false (b == literal.quote) _ _ (ne_eqb b literal.quote h) ∙ (cond-false (b == 92) _ _ (ne_eqb b 92 e) ∙ cond-true (b == 95 && is_nothing rest) _ _ n)
 
-pub at_plain : (line : SourceLine) (literal : Literal) (b : ℕ) (rest : List ℕ) (later : Later) → (b ≡ literal.quote → ⊥) → (b ≡ 92 → ⊥) → (b == 95 && is_nothing rest) ≡ false
+pub at_plain : (line : SourceLine) (literal : Literal) (b : ℕ) (rest : List ℕ) (later : Later) → (b ≡ literal.quote → ⊥) → (b ≡ 92 → ⊥)
+    → (b == 95 && is_nothing rest) ≡ false
     → scan_inside line literal (b ∷ rest) later ≡ scan_inside line (with_byte literal b) rest later
 unfolding bytes_from
 at_plain line literal b rest later h e n =
     cond-false (b == literal.quote) _ _ (ne_eqb b literal.quote h) ∙ (cond-false (b == 92) _ _ (ne_eqb b 92 e) ∙ cond-false (b == 95 && is_nothing rest) _ _ n)
 
 -- a line's end inside a literal
-pub at_end : (line : SourceLine) (literal : Literal) (bytes : List ℕ) (later : Later) → length bytes ≡ 0 → scan_inside line literal bytes later ≡ unclosed_literal literal
+pub at_end : (line : SourceLine) (literal : Literal) (bytes : List ℕ) (later : Later) → length bytes ≡ 0
+    → scan_inside line literal bytes later ≡ unclosed_literal literal
 unfolding bytes_from
 at_end line literal [] later h = refl
 at_end line literal (b ∷ rest) later h = absurd (omega arith)
 
-pub at_escape : (line : SourceLine) (literal : Literal) (bytes : List ℕ) (later : Later) (byte count : ℕ) → 0 < length bytes → Some (byte, count) ≡ escape_of bytes
+pub at_escape : (line : SourceLine) (literal : Literal) (bytes : List ℕ) (later : Later) (byte count : ℕ) → 0 < length bytes
+    → Some (byte, count) ≡ escape_of bytes
     → scan_escape line literal bytes later ≡ scan_inside line (with_byte literal byte) (drop count bytes) later
 at_escape line literal [] later byte count h e = absurd (omega arith)
 at_escape line literal (b ∷ rest) later byte count h e =

@@ -18,7 +18,8 @@ use Rattle.icn_lex.proofs.Places.{reads_same, reads_fault, reads_end}
 abbrev pub later_of : List SourceLine → ℕ → Later
 later_of lines i = λ begun. lines_from (drop i lines) begun
 
-line_of : (line : SourceLine) (lines : List SourceLine) (begun : Option Literal) → lines_from (line ∷ lines) begun ≡ line_from (λ literal. lines_from lines literal) line begun
+line_of : (line : SourceLine) (lines : List SourceLine) (begun : Option Literal)
+    → lines_from (line ∷ lines) begun ≡ line_from (λ literal. lines_from lines literal) line begun
 unfolding lines_from
 line_of line lines begun = refl
 
@@ -36,14 +37,18 @@ unfolding tokens_of
 fault_outcome lines NoMemory e = inl refl
 fault_outcome lines (BrokenFault rule file line) e = inr (ap (λ scan. Some (finish_scan scan)) (sym e))
 
-pub unclosed_outcome : {Z : Type 0} (lines : List SourceLine) (found : List Token) (i : ℕ) (literal : Literal) → length lines ≤ i → Reads (lines_from lines None) found (lines_from (drop i lines) (Some literal))
-    → let result : Result (Vec Token Z) LexFault = Err (BrokenFault L2 literal.file literal.line) in (result ≡ Err NoMemory) ⊎ (outcome_of result ≡ Some (tokens_of lines))
+pub unclosed_outcome : {Z : Type 0} (lines : List SourceLine) (found : List Token) (i : ℕ) (literal : Literal) → length lines ≤ i
+    → Reads (lines_from lines None) found (lines_from (drop i lines) (Some literal))
+    → let result : Result (Vec Token Z) LexFault = Err (BrokenFault L2 literal.file literal.line) in
+    (result ≡ Err NoMemory) ⊎ (outcome_of result ≡ Some (tokens_of lines))
 unfolding tokens_of lines_from
 unclosed_outcome lines found i literal h r =
-    let here : lines_from (drop i lines) (Some literal) ≡ Broken L2 literal.line literal.file = ap (λ rest. lines_from rest (Some literal)) (drop_all i lines h) in
+    let here : lines_from (drop i lines) (Some literal)
+    ≡ Broken L2 literal.line literal.file = ap (λ rest. lines_from rest (Some literal)) (drop_all i lines h) in
     inr (ap (λ scan. Some (finish_scan scan)) (sym (reads_fault (lines_from lines None) found _ L2 literal.line literal.file here r)))
 
-pub scanned_outcome : (lines : List SourceLine) (found : List Token) (i : ℕ) → length lines ≤ i → Reads (lines_from lines None) found (lines_from (drop i lines) None) → Scanned found ≡ tokens_of lines
+pub scanned_outcome : (lines : List SourceLine) (found : List Token) (i : ℕ) → length lines ≤ i
+    → Reads (lines_from lines None) found (lines_from (drop i lines) None) → Scanned found ≡ tokens_of lines
 unfolding tokens_of lines_from
 scanned_outcome lines found i h r =
     let here : lines_from (drop i lines) None ≡ Found [] = ap (λ rest. lines_from rest None) (drop_all i lines h) in
@@ -52,12 +57,14 @@ scanned_outcome lines found i h r =
 
 -- What an answer of `tokens` tells a caller
 
-pub found_of : {Z : Type 0} (lines : List SourceLine) (tokens : Vec Token Z) → let result : Result (Vec Token Z) LexFault = Ok tokens in (result ≡ Err NoMemory) ⊎ (outcome_of result ≡ Some (tokens_of lines))
+pub found_of : {Z : Type 0} (lines : List SourceLine) (tokens : Vec Token Z) → let result : Result (Vec Token Z) LexFault = Ok tokens in
+    (result ≡ Err NoMemory) ⊎ (outcome_of result ≡ Some (tokens_of lines))
     → tokens_of lines ≡ Scanned tokens.items
 found_of lines tokens (inl e) = absurd (cc)
 found_of lines tokens (inr e) = sym (same_Some _ _ e)
 
-pub fault_of : {Z : Type 0} (lines : List SourceLine) (rule : Rule) (file line : ℕ) → let result : Result (Vec Token Z) LexFault = Err (BrokenFault rule file line) in
+pub fault_of : {Z : Type 0} (lines : List SourceLine) (rule : Rule) (file line : ℕ)
+    → let result : Result (Vec Token Z) LexFault = Err (BrokenFault rule file line) in
     (result ≡ Err NoMemory) ⊎ (outcome_of result ≡ Some (tokens_of lines)) → tokens_of lines ≡ Fault rule file line
 fault_of lines rule file line (inl e) = absurd (cc)
 fault_of lines rule file line (inr e) = sym (same_Some _ _ e)

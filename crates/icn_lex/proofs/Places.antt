@@ -32,14 +32,16 @@ begins b [] = omega arith
 begins b (c ∷ rest) = omega arith
 
 -- one token more
-pub with_semicolons_push : (done : List Piece) (next : Piece) → with_semicolons (done ++ next ∷ []) ≡ with_semicolons done ++ with_piece (with_semicolons done) next ++ next.token ∷ []
+pub with_semicolons_push : (done : List Piece) (next : Piece)
+    → with_semicolons (done ++ next ∷ []) ≡ with_semicolons done ++ with_piece (with_semicolons done) next ++ next.token ∷ []
 with_semicolons_push [] next = refl
 with_semicolons_push (a ∷ []) next = refl
 with_semicolons_push (a ∷ b ∷ rest) next =
     let front = a.token ∷ between a.token b in
     let later = with_semicolons (b ∷ rest) in
     ap (λ s. front ++ s) (with_semicolons_push (b ∷ rest) next)
-    ∙ (sym (append_assoc front (later ++ with_piece later next) (next.token ∷ [])) ∙ ap (λ s. s ++ next.token ∷ []) (sym (append_assoc front later (with_piece later next))))
+    ∙ (sym (append_assoc front (later ++ with_piece later next) (next.token ∷ []))
+    ∙ ap (λ s. s ++ next.token ∷ []) (sym (append_assoc front later (with_piece later next))))
     ∙ ap (λ s. front ++ later ++ s ++ next.token ∷ []) (sym (joint_append front later next (begins b rest)))
 
 -- Places
@@ -59,7 +61,8 @@ piece_before done next (Found pieces) = ap Found (append_assoc done (next ∷ []
 piece_before done next (Broken rule line file) = refl
 
 -- behind a token
-pub reads_token : (all : Scan) (found : List Token) (next : Piece) (later : Scan) → Reads all found (before next later) → Reads all (found ++ with_piece found next ++ next.token ∷ []) later
+pub reads_token : (all : Scan) (found : List Token) (next : Piece) (later : Scan) → Reads all found (before next later)
+    → Reads all (found ++ with_piece found next ++ next.token ∷ []) later
 reads_token all found next later r = record {
   done = r.done ++ next ∷ [];
   separated = ap (λ f. f ++ with_piece f next ++ next.token ∷ []) r.separated ∙ sym (with_semicolons_push r.done next);
@@ -67,7 +70,8 @@ reads_token all found next later r = record {
 }
 
 -- at a fault
-pub reads_fault : (all : Scan) (found : List Token) (here : Scan) (rule : Rule) (line file : ℕ) → here ≡ Broken rule line file → Reads all found here → all ≡ Broken rule line file
+pub reads_fault : (all : Scan) (found : List Token) (here : Scan) (rule : Rule) (line file : ℕ) → here ≡ Broken rule line file → Reads all found here
+    → all ≡ Broken rule line file
 reads_fault all found here rule line file e r = sym r.reads ∙ ap (all_before r.done) e
 
 pub fault_at : (all : Scan) (found : List Token) (here : Scan) (fault : LexFault) → FaultIs fault here → Reads all found here → FaultIs fault all
@@ -83,7 +87,8 @@ fault_same NoMemory here there same e = tt
 fault_same (BrokenFault rule file line) here there same e = same ∙ e
 
 -- a step from a place that gives the same
-pub step_same : (line : SourceLine) (result : Result Step LexFault) (literal : Literal) (here there : Later → Scan) → ((later : Later) → there later ≡ here later)
+pub step_same : (line : SourceLine) (result : Result Step LexFault) (literal : Literal) (here there : Later → Scan)
+    → ((later : Later) → there later ≡ here later)
     → StepIs line result literal here → StepIs line result literal there
 step_same line (Ok (Closed behind)) literal here there same e = λ later. same later ∙ e later
 step_same line (Ok Continued) literal here there same e = λ later. same later ∙ e later

@@ -24,23 +24,27 @@ pub at_space : (line : SourceLine) (is_first : Bool) (b : ℕ) (rest bytes : Lis
 unfolding bytes_from
 at_space line is_first b rest bytes later is h = ap (λ text. scan_text line is_first text later) is ∙ cond-true (is_space b) _ _ h
 
-pub at_comment : (line : SourceLine) (is_first : Bool) (b : ℕ) (rest bytes : List ℕ) (later : Later) → bytes ≡ b ∷ rest → is_space b ≡ false → begins_comment b ≡ true
+pub at_comment : (line : SourceLine) (is_first : Bool) (b : ℕ) (rest bytes : List ℕ) (later : Later) → bytes ≡ b ∷ rest → is_space b ≡ false
+    → begins_comment b ≡ true
     → scan_text line is_first bytes later ≡ later None
 unfolding bytes_from
-at_comment line is_first b rest bytes later is h e = ap (λ text. scan_text line is_first text later) is ∙ (cond-false (is_space b) _ _ h ∙ cond-true (begins_comment b) _ _ e)
+at_comment line is_first b rest bytes later is h e =
+    ap (λ text. scan_text line is_first text later) is ∙ (cond-false (is_space b) _ _ h ∙ cond-true (begins_comment b) _ _ e)
 
 pub at_text_end : (line : SourceLine) (is_first : Bool) (bytes : List ℕ) (later : Later) → length bytes ≡ 0 → scan_text line is_first bytes later ≡ later None
 unfolding bytes_from
 at_text_end line is_first [] later h = refl
 at_text_end line is_first (b ∷ rest) later h = absurd (omega arith)
 
-pub at_opening : (line : SourceLine) (is_first : Bool) (b : ℕ) (rest bytes : List ℕ) (later : Later) → bytes ≡ b ∷ rest → is_space b ≡ false → begins_comment b ≡ false → is_quote b ≡ true
+pub at_opening : (line : SourceLine) (is_first : Bool) (b : ℕ) (rest bytes : List ℕ) (later : Later) → bytes ≡ b ∷ rest → is_space b ≡ false
+    → begins_comment b ≡ false → is_quote b ≡ true
     → scan_text line is_first bytes later ≡ scan_inside line (open_literal line is_first b) rest later
 unfolding bytes_from
 at_opening line is_first b rest bytes later is h e q =
     ap (λ text. scan_text line is_first text later) is ∙ (cond-false (is_space b) _ _ h ∙ (cond-false (begins_comment b) _ _ e ∙ cond-true (is_quote b) _ _ q))
 
-at_bare : (line : SourceLine) (is_first : Bool) (b : ℕ) (rest : List ℕ) (later : Later) (found : Result (Kind × ℕ) Rule) → is_space b ≡ false → begins_comment b ≡ false → is_quote b ≡ false
+at_bare : (line : SourceLine) (is_first : Bool) (b : ℕ) (rest : List ℕ) (later : Later) (found : Result (Kind × ℕ) Rule) → is_space b ≡ false
+    → begins_comment b ≡ false → is_quote b ≡ false
     → first_of (b ∷ rest) ≡ found
     → scan_text line is_first (b ∷ rest) later ≡ token_then line is_first found (λ count. bytes_from later line (Between false) (count - 1) rest)
 unfolding bytes_from
@@ -73,14 +77,16 @@ pub token_within : (bytes : List ℕ) (kind : Kind) (count : ℕ) → first_read
 unfolding first_of
 token_within bytes kind count is = first_within spelled (length bytes) bytes kind count (sym (first_is_longest bytes) ∙ is)
 
-pub at_token : (line : SourceLine) (is_first : Bool) (bytes : List ℕ) (later : Later) (kind : Kind) (count : ℕ) → begins_bare bytes ≡ true → first_read bytes ≡ Ok (kind, count)
+pub at_token : (line : SourceLine) (is_first : Bool) (bytes : List ℕ) (later : Later) (kind : Kind) (count : ℕ) → begins_bare bytes ≡ true
+    → first_read bytes ≡ Ok (kind, count)
     → scan_text line is_first bytes later ≡ before (piece_on line is_first kind) (scan_text line false (drop count bytes) later)
 at_token line is_first [] later kind count h is = absurd (false≢true h)
 at_token line is_first (b ∷ rest) later kind count h is =
     let nots = bare_not b rest h in
     let within = token_within (b ∷ rest) kind count is in
     at_bare line is_first b rest later (Ok (kind, count)) nots.0 nots.1 nots.2 (sym (first_is_longest (b ∷ rest)) ∙ is)
-    ∙ ap (before (piece_on line is_first kind)) (skip later line (Between false) (count - 1) rest ∙ ap (bytes_from later line (Between false) 0) (drop_first count b rest within.0))
+    ∙ ap (before (piece_on line is_first kind))
+    (skip later line (Between false) (count - 1) rest ∙ ap (bytes_from later line (Between false) 0) (drop_first count b rest within.0))
 
 pub at_broken : (line : SourceLine) (is_first : Bool) (bytes : List ℕ) (later : Later) (rule : Rule) → begins_bare bytes ≡ true → first_read bytes ≡ Err rule
     → scan_text line is_first bytes later ≡ Broken rule line.number line.file
@@ -90,13 +96,15 @@ at_broken line is_first (b ∷ rest) later rule h is =
     at_bare line is_first b rest later (Err rule) nots.0 nots.1 nots.2 (sym (first_is_longest (b ∷ rest)) ∙ is)
 
 -- a fault of the first token is one of all
-pub broken_all : (line : SourceLine) (is_first : Bool) (bytes : List ℕ) (later : Later) (all : Scan) (found : List Token) (fault : LexFault) → begins_bare bytes ≡ true
+pub broken_all : (line : SourceLine) (is_first : Bool) (bytes : List ℕ) (later : Later) (all : Scan) (found : List Token) (fault : LexFault)
+    → begins_bare bytes ≡ true
     → FirstIs line (Err fault) (first_read bytes) → Reads all found (scan_text line is_first bytes later) → FaultIs fault all
 broken_all line is_first bytes later all found NoMemory h is r = tt
 broken_all line is_first bytes later all found (BrokenFault rule file number) h is r =
     rw (is.1, is.2) (reads_fault all found (scan_text line is_first bytes later) rule line.number line.file (at_broken line is_first bytes later rule h is.0) r)
 
-pub token_all : (line : SourceLine) (is_first : Bool) (bytes : List ℕ) (later : Later) (all : Scan) (found : List Token) (kind : Kind) (count : ℕ) → begins_bare bytes ≡ true
+pub token_all : (line : SourceLine) (is_first : Bool) (bytes : List ℕ) (later : Later) (all : Scan) (found : List Token) (kind : Kind) (count : ℕ)
+    → begins_bare bytes ≡ true
     → first_read bytes ≡ Ok (kind, count) → Reads all found (scan_text line is_first bytes later)
     → let piece = piece_on line is_first kind in Reads all (found ++ with_piece found piece ++ piece.token ∷ []) (scan_text line false (drop count bytes) later)
 token_all line is_first bytes later all found kind count h is r =

@@ -42,11 +42,15 @@ small_enough n h = cond-true (nat_le n 9223372036854775807) _ _ (grind (arith, n
 pub stays_large : (radix n : ℕ) (digits : List ℕ) (i b : ℕ) → 1 ≤ radix → i < length digits → number_from radix n (drop i digits) ≡ number_in radix digits
     → b ≡ get_or digits i 0 → None ≡ within_limit (n * radix + digit_value b) → None ≡ value_in radix digits
 stays_large radix n digits i b radix_in within so_far is none =
-    let rest : number_from radix (n * radix + digit_value (get_or digits i 0)) (drop (i + 1) digits) ≡ number_in radix digits = digit_more radix n digits i _ within so_far in
-    let large : 9223372036854775807 < n * radix + digit_value (get_or digits i 0) = limited_none _ (none ∙ ap (λ b. within_limit (n * radix + digit_value b)) is) in
-    sym (too_large (number_in radix digits) (omega (arith, rest, large, from_grows radix (n * radix + digit_value (get_or digits i 0)) (drop (i + 1) digits) radix_in)))
+    let rest : number_from radix (n * radix + digit_value (get_or digits i 0)) (drop (i + 1) digits)
+    ≡ number_in radix digits = digit_more radix n digits i _ within so_far in
+    let large : 9223372036854775807
+    < n * radix + digit_value (get_or digits i 0) = limited_none _ (none ∙ ap (λ b. within_limit (n * radix + digit_value b)) is) in
+    sym (too_large (number_in radix digits)
+    (omega (arith, rest, large, from_grows radix (n * radix + digit_value (get_or digits i 0)) (drop (i + 1) digits) radix_in)))
 
-pub nothing_left : (radix n : ℕ) (digits : List ℕ) (i : ℕ) → length digits ≤ i → number_from radix n (drop i digits) ≡ number_in radix digits → n ≤ 9223372036854775807
+pub nothing_left : (radix n : ℕ) (digits : List ℕ) (i : ℕ) → length digits ≤ i → number_from radix n (drop i digits) ≡ number_in radix digits
+    → n ≤ 9223372036854775807
     → Some n ≡ value_in radix digits
 nothing_left radix n digits i h so_far small =
     let same : n ≡ number_in radix digits = sym (ap (number_from radix n) (drop_all i digits h)) ∙ so_far in

@@ -117,7 +117,8 @@ pub refused_ends : {usage name : List ℕ} {absent given_absent : Type 0} {files
     {out before after : SinkState} (answer given : Answer)
     → (answer ≡ WriteFault → ⊥) → (answer ≡ ReadFault → ⊥) → CountsOnce files files' (answer ≡ FileFault) → HasCause absences absences' absent
     → (given_absent → absent) → Refuses usage name answer before after given
-    → EndsAtFirst given given_absent (outside files absences (call_streams left input out before)) (outside files' absences' (call_streams left' input out after))
+    → EndsAtFirst given given_absent (outside files absences (call_streams left input out before))
+    (outside files' absences' (call_streams left' input out after))
 refused_ends {input = input} {left} {left'} {out} answer given w r file cause absences refuses = record {
   file_fault = record {
     later = file.later;

@@ -315,4 +315,5 @@ joined_kept decls procs J =
     procs_fit M T long procs J.joinable_procs mention (placed (proc_names procs) t4.0)
     (all_within 65535 (local_counts (globals decls procs) procs) J.locals) (all_within 65535 (static_counts (globals decls procs) procs) J.statics)
     (sizes_within 16777216 procs (within 16777216 (sum_by size_of procs) [] J.instrs).0) in
-    both (both (both (both (both (both (both (both counts (strings_kept decls procs J.joinable_decls J.joinable_procs)) csets) integers) named) records) entries) differ) fit
+    both (both (both (both (both (both (both (both counts (strings_kept decls procs J.joinable_decls J.joinable_procs)) csets) integers) named) records)
+    entries) differ) fit

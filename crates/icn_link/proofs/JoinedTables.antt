@@ -64,10 +64,12 @@ pub few_locals : (M : AllMentions) (decls : List Decl) (procs : List Proc) → M
     → list_all (λ (proc : Proc). nat_le (locals_in M.globals proc.names) 65535) procs ≡ true
 few_locals M decls procs is J =
     ap (λ (N : AllMentions). list_all (λ (proc : Proc). nat_le (locals_in N.globals proc.names) 65535) procs) is
-    ∙ all_unmapped (λ n. nat_le n 65535) (λ (proc : Proc). locals_in (globals decls procs) proc.names) procs (all_within 65535 (local_counts (globals decls procs) procs) J.locals)
+    ∙ all_unmapped (λ n. nat_le n 65535) (λ (proc : Proc). locals_in (globals decls procs) proc.names) procs
+    (all_within 65535 (local_counts (globals decls procs) procs) J.locals)
 
 pub few_statics : (M : AllMentions) (decls : List Decl) (procs : List Proc) → M ≡ all_mentions decls procs → Joinable decls procs
     → list_all (λ (proc : Proc). nat_le (statics_in M.globals proc.names) 65535) procs ≡ true
 few_statics M decls procs is J =
     ap (λ (N : AllMentions). list_all (λ (proc : Proc). nat_le (statics_in N.globals proc.names) 65535) procs) is
-    ∙ all_unmapped (λ n. nat_le n 65535) (λ (proc : Proc). statics_in (globals decls procs) proc.names) procs (all_within 65535 (static_counts (globals decls procs) procs) J.statics)
+    ∙ all_unmapped (λ n. nat_le n 65535) (λ (proc : Proc). statics_in (globals decls procs) proc.names) procs
+    (all_within 65535 (static_counts (globals decls procs) procs) J.statics)

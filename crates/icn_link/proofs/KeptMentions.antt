@@ -184,11 +184,13 @@ proc_named proc h = (and_parts _ _ (and_parts _ _ (and_parts _ _ h).0).0).0
 
 -- The tables
 
-module _ (decls : List Decl) (procs : List Proc) (joinable_decls : list_all is_joinable_decl decls ≡ true) (joinable_procs : list_all is_joinable_proc procs ≡ true) where
+module _ (decls : List Decl) (procs : List Proc) (joinable_decls : list_all is_joinable_decl decls ≡ true)
+    (joinable_procs : list_all is_joinable_proc procs ≡ true) where
   fields_named : list_all is_name (fields decls procs) ≡ true
   fields_named = texts_keep is_name [] (flat_map fields_in decls ++ mentioned_by field_in procs) refl
       (list_all-append is_name (flat_map fields_in decls) (mentioned_by field_in procs)
-      ∙ both (all_of_flat is_name fields_in decls (all_then _ _ decl_fields decls joinable_decls)) (mentions_keep is_name field_in field_kept procs joinable_procs))
+      ∙ both (all_of_flat is_name fields_in decls (all_then _ _ decl_fields decls joinable_decls))
+      (mentions_keep is_name field_in field_kept procs joinable_procs))
 
   records_named : list_all is_name (record_names decls) ≡ true
   records_named = all_of_flat is_name record_name_in decls (all_then _ _ decl_record decls joinable_decls)

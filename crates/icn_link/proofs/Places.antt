@@ -29,24 +29,29 @@ seen_behind : (keys : List (Bor (List ℕ))) (key : Bor (List ℕ)) → seen (ke
 seen_behind [] key = refl
 seen_behind (other ∷ keys) key = ap (λ texts. other.now ∷ texts) (seen_behind keys key)
 
-seen_by : (test : Bool) (keys : List (Bor (List ℕ))) (key : Bor (List ℕ)) → seen (if test then keys else keys ++ key ∷ []) ≡ (if test then seen keys else seen keys ++ key.now ∷ [])
+seen_by : (test : Bool) (keys : List (Bor (List ℕ))) (key : Bor (List ℕ)) → seen (if test then keys else keys ++ key ∷ []) ≡ (if test then seen keys
+    else seen keys ++ key.now ∷ [])
 seen_by true keys key = refl
 seen_by false keys key = seen_behind keys key
 
 -- a text that is inserted stands once
-pub entered : (keys new : List (Bor (List ℕ))) (key : Bor (List ℕ)) → new ≡ insert_key (λ a b. bytes_eq a.now b.now) keys key → seen new ≡ with_text (seen keys) key.now
+pub entered : (keys new : List (Bor (List ℕ))) (key : Bor (List ℕ)) → new ≡ insert_key (λ a b. bytes_eq a.now b.now) keys key
+    → seen new ≡ with_text (seen keys) key.now
 entered keys new key e =
-    ap seen e ∙ (seen_by (list_any (λ other. bytes_eq key.now other.now) keys) keys key ∙ ap (λ test. if test then seen keys else seen keys ++ key.now ∷ []) (any_seen key.now keys))
+    ap seen e ∙ (seen_by (list_any (λ other. bytes_eq key.now other.now) keys) keys key
+    ∙ ap (λ test. if test then seen keys else seen keys ++ key.now ∷ []) (any_seen key.now keys))
 
 -- the place that a look-up finds, or the one behind the last
-first_by : {X : Type 0} (test : X → Bool) (xs : List X) (n : ℕ) (is : Bool) → nat_lt (position_or_len test xs) (length xs) ≡ is → cond is (Some (position_or_len test xs)) None ≡ Some n → position_or_len test xs ≡ n
+first_by : {X : Type 0} (test : X → Bool) (xs : List X) (n : ℕ) (is : Bool) → nat_lt (position_or_len test xs) (length xs) ≡ is
+    → cond is (Some (position_or_len test xs)) None ≡ Some n → position_or_len test xs ≡ n
 first_by test xs n true t e = same_Some (position_or_len test xs) n e
 first_by test xs n false t e = absurd (none-some n e)
 
 pub found_place : {X : Type 0} (test : X → Bool) (xs : List X) (n : ℕ) → position test xs ≡ Some n → position_or_len test xs ≡ n
 found_place test xs n e = first_by test xs n _ refl e
 
-last_by : {X : Type 0} (test : X → Bool) (xs : List X) (is : Bool) → nat_lt (position_or_len test xs) (length xs) ≡ is → cond is (Some (position_or_len test xs)) None ≡ None → position_or_len test xs ≡ length xs
+last_by : {X : Type 0} (test : X → Bool) (xs : List X) (is : Bool) → nat_lt (position_or_len test xs) (length xs) ≡ is
+    → cond is (Some (position_or_len test xs)) None ≡ None → position_or_len test xs ≡ length xs
 last_by test xs true t e = absurd (none-some (position_or_len test xs) (sym e))
 last_by test xs false t e =
     let most : position_or_len test xs ≤ length xs = prefix_len-le-length (λ x. not (test x)) xs in grind (arith, nat_tests)
@@ -54,10 +59,12 @@ last_by test xs false t e =
 pub no_place : {X : Type 0} (test : X → Bool) (xs : List X) → position test xs ≡ None → position_or_len test xs ≡ length xs
 no_place test xs e = last_by test xs _ refl e
 
-pub found_text : (text : List ℕ) (keys : List (Bor (List ℕ))) (n : ℕ) → position (λ key. bytes_eq text key.now) keys ≡ Some n → n ≡ position_or_len (bytes_eq text) (seen keys)
+pub found_text : (text : List ℕ) (keys : List (Bor (List ℕ))) (n : ℕ) → position (λ key. bytes_eq text key.now) keys ≡ Some n
+    → n ≡ position_or_len (bytes_eq text) (seen keys)
 found_text text keys n e = sym (found_place (λ key. bytes_eq text key.now) keys n e) ∙ place_seen text keys
 
-pub no_text : (text : List ℕ) (keys : List (Bor (List ℕ))) → position (λ key. bytes_eq text key.now) keys ≡ None → length keys ≡ position_or_len (bytes_eq text) (seen keys)
+pub no_text : (text : List ℕ) (keys : List (Bor (List ℕ))) → position (λ key. bytes_eq text key.now) keys ≡ None
+    → length keys ≡ position_or_len (bytes_eq text) (seen keys)
 no_text text keys e = sym (no_place (λ key. bytes_eq text key.now) keys e) ∙ place_seen text keys
 
 -- whether a table has a text

@@ -152,7 +152,8 @@ units_kept result units D P d p m r h =
     (later_kept result (repeated_name units) (too_large units) r (list_kept result (too_large_of D P) (too_large units) (sizes_same units D P d p) h))
 
 pub units_fault : {A : Type 0} (result : Result A LinkFault) (units : List UnitRead) (D : List Decl) (P : List Proc) → D ≡ all_decls units
-    → P ≡ all_procs units → missing units ≡ None → repeated_name units ≡ None → IfErr result (IsFault (too_large_of D P)) → IfErr result (IsFault (first_fault units))
+    → P ≡ all_procs units → missing units ≡ None → repeated_name units ≡ None → IfErr result (IsFault (too_large_of D P))
+    → IfErr result (IsFault (first_fault units))
 units_fault result units D P d p m r h =
     later_fault result (missing units) (option_or (repeated_name units) (too_large units)) m
     (later_fault result (repeated_name units) (too_large units) r (list_fault result (too_large_of D P) (too_large units) (sizes_same units D P d p) h))

@@ -77,7 +77,8 @@ own_items_step gives xs i x done later within is e =
 pub five_rows : (k0 k1 k2 k3 k4 k5 a b c d e : List (List ℕ)) → k0 ≡ [] → k1 ≡ with_texts k0 a → k2 ≡ with_texts k1 b → k3 ≡ with_texts k2 c
     → k4 ≡ with_texts k3 d → k5 ≡ with_texts k4 e → k5 ≡ with_texts [] (a ++ (b ++ (c ++ (d ++ e))))
 five_rows k0 k1 k2 k3 k4 k5 a b c d e h0 h1 h2 h3 h4 h5 =
-    h5 ∙ ap (λ k. with_texts k e) (h4 ∙ ap (λ k. with_texts k d) (h3 ∙ ap (λ k. with_texts k c) (h2 ∙ ap (λ k. with_texts k b) (h1 ∙ ap (λ k. with_texts k a) h0))))
+    h5 ∙ ap (λ k. with_texts k e) (h4
+    ∙ ap (λ k. with_texts k d) (h3 ∙ ap (λ k. with_texts k c) (h2 ∙ ap (λ k. with_texts k b) (h1 ∙ ap (λ k. with_texts k a) h0))))
     ∙ sym (texts_append [] a (b ++ (c ++ (d ++ e))) ∙ texts_append (with_texts [] a) b (c ++ (d ++ e))
     ∙ texts_append (with_texts (with_texts [] a) b) c (d ++ e) ∙ texts_append (with_texts (with_texts (with_texts [] a) b) c) d e)
 

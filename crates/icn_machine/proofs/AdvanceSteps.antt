@@ -181,7 +181,8 @@ own_step tables m stage n was state before after result at told last =
     }
 
 -- a step that neither reads nor puts
-pub quiet_step : {K : Type 0} (tables : Tables) (m : Machine K) (stage : Stage) (h : CallStreams) (n : Machine K) (result : Result Stage Halt) → goes_on stage ≡ true
+pub quiet_step : {K : Type 0} (tables : Tables) (m : Machine K) (stage : Stage) (h : CallStreams) (n : Machine K) (result : Result Stage Halt)
+    → goes_on stage ≡ true
     → ((was : Outside) (state : State Frames Frames) → IsAt tables was state m stage → ComesTo tables was (step flat tables state) n result)
     → Advances tables m stage h n h result
 quiet_step tables m stage h n result goes comes = record {
@@ -201,7 +202,8 @@ quiet_step tables m stage h n result goes comes = record {
 }
 
 -- where the machine stands over the input that the answer is meant for
-meant_at : {K : Type 0} (tables : Tables) (state : State Frames Frames) (n : Machine K) (was : Outside) (before after : CallStreams) (result : Result Stage Halt)
+meant_at : {K : Type 0} (tables : Tables) (state : State Frames Frames) (n : Machine K) (was : Outside) (before after : CallStreams)
+    (result : Result Stage Halt)
     → AnswersStep (λ now answer. ComesTo tables now state n answer) state was before after result → (now : Outside) × StandsBy tables now state n result
 meant_at tables state n was before after (Ok stage) h = (h.now, h.is)
 meant_at tables state n was before after (Err (Halts.Error number offending)) h = (h.now, h.is)

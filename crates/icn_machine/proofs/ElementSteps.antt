@@ -187,7 +187,8 @@ elements_event tables names w v m k n callee from value other items xs before af
     ∙ ap (λ (ys : List Item). invoke_value flat tables (value_in all value) (map (item_in all) ys) (stack_in all k) st) (sym d))
     p
 
-stops_event : (tables : Tables) (names : Names) (w : World) (m n : FlatStack) (callee from : Item) (halt : Halt) (before : CallStreams) (result : Result Stage Halt)
+stops_event : (tables : Tables) (names : Names) (w : World) (m n : FlatStack) (callee from : Item) (halt : Halt) (before : CallStreams)
+    (result : Result Stage Halt)
     → IsErrAnd result (λ h. h ≡ halt)
     → ((st : Store Frames) → st.world ≡ world_of w → HaltsWith (applied_on tables w m callee from st) st w halt)
     → PerformsEvent names (applied_on tables w m callee from) w before w n before result

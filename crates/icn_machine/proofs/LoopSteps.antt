@@ -15,7 +15,8 @@ use Rattle.icn_machine.proofs.AdvanceSteps.{advances_then}
 
 -- Some steps after none or some
 
-pub goes_then : {K : Type 0} (tables : Tables) (m : Machine K) (stage : Stage) (a : CallStreams) (n : Machine K) (next : Stage) (b : CallStreams) (k : Machine K)
+pub goes_then : {K : Type 0} (tables : Tables) (m : Machine K) (stage : Stage) (a : CallStreams) (n : Machine K) (next : Stage) (b : CallStreams)
+    (k : Machine K)
     (c : CallStreams) (result : Result Stage Halt)
     → goes_on next ≡ true
     → GoesOn tables m stage a n b (Ok next) → Advances tables n next b k c result → Advances tables m stage a k c result
@@ -28,7 +29,8 @@ goes_then {K} tables m stage a n next b k c result goes (stays e h r) q =
     stage_same : (s t : Stage) → ◌≡◌ {A = Result Stage Halt} (Ok s) (Ok t) → s ≡ t
     stage_same s t e = cc
 
-pub goes_goes : {K : Type 0} (tables : Tables) (m : Machine K) (stage : Stage) (a : CallStreams) (n : Machine K) (next : Stage) (b : CallStreams) (k : Machine K)
+pub goes_goes : {K : Type 0} (tables : Tables) (m : Machine K) (stage : Stage) (a : CallStreams) (n : Machine K) (next : Stage) (b : CallStreams)
+    (k : Machine K)
     (c : CallStreams) (result : Result Stage Halt)
     → goes_on next ≡ true
     → GoesOn tables m stage a n b (Ok next) → GoesOn tables n next b k c result → GoesOn tables m stage a k c result

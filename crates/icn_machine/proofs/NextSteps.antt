@@ -213,7 +213,8 @@ called_ready names tables m n instr j (Ok stage) e i d l sound stack named store
 }
 
 -- the step of the run
-pub next_step : {K : Type 0} (tables : Tables) (m k : Machine K) (instr : Instr) (before : CallStreams) (n : Machine K) (after : CallStreams) (result : Result Stage Halt)
+pub next_step : {K : Type 0} (tables : Tables) (m k : Machine K) (instr : Instr) (before : CallStreams) (n : Machine K) (after : CallStreams)
+    (result : Result Stage Halt)
     → ((outside : Outside) → step flat tables (running (stack_seen m) (store_seen tables outside m)) ≡ does tables outside instr k)
     → PerformsOn tables (λ o. does tables o instr k) n before after result → Advances tables m Stages.Runs before n after result
 next_step tables m k instr before n after result e p =

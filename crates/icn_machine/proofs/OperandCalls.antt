@@ -93,7 +93,8 @@ onto_named names all (suc n) m k xs items e a h = by_pop (held.pop m) refl e (on
         f popped.1 k (popped.0 ∷ xs) items q (All-cons (ItemNamed names) (item_in all popped.0) (map (item_in all) xs) back.0 a) back.1
 
 -- what is taken off a stack names only what has a name, and so does what is left
-pub taken_named : (names : Names) (all : Extent) (n : ℕ) (m k : FlatStack) (items : List Item) → take_operands n m ≡ Some (items, k) → StackNamed names (stack_in all m)
+pub taken_named : (names : Names) (all : Extent) (n : ℕ) (m k : FlatStack) (items : List Item) → take_operands n m ≡ Some (items, k)
+    → StackNamed names (stack_in all m)
     → All (ItemNamed names) (map (item_in all) items) × StackNamed names (stack_in all k)
 taken_named names all n m k items e h = onto_named names all n m k [] items e (All-nil (ItemNamed names)) h
 
@@ -115,7 +116,8 @@ takes_turn all tables instr n next running m k items st is e p =
 
 pub operands_perform : {K : Type 0} (m after : Machine K) (t tables : Tables) (instr : Instr) (n : ℕ)
     (next : List rows.Item → Frames → Store Frames → State Frames Frames) (f k g l : FlatStack) (items xs : List Item)
-    (before now : CallStreams) (result : Result Stage Halt) → TakesTurn tables instr n next → m.stacks.table.running ≡ Some f → take_operands n f ≡ Some (items, k) → k ≡
+    (before now : CallStreams) (result : Result Stage Halt) → TakesTurn tables instr n next → m.stacks.table.running ≡ Some f
+    → take_operands n f ≡ Some (items, k) → k ≡
     g → xs ≡ items
     → nat_lt m.turns (heap_of m.world.heap).bounds.turns ≡ true → KeepsItems (reach_of m.world []) (reach_of after.world [])
     → AreLiveStacks t (reach_of m.world []) m.stacks.table
@@ -164,7 +166,8 @@ operands_come m after t tables instr n next f k g l items xs result is e p on of
 
 pub bound_comes : {K : Type 0} (m after : Machine K) (tables : Tables) (instr : Instr) (n : ℕ)
     (next : List rows.Item → Frames → Store Frames → State Frames Frames) (f k : FlatStack) (items : List Item)
-    → TakesTurn tables instr n next → m.stacks.table.running ≡ Some f → take_operands n f ≡ Some (items, k) → nat_lt m.turns (heap_of m.world.heap).bounds.turns ≡ false
+    → TakesTurn tables instr n next → m.stacks.table.running ≡ Some f → take_operands n f ≡ Some (items, k)
+    → nat_lt m.turns (heap_of m.world.heap).bounds.turns ≡ false
     → ((outside : Outside) → at_bound {K = Frames} {M = Frames} (store_seen tables outside m) ≡ at_bound (store_seen tables outside after))
     → (outside : Outside) → ComesTo tables outside (does tables outside instr m) after (Ok Stages.AtBound)
 bound_comes m after tables instr n next f k items is e p b same outside =
@@ -175,7 +178,8 @@ bound_comes m after tables instr n next f k items is e p b same outside =
 
 pub bound_performs : {K : Type 0} (m after : Machine K) (tables : Tables) (instr : Instr) (n : ℕ)
     (next : List rows.Item → Frames → Store Frames → State Frames Frames) (f k : FlatStack) (items : List Item) (before : CallStreams)
-    → TakesTurn tables instr n next → m.stacks.table.running ≡ Some f → take_operands n f ≡ Some (items, k) → nat_lt m.turns (heap_of m.world.heap).bounds.turns ≡ false
+    → TakesTurn tables instr n next → m.stacks.table.running ≡ Some f → take_operands n f ≡ Some (items, k)
+    → nat_lt m.turns (heap_of m.world.heap).bounds.turns ≡ false
     → ((outside : Outside) → at_bound {K = Frames} {M = Frames} (store_seen tables outside m) ≡ at_bound (store_seen tables outside after))
     → PerformsOn tables (λ outside. does tables outside instr m) after before before (Ok Stages.AtBound)
 bound_performs m after tables instr n next f k items before is e p b same =

@@ -42,7 +42,8 @@ answers_as Comes Same a b was before after (Err Halts.WriteFault) e h t = subst 
 answers_as Comes Same a b was before after (Err Halts.NoMemory) e h t = subst (λ (s : State Frames Frames). BreaksOff s was before after) (sym e) t
 
 -- where the states to which a step leads are the same, and what is said of each answer follows
-pub performs_as : {A : Type 0} (leads others : Outside → State Frames Frames) (Comes Same : Outside → Outside → Result A Halt → Type 0) (before after : CallStreams)
+pub performs_as : {A : Type 0} (leads others : Outside → State Frames Frames) (Comes Same : Outside → Outside → Result A Halt → Type 0)
+    (before after : CallStreams)
     (result : Result A Halt) → ((was : Outside) → leads was ≡ others was) → ((was now : Outside) → Comes was now result → Same was now result)
     → Performs others Comes before after result → Performs leads Same before after result
 performs_as leads others Comes Same before after result e h p = record {
@@ -66,7 +67,8 @@ IsFaultless (Err Halts.ReadFault) = ⊥
 IsFaultless (Err Halts.WriteFault) = ⊥
 IsFaultless (Err Halts.NoMemory) = ⊤
 
-still_answers : {A : Type 0} (Comes : Outside → Result A Halt → Type 0) (state : State Frames Frames) (was : Outside) (before : CallStreams) (result : Result A Halt)
+still_answers : {A : Type 0} (Comes : Outside → Result A Halt → Type 0) (state : State Frames Frames) (was : Outside) (before : CallStreams)
+    (result : Result A Halt)
     → before.left ≡ Some was.left → IsFaultless result → Comes was result → AnswersStep Comes state was before before result
 still_answers Comes state was before (Ok a) told f h = record { now = was; follows = follows_all before was told; is = h }
 still_answers Comes state was before (Err (Halts.Error number offending)) told f h = record { now = was; follows = follows_all before was told; is = h }
@@ -179,7 +181,8 @@ never_finished o m st other e = by_main (is_main other.active) o e
     by_main false (Error number value seen) e = cc
     by_main false (Ends status seen) e = cc
 
-pub row_going : (row : Row) (w v : World) (m n : FlatStack) (before after : CallStreams) (result : Result Stage Halt) (st : Store Frames) → st.world ≡ world_of w
+pub row_going : (row : Row) (w v : World) (m n : FlatStack) (before after : CallStreams) (result : Result Stage Halt) (st : Store Frames)
+    → st.world ≡ world_of w
     → PerformsRow row w m before v n after result → IfOk result IsGoing
 row_going row w v m n before after (Ok Stages.Runs) st same p = tt
 row_going row w v m n before after (Ok Stages.Fails) st same p = tt

@@ -274,7 +274,8 @@ cause b a Halts.NoMemory c = c
 
 -- What is performed
 
-pub performs_ok : (w v : World) (m k n : FlatStack) (row : Row) (b a : CallStreams) (oc : HeldOutcome) (stage : Stage) → Sets w v m k → GivesOutcome oc k n stage
+pub performs_ok : (w v : World) (m k n : FlatStack) (row : Row) (b a : CallStreams) (oc : HeldOutcome) (stage : Stage) → Sets w v m k
+    → GivesOutcome oc k n stage
     → Applies row (call_state w (held.locals m) b) (call_state v (held.locals k) a) (Ok oc) → PerformsRow row w m b v n a (Ok stage)
 performs_ok w v m k n row b a oc stage s g r st same = record {
   answers = λ was told. tells_ok w v m k n row st was b a oc stage same s g (r.answers was told);
@@ -304,7 +305,8 @@ performs_halt w v m k n row b a halt r st same = record {
   caused = cause b a halt r.caused;
 }
 
-pub performs_err : (result : Result Stage Halt) (w v : World) (m k n : FlatStack) (row : Row) (b a : CallStreams) (halt : Halt) → IsErrAnd result (λ h. h ≡ halt)
+pub performs_err : (result : Result Stage Halt) (w v : World) (m k n : FlatStack) (row : Row) (b a : CallStreams) (halt : Halt)
+    → IsErrAnd result (λ h. h ≡ halt)
     → Applies row (call_state w (held.locals m) b) (call_state v (held.locals k) a) (Err halt) → PerformsRow row w m b v n a result
 performs_err (Ok stage) w v m k n row b a halt e r = absurd e
 performs_err (Err other) w v m k n row b a halt e r = subst (λ (h : Halt). PerformsRow row w m b v n a (Err h)) (sym e) (performs_halt w v m k n row b a halt r)

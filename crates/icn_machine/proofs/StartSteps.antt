@@ -142,7 +142,8 @@ stays_stuck value a st = stuck
 -- a list is made, or there are too many cells
 pub data OutcomeSo (o : Outcome) (at : Setting) : Type 0 where
   fits : ((a : Frames) (st : Store Frames) → with_made flat o a st stays_stuck ≡ stuck) → OutcomeSo o at
-  is_full : ((a : Frames) (st : Store Frames) (N : Value → Frames → Store Frames → State Frames Frames) → with_made flat o a st N ≡ errs 307 None (with_at at st))
+  is_full : ((a : Frames) (st : Store Frames) (N : Value → Frames → Store Frames → State Frames Frames)
+      → with_made flat o a st N ≡ errs 307 None (with_at at st))
       → OutcomeSo o at
 
 check_so : (t : Bool) (next : Row) (at : Setting) → ((a : Frames) (st : Store Frames) → with_made flat (next at) a st stays_stuck ≡ stuck)
@@ -339,7 +340,8 @@ parameters_stop entry w v u f k vals one params locals list (Stops.Error n offen
     λ main st same.
     here_made st (begun_with main entry) same
     ∙ ap (λ (t : Bool). begun_if flat t main entry (value_in all list ∷ []) M (with_world (world_of v) st)) (levels_pass (heap_of v.heap).bounds.levels levels)
-    ∙ ap (λ (xs : List Val). collect_rest flat entry.collects entry.parameters (map (value_in all) xs) M (with_world (world_of v) st) (begin_with_them main entry))
+    ∙ ap (λ (xs : List Val). collect_rest flat entry.collects entry.parameters (map (value_in all) xs) M (with_world (world_of v) st)
+    (begin_with_them main entry))
     (sym o)
     ∙ collected_error entry (map (value_in all) one) M (with_world (world_of v) st) (with_world (world_of u) (with_world (world_of v) st)) n
     (option_map (value_in (extent_of u.heap)) offending) main

@@ -125,7 +125,8 @@ module _ (z : ℕ → ℕ) (b : List Record) where
   w_check true k v next a h f = f
   w_check false k v next a h f = o_error k v a h
 
-  w_present : {A : Type 0} (o : Option A) (k : ℕ) (v : Option Value) (next : A → Row) (a : Setting) → S z b a → ((x : A) → O z b (next x a)) → O z b (present o k v next a)
+  w_present : {A : Type 0} (o : Option A) (k : ℕ) (v : Option Value) (next : A → Row) (a : Setting) → S z b a → ((x : A) → O z b (next x a))
+      → O z b (present o k v next a)
   w_present (Some x) k v next a h f = f x
   w_present None k v next a h f = o_error k v a h
 
@@ -145,7 +146,8 @@ module _ (z : ℕ → ℕ) (b : List Record) where
   w_natural (pos k) v next a h f = f k
   w_natural (negsuc k) v next a h f = record { is = h.is }
 
-ruleset first_words = (setting, of_records, records_set, o_error, o_ends, o_gives, o_suspends, o_fails, w_check, w_present, w_computed, w_passing, w_found, w_natural)
+ruleset first_words =
+    (setting, of_records, records_set, o_error, o_ends, o_gives, o_suspends, o_fails, w_check, w_present, w_computed, w_passing, w_found, w_natural)
 
 module _ (z : ℕ → ℕ) (b : List Record) where
   w_made : (o : Option (List ℕ)) (next : Row) (a : Setting) → S z b a → ((s : Setting) → S z b s → O z b (next s)) → O z b (costs_made o next a)
@@ -177,11 +179,13 @@ ruleset words = (first_words, w_made, w_unless, w_reads, w_value, w_variable)
 module _ (z : ℕ → ℕ) (b : List Record) where
   -- Assigning
 
-  w_keyword : (refused : Row) (word : KeywordVariable) (value : Value) (next : Row) (a : Setting) → S z b a → ((s : Setting) → S z b s → O z b (refused s)) → ((s : Setting) → S z b s → O z b (next s)) → O z b (assigns_keyword refused word value next a)
+  w_keyword : (refused : Row) (word : KeywordVariable) (value : Value) (next : Row) (a : Setting) → S z b a → ((s : Setting) → S z b s → O z b (refused s))
+      → ((s : Setting) → S z b s → O z b (next s)) → O z b (assigns_keyword refused word value next a)
   w_keyword refused Subject value next a h r f = search (words, f)
   w_keyword refused Position value next a h r f = by_number (integer_of value) refl
     where
-      by_place : (k : ℤ) → integer_of value ≡ Some k → (o : Option ℕ) → place_of k (length a.world.subject) ≡ o → O z b (assigns_keyword refused Position value next a)
+      by_place : (k : ℤ) → integer_of value ≡ Some k → (o : Option ℕ) → place_of k (length a.world.subject) ≡ o
+          → O z b (assigns_keyword refused Position value next a)
       by_place k e None g = rw e (rw g (r a h))
       by_place k e (Some place) g = rw e (rw g (f (having_position place a) (record { is = h.is })))
 
@@ -190,7 +194,8 @@ module _ (z : ℕ → ℕ) (b : List Record) where
       by_number (Some k) e = by_place k e (place_of k (length a.world.subject)) refl
   w_keyword refused Random value next a h r f = search (words, f)
 
-  w_root : (refused : Row) (root : Root) (value : Value) (next : Row) (a : Setting) → S z b a → ((s : Setting) → S z b s → O z b (refused s)) → ((s : Setting) → S z b s → O z b (next s)) → O z b (assigns_root refused root value next a)
+  w_root : (refused : Row) (root : Root) (value : Value) (next : Row) (a : Setting) → S z b a → ((s : Setting) → S z b s → O z b (refused s))
+      → ((s : Setting) → S z b s → O z b (next s)) → O z b (assigns_root refused root value next a)
   w_root refused (Global place) value next a h r f = search (words, f)
   w_root refused (Static place) value next a h r f = search (words, f)
   w_root refused (Local place) value next a h r f = search (words, f)
@@ -199,28 +204,34 @@ module _ (z : ℕ → ℕ) (b : List Record) where
   w_root refused (Key table key) value next a h r f = search (words, f) depth 12
   w_root refused (Keyword word) value next a h r f = w_keyword refused word value next a h r f
 
-  w_assigns : (refused : Row) (x : Variable) (value : Value) (next : Variable → Row) (a : Setting) → S z b a → ((s : Setting) → S z b s → O z b (refused s)) → ((y : Variable) (s : Setting) → S z b s → O z b (next y s)) → O z b (assigns_or refused x value next a)
+  w_assigns : (refused : Row) (x : Variable) (value : Value) (next : Variable → Row) (a : Setting) → S z b a → ((s : Setting) → S z b s → O z b (refused s))
+      → ((y : Variable) (s : Setting) → S z b s → O z b (next y s)) → O z b (assigns_or refused x value next a)
   w_assigns refused (Whole root) value next a h r f = w_root refused root value (next (Whole root)) a h r (f (Whole root))
   w_assigns refused (Part root place size) value next a h r f = search (words, w_root, r, f) depth 14
 
-  w_moved : (old new : ℕ) (x : Variable) (next : Variable → Row) (a : Setting) → S z b a → ((y : Variable) → O z b (next y a)) → O z b (move_part old new x next a)
+  w_moved : (old new : ℕ) (x : Variable) (next : Variable → Row) (a : Setting) → S z b a → ((y : Variable) → O z b (next y a))
+      → O z b (move_part old new x next a)
   w_moved old new (Whole root) next a h f = f (Whole root)
   w_moved old new (Part root place size) next a h f = search (words, f)
 
-  w_moved_left : (m : Mover) (old new : ℕ) (x : Variable) (next : Variable → Row) (a : Setting) → S z b a → ((y : Variable) → O z b (next y a)) → O z b (moved_by_left m old new x next a)
+  w_moved_left : (m : Mover) (old new : ℕ) (x : Variable) (next : Variable → Row) (a : Setting) → S z b a → ((y : Variable) → O z b (next y a))
+      → O z b (moved_by_left m old new x next a)
   w_moved_left Neither old new x next a h f = f x
   w_moved_left Left old new x next a h f = w_moved old new x next a h f
   w_moved_left Right old new x next a h f = f x
 
-  w_moved_right : (m : Mover) (old new : ℕ) (x : Variable) (next : Variable → Row) (a : Setting) → S z b a → ((y : Variable) → O z b (next y a)) → O z b (moved_by_right m old new x next a)
+  w_moved_right : (m : Mover) (old new : ℕ) (x : Variable) (next : Variable → Row) (a : Setting) → S z b a → ((y : Variable) → O z b (next y a))
+      → O z b (moved_by_right m old new x next a)
   w_moved_right Neither old new x next a h f = f x
   w_moved_right Left old new x next a h f = f x
   w_moved_right Right old new x next a h f = w_moved old new x next a h f
 
-  w_both : (refused : Row) (m : Mover) (x y : Variable) (v w : Value) (next : Variable × Variable → Row) (a : Setting) → S z b a → ((s : Setting) → S z b s → O z b (refused s))
+  w_both : (refused : Row) (m : Mover) (x y : Variable) (v w : Value) (next : Variable × Variable → Row) (a : Setting) → S z b a
+      → ((s : Setting) → S z b s → O z b (refused s))
       → ((p : Variable × Variable) (s : Setting) → S z b s → O z b (next p s)) → O z b (assigns_both refused m x y v w next a)
   w_both refused m x y v w next a h r f =
-      w_assigns refused x v _ a h r (λ now s k. w_moved_left m _ _ y _ s k (λ y'. w_assigns refused y' w _ s k r (λ now' s' k'. w_moved_right m _ _ now _ s' k' (λ x'. f (x', now') s' k'))))
+      w_assigns refused x v _ a h r
+      (λ now s k. w_moved_left m _ _ y _ s k (λ y'. w_assigns refused y' w _ s k r (λ now' s' k'. w_moved_right m _ _ now _ s' k' (λ x'. f (x', now') s' k'))))
 
   -- Rows by what they take
 
@@ -228,7 +239,8 @@ module _ (z : ℕ → ℕ) (b : List Record) where
   w_count last step None a h = o_fails z b a h
   w_count last step (Some k) a h = search words
 
-  w_sets : (f : List Value → List Value → List Value) (g : Bool → Bool → Bool) (v w : Value) (o : Option (ℕ × ℕ)) (a : Setting) → S z b a → O z b (sets_or_csets f g v w o a)
+  w_sets : (f : List Value → List Value → List Value) (g : Bool → Bool → Bool) (v w : Value) (o : Option (ℕ × ℕ)) (a : Setting) → S z b a
+      → O z b (sets_or_csets f g v w o a)
   w_sets f g v w (Some ids) a h = search words depth 12
   w_sets f g v w None a h = search words
 
@@ -285,9 +297,11 @@ module _ (z : ℕ → ℕ) (b : List Record) where
   w_section f x v u w Single a h = search words depth 12
 
   -- a copy of a record that is there
-  w_copied : (id : ℕ) (a : Setting) → S z b a → id < length a.world.heap.records → O z b (new_record_of (record_at a.world.heap id) (λ copy. gives_value copy) a)
+  w_copied : (id : ℕ) (a : Setting) → S z b a → id < length a.world.heap.records
+      → O z b (new_record_of (record_at a.world.heap id) (λ copy. gives_value copy) a)
   w_copied id a h l =
-      let more : Rs z b (a.world.heap.records ++ record_at a.world.heap id ∷ []) = records_more z b a.world.heap.records (record_at a.world.heap id) h.is (λ f. h.is.fit f id (record_at a.world.heap id) (there a.world.heap.records id l)) in
+      let more : Rs z b (a.world.heap.records ++ record_at a.world.heap id ∷ []) = records_more z b a.world.heap.records (record_at a.world.heap id) h.is
+      (λ f. h.is.fit f id (record_at a.world.heap id) (there a.world.heap.records id l)) in
       search (words, more) depth 12
 
   w_copy : (v : Value) (a : Setting) → S z b a → IsThere a.world.heap v → O z b (copy_of v (group_of v) a)
@@ -315,7 +329,8 @@ module _ (z : ℕ → ℕ) (b : List Record) where
   s_without a (SetKeeper id) x h = record { is = h.is }
   s_without a (TableKeeper id) x h = record { is = h.is }
 
-  w_pairs : (ps : List (Value × Value)) (next : List Value → Row) (a : Setting) → S z b a → ((vs : List Value) (s : Setting) → S z b s → O z b (next vs s)) → O z b (pair_lists ps next a)
+  w_pairs : (ps : List (Value × Value)) (next : List Value → Row) (a : Setting) → S z b a → ((vs : List Value) (s : Setting) → S z b s → O z b (next vs s))
+      → O z b (pair_lists ps next a)
   w_pairs [] next a h f = f [] a h
   w_pairs (p ∷ ps) next a h f = search (words, w_pairs ps, f) depth 14
 
@@ -323,7 +338,8 @@ module _ (z : ℕ → ℕ) (b : List Record) where
   w_pieces [] next a h f = f []
   w_pieces (v ∷ vs) next a h f = search (words, w_pieces vs, f)
 
-  w_table_sorted : (names : Names) (heap : Heap) (ps : List (Value × Value)) (k : ℤ) (v : Value) (a : Setting) → S z b a → O z b (table_sorted names heap ps k v a)
+  w_table_sorted : (names : Names) (heap : Heap) (ps : List (Value × Value)) (k : ℤ) (v : Value) (a : Setting) → S z b a
+      → O z b (table_sorted names heap ps k v a)
   w_table_sorted names heap ps (pos (suc zero)) v a h = search (words, w_pairs) depth 12
   w_table_sorted names heap ps (pos (suc (suc zero))) v a h = search (words, w_pairs) depth 12
   w_table_sorted names heap ps (pos (suc (suc (suc zero)))) v a h = search words depth 12
@@ -390,7 +406,8 @@ module _ (z : ℕ → ℕ) (b : List Record) where
   w_operation Ops.SectionMinus x y z' a h = search rows depth 16
   w_operation Ops.ToBy x y z' a h = search rows depth 16
 
-  w_function : (names : Names) (f : Func) (vs : List Value) (a : Setting) → S z b a → (f ≡ Funcs.Copy → IsThere a.world.heap (value_at vs 0)) → O z b (function_of names f vs a)
+  w_function : (names : Names) (f : Func) (vs : List Value) (a : Setting) → S z b a → (f ≡ Funcs.Copy → IsThere a.world.heap (value_at vs 0))
+      → O z b (function_of names f vs a)
   w_function names Funcs.Abs vs a h t = search rows depth 16
   w_function names Funcs.Any vs a h t = search rows depth 16
   w_function names Funcs.Bal vs a h t = search rows depth 16

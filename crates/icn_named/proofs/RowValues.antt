@@ -250,7 +250,8 @@ module _ (ns : Names) where
 
   -- Pairs
 
-  each_stored : (ps : List (Value × Value)) (k v : Value) → ValueNamed ns k → ValueNamed ns v → Each (PairNamed ns) ps → Each (PairNamed ns) (stored same ps k v)
+  each_stored : (ps : List (Value × Value)) (k v : Value) → ValueNamed ns k → ValueNamed ns v → Each (PairNamed ns) ps
+      → Each (PairNamed ns) (stored same ps k v)
   each_stored [] k v g q h = ((g, q), tt)
   each_stored (p ∷ ps) k v g q h = by (same k p.0) (each_stored ps k v g q h.1)
     where
@@ -319,7 +320,8 @@ module _ (ns : Names) where
   tables_more xs x h g q = record { is = each_append (TableE ns) xs (x ∷ []) h.is ((g.is, q.is), tt) }
 
   each_fields : (xs : List Record) (k place : ℕ) (v : Value) → Each (RecordE ns) xs → ValueNamed ns v
-      → Each (RecordE ns) (slice_set xs k (record (unwrap_or (slice_get xs k) (record { kind = 0; fields = [] })) { fields = slice_set (unwrap_or (slice_get xs k) (record { kind = 0; fields = [] })).fields place v }))
+      → Each (RecordE ns) (slice_set xs k (record (unwrap_or (slice_get xs k) (record { kind = 0; fields = [] }))
+      { fields = slice_set (unwrap_or (slice_get xs k) (record { kind = 0; fields = [] })).fields place v }))
   each_fields [] k place v h g = tt
   each_fields (x ∷ xs) zero place v h g = (one, h.1)
     where
@@ -331,7 +333,8 @@ module _ (ns : Names) where
   each_fields (x ∷ xs) (suc k) place v h g = (h.0, each_fields xs k place v h.1 g)
 
   pub records_set : (xs : List Record) (k place : ℕ) (v : Value) → Records ns xs → V ns v
-      → Records ns (slice_set xs k (record (unwrap_or (slice_get xs k) (record { kind = 0; fields = [] })) { fields = slice_set (unwrap_or (slice_get xs k) (record { kind = 0; fields = [] })).fields place v }))
+      → Records ns (slice_set xs k (record (unwrap_or (slice_get xs k) (record { kind = 0; fields = [] }))
+      { fields = slice_set (unwrap_or (slice_get xs k) (record { kind = 0; fields = [] })).fields place v }))
   records_set xs k place v h g = record { is = each_fields xs k place v h.is g.is }
 
   pub records_more : (xs : List Record) (x : Record) → Records ns xs → RecordE ns x → Records ns (xs ++ x ∷ [])
@@ -368,7 +371,8 @@ module _ (ns : Names) where
   pub of_locals : (a : Setting) → S ns a → Vs ns a.locals
   of_locals a h = h.locals
 
-  pub setting : (a : Setting) → Lists ns a.world.heap.lists → Sets ns a.world.heap.sets → Tables ns a.world.heap.tables → Records ns a.world.heap.records → Vs ns a.world.globals → Vs ns a.world.statics → Vs ns a.locals → S ns a
+  pub setting : (a : Setting) → Lists ns a.world.heap.lists → Sets ns a.world.heap.sets → Tables ns a.world.heap.tables → Records ns a.world.heap.records
+      → Vs ns a.world.globals → Vs ns a.world.statics → Vs ns a.locals → S ns a
   setting a l s t r g u v = record { lists = l; sets = s; tables = t; records = r; globals = g; statics = u; locals = v }
 
   -- Between both ways to say it
@@ -381,10 +385,20 @@ module _ (ns : Names) where
 
   pub setting_in : (a : Setting) → SettingNamed ns a → S ns a
   setting_in a h = record {
-    lists = record { is = each_map (ListNamed ns) (ListE ns) (λ x q. each_of (ValueNamed ns) x.items q) a.world.heap.lists (each_of (ListNamed ns) a.world.heap.lists h.world.heap.lists) };
-    sets = record { is = each_map (SetNamed ns) (SetE ns) (λ x q. each_of (ValueNamed ns) x q) a.world.heap.sets (each_of (SetNamed ns) a.world.heap.sets h.world.heap.sets) };
-    tables = record { is = each_map (TableNamed ns) (TableE ns) (λ x q. (q.0, each_of (PairNamed ns) x.pairs q.1)) a.world.heap.tables (each_of (TableNamed ns) a.world.heap.tables h.world.heap.tables) };
-    records = record { is = each_map (RecordNamed ns) (RecordE ns) record_in a.world.heap.records (each_of (RecordNamed ns) a.world.heap.records h.world.heap.records) };
+    lists = record {
+      is = each_map (ListNamed ns) (ListE ns) (λ x q. each_of (ValueNamed ns) x.items q) a.world.heap.lists
+          (each_of (ListNamed ns) a.world.heap.lists h.world.heap.lists);
+    };
+    sets = record {
+      is = each_map (SetNamed ns) (SetE ns) (λ x q. each_of (ValueNamed ns) x q) a.world.heap.sets (each_of (SetNamed ns) a.world.heap.sets h.world.heap.sets);
+    };
+    tables = record {
+      is = each_map (TableNamed ns) (TableE ns) (λ x q. (q.0, each_of (PairNamed ns) x.pairs q.1)) a.world.heap.tables
+          (each_of (TableNamed ns) a.world.heap.tables h.world.heap.tables);
+    };
+    records = record {
+      is = each_map (RecordNamed ns) (RecordE ns) record_in a.world.heap.records (each_of (RecordNamed ns) a.world.heap.records h.world.heap.records);
+    };
     globals = record { is = each_of (ValueNamed ns) a.world.globals h.world.globals };
     statics = record { is = each_of (ValueNamed ns) a.world.statics h.world.statics };
     locals = record { is = each_of (ValueNamed ns) a.locals h.locals };
@@ -394,9 +408,11 @@ module _ (ns : Names) where
   setting_out a h = record {
     world = record {
       heap = record {
-        lists = all_of (ListNamed ns) a.world.heap.lists (each_map (ListE ns) (ListNamed ns) (λ x q. all_of (ValueNamed ns) x.items q) a.world.heap.lists h.lists.is);
+        lists = all_of (ListNamed ns) a.world.heap.lists
+            (each_map (ListE ns) (ListNamed ns) (λ x q. all_of (ValueNamed ns) x.items q) a.world.heap.lists h.lists.is);
         sets = all_of (SetNamed ns) a.world.heap.sets (each_map (SetE ns) (SetNamed ns) (λ x q. all_of (ValueNamed ns) x q) a.world.heap.sets h.sets.is);
-        tables = all_of (TableNamed ns) a.world.heap.tables (each_map (TableE ns) (TableNamed ns) (λ x q. (q.0, all_of (PairNamed ns) x.pairs q.1)) a.world.heap.tables h.tables.is);
+        tables = all_of (TableNamed ns) a.world.heap.tables
+            (each_map (TableE ns) (TableNamed ns) (λ x q. (q.0, all_of (PairNamed ns) x.pairs q.1)) a.world.heap.tables h.tables.is);
         records = all_of (RecordNamed ns) a.world.heap.records (each_map (RecordE ns) (RecordNamed ns) record_out a.world.heap.records h.records.is);
       };
       globals = all_of (ValueNamed ns) a.world.globals h.globals.is;

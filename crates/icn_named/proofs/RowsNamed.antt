@@ -105,7 +105,8 @@ module _ (ns : Names) where
   w_check true k v next a h g f = f
   w_check false k v next a h g f = o_error k v a g h
 
-  w_present : {A : Type 0} (o : Option A) (k : ℕ) (v : Option Value) (next : A → Row) (a : Setting) → S ns a → OV ns v → ((x : A) → o ≡ Some x → O ns (next x a)) → O ns (present o k v next a)
+  w_present : {A : Type 0} (o : Option A) (k : ℕ) (v : Option Value) (next : A → Row) (a : Setting) → S ns a → OV ns v
+      → ((x : A) → o ≡ Some x → O ns (next x a)) → O ns (present o k v next a)
   w_present (Some x) k v next a h g f = f x refl
   w_present None k v next a h g f = o_error k v a g h
 
@@ -127,13 +128,92 @@ module _ (ns : Names) where
 
 ruleset ends = (o_error, o_ends, o_gives, o_suspends, o_fails)
 
-ruleset residuals = (r_text, r_bytes, r_items, r_members, r_values, r_keys, r_fields, r_lines, r_assign, r_exchange, r_position, r_counting, r_sequence, r_balanced, r_found, r_among)
+ruleset residuals = (
+  r_text,
+  r_bytes,
+  r_items,
+  r_members,
+  r_values,
+  r_keys,
+  r_fields,
+  r_lines,
+  r_assign,
+  r_exchange,
+  r_position,
+  r_counting,
+  r_sequence,
+  r_balanced,
+  r_found,
+  r_among,
+)
 
-ruleset values = (ov_none, ov_some, v_if, v_null, v_integer, v_text, v_chars, v_file, v_record, v_list, v_set, v_table, v_at, v_got, v_key, x_element, x_field, x_key, x_part, i_val, i_var)
+ruleset values = (
+  ov_none,
+  ov_some,
+  v_if,
+  v_null,
+  v_integer,
+  v_text,
+  v_chars,
+  v_file,
+  v_record,
+  v_list,
+  v_set,
+  v_table,
+  v_at,
+  v_got,
+  v_key,
+  x_element,
+  x_field,
+  x_key,
+  x_part,
+  i_val,
+  i_var,
+)
 
-ruleset lists = (vs_nil, vs_cons, vs_append, vs_set, vs_take, vs_drop, vs_replicate, vs_filter, vs_after, vs_with, vs_or_null, vs_member, vs_members, vs_left, vs_right, vs_sorted, ps_sorted, vs_pairs, items_at, members_at, pairs_at, default_at, fields_at)
+ruleset lists = (
+  vs_nil,
+  vs_cons,
+  vs_append,
+  vs_set,
+  vs_take,
+  vs_drop,
+  vs_replicate,
+  vs_filter,
+  vs_after,
+  vs_with,
+  vs_or_null,
+  vs_member,
+  vs_members,
+  vs_left,
+  vs_right,
+  vs_sorted,
+  ps_sorted,
+  vs_pairs,
+  items_at,
+  members_at,
+  pairs_at,
+  default_at,
+  fields_at,
+)
 
-ruleset settings = (setting, lists_set, lists_more, sets_set, sets_more, tables_set, tables_more, records_set, of_lists, of_sets, of_tables, of_records, of_globals, of_statics, of_locals)
+ruleset settings = (
+  setting,
+  lists_set,
+  lists_more,
+  sets_set,
+  sets_more,
+  tables_set,
+  tables_more,
+  records_set,
+  of_lists,
+  of_sets,
+  of_tables,
+  of_records,
+  of_globals,
+  of_statics,
+  of_locals,
+)
 
 ruleset words = (ends, residuals, values, lists, settings, w_check, w_present, w_computed, w_passing, w_found, w_natural)
 
@@ -152,7 +232,8 @@ module _ (ns : Names) where
   same_v : (v w : Value) → V ns v → Some v ≡ Some w → V ns w
   same_v v w h e = let z : v ≡ w = some_inj e in rw (← z) h
 
-  looked : (test : Value → Bool) (ps : List (Value × Value)) (d : Value) → Each (PairNamed ns) ps → ValueNamed ns d → ValueNamed ns (unwrap_or (lookup test ps) d)
+  looked : (test : Value → Bool) (ps : List (Value × Value)) (d : Value) → Each (PairNamed ns) ps → ValueNamed ns d
+      → ValueNamed ns (unwrap_or (lookup test ps) d)
   looked test [] d h g = g
   looked test (p ∷ ps) d h g = by (test p.0) (looked test ps d h.1 g)
     where
@@ -168,7 +249,10 @@ module _ (ns : Names) where
   root_v a (Field id k) v h e = same_v _ v (v_at ns (record_at a.world.heap id).fields k (fields_at ns a.world.heap.records id (of_records ns a h))) e
   root_v a (Key id key) v h e =
       let t = table_at a.world.heap id in
-      same_v _ v (record { is = looked (same key) t.pairs t.default (pairs_at ns a.world.heap.tables id (of_tables ns a h)).is (default_at ns a.world.heap.tables id (of_tables ns a h)).is }) e
+      same_v _ v (record {
+        is = looked (same key) t.pairs t.default (pairs_at ns a.world.heap.tables id (of_tables ns a h)).is
+            (default_at ns a.world.heap.tables id (of_tables ns a h)).is;
+      }) e
   root_v a (Keyword Subject) v h e = same_v _ v (v_text ns a.world.subject) e
   root_v a (Keyword Position) v h e = same_v _ v (v_integer ns (pos a.world.position)) e
   root_v a (Keyword Random) v h e = same_v _ v (v_integer ns (pos a.world.random)) e
@@ -184,9 +268,11 @@ module _ (ns : Names) where
   w_value (Val v) next a h i f = f v (record { is = i.is })
   w_value (Var x) next a h i f = w_reads x next a h f
 
-  w_values : (xs : List Item) (next : List Value → Row) (a : Setting) → S ns a → Each (ItemNamed ns) xs → ((vs : List Value) → Vs ns vs → O ns (next vs a)) → O ns (the_values xs next a)
+  w_values : (xs : List Item) (next : List Value → Row) (a : Setting) → S ns a → Each (ItemNamed ns) xs → ((vs : List Value) → Vs ns vs → O ns (next vs a))
+      → O ns (the_values xs next a)
   w_values [] next a h i f = f [] (vs_nil ns)
-  w_values (x ∷ xs) next a h i f = w_value x (λ v. the_values xs (λ vs. next (v ∷ vs))) a h (record { is = i.0.named }) (λ v g. w_values xs (λ vs. next (v ∷ vs)) a h i.1 (λ vs q. f (v ∷ vs) (vs_cons ns v vs g q)))
+  w_values (x ∷ xs) next a h i f = w_value x (λ v. the_values xs (λ vs. next (v ∷ vs))) a h (record { is = i.0.named })
+      (λ v g. w_values xs (λ vs. next (v ∷ vs)) a h i.1 (λ vs q. f (v ∷ vs) (vs_cons ns v vs g q)))
 
   w_variable : (x : Item) (next : Variable → Row) (a : Setting) → S ns a → I ns x → ((y : Variable) → X ns y → O ns (next y a)) → O ns (the_variable x next a)
   w_variable (Val v) next a h i f = o_error ns 111 (Some v) a (record { is = i.is }) h
@@ -194,17 +280,21 @@ module _ (ns : Names) where
 
   -- Assigning
 
-  w_stores : (id : ℕ) (key value : Value) (next : Row) (a : Setting) → S ns a → V ns key → V ns value → ((s : Setting) → S ns s → O ns (next s)) → O ns (stores id key value next a)
+  w_stores : (id : ℕ) (key value : Value) (next : Row) (a : Setting) → S ns a → V ns key → V ns value → ((s : Setting) → S ns s → O ns (next s))
+      → O ns (stores id key value next a)
   w_stores id key value next a h g q f = search (words, w_unless, ps_stored, f) depth 12
 
   having_place : (a : Setting) (place : ℕ) → S ns a → S ns (having_position place a)
-  having_place a place h = record { lists = h.lists; sets = h.sets; tables = h.tables; records = h.records; globals = h.globals; statics = h.statics; locals = h.locals }
+  having_place a place h =
+      record { lists = h.lists; sets = h.sets; tables = h.tables; records = h.records; globals = h.globals; statics = h.statics; locals = h.locals }
 
-  w_keyword : (refused : Row) (word : KeywordVariable) (value : Value) (next : Row) (a : Setting) → S ns a → V ns value → ((s : Setting) → S ns s → O ns (refused s)) → ((s : Setting) → S ns s → O ns (next s)) → O ns (assigns_keyword refused word value next a)
+  w_keyword : (refused : Row) (word : KeywordVariable) (value : Value) (next : Row) (a : Setting) → S ns a → V ns value
+      → ((s : Setting) → S ns s → O ns (refused s)) → ((s : Setting) → S ns s → O ns (next s)) → O ns (assigns_keyword refused word value next a)
   w_keyword refused Subject value next a h g r f = search (words, w_made, f)
   w_keyword refused Position value next a h q r f = by_number (integer_of value) refl
     where
-      by_place : (k : ℤ) → integer_of value ≡ Some k → (o : Option ℕ) → place_of k (length a.world.subject) ≡ o → O ns (assigns_keyword refused Position value next a)
+      by_place : (k : ℤ) → integer_of value ≡ Some k → (o : Option ℕ) → place_of k (length a.world.subject) ≡ o
+          → O ns (assigns_keyword refused Position value next a)
       by_place k e None g = rw e (rw g (r a h))
       by_place k e (Some place) g = rw e (rw g (f (having_position place a) (having_place a place h)))
 
@@ -213,7 +303,8 @@ module _ (ns : Names) where
       by_number (Some k) e = by_place k e (place_of k (length a.world.subject)) refl
   w_keyword refused Random value next a h g r f = search (words, f)
 
-  w_assigns_root : (refused : Row) (root : Root) (value : Value) (next : Row) (a : Setting) → S ns a → X ns (Whole root) → V ns value → ((s : Setting) → S ns s → O ns (refused s)) → ((s : Setting) → S ns s → O ns (next s)) → O ns (assigns_root refused root value next a)
+  w_assigns_root : (refused : Row) (root : Root) (value : Value) (next : Row) (a : Setting) → S ns a → X ns (Whole root) → V ns value
+      → ((s : Setting) → S ns s → O ns (refused s)) → ((s : Setting) → S ns s → O ns (next s)) → O ns (assigns_root refused root value next a)
   w_assigns_root refused (Global place) value next a h x g r f = search (words, f)
   w_assigns_root refused (Static place) value next a h x g r f = search (words, f)
   w_assigns_root refused (Local place) value next a h x g r f = search (words, f)
@@ -222,31 +313,38 @@ module _ (ns : Names) where
   w_assigns_root refused (Key table key) value next a h x g r f = w_stores table key value next a h (record { is = x.is }) g f
   w_assigns_root refused (Keyword word) value next a h x g r f = w_keyword refused word value next a h g r f
 
-  w_assigns : (refused : Row) (x : Variable) (value : Value) (next : Variable → Row) (a : Setting) → S ns a → X ns x → V ns value → ((s : Setting) → S ns s → O ns (refused s)) → ((y : Variable) (s : Setting) → X ns y → S ns s → O ns (next y s)) → O ns (assigns_or refused x value next a)
+  w_assigns : (refused : Row) (x : Variable) (value : Value) (next : Variable → Row) (a : Setting) → S ns a
+      → X ns x → V ns value → ((s : Setting) → S ns s → O ns (refused s)) → ((y : Variable) (s : Setting) → X ns y → S ns s → O ns (next y s))
+      → O ns (assigns_or refused x value next a)
   w_assigns refused (Whole root) value next a h x g r f = w_assigns_root refused root value (next (Whole root)) a h x g r (λ s z. f (Whole root) s x z)
   w_assigns refused (Part root place size) value next a h x g r f =
       let whole : X ns (Whole root) = record { is = x.is } in
       let part : (c d : ℕ) → X ns (Part root c d) = λ c d. record { is = x.is } in
       search (words, w_made, w_root, w_assigns_root, part, r, f) depth 14
 
-  w_moved : (old new : ℕ) (x : Variable) (next : Variable → Row) (a : Setting) → S ns a → X ns x → ((y : Variable) → X ns y → O ns (next y a)) → O ns (move_part old new x next a)
+  w_moved : (old new : ℕ) (x : Variable) (next : Variable → Row) (a : Setting) → S ns a → X ns x → ((y : Variable) → X ns y → O ns (next y a))
+      → O ns (move_part old new x next a)
   w_moved old new (Whole root) next a h x f = f (Whole root) x
   w_moved old new (Part root place size) next a h x f = let part : (c d : ℕ) → X ns (Part root c d) = λ c d. record { is = x.is } in search (words, part, f)
 
-  w_moved_left : (m : Mover) (old new : ℕ) (x : Variable) (next : Variable → Row) (a : Setting) → S ns a → X ns x → ((y : Variable) → X ns y → O ns (next y a)) → O ns (moved_by_left m old new x next a)
+  w_moved_left : (m : Mover) (old new : ℕ) (x : Variable) (next : Variable → Row) (a : Setting) → S ns a → X ns x → ((y : Variable) → X ns y → O ns (next y a))
+      → O ns (moved_by_left m old new x next a)
   w_moved_left Neither old new x next a z h f = f x h
   w_moved_left Left old new x next a z h f = w_moved old new x next a z h f
   w_moved_left Right old new x next a z h f = f x h
 
-  w_moved_right : (m : Mover) (old new : ℕ) (x : Variable) (next : Variable → Row) (a : Setting) → S ns a → X ns x → ((y : Variable) → X ns y → O ns (next y a)) → O ns (moved_by_right m old new x next a)
+  w_moved_right : (m : Mover) (old new : ℕ) (x : Variable) (next : Variable → Row) (a : Setting) → S ns a → X ns x → ((y : Variable) → X ns y → O ns (next y a))
+      → O ns (moved_by_right m old new x next a)
   w_moved_right Neither old new x next a z h f = f x h
   w_moved_right Left old new x next a z h f = f x h
   w_moved_right Right old new x next a z h f = w_moved old new x next a z h f
 
-  w_both : (refused : Row) (m : Mover) (x y : Variable) (v w : Value) (next : Variable × Variable → Row) (a : Setting) → S ns a → X ns x → X ns y → V ns v → V ns w → ((s : Setting) → S ns s → O ns (refused s))
+  w_both : (refused : Row) (m : Mover) (x y : Variable) (v w : Value) (next : Variable × Variable → Row) (a : Setting) → S ns a → X ns x → X ns y → V ns v
+      → V ns w → ((s : Setting) → S ns s → O ns (refused s))
       → ((p : Variable × Variable) (s : Setting) → X ns p.0 → X ns p.1 → S ns s → O ns (next p s)) → O ns (assigns_both refused m x y v w next a)
   w_both refused m x y v w next a h gx gy gv gw r f =
-      w_assigns refused x v _ a h gx gv r (λ now s q z. w_moved_left m _ _ y _ s z gy (λ y' q'. w_assigns refused y' w _ s z q' gw r (λ now' s' u z'. w_moved_right m _ _ now _ s' z' q (λ x' u'. f (x', now') s' u' u z'))))
+      w_assigns refused x v _ a h gx gv r (λ now s q z. w_moved_left m _ _ y _ s z gy
+      (λ y' q'. w_assigns refused y' w _ s z q' gw r (λ now' s' u z'. w_moved_right m _ _ now _ s' z' q (λ x' u'. f (x', now') s' u' u z'))))
 
 ruleset changes = (words, w_made, w_unless, w_reads, w_value, w_variable, w_stores, ps_stored)
 
@@ -257,7 +355,8 @@ module _ (ns : Names) where
   w_count last step None a h = o_fails ns a h
   w_count last step (Some k) a h = search words
 
-  w_sets : (f : List Value → List Value → List Value) (g : Bool → Bool → Bool) (v w : Value) (o : Option (ℕ × ℕ)) (a : Setting) → S ns a → V ns v → V ns w → ((xs ys : List Value) → Vs ns xs → Vs ns ys → Vs ns (f xs ys)) → O ns (sets_or_csets f g v w o a)
+  w_sets : (f : List Value → List Value → List Value) (g : Bool → Bool → Bool) (v w : Value) (o : Option (ℕ × ℕ)) (a : Setting) → S ns a → V ns v → V ns w
+      → ((xs ys : List Value) → Vs ns xs → Vs ns ys → Vs ns (f xs ys)) → O ns (sets_or_csets f g v w o a)
   w_sets f g v w (Some ids) a h p r q = search (words, q) depth 12
   w_sets f g v w None a h p r q = search words
 
@@ -270,7 +369,8 @@ module _ (ns : Names) where
   i_part (Val u) v text c d h = record { is = tt }
   i_part (Var x) v text c d h = i_part_of x (held_text v) text c d (record { is = h.is })
 
-  w_text_of : (x : Variable) (o : Option (List ℕ)) (v : Value) (text : List ℕ) (a : Setting) → S ns a → V ns v → X ns x → O ns (text_elements (option_map (λ t. x) o) v text a)
+  w_text_of : (x : Variable) (o : Option (List ℕ)) (v : Value) (text : List ℕ) (a : Setting) → S ns a → V ns v → X ns x
+      → O ns (text_elements (option_map (λ t. x) o) v text a)
   w_text_of x None v text a h p g = search (words, w_made) depth 12
   w_text_of x (Some t) v text a h p g = search (words, w_reads) depth 12
 
@@ -316,7 +416,8 @@ module _ (ns : Names) where
   w_subscript x v w (Activated id) a h i p q = search words depth 12
   w_subscript x v w Single a h i p q = search words depth 12
 
-  w_section : (f : ℤ → ℤ → Result ℤ Arith) (x : Item) (v u w : Value) (g : Group) (a : Setting) → S ns a → I ns x → V ns v → V ns u → V ns w → O ns (section_of f x v u w g a)
+  w_section : (f : ℤ → ℤ → Result ℤ Arith) (x : Item) (v u w : Value) (g : Group) (a : Setting) → S ns a → I ns x → V ns v → V ns u → V ns w
+      → O ns (section_of f x v u w g a)
   w_section f x v u w (Textual text) a h i p q r = search (words, w_made, i_part) depth 14
   w_section f x v u w (Listed id) a h i p q r = search words depth 14
   w_section f x v u w (Collected id) a h i p q r = search words depth 12
@@ -330,7 +431,8 @@ module _ (ns : Names) where
   w_copied : (id : ℕ) (a : Setting) → S ns a → id < length a.world.heap.records → O ns (new_record_of (record_at a.world.heap id) (λ copy. gives_value copy) a)
   w_copied id a h l =
       let there : RecordE ns (record_at a.world.heap id) = record_there ns a.world.heap.records id l h.records in
-      let more : Records ns (a.world.heap.records ++ record_at a.world.heap id ∷ []) = records_more ns a.world.heap.records (record_at a.world.heap id) h.records there in
+      let more : Records ns (a.world.heap.records ++ record_at a.world.heap id ∷ []) = records_more ns a.world.heap.records
+      (record_at a.world.heap id) h.records there in
       search (words, more) depth 12
 
   w_copy : (v : Value) (a : Setting) → S ns a → V ns v → IsThere a.world.heap v → O ns (copy_of v (group_of v) a)
@@ -350,7 +452,8 @@ module _ (ns : Names) where
   w_new_set v (Some id) a h p = search words depth 12
   w_new_set v None a h p = search words depth 12
 
-  w_inserts : (c : Keeper) (x y : Value) (next : Row) (a : Setting) → S ns a → V ns x → V ns y → ((s : Setting) → S ns s → O ns (next s)) → O ns (inserts c x y next a)
+  w_inserts : (c : Keeper) (x y : Value) (next : Row) (a : Setting) → S ns a → V ns x → V ns y → ((s : Setting) → S ns s → O ns (next s))
+      → O ns (inserts c x y next a)
   w_inserts (SetKeeper id) x y next a h q u f = search (words, w_unless, f) depth 12
   w_inserts (TableKeeper id) x y next a h q u f = w_stores ns id x y next a h q u f
 
@@ -369,7 +472,8 @@ module _ (ns : Names) where
   s_without a (SetKeeper id) x h = search (words) depth 12
   s_without a (TableKeeper id) x h = search (words, ps_removed) depth 12
 
-  w_pairs : (ps : List (Value × Value)) (next : List Value → Row) (a : Setting) → S ns a → Ps ns ps → ((vs : List Value) (s : Setting) → Vs ns vs → S ns s → O ns (next vs s)) → O ns (pair_lists ps next a)
+  w_pairs : (ps : List (Value × Value)) (next : List Value → Row) (a : Setting) → S ns a → Ps ns ps
+      → ((vs : List Value) (s : Setting) → Vs ns vs → S ns s → O ns (next vs s)) → O ns (pair_lists ps next a)
   w_pairs [] next a h g f = f [] a (vs_nil ns) h
   w_pairs (p ∷ ps) next a h g f =
       let first : V ns p.0 = record { is = g.is.0.0 } in
@@ -385,7 +489,8 @@ module _ (ns : Names) where
       search (words, w_pieces vs, f)
 
 module _ (ns : Names) where
-  w_table_sorted : (names : Names) (heap : Heap) (ps : List (Value × Value)) (k : ℤ) (v : Value) (a : Setting) → S ns a → V ns v → Ps ns ps → O ns (table_sorted names heap ps k v a)
+  w_table_sorted : (names : Names) (heap : Heap) (ps : List (Value × Value)) (k : ℤ) (v : Value) (a : Setting) → S ns a → V ns v → Ps ns ps
+      → O ns (table_sorted names heap ps k v a)
   w_table_sorted names heap ps (pos (suc zero)) v a h p g = search (words, w_pairs) depth 12
   w_table_sorted names heap ps (pos (suc (suc zero))) v a h p g = search (words, w_pairs) depth 12
   w_table_sorted names heap ps (pos (suc (suc (suc zero)))) v a h p g = search words depth 12
@@ -402,7 +507,8 @@ module _ (ns : Names) where
   w_sorted names v k w (Activated id) a h p q = search words depth 12
   w_sorted names v k w Single a h p q = search words depth 12
 
-ruleset rows = (changes, w_assigns, w_both, w_count, w_sets, i_part, w_elements, w_random_by, w_subscript, w_section, w_new_set, w_inserts, s_without, w_sorted, w_pieces)
+ruleset rows =
+    (changes, w_assigns, w_both, w_count, w_sets, i_part, w_elements, w_random_by, w_subscript, w_section, w_new_set, w_inserts, s_without, w_sorted, w_pieces)
 
 module _ (ns : Names) where
   w_operation : (op : Op) (x y z : Item) (a : Setting) → S ns a → I ns x → I ns y → I ns z → O ns (operation_on op x y z a)
@@ -452,7 +558,8 @@ module _ (ns : Names) where
   w_operation Ops.SectionMinus x y z a h i j k = search rows depth 16
   w_operation Ops.ToBy x y z a h i j k = search rows depth 16
 
-  w_function : (names : Names) (f : Func) (vs : List Value) (a : Setting) → S ns a → Vs ns vs → (f ≡ Funcs.Copy → IsThere a.world.heap (value_at vs 0)) → O ns (function_of names f vs a)
+  w_function : (names : Names) (f : Func) (vs : List Value) (a : Setting) → S ns a → Vs ns vs → (f ≡ Funcs.Copy → IsThere a.world.heap (value_at vs 0))
+      → O ns (function_of names f vs a)
   w_function names Funcs.Abs vs a h g t = search rows depth 16
   w_function names Funcs.Any vs a h g t = search rows depth 16
   w_function names Funcs.Bal vs a h g t = search rows depth 16
@@ -547,7 +654,8 @@ module _ (ns : Names) where
   w_record : (kind : ℕ) (vs : List Value) (a : Setting) → S ns a → kind < length ns.records → Vs ns vs → O ns (record_row kind vs a)
   w_record kind vs a h l g =
       let one : RecordE ns (record { kind = kind; fields = vs }) = record { kind = l; fields = g.is } in
-      let more : Records ns (a.world.heap.records ++ record { kind = kind; fields = vs } ∷ []) = records_more ns a.world.heap.records (record { kind = kind; fields = vs }) h.records one in
+      let more : Records ns (a.world.heap.records ++ record { kind = kind; fields = vs } ∷ []) = records_more ns a.world.heap.records
+      (record { kind = kind; fields = vs }) h.records one in
       search (words, more) depth 12
 
   w_text : (v : Value) (a : Setting) → S ns a → V ns v → O ns (text_row v a)
@@ -565,14 +673,16 @@ module _ (ns : Names) where
   operations_named : (op : Op) (items : List Item) (at : Setting) → SettingNamed ns at → All (ItemNamed ns) items → OutcomeNamed ns (operation_row op items at)
   operations_named op items at h g =
       let named : Each (ItemNamed ns) items = each_of (ItemNamed ns) items g in
-      (w_operation ns op (operand items 0) (operand items 1) (operand items 2) at (setting_in ns at h) (i_operand ns items 0 named) (i_operand ns items 1 named) (i_operand ns items 2 named)).is
+      (w_operation ns op (operand items 0) (operand items 1) (operand items 2) at (setting_in ns at h) (i_operand ns items 0 named) (i_operand ns items 1 named)
+      (i_operand ns items 2 named)).is
 
   values_named : (items : List Item) (next : List Value → Row) (at : Setting) → SettingNamed ns at → All (ItemNamed ns) items
       → ((values : List Value) → All (ValueNamed ns) values → OutcomeNamed ns (next values at)) → OutcomeNamed ns (the_values items next at)
   values_named items next at h g f =
       (w_values ns items next at (setting_in ns at h) (each_of (ItemNamed ns) items g) (λ vs q. record { is = f vs (all_of (ValueNamed ns) vs q.is) })).is
 
-  functions_named : (f : Func) (vs : List Value) (at : Setting) → SettingNamed ns at → All (ValueNamed ns) vs → (f ≡ Funcs.Copy → IsThere at.world.heap (value_at vs 0)) → OutcomeNamed ns (function_of ns f vs at)
+  functions_named : (f : Func) (vs : List Value) (at : Setting) → SettingNamed ns at → All (ValueNamed ns) vs
+      → (f ≡ Funcs.Copy → IsThere at.world.heap (value_at vs 0)) → OutcomeNamed ns (function_of ns f vs at)
   functions_named f vs at h g t = (w_function ns ns f vs at (setting_in ns at h) (record { is = each_of (ValueNamed ns) vs g }) t).is
 
 -- rows keep names

@@ -21,7 +21,8 @@ of_two all op (x ∷ (y ∷ [])) d e low high = refl
 of_two all op (x ∷ (y ∷ (z ∷ items))) d e low high = absurd (omega arith)
 
 pub of_three : (all : Extent) (op : Op) (items : List HeldItem) (d e f : HeldItem) → 3 ≤ length items → length items < 4
-    → operation_row op (map (item_in all) items) ≡ operation_on op (item_in all (get_or items 0 d)) (item_in all (get_or items 1 e)) (item_in all (get_or items 2 f))
+    → operation_row op (map (item_in all) items)
+    ≡ operation_on op (item_in all (get_or items 0 d)) (item_in all (get_or items 1 e)) (item_in all (get_or items 2 f))
 of_three all op [] d e f low high = absurd (omega arith)
 of_three all op (x ∷ []) d e f low high = absurd (omega arith)
 of_three all op (x ∷ (y ∷ [])) d e f low high = absurd (omega arith)

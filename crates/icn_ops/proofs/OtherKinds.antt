@@ -31,7 +31,9 @@ no_file all (TableVal id) no_std = refl
 no_file all (CoexpVal id) no_std = refl
 
 -- a value without subscripts
-pub no_subscript : (all : Extent) (val : Val) (x : Item) (w : Value) (s : Setting) → ((n : ℤ) → val ≡ IntegerVal n → ⊥) → ((span : Span) → val ≡ TextVal span → ⊥) → ((cset : Cset) → val ≡ CharsVal cset → ⊥) → ((id : ℕ) → val ≡ ListVal id → ⊥) → ((id : ℕ) → val ≡ TableVal id → ⊥) → ((id : ℕ) → val ≡ RecVal id → ⊥)
+pub no_subscript : (all : Extent) (val : Val) (x : Item) (w : Value) (s : Setting) → ((n : ℤ) → val ≡ IntegerVal n → ⊥)
+    → ((span : Span) → val ≡ TextVal span → ⊥) → ((cset : Cset) → val ≡ CharsVal cset → ⊥) → ((id : ℕ) → val ≡ ListVal id → ⊥)
+    → ((id : ℕ) → val ≡ TableVal id → ⊥) → ((id : ℕ) → val ≡ RecVal id → ⊥)
     → subscript_of x (value_in all val) w (group_of (value_in all val)) s ≡ Error 114 (Some (value_in all val)) s
 no_subscript all NullVal x w s no_integer no_text no_chars no_list no_table no_rec = refl
 no_subscript all (IntegerVal n) x w s no_integer no_text no_chars no_list no_table no_rec = absurd (no_integer n refl)
@@ -46,7 +48,8 @@ no_subscript all (TableVal id) x w s no_integer no_text no_chars no_list no_tabl
 no_subscript all (CoexpVal id) x w s no_integer no_text no_chars no_list no_table no_rec = refl
 
 -- a value without sections
-pub no_section : (all : Extent) (val : Val) (second : ℤ → ℤ → Result ℤ Arith) (x : Item) (u w : Value) (s : Setting) → ((n : ℤ) → val ≡ IntegerVal n → ⊥) → ((span : Span) → val ≡ TextVal span → ⊥) → ((cset : Cset) → val ≡ CharsVal cset → ⊥) → ((id : ℕ) → val ≡ ListVal id → ⊥)
+pub no_section : (all : Extent) (val : Val) (second : ℤ → ℤ → Result ℤ Arith) (x : Item) (u w : Value) (s : Setting) → ((n : ℤ) → val ≡ IntegerVal n → ⊥)
+    → ((span : Span) → val ≡ TextVal span → ⊥) → ((cset : Cset) → val ≡ CharsVal cset → ⊥) → ((id : ℕ) → val ≡ ListVal id → ⊥)
     → section_of second x (value_in all val) u w (group_of (value_in all val)) s ≡ Error 110 (Some (value_in all val)) s
 no_section all NullVal second x u w s no_integer no_text no_chars no_list = refl
 no_section all (IntegerVal n) second x u w s no_integer no_text no_chars no_list = absurd (no_integer n refl)
@@ -61,7 +64,9 @@ no_section all (TableVal id) second x u w s no_integer no_text no_chars no_list 
 no_section all (CoexpVal id) second x u w s no_integer no_text no_chars no_list = refl
 
 -- a value without elements
-pub no_elements : (all : Extent) (val : Val) (x : Item) (s : Setting) → ((n : ℤ) → val ≡ IntegerVal n → ⊥) → ((span : Span) → val ≡ TextVal span → ⊥) → ((cset : Cset) → val ≡ CharsVal cset → ⊥) → ((id : ℕ) → val ≡ ListVal id → ⊥) → ((id : ℕ) → val ≡ SetVal id → ⊥) → ((id : ℕ) → val ≡ TableVal id → ⊥) → ((id : ℕ) → val ≡ RecVal id → ⊥) → ((file : HeldFile) → val ≡ StdVal file → ⊥)
+pub no_elements : (all : Extent) (val : Val) (x : Item) (s : Setting) → ((n : ℤ) → val ≡ IntegerVal n → ⊥) → ((span : Span) → val ≡ TextVal span → ⊥)
+    → ((cset : Cset) → val ≡ CharsVal cset → ⊥) → ((id : ℕ) → val ≡ ListVal id → ⊥) → ((id : ℕ) → val ≡ SetVal id → ⊥) → ((id : ℕ) → val ≡ TableVal id → ⊥)
+    → ((id : ℕ) → val ≡ RecVal id → ⊥) → ((file : HeldFile) → val ≡ StdVal file → ⊥)
     → elements_of x (value_in all val) (group_of (value_in all val)) s ≡ Error 116 (Some (value_in all val)) s
 no_elements all NullVal x s no_integer no_text no_chars no_list no_set no_table no_rec no_std = refl
 no_elements all (IntegerVal n) x s no_integer no_text no_chars no_list no_set no_table no_rec no_std = absurd (no_integer n refl)
@@ -76,7 +81,9 @@ no_elements all (TableVal id) x s no_integer no_text no_chars no_list no_set no_
 no_elements all (CoexpVal id) x s no_integer no_text no_chars no_list no_set no_table no_rec no_std = refl
 
 -- a value without elements to pick from
-pub no_random : (all : Extent) (val : Val) (x : Item) (s : Setting) → ((n : ℤ) → val ≡ IntegerVal n → ⊥) → ((span : Span) → val ≡ TextVal span → ⊥) → ((cset : Cset) → val ≡ CharsVal cset → ⊥) → ((id : ℕ) → val ≡ ListVal id → ⊥) → ((id : ℕ) → val ≡ SetVal id → ⊥) → ((id : ℕ) → val ≡ TableVal id → ⊥) → ((id : ℕ) → val ≡ RecVal id → ⊥)
+pub no_random : (all : Extent) (val : Val) (x : Item) (s : Setting) → ((n : ℤ) → val ≡ IntegerVal n → ⊥) → ((span : Span) → val ≡ TextVal span → ⊥)
+    → ((cset : Cset) → val ≡ CharsVal cset → ⊥) → ((id : ℕ) → val ≡ ListVal id → ⊥) → ((id : ℕ) → val ≡ SetVal id → ⊥) → ((id : ℕ) → val ≡ TableVal id → ⊥)
+    → ((id : ℕ) → val ≡ RecVal id → ⊥)
     → random_by x (value_in all val) (held_integer (value_in all val)) s ≡ Error 113 (Some (value_in all val)) s
 no_random all NullVal x s no_integer no_text no_chars no_list no_set no_table no_rec = refl
 no_random all (IntegerVal n) x s no_integer no_text no_chars no_list no_set no_table no_rec = absurd (no_integer n refl)

@@ -31,13 +31,16 @@ pub negated : (n : ℤ) → difference (pos 0) n ≡ within_64_bits (neg_ℤ n)
 negated n = let e : pos 0 -ℤ n ≡ neg_ℤ n = omega (arith, ints) in ap within_64_bits e
 
 -- a value that is given where a test is met
-pub compared : (value : Value) (test t : Bool) (setting : Setting) (outcome : Outcome) → t ≡ test → passing t (gives_value value) setting ≡ outcome → passing test (gives_value value) setting ≡ outcome
+pub compared : (value : Value) (test t : Bool) (setting : Setting) (outcome : Outcome) → t ≡ test → passing t (gives_value value) setting ≡ outcome
+    → passing test (gives_value value) setting ≡ outcome
 compared value test t setting outcome same is = ap (λ met. passing met (gives_value value) setting) (sym same) ∙ is
 
 -- the texts of two operands, by what each call says of them
-pub texts_found : (all : Extent) (x y : Item) (a b : Value) (before after : Setting) (result : Result (Span × Span) Stop) → GoesOn (two_values x y) before (a, b) before
+pub texts_found : (all : Extent) (x y : Item) (a b : Value) (before after : Setting) (result : Result (Span × Span) Stop)
+    → GoesOn (two_values x y) before (a, b) before
     → GoesOn (string a) before (the_text a) before → GoesOn (string b) before (the_text b) before → Passed all (costs_texts (a ∷ b ∷ [])) before after result
-    → IfOk result (λ two. text_in all two.0 ≡ the_text a) → IfOk result (λ two. text_in all two.1 ≡ the_text b) → Found all (two_texts x y) before after (texts_in all) result
+    → IfOk result (λ two. text_in all two.0 ≡ the_text a) → IfOk result (λ two. text_in all two.1 ≡ the_text b)
+    → Found all (two_texts x y) before after (texts_in all) result
 texts_found all x y a b before after (Ok two) values first second step is is' = λ next.
     values (λ v. string v.0 (λ s. string v.1 (λ t. costs_texts (v.0 ∷ v.1 ∷ []) (next (s, t)))))
     ∙ (first (λ s. string b (λ t. costs_texts (a ∷ b ∷ []) (next (s, t))))
@@ -73,8 +76,10 @@ pub members_are : (cset : Cset) (test : ℕ → Bool) → ((byte : ℕ) → byte
 members_are cset test same = members_by cset test (record { is = same })
 
 -- the bytes that are no members
-pub complemented : (cset other : Cset) → HasMembers other (λ byte. not (has cset byte)) → members_of other ≡ members (λ byte. not (contains (members_of cset) byte))
-complemented cset other is = members_are other (λ byte. not (contains (members_of cset) byte)) (λ byte below. is.is byte below ∙ ap not (sym (member_is cset byte below)))
+pub complemented : (cset other : Cset) → HasMembers other (λ byte. not (has cset byte))
+    → members_of other ≡ members (λ byte. not (contains (members_of cset) byte))
+complemented cset other is =
+    members_are other (λ byte. not (contains (members_of cset) byte)) (λ byte below. is.is byte below ∙ ap not (sym (member_is cset byte below)))
 
 -- Integers of 64 bits, as they are held
 
@@ -101,8 +106,10 @@ fitting_sum m n = by (fitting (m +ℤ n))
     by None = refl
 
 -- a text that stands at the position
-pub moved : (wanted bytes subject held : List ℕ) (place : ℕ) (t : Bool) (setting : Setting) (outcome : Outcome) → bytes ≡ wanted → held ≡ subject → t ≡ stands bytes held place (length held + 1) → t ≡ true
-    → tabs_to (place + length bytes) setting ≡ outcome → passing (stands wanted subject place (length subject + 1)) (tabs_to (place + length wanted)) setting ≡ outcome
+pub moved : (wanted bytes subject held : List ℕ) (place : ℕ) (t : Bool) (setting : Setting) (outcome : Outcome) → bytes ≡ wanted → held ≡ subject
+    → t ≡ stands bytes held place (length held + 1) → t ≡ true
+    → tabs_to (place + length bytes) setting ≡ outcome
+    → passing (stands wanted subject place (length subject + 1)) (tabs_to (place + length wanted)) setting ≡ outcome
 moved wanted bytes subject held place t setting outcome same same' found met is =
     let stands_so : stands wanted subject place (length subject + 1) ≡ true =
     sym (ap (λ x. stands x held place (length held + 1)) same ∙ ap (λ y. stands wanted y place (length y + 1)) same') ∙ (sym found ∙ met) in

@@ -36,9 +36,11 @@ kept_by x h false e = ap (λ b. kept_tree (cond b (Some (x, h)) None)) e
 kept_at : {A : Type 0} (x : A) (h : ℕ) → kept_tree (capped_at x h) ≡ cond (nat_le h 2000) (Some x) None
 kept_at x h = kept_by x h (nat_le h 2000) refl
 
-finish_first : (initial : Initial) → finish_initial (Exact.shown_initial (Capped Tree) (Capped Trees) (Capped Clauses) capped capped_shows initial) ≡ cond (nat_le (initial_height initial) 2000) (Some initial) None
+finish_first : (initial : Initial) → finish_initial (Exact.shown_initial (Capped Tree) (Capped Trees) (Capped Clauses) capped capped_shows initial)
+    ≡ cond (nat_le (initial_height initial) 2000) (Some initial) None
 finish_first NoInitial = refl
-finish_first (Initially place value) = ap (λ v. option_map (Initially place) (kept_tree v)) (shown_tree value) ∙ ap (option_map (Initially place)) (kept_at value (height value)) ∙ within (nat_le (height value) 2000)
+finish_first (Initially place value) = ap (λ v. option_map (Initially place) (kept_tree v)) (shown_tree value)
+    ∙ ap (option_map (Initially place)) (kept_at value (height value)) ∙ within (nat_le (height value) 2000)
   where
     within : (b : Bool) → option_map (Initially place) (cond b (Some value) None) ≡ cond b (Some (Initially place value)) None
     within true = refl
@@ -56,15 +58,28 @@ second_high h k e = lt-leb (max h k) 2000 (omega (arith, leb-false k 2000 e))
 
 by_heights : (p : Procedure) (a b : Bool) → nat_le (initial_height p.initial) 2000 ≡ a → nat_le (highest p.body) 2000 ≡ b
     → (over : CappedProcedure) → over.name ≡ p.name → finish_procedure over (Some p.initial) (Some p.body) ≡ IsKept (ProcedureOf p)
-    → finish_procedure over (cond a (Some p.initial) None) (cond b (Some p.body) None) ≡ cond (nat_le (procedure_height p) 2000) (IsKept (ProcedureOf p)) (IsTooHigh p.name.place)
-by_heights p true true e f over n h = h ∙ ap (λ c. cond c (IsKept (ProcedureOf p)) (IsTooHigh p.name.place)) (sym (both_low (initial_height p.initial) (highest p.body) e f))
-by_heights p true false e f over n h = ap (λ (name : Name). IsTooHigh name.place) n ∙ ap (λ c. cond c (IsKept (ProcedureOf p)) (IsTooHigh p.name.place)) (sym (second_high (initial_height p.initial) (highest p.body) f))
-by_heights p false true e f over n h = ap (λ (name : Name). IsTooHigh name.place) n ∙ ap (λ c. cond c (IsKept (ProcedureOf p)) (IsTooHigh p.name.place)) (sym (first_high (initial_height p.initial) (highest p.body) e))
-by_heights p false false e f over n h = ap (λ (name : Name). IsTooHigh name.place) n ∙ ap (λ c. cond c (IsKept (ProcedureOf p)) (IsTooHigh p.name.place)) (sym (first_high (initial_height p.initial) (highest p.body) e))
+    → finish_procedure over (cond a (Some p.initial) None) (cond b (Some p.body) None)
+    ≡ cond (nat_le (procedure_height p) 2000) (IsKept (ProcedureOf p)) (IsTooHigh p.name.place)
+by_heights p true true e f over n h =
+    h ∙ ap (λ c. cond c (IsKept (ProcedureOf p)) (IsTooHigh p.name.place)) (sym (both_low (initial_height p.initial) (highest p.body) e f))
+by_heights p true false e f over n h = ap (λ (name : Name). IsTooHigh name.place) n
+    ∙ ap (λ c. cond c (IsKept (ProcedureOf p)) (IsTooHigh p.name.place)) (sym (second_high (initial_height p.initial) (highest p.body) f))
+by_heights p false true e f over n h = ap (λ (name : Name). IsTooHigh name.place) n
+    ∙ ap (λ c. cond c (IsKept (ProcedureOf p)) (IsTooHigh p.name.place)) (sym (first_high (initial_height p.initial) (highest p.body) e))
+by_heights p false false e f over n h = ap (λ (name : Name). IsTooHigh name.place) n
+    ∙ ap (λ c. cond c (IsKept (ProcedureOf p)) (IsTooHigh p.name.place)) (sym (first_high (initial_height p.initial) (highest p.body) e))
 
 finish_shown : (p : Procedure) → finish (shown (ProcedureOf p)) ≡ cond (nat_le (procedure_height p) 2000) (IsKept (ProcedureOf p)) (IsTooHigh p.name.place)
 finish_shown p =
-    let over : CappedProcedure = record { place = p.place; name = p.name; parameters = p.parameters; is_variadic = p.is_variadic; locals = p.locals; initial = Exact.shown_initial (Capped Tree) (Capped Trees) (Capped Clauses) capped capped_shows p.initial; body = capped_shows.trees p.body } in
+    let over : CappedProcedure = record {
+      place = p.place;
+      name = p.name;
+      parameters = p.parameters;
+      is_variadic = p.is_variadic;
+      locals = p.locals;
+      initial = Exact.shown_initial (Capped Tree) (Capped Trees) (Capped Clauses) capped capped_shows p.initial;
+      body = capped_shows.trees p.body;
+    } in
     ap (λ i. finish_procedure over i (kept_tree (capped_shows.trees p.body))) (finish_first p.initial)
     ∙ ap (λ b. finish_procedure over (cond (nat_le (initial_height p.initial) 2000) (Some p.initial) None) (kept_tree b)) (shown_trees p.body)
     ∙ ap (finish_procedure over (cond (nat_le (initial_height p.initial) 2000) (Some p.initial) None)) (kept_at p.body (highest p.body))
@@ -80,13 +95,17 @@ pub record Gathers (done file : List Declaration) (all : Option Place × List De
   pub high : all.0 ≡ first_too_high file
   pub tree : first_too_high file ≡ None → all.1 ≡ done ++ file
 
-gathers_more : (done : List Declaration) (declaration : Declaration) (others : List Declaration) → first_too_high (declaration ∷ others) ≡ first_too_high others → Gathers (done ++ declaration ∷ []) others (kept_declarations None (done ++ declaration ∷ []) (map shown others)) → Gathers done (declaration ∷ others) (kept_declarations None (done ++ declaration ∷ []) (map shown others))
+gathers_more : (done : List Declaration) (declaration : Declaration) (others : List Declaration) → first_too_high (declaration ∷ others) ≡ first_too_high others
+    → Gathers (done ++ declaration ∷ []) others (kept_declarations None (done ++ declaration ∷ []) (map shown others))
+    → Gathers done (declaration ∷ others) (kept_declarations None (done ++ declaration ∷ []) (map shown others))
 gathers_more done declaration others first g = record {
   high = g.high ∙ sym first;
   tree = λ n. g.tree (sym first ∙ n) ∙ append_assoc done (declaration ∷ []) others;
 }
 
-gathers_procedure : (done : List Declaration) (p : Procedure) (others : List Declaration) (b : Bool) → nat_le (procedure_height p) 2000 ≡ b → Gathers (done ++ ProcedureOf p ∷ []) others (kept_declarations None (done ++ ProcedureOf p ∷ []) (map shown others)) → Gathers done (ProcedureOf p ∷ others) (kept_declarations None done (map shown (ProcedureOf p ∷ others)))
+gathers_procedure : (done : List Declaration) (p : Procedure) (others : List Declaration) (b : Bool) → nat_le (procedure_height p) 2000 ≡ b
+    → Gathers (done ++ ProcedureOf p ∷ []) others (kept_declarations None (done ++ ProcedureOf p ∷ []) (map shown others))
+    → Gathers done (ProcedureOf p ∷ others) (kept_declarations None done (map shown (ProcedureOf p ∷ others)))
 gathers_procedure done p others true e g =
     let f : finish (shown (ProcedureOf p)) ≡ IsKept (ProcedureOf p) = finish_shown p ∙ ap (λ c. cond c (IsKept (ProcedureOf p)) (IsTooHigh p.name.place)) e in
     let same = ap (λ x. kept_declarations (high_with None x) (done_with done x) (map shown others)) f in
@@ -99,7 +118,8 @@ gathers_procedure done p others false e g =
     let f : finish (shown (ProcedureOf p)) ≡ IsTooHigh p.name.place = finish_shown p ∙ ap (λ c. cond c (IsKept (ProcedureOf p)) (IsTooHigh p.name.place)) e in
     let first : first_too_high (ProcedureOf p ∷ others) ≡ Some p.name.place = ap (λ c. cond c (first_too_high others) (Some p.name.place)) e in
     record {
-      high = ap (λ x. (kept_declarations (high_with None x) (done_with done x) (map shown others)).0) f ∙ high_stays p.name.place done (map shown others) ∙ sym first;
+      high = ap (λ x. (kept_declarations (high_with None x) (done_with done x) (map shown others)).0) f ∙ high_stays p.name.place done (map shown others)
+          ∙ sym first;
       tree = λ n. absurd (none-some p.name.place (sym n ∙ first));
     }
 
@@ -109,7 +129,8 @@ gathers done (ProcedureOf p ∷ others) = gathers_procedure done p others (nat_l
 gathers done (Global place names ∷ others) = gathers_more done (Global place names) others refl (gathers (done ++ Global place names ∷ []) others)
 gathers done (Link place items ∷ others) = gathers_more done (Link place items) others refl (gathers (done ++ Link place items ∷ []) others)
 gathers done (Invocable place items ∷ others) = gathers_more done (Invocable place items) others refl (gathers (done ++ Invocable place items ∷ []) others)
-gathers done (Record place name fields ∷ others) = gathers_more done (Record place name fields) others refl (gathers (done ++ Record place name fields ∷ []) others)
+gathers done (Record place name fields ∷ others) =
+    gathers_more done (Record place name fields) others refl (gathers (done ++ Record place name fields ∷ []) others)
 
 -- the tree of the tokens, behind what was read
 pub record IsRead (tokens : List Token) (all : Option Place × List Declaration) : Type 0 where
@@ -117,14 +138,17 @@ pub record IsRead (tokens : List Token) (all : Option Place × List Declaration)
   pub is : IsTreeOf file tokens
   pub gathers : Gathers [] file all
 
-pub read_sound : (tokens : List Token) (n : ℕ) (all : Option Place × List Declaration) → option_map (kept_declarations None []) (file_read capped n tokens) ≡ Some all → IsRead tokens all
+pub read_sound : (tokens : List Token) (n : ℕ) (all : Option Place × List Declaration)
+    → option_map (kept_declarations None []) (file_read capped n tokens) ≡ Some all → IsRead tokens all
 read_sound tokens n all e = by_read (file_read capped n tokens) refl e
   where
-    by_read : (read : Option (List CappedDeclaration)) → file_read capped n tokens ≡ read → option_map (kept_declarations None []) read ≡ Some all → IsRead tokens all
+    by_read : (read : Option (List CappedDeclaration)) → file_read capped n tokens ≡ read → option_map (kept_declarations None []) read ≡ Some all
+        → IsRead tokens all
     by_read None r e = absurd (none-some all e)
     by_read (Some found) r e =
         let s = Exact.file_sound (Capped Tree) (Capped Trees) (Capped Clauses) capped capped_shows tokens n found r in
-        let same : kept_declarations None [] (map shown s.0) ≡ all = ap (kept_declarations None []) (sym s.2) ∙ same_Some (kept_declarations None [] found) all e in
+        let same : kept_declarations None [] (map shown s.0) ≡ all = ap (kept_declarations None []) (sym s.2)
+        ∙ same_Some (kept_declarations None [] found) all e in
         record { file = s.0; is = s.1; gathers = subst (Gathers [] s.0) same (gathers [] s.0) }
 
 pub nothing_read : (tokens : List Token) → file_read capped (length tokens) tokens ≡ None → HasTree tokens → ⊥
@@ -132,14 +156,16 @@ nothing_read tokens e h =
     none-some _ (sym e ∙ Exact.file_found (Capped Tree) (Capped Trees) (Capped Clauses) capped capped_shows h.0 tokens (length tokens) (omega arith) h.1)
 
 -- no tree is too high
-pub low_tree : (tokens : List Token) (n : ℕ) (decls : List Declaration) → option_map (kept_declarations None []) (file_read capped n tokens) ≡ Some (None, decls) → IsLowTree tokens decls
+pub low_tree : (tokens : List Token) (n : ℕ) (decls : List Declaration)
+    → option_map (kept_declarations None []) (file_read capped n tokens) ≡ Some (None, decls) → IsLowTree tokens decls
 low_tree tokens n decls e =
     let r = read_sound tokens n (None, decls) e in
     let none : first_too_high r.file ≡ None = sym r.gathers.high in
     let same : decls ≡ r.file = r.gathers.tree none in
     subst (IsLowTree tokens) (sym same) (r.is, none)
 
-pub high_tree : (tokens : List Token) (n : ℕ) (place : Place) (decls : List Declaration) → option_map (kept_declarations None []) (file_read capped n tokens) ≡ Some (Some place, decls) → IsOutcome tokens (TooHigh place)
+pub high_tree : (tokens : List Token) (n : ℕ) (place : Place) (decls : List Declaration)
+    → option_map (kept_declarations None []) (file_read capped n tokens) ≡ Some (Some place, decls) → IsOutcome tokens (TooHigh place)
 high_tree tokens n place decls e =
     let r = read_sound tokens n (Some place, decls) e in
     too_high r.file place r.is (sym r.gathers.high)
@@ -153,22 +179,26 @@ outcome_by None None file = IsTree file
 abbrev pub outcome_of : List Declaration → Outcome
 outcome_of file = outcome_by (first_too_high file) (first_fault file) file
 
-pub tree_outcome : (tokens : List Token) (file : List Declaration) (outcome : Outcome) → IsTreeOf file tokens → IsOutcome tokens outcome → outcome ≡ outcome_of file
+pub tree_outcome : (tokens : List Token) (file : List Declaration) (outcome : Outcome) → IsTreeOf file tokens → IsOutcome tokens outcome
+    → outcome ≡ outcome_of file
 tree_outcome tokens file _ s (no_program n) = absurd (n (file, s))
 tree_outcome tokens file _ s (too_high f place t h) =
     let same : f ≡ file = one_file f file tokens t s in
     ap (λ p. outcome_by p (first_fault file) file) (sym (sym (ap first_too_high same) ∙ h))
 tree_outcome tokens file _ s (faulty f fault t n h) =
     let same : f ≡ file = one_file f file tokens t s in
-    ap (λ p. outcome_by p (Some fault) file) (sym (sym (ap first_too_high same) ∙ n)) ∙ ap (λ g. outcome_by (first_too_high file) g file) (sym (sym (ap first_fault same) ∙ h))
+    ap (λ p. outcome_by p (Some fault) file) (sym (sym (ap first_too_high same) ∙ n))
+    ∙ ap (λ g. outcome_by (first_too_high file) g file) (sym (sym (ap first_fault same) ∙ h))
 tree_outcome tokens file _ s (is_tree f t n m) =
     let same : f ≡ file = one_file f file tokens t s in
-    ap IsTree same ∙ ap (λ p. outcome_by p None file) (sym (sym (ap first_too_high same) ∙ n)) ∙ ap (λ g. outcome_by (first_too_high file) g file) (sym (sym (ap first_fault same) ∙ m))
+    ap IsTree same ∙ ap (λ p. outcome_by p None file) (sym (sym (ap first_too_high same) ∙ n))
+    ∙ ap (λ g. outcome_by (first_too_high file) g file) (sym (sym (ap first_fault same) ∙ m))
 
 pub is_outcome : (tokens : List Token) (file : List Declaration) → IsTreeOf file tokens → IsOutcome tokens (outcome_of file)
 is_outcome tokens file s = by_place (first_too_high file) (first_fault file) refl refl
   where
-    by_place : (place : Option Place) (fault : Option Fault) → first_too_high file ≡ place → first_fault file ≡ fault → IsOutcome tokens (outcome_by place fault file)
+    by_place : (place : Option Place) (fault : Option Fault) → first_too_high file ≡ place → first_fault file ≡ fault
+        → IsOutcome tokens (outcome_by place fault file)
     by_place (Some place) fault h f = too_high file place s h
     by_place None (Some fault) h f = faulty file fault s h f
     by_place None None h f = is_tree file s h f
@@ -191,7 +221,8 @@ one_outcome tokens _ _ (no_program n) (too_high f place t h) = absurd (n (f, t))
 one_outcome tokens _ _ (no_program n) (faulty f fault t m h) = absurd (n (f, t))
 one_outcome tokens _ _ (no_program n) (is_tree f t m k) = absurd (n (f, t))
 
-pub tree_read : (file : List Declaration) (tokens : List Token) → IsTreeOf file tokens → first_too_high file ≡ None → first_fault file ≡ None → (outcome : Outcome) → IsOutcome tokens outcome → outcome ≡ IsTree file
+pub tree_read : (file : List Declaration) (tokens : List Token) → IsTreeOf file tokens → first_too_high file ≡ None → first_fault file ≡ None
+    → (outcome : Outcome) → IsOutcome tokens outcome → outcome ≡ IsTree file
 tree_read file tokens s n m outcome o = one_outcome tokens outcome (IsTree file) o (is_tree file s n m)
 
 -- the faults of the code
@@ -204,14 +235,17 @@ not_here_differs : ◌≡◌ {A = Stop} NotHere NoMemory → ⊥
 unfolding is_not_here
 not_here_differs e = false≢true (sym (ap is_not_here e))
 
-pub broken_as : (IsIt : Outcome → Type 0) (outcome : Outcome) (rule : Rule) (place : Place) (fault : ParseFault) → fault ≡ Broken rule place.file place.line → broken_by outcome ≡ Some (rule, place) → IsIt outcome → Breaks IsIt fault
+pub broken_as : (IsIt : Outcome → Type 0) (outcome : Outcome) (rule : Rule) (place : Place) (fault : ParseFault) → fault ≡ Broken rule place.file place.line
+    → broken_by outcome ≡ Some (rule, place) → IsIt outcome → Breaks IsIt fault
 broken_as IsIt outcome rule place fault e b o = subst (Breaks IsIt) (sym e) (outcome, o, b)
 
-pub stop_breaks : (tokens : List Token) (stop : Stop) → ReadsNothing (file_read capped (length tokens) tokens) stop → Breaks (IsOutcome tokens) (fault_of_stop stop)
+pub stop_breaks : (tokens : List Token) (stop : Stop) → ReadsNothing (file_read capped (length tokens) tokens) stop
+    → Breaks (IsOutcome tokens) (fault_of_stop stop)
 stop_breaks tokens NotHere (inl e) = absurd (not_here_differs e)
 stop_breaks tokens NotHere (inr e) = (NoProgram, no_program (nothing_read tokens e), refl)
 stop_breaks tokens NoMemory s = tt
 
-pub unfit_breaks : (tokens : List Token) (file : List Declaration) (unfit : Unfit) → IsLowTree tokens file → Some (fault_at unfit) ≡ first_fault file → Breaks (IsOutcome tokens) (fault_of_unfit unfit)
+pub unfit_breaks : (tokens : List Token) (file : List Declaration) (unfit : Unfit) → IsLowTree tokens file → Some (fault_at unfit) ≡ first_fault file
+    → Breaks (IsOutcome tokens) (fault_of_unfit unfit)
 unfit_breaks tokens file (U.UnknownKeyword place) t e = (Faulty (UnknownKeyword place), faulty file (UnknownKeyword place) t.0 t.1 (sym e), refl)
 unfit_breaks tokens file (U.NotInProfile place) t e = (Faulty (NotInProfile place), faulty file (NotInProfile place) t.0 t.1 (sym e), refl)

@@ -15,7 +15,8 @@ use Rattle.icn_parse.proofs.HeadsExact.{semicolon_tests, sign_shorter}
 use Rattle.icn_parse.proofs.BodiesExact.{part_shorter}
 
 -- no expression leaves more than there was
-pub value_shorter : (level : ℕ) (here after : List Token) (value : Capped Tree) → level ≤ 12 → expression_read capped level here ≡ Some (value, after) → length after ≤ length here
+pub value_shorter : (level : ℕ) (here after : List Token) (value : Capped Tree) → level ≤ 12 → expression_read capped level here ≡ Some (value, after)
+    → length after ≤ length here
 value_shorter level here after value h e =
     let p = expression_sound (Capped Tree) (Capped Trees) (Capped Clauses) capped capped_shows level here after value h e in
     part_shorter level p.tree here after p.part
@@ -30,33 +31,48 @@ pub body_begun : (tokens : List Token) → BodySo tokens capped.no_elements toke
 body_begun tokens = record { steps = length tokens; enough = omega arith; is = refl }
 
 -- an expression and its semicolon
-pub body_shorter : (rest middle after : List Token) (value : Capped Tree) → expression_read capped 0 rest ≡ Some (value, middle) → sign_read is_semicolon middle ≡ Some after → length after < length rest
+pub body_shorter : (rest middle after : List Token) (value : Capped Tree) → expression_read capped 0 rest ≡ Some (value, middle)
+    → sign_read is_semicolon middle ≡ Some after → length after < length rest
 body_shorter rest middle after value e s =
-    omega (arith, value_shorter 0 rest middle value (omega arith) e, sign_shorter (PunctuationKind Semicolon) middle after (sign_sound is_semicolon (PunctuationKind Semicolon) semicolon_tests middle after s))
+    omega (
+      arith,
+      value_shorter 0 rest middle value (omega arith) e,
+      sign_shorter (PunctuationKind Semicolon) middle after (sign_sound is_semicolon (PunctuationKind Semicolon) semicolon_tests middle after s),
+    )
 
-pub body_more : (tokens : List Token) (done : Capped Trees) (rest middle after : List Token) (value : Capped Tree) → BodySo tokens done rest → is_end (next rest) ≡ false → expression_read capped 0 rest ≡ Some (value, middle) → sign_read is_semicolon middle ≡ Some after → BodySo tokens (capped.with_element done value) after
+pub body_more : (tokens : List Token) (done : Capped Trees) (rest middle after : List Token) (value : Capped Tree)
+    → BodySo tokens done rest → is_end (next rest) ≡ false → expression_read capped 0 rest ≡ Some (value, middle) → sign_read is_semicolon middle ≡ Some after
+    → BodySo tokens (capped.with_element done value) after
 body_more tokens done rest middle after value so f e s = by_steps so.steps so.enough so.is
   where
-    by_steps : (steps : ℕ) → length rest ≤ steps → body_read capped (suc (length tokens)) capped.no_elements tokens ≡ body_read capped (suc steps) done rest → BodySo tokens (capped.with_element done value) after
+    by_steps : (steps : ℕ) → length rest ≤ steps → body_read capped (suc (length tokens)) capped.no_elements tokens ≡ body_read capped (suc steps) done rest
+        → BodySo tokens (capped.with_element done value) after
     by_steps zero h is = absurd (omega (arith, h, body_shorter rest middle after value e s))
     by_steps (suc steps) h is = record {
       steps = steps;
       enough = omega (arith, h, body_shorter rest middle after value e s);
       is = is ∙ ap (λ b. body_by capped b (body_read capped (suc steps)) done rest) f
-          ∙ ap (λ (o : Option (Capped Tree × List Token)). o >>= λ v. sign_read is_semicolon v.1 >>= λ r. body_read capped (suc steps) (capped.with_element done v.0) r) e
+          ∙ ap (λ (o : Option (Capped Tree × List Token)). o
+          >>= λ v. sign_read is_semicolon v.1 >>= λ r. body_read capped (suc steps) (capped.with_element done v.0) r) e
           ∙ ap (λ (o : Option (List Token)). o >>= λ r. body_read capped (suc steps) (capped.with_element done value) r) s;
     }
 
-pub body_no_value : (tokens : List Token) (done : Capped Trees) (rest : List Token) → BodySo tokens done rest → is_end (next rest) ≡ false → expression_read capped 0 rest ≡ None → body_read capped (suc (length tokens)) capped.no_elements tokens ≡ None
+pub body_no_value : (tokens : List Token) (done : Capped Trees) (rest : List Token) → BodySo tokens done rest → is_end (next rest) ≡ false
+    → expression_read capped 0 rest ≡ None → body_read capped (suc (length tokens)) capped.no_elements tokens ≡ None
 body_no_value tokens done rest so f e =
     so.is ∙ ap (λ b. body_by capped b (body_read capped so.steps) done rest) f
-    ∙ ap (λ (o : Option (Capped Tree × List Token)). o >>= λ v. sign_read is_semicolon v.1 >>= λ r. body_read capped so.steps (capped.with_element done v.0) r) e
+    ∙ ap (λ (o : Option (Capped Tree × List Token)). o >>= λ v. sign_read is_semicolon v.1 >>= λ r. body_read capped so.steps (capped.with_element done v.0) r)
+    e
 
-pub body_no_semicolon : (tokens : List Token) (done : Capped Trees) (rest middle : List Token) (value : Capped Tree) → BodySo tokens done rest → is_end (next rest) ≡ false → expression_read capped 0 rest ≡ Some (value, middle) → sign_read is_semicolon middle ≡ None → body_read capped (suc (length tokens)) capped.no_elements tokens ≡ None
+pub body_no_semicolon : (tokens : List Token) (done : Capped Trees) (rest middle : List Token) (value : Capped Tree) → BodySo tokens done rest
+    → is_end (next rest) ≡ false → expression_read capped 0 rest ≡ Some (value, middle) → sign_read is_semicolon middle ≡ None
+    → body_read capped (suc (length tokens)) capped.no_elements tokens ≡ None
 body_no_semicolon tokens done rest middle value so f e s =
     so.is ∙ ap (λ b. body_by capped b (body_read capped so.steps) done rest) f
-    ∙ ap (λ (o : Option (Capped Tree × List Token)). o >>= λ v. sign_read is_semicolon v.1 >>= λ r. body_read capped so.steps (capped.with_element done v.0) r) e
+    ∙ ap (λ (o : Option (Capped Tree × List Token)). o >>= λ v. sign_read is_semicolon v.1 >>= λ r. body_read capped so.steps (capped.with_element done v.0) r)
+    e
     ∙ ap (λ (o : Option (List Token)). o >>= λ r. body_read capped so.steps (capped.with_element done value) r) s
 
-pub body_end : (tokens : List Token) (done : Capped Trees) (rest : List Token) → BodySo tokens done rest → is_end (next rest) ≡ true → body_read capped (suc (length tokens)) capped.no_elements tokens ≡ Some (done, rest)
+pub body_end : (tokens : List Token) (done : Capped Trees) (rest : List Token) → BodySo tokens done rest → is_end (next rest) ≡ true
+    → body_read capped (suc (length tokens)) capped.no_elements tokens ≡ Some (done, rest)
 body_end tokens done rest so f = so.is ∙ ap (λ b. body_by capped b (body_read capped so.steps) done rest) f

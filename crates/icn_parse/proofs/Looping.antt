@@ -48,17 +48,20 @@ front_is_behind : {A : Type 0} (x : A) (others : Option (List A × List Token)) 
 front_is_behind x None = refl
 front_is_behind x (Some found) = refl
 
-one_some : {A : Type 0} (of : Token → Option A) (token : Token) (tokens after : List Token) (x : A) (y : Option A) → of token ≡ y → ◌>>=◌ {B = A × List Token} y (λ z. Some (z, tokens)) ≡ Some (x, after) → (of token ≡ Some x) × (tokens ≡ after)
+one_some : {A : Type 0} (of : Token → Option A) (token : Token) (tokens after : List Token) (x : A) (y : Option A) → of token ≡ y
+    → ◌>>=◌ {B = A × List Token} y (λ z. Some (z, tokens)) ≡ Some (x, after) → (of token ≡ Some x) × (tokens ≡ after)
 one_some {A} of token tokens after x None f e = absurd (none-some (x, after) e)
 one_some {A} of token tokens after x (Some y) f e =
     let same = same_Some (y, tokens) (x, after) e in
     (f ∙ ap (λ (r : A × List Token). Some r.0) same, ap (λ (r : A × List Token). r.1) same)
 
-one_none : {A : Type 0} (of : Token → Option A) (token : Token) (tokens : List Token) (y : Option A) → of token ≡ y → ◌>>=◌ {B = A × List Token} y (λ z. Some (z, tokens)) ≡ None → of token ≡ None
+one_none : {A : Type 0} (of : Token → Option A) (token : Token) (tokens : List Token) (y : Option A) → of token ≡ y
+    → ◌>>=◌ {B = A × List Token} y (λ z. Some (z, tokens)) ≡ None → of token ≡ None
 one_none of token tokens None f e = f
 one_none of token tokens (Some y) f e = absurd (none-some (y, tokens) (sym e))
 
-begun : {A : Type 0} (of : Token → Option A) (tokens rest : List Token) (x : A) → one_read of tokens ≡ Some (x, rest) → some_read of tokens ≡ behind_all (x ∷ []) (further of rest)
+begun : {A : Type 0} (of : Token → Option A) (tokens rest : List Token) (x : A) → one_read of tokens ≡ Some (x, rest)
+    → some_read of tokens ≡ behind_all (x ∷ []) (further of rest)
 begun of [] rest x e = absurd (none-some (x, rest) e)
 begun of (token ∷ tokens) rest x e =
     let o = one_some of token tokens rest x (of token) refl e in
@@ -68,17 +71,21 @@ not_begun : {A : Type 0} (of : Token → Option A) (tokens : List Token) → one
 not_begun of [] e = refl
 not_begun of (token ∷ tokens) e = ap (λ y. in_front y (further of tokens)) (one_none of token tokens (of token) refl e)
 
-one_more : {A : Type 0} (of : Token → Option A) (rest others : List Token) (x : A) → is_comma_next (next rest) ≡ true → one_read of (behind rest) ≡ Some (x, others) → further of rest ≡ behind_all (x ∷ []) (further of others)
+one_more : {A : Type 0} (of : Token → Option A) (rest others : List Token) (x : A) → is_comma_next (next rest) ≡ true
+    → one_read of (behind rest) ≡ Some (x, others) → further of rest ≡ behind_all (x ∷ []) (further of others)
 one_more of [] others x c e = absurd (false≢true c)
 one_more of (token ∷ []) others x c e = absurd (none-some (x, others) e)
 one_more of (token ∷ y ∷ rest) others x c e =
     let o = one_some of y rest others x (of y) refl e in
-    ap (λ b. further_by b (of y) (further of rest) (token ∷ y ∷ rest)) c ∙ ap (λ z. in_front z (further of rest)) o.0 ∙ front_is_behind x (further of rest) ∙ ap (λ t. behind_all (x ∷ []) (further of t)) o.1
+    ap (λ b. further_by b (of y) (further of rest) (token ∷ y ∷ rest)) c ∙ ap (λ z. in_front z (further of rest)) o.0 ∙ front_is_behind x (further of rest)
+    ∙ ap (λ t. behind_all (x ∷ []) (further of t)) o.1
 
-not_more : {A : Type 0} (of : Token → Option A) (rest : List Token) → is_comma_next (next rest) ≡ true → one_read of (behind rest) ≡ None → further of rest ≡ None
+not_more : {A : Type 0} (of : Token → Option A) (rest : List Token) → is_comma_next (next rest) ≡ true → one_read of (behind rest) ≡ None
+    → further of rest ≡ None
 not_more of [] c e = absurd (false≢true c)
 not_more of (token ∷ []) c e = ap (λ b. further_by b None None (token ∷ [])) c
-not_more of (token ∷ y ∷ rest) c e = ap (λ b. further_by b (of y) (further of rest) (token ∷ y ∷ rest)) c ∙ ap (λ z. in_front z (further of rest)) (one_none of y rest (of y) refl e)
+not_more of (token ∷ y ∷ rest) c e =
+    ap (λ b. further_by b (of y) (further of rest) (token ∷ y ∷ rest)) c ∙ ap (λ z. in_front z (further of rest)) (one_none of y rest (of y) refl e)
 
 no_more : {A : Type 0} (of : Token → Option A) (rest : List Token) → is_comma_next (next rest) ≡ false → further of rest ≡ Some ([], rest)
 no_more of [] c = refl
@@ -86,35 +93,47 @@ no_more of (token ∷ []) c = ap (λ b. further_by b None None (token ∷ [])) c
 no_more of (token ∷ y ∷ rest) c = ap (λ b. further_by b (of y) (further of rest) (token ∷ y ∷ rest)) c
 
 -- the loop of names
-pub names_begun : (tokens rest : List Token) (x : Name) → name_read tokens ≡ Some (x, rest) → some_read name_of tokens ≡ behind_all (x ∷ []) (further name_of rest)
+pub names_begun : (tokens rest : List Token) (x : Name) → name_read tokens ≡ Some (x, rest)
+    → some_read name_of tokens ≡ behind_all (x ∷ []) (further name_of rest)
 names_begun tokens rest x e = begun name_of tokens rest x (sym (name_is_one tokens) ∙ e)
 
 pub names_not_begun : (tokens : List Token) → name_read tokens ≡ None → some_read name_of tokens ≡ None
 names_not_begun tokens e = not_begun name_of tokens (sym (name_is_one tokens) ∙ e)
 
-pub names_more : (whole : Option (List Name × List Token)) (done : List Name) (rest others : List Token) (x : Name) → whole ≡ behind_all done (further name_of rest) → is_comma_next (next rest) ≡ true → name_read (behind rest) ≡ Some (x, others) → whole ≡ behind_all (done ++ x ∷ []) (further name_of others)
-names_more whole done rest others x so c e = so ∙ ap (behind_all done) (one_more name_of rest others x c (sym (name_is_one (behind rest)) ∙ e)) ∙ behind_both done (x ∷ []) (further name_of others)
+pub names_more : (whole : Option (List Name × List Token)) (done : List Name) (rest others : List Token) (x : Name)
+    → whole ≡ behind_all done (further name_of rest) → is_comma_next (next rest) ≡ true → name_read (behind rest) ≡ Some (x, others)
+    → whole ≡ behind_all (done ++ x ∷ []) (further name_of others)
+names_more whole done rest others x so c e =
+    so ∙ ap (behind_all done) (one_more name_of rest others x c (sym (name_is_one (behind rest)) ∙ e)) ∙ behind_both done (x ∷ []) (further name_of others)
 
-pub names_not_more : (whole : Option (List Name × List Token)) (done : List Name) (rest : List Token) → whole ≡ behind_all done (further name_of rest) → is_comma_next (next rest) ≡ true → name_read (behind rest) ≡ None → whole ≡ None
+pub names_not_more : (whole : Option (List Name × List Token)) (done : List Name) (rest : List Token) → whole ≡ behind_all done (further name_of rest)
+    → is_comma_next (next rest) ≡ true → name_read (behind rest) ≡ None → whole ≡ None
 names_not_more whole done rest so c e = so ∙ ap (behind_all done) (not_more name_of rest c (sym (name_is_one (behind rest)) ∙ e))
 
-pub names_end : (whole : Option (List Name × List Token)) (done : List Name) (rest : List Token) → whole ≡ behind_all done (further name_of rest) → is_comma_next (next rest) ≡ false → whole ≡ Some (done, rest)
+pub names_end : (whole : Option (List Name × List Token)) (done : List Name) (rest : List Token) → whole ≡ behind_all done (further name_of rest)
+    → is_comma_next (next rest) ≡ false → whole ≡ Some (done, rest)
 names_end whole done rest so c = so ∙ ap (behind_all done) (no_more name_of rest c) ∙ behind_end done rest
 
 -- the loop of items
-pub items_begun : (tokens rest : List Token) (x : Item) → item_read tokens ≡ Some (x, rest) → some_read item_of tokens ≡ behind_all (x ∷ []) (further item_of rest)
+pub items_begun : (tokens rest : List Token) (x : Item) → item_read tokens ≡ Some (x, rest)
+    → some_read item_of tokens ≡ behind_all (x ∷ []) (further item_of rest)
 items_begun tokens rest x e = begun item_of tokens rest x (sym (item_is_one tokens) ∙ e)
 
 pub items_not_begun : (tokens : List Token) → item_read tokens ≡ None → some_read item_of tokens ≡ None
 items_not_begun tokens e = not_begun item_of tokens (sym (item_is_one tokens) ∙ e)
 
-pub items_more : (whole : Option (List Item × List Token)) (done : List Item) (rest others : List Token) (x : Item) → whole ≡ behind_all done (further item_of rest) → is_comma_next (next rest) ≡ true → item_read (behind rest) ≡ Some (x, others) → whole ≡ behind_all (done ++ x ∷ []) (further item_of others)
-items_more whole done rest others x so c e = so ∙ ap (behind_all done) (one_more item_of rest others x c (sym (item_is_one (behind rest)) ∙ e)) ∙ behind_both done (x ∷ []) (further item_of others)
+pub items_more : (whole : Option (List Item × List Token)) (done : List Item) (rest others : List Token) (x : Item)
+    → whole ≡ behind_all done (further item_of rest) → is_comma_next (next rest) ≡ true → item_read (behind rest) ≡ Some (x, others)
+    → whole ≡ behind_all (done ++ x ∷ []) (further item_of others)
+items_more whole done rest others x so c e =
+    so ∙ ap (behind_all done) (one_more item_of rest others x c (sym (item_is_one (behind rest)) ∙ e)) ∙ behind_both done (x ∷ []) (further item_of others)
 
-pub items_not_more : (whole : Option (List Item × List Token)) (done : List Item) (rest : List Token) → whole ≡ behind_all done (further item_of rest) → is_comma_next (next rest) ≡ true → item_read (behind rest) ≡ None → whole ≡ None
+pub items_not_more : (whole : Option (List Item × List Token)) (done : List Item) (rest : List Token) → whole ≡ behind_all done (further item_of rest)
+    → is_comma_next (next rest) ≡ true → item_read (behind rest) ≡ None → whole ≡ None
 items_not_more whole done rest so c e = so ∙ ap (behind_all done) (not_more item_of rest c (sym (item_is_one (behind rest)) ∙ e))
 
-pub items_end : (whole : Option (List Item × List Token)) (done : List Item) (rest : List Token) → whole ≡ behind_all done (further item_of rest) → is_comma_next (next rest) ≡ false → whole ≡ Some (done, rest)
+pub items_end : (whole : Option (List Item × List Token)) (done : List Item) (rest : List Token) → whole ≡ behind_all done (further item_of rest)
+    → is_comma_next (next rest) ≡ false → whole ≡ Some (done, rest)
 items_end whole done rest so c = so ∙ ap (behind_all done) (no_more item_of rest c) ∙ behind_end done rest
 
 -- a sign is a token, so that less is left behind it
@@ -140,9 +159,16 @@ pub locals_shorter : (kind : LocalKind) (rest others : List Token) (l : Locals) 
 locals_shorter kind rest others l e =
     let n = bind_some (some_read name_of (behind rest)) _ (l, others) e in
     let s = bind_some (sign_read is_semicolon n.0.1) _ (l, others) n.2 in
-    let same : s.0 ≡ others = ap (λ (r : Locals × List Token). r.1) (same_Some (record { place = place_of rest; kind = kind; names = n.0.0 }, s.0) (l, others) s.2) in
+    let same : s.0
+    ≡ others = ap (λ (r : Locals × List Token). r.1) (same_Some (record { place = place_of rest; kind = kind; names = n.0.0 }, s.0) (l, others) s.2) in
     let f = some_sound name_of _ one_name (behind rest) n.0.0 n.0.1 n.1 in
-    omega (arith, names_shorter n.0.0 (behind rest) n.0.1 f.spelled, sign_shorter (PunctuationKind Semicolon) n.0.1 s.0 (sign_sound is_semicolon (PunctuationKind Semicolon) semicolon_tests n.0.1 s.0 s.1), ap length same, behind_shorter rest)
+    omega (
+      arith,
+      names_shorter n.0.0 (behind rest) n.0.1 f.spelled,
+      sign_shorter (PunctuationKind Semicolon) n.0.1 s.0 (sign_sound is_semicolon (PunctuationKind Semicolon) semicolon_tests n.0.1 s.0 s.1),
+      ap length same,
+      behind_shorter rest,
+    )
   where
     behind_shorter : (tokens : List Token) → length (behind tokens) ≤ length tokens
     behind_shorter [] = omega arith
@@ -152,42 +178,58 @@ with_others : (l : Locals) (others : Option (List Locals × List Token)) → (ot
 with_others l None = refl
 with_others l (Some found) = refl
 
-locals_step : (kind : LocalKind) (reads : List Token → Option (List Locals × List Token)) (rest others : List Token) (l : Locals) → locals_one kind rest ≡ Some (l, others) → locals_by (Some kind) reads rest ≡ behind_all (l ∷ []) (reads others)
+locals_step : (kind : LocalKind) (reads : List Token → Option (List Locals × List Token)) (rest others : List Token) (l : Locals)
+    → locals_one kind rest ≡ Some (l, others) → locals_by (Some kind) reads rest ≡ behind_all (l ∷ []) (reads others)
 locals_step kind reads rest others l e =
     let n = bind_some (some_read name_of (behind rest)) _ (l, others) e in
     let s = bind_some (sign_read is_semicolon n.0.1) _ (l, others) n.2 in
     let same = same_Some (record { place = place_of rest; kind = kind; names = n.0.0 }, s.0) (l, others) s.2 in
-    ap (λ (o : Option (List Name × List Token)). o >>= λ names. sign_read is_semicolon names.1 >>= λ r. reads r >>= λ found. Some (record { place = place_of rest; kind = kind; names = names.0 } ∷ found.0, found.1)) n.1
-    ∙ ap (λ (o : Option (List Token)). o >>= λ r. reads r >>= λ found. Some (record { place = place_of rest; kind = kind; names = n.0.0 } ∷ found.0, found.1)) s.1
+    ap (λ (o : Option (List Name × List Token)). o >>= λ names. sign_read is_semicolon names.1
+    >>= λ r. reads r >>= λ found. Some (record { place = place_of rest; kind = kind; names = names.0 } ∷ found.0, found.1)) n.1
+    ∙ ap (λ (o : Option (List Token)). o >>= λ r. reads r >>= λ found. Some (record { place = place_of rest; kind = kind; names = n.0.0 } ∷ found.0, found.1))
+    s.1
     ∙ ap (λ (r : Locals × List Token). reads r.1 >>= λ found. Some (r.0 ∷ found.0, found.1)) same
     ∙ with_others l (reads others)
 
-locals_not_step : (kind : LocalKind) (reads : List Token → Option (List Locals × List Token)) (rest : List Token) → locals_one kind rest ≡ None → locals_by (Some kind) reads rest ≡ None
+locals_not_step : (kind : LocalKind) (reads : List Token → Option (List Locals × List Token)) (rest : List Token) → locals_one kind rest ≡ None
+    → locals_by (Some kind) reads rest ≡ None
 locals_not_step kind reads rest e = by_names (some_read name_of (behind rest)) e
   where
-    by_sign : (names : List Name) (s : Option (List Token)) → ◌≡◌ {A = Option (Locals × List Token)} (s >>= λ r. Some (record { place = place_of rest; kind = kind; names = names }, r)) None → ◌≡◌ {A = Option (List Locals × List Token)} (s >>= λ r. reads r >>= λ found. Some (record { place = place_of rest; kind = kind; names = names } ∷ found.0, found.1)) None
+    by_sign : (names : List Name) (s : Option (List Token))
+        → ◌≡◌ {A = Option (Locals × List Token)} (s >>= λ r. Some (record { place = place_of rest; kind = kind; names = names }, r)) None
+        → ◌≡◌ {A = Option (List Locals × List Token)}
+        (s >>= λ r. reads r >>= λ found. Some (record { place = place_of rest; kind = kind; names = names } ∷ found.0, found.1)) None
     by_sign names None e = refl
     by_sign names (Some r) e = absurd (none-some _ (sym e))
 
-    by_names : (o : Option (List Name × List Token)) → ◌≡◌ {A = Option (Locals × List Token)} (o >>= λ names. sign_read is_semicolon names.1 >>= λ r. Some (record { place = place_of rest; kind = kind; names = names.0 }, r)) None → ◌≡◌ {A = Option (List Locals × List Token)} (o >>= λ names. sign_read is_semicolon names.1 >>= λ r. reads r >>= λ found. Some (record { place = place_of rest; kind = kind; names = names.0 } ∷ found.0, found.1)) None
+    by_names : (o : Option (List Name × List Token)) → ◌≡◌ {A = Option (Locals × List Token)}
+        (o >>= λ names. sign_read is_semicolon names.1 >>= λ r. Some (record { place = place_of rest; kind = kind; names = names.0 }, r)) None
+        → ◌≡◌ {A = Option (List Locals × List Token)} (o >>= λ names. sign_read is_semicolon names.1
+        >>= λ r. reads r >>= λ found. Some (record { place = place_of rest; kind = kind; names = names.0 } ∷ found.0, found.1)) None
     by_names None e = refl
     by_names (Some names) e = by_sign names.0 (sign_read is_semicolon names.1) e
 
-pub locals_more : (tokens : List Token) (done : List Locals) (rest others : List Token) (kind : LocalKind) (l : Locals) → LocalsSo tokens done rest → local_kind (next rest) ≡ Some kind → locals_one kind rest ≡ Some (l, others) → LocalsSo tokens (done ++ l ∷ []) others
+pub locals_more : (tokens : List Token) (done : List Locals) (rest others : List Token) (kind : LocalKind) (l : Locals) → LocalsSo tokens done rest
+    → local_kind (next rest) ≡ Some kind → locals_one kind rest ≡ Some (l, others) → LocalsSo tokens (done ++ l ∷ []) others
 locals_more tokens done rest others kind l so k e = by_steps so.steps so.enough so.is
   where
-    by_steps : (steps : ℕ) → length rest ≤ steps → locals_read (suc (length tokens)) tokens ≡ behind_all done (locals_read (suc steps) rest) → LocalsSo tokens (done ++ l ∷ []) others
+    by_steps : (steps : ℕ) → length rest ≤ steps → locals_read (suc (length tokens)) tokens ≡ behind_all done (locals_read (suc steps) rest)
+        → LocalsSo tokens (done ++ l ∷ []) others
     by_steps zero h is = absurd (omega (arith, h, locals_shorter kind rest others l e))
     by_steps (suc steps) h is = record {
       steps = steps;
       enough = omega (arith, h, locals_shorter kind rest others l e);
-      is = is ∙ ap (behind_all done) (ap (λ k. locals_by k (locals_read (suc steps)) rest) k ∙ locals_step kind (locals_read (suc steps)) rest others l e) ∙ behind_both done (l ∷ []) (locals_read (suc steps) others);
+      is = is ∙ ap (behind_all done) (ap (λ k. locals_by k (locals_read (suc steps)) rest) k ∙ locals_step kind (locals_read (suc steps)) rest others l e)
+          ∙ behind_both done (l ∷ []) (locals_read (suc steps) others);
     }
 
-pub locals_not_more : (tokens : List Token) (done : List Locals) (rest : List Token) (kind : LocalKind) → LocalsSo tokens done rest → local_kind (next rest) ≡ Some kind → locals_one kind rest ≡ None → locals_read (suc (length tokens)) tokens ≡ None
-locals_not_more tokens done rest kind so k e = so.is ∙ ap (behind_all done) (ap (λ k. locals_by k (locals_read so.steps) rest) k ∙ locals_not_step kind (locals_read so.steps) rest e)
+pub locals_not_more : (tokens : List Token) (done : List Locals) (rest : List Token) (kind : LocalKind) → LocalsSo tokens done rest
+    → local_kind (next rest) ≡ Some kind → locals_one kind rest ≡ None → locals_read (suc (length tokens)) tokens ≡ None
+locals_not_more tokens done rest kind so k e =
+    so.is ∙ ap (behind_all done) (ap (λ k. locals_by k (locals_read so.steps) rest) k ∙ locals_not_step kind (locals_read so.steps) rest e)
 
-pub locals_end : (tokens : List Token) (done : List Locals) (rest : List Token) → LocalsSo tokens done rest → local_kind (next rest) ≡ None → locals_read (suc (length tokens)) tokens ≡ Some (done, rest)
+pub locals_end : (tokens : List Token) (done : List Locals) (rest : List Token) → LocalsSo tokens done rest → local_kind (next rest) ≡ None
+    → locals_read (suc (length tokens)) tokens ≡ Some (done, rest)
 locals_end tokens done rest so k = so.is ∙ ap (behind_all done) (ap (λ k. locals_by k (locals_read so.steps) rest) k) ∙ behind_end done rest
 
 pub locals_begun : (tokens : List Token) → LocalsSo tokens [] tokens

@@ -29,8 +29,10 @@ pub record One {A : Type 0} (of : Token → Option A) (spells : A → Phrase) : 
   pub reads : (x : A) (here after : List Token) → spells x here after → (token : Token) × (here ≡ token ∷ after) × (of token ≡ Some x)
   pub sound : (x : A) (token : Token) (after : List Token) → of token ≡ Some x → spells x (token ∷ after) after
 
-name_sound : (name : Name) (kind : Kind) (place : Place) (after : List Token) → name_at kind place ≡ Some name → identifier name (token_at place kind ∷ after) after
-name_sound name (IdentifierKind text) place after e = subst (λ n. identifier n (token_at place (IdentifierKind text) ∷ after) after) (same_Some (record { text = text; place = place }) name e) refl
+name_sound : (name : Name) (kind : Kind) (place : Place) (after : List Token) → name_at kind place ≡ Some name
+    → identifier name (token_at place kind ∷ after) after
+name_sound name (IdentifierKind text) place after e =
+    subst (λ n. identifier n (token_at place (IdentifierKind text) ∷ after) after) (same_Some (record { text = text; place = place }) name e) refl
 name_sound name _ place after e = absurd (none-some name e)
 
 pub one_name : One name_of identifier
@@ -43,9 +45,12 @@ item_reads : (item : Item) (here after : List Token) → SpellsItem item here af
 item_reads (Items.Identifier name) here after s = (token_at name.place (IdentifierKind name.text), s, refl)
 item_reads (Items.Text name) here after s = (token_at name.place (TextKind name.text), s, refl)
 
-item_sound : (item : Item) (kind : Kind) (place : Place) (after : List Token) → item_at kind place ≡ Some item → SpellsItem item (token_at place kind ∷ after) after
-item_sound item (IdentifierKind text) place after e = subst (λ i. SpellsItem i (token_at place (IdentifierKind text) ∷ after) after) (same_Some (Items.Identifier (record { text = text; place = place })) item e) refl
-item_sound item (TextKind text) place after e = subst (λ i. SpellsItem i (token_at place (TextKind text) ∷ after) after) (same_Some (Items.Text (record { text = text; place = place })) item e) refl
+item_sound : (item : Item) (kind : Kind) (place : Place) (after : List Token) → item_at kind place ≡ Some item
+    → SpellsItem item (token_at place kind ∷ after) after
+item_sound item (IdentifierKind text) place after e = subst (λ i. SpellsItem i (token_at place (IdentifierKind text) ∷ after) after)
+    (same_Some (Items.Identifier (record { text = text; place = place })) item e) refl
+item_sound item (TextKind text) place after e =
+    subst (λ i. SpellsItem i (token_at place (TextKind text) ∷ after) after) (same_Some (Items.Text (record { text = text; place = place })) item e) refl
 item_sound item _ place after e = absurd (none-some item e)
 
 pub one_item : One item_of SpellsItem
@@ -65,7 +70,8 @@ further_stops of [] e = refl
 further_stops of (token ∷ []) e = ap (λ b. further_by b None None (token ∷ [])) e
 further_stops of (token ∷ x ∷ rest) e = ap (λ b. further_by b (of x) (further of rest) (token ∷ x ∷ rest)) e
 
-further_found : {A : Type 0} (of : Token → Option A) (spells : A → Phrase) → One of spells → (xs : List A) (here after : List Token) → MoreWithCommas spells xs here after → is_comma_next (next after) ≡ false → further of here ≡ Some (xs, after)
+further_found : {A : Type 0} (of : Token → Option A) (spells : A → Phrase) → One of spells → (xs : List A) (here after : List Token)
+    → MoreWithCommas spells xs here after → is_comma_next (next after) ≡ false → further of here ≡ Some (xs, after)
 further_found of spells one [] here after s e = ap (further of) s ∙ further_stops of after e
 further_found of spells one (x ∷ xs) here after s e =
     let o = one.reads x s.0 s.2.0 s.2.1 in
@@ -73,7 +79,8 @@ further_found of spells one (x ∷ xs) here after s e =
     ∙ ap (λ y. in_front y (further of s.2.0)) o.2
     ∙ ap (in_front (Some x)) (further_found of spells one xs s.2.0 after s.2.2 e)
 
-pub some_found : {A : Type 0} (of : Token → Option A) (spells : A → Phrase) → One of spells → (xs : List A) (here after : List Token) → WithCommas spells xs here after → is_comma_next (next after) ≡ false → some_read of here ≡ Some (xs, after)
+pub some_found : {A : Type 0} (of : Token → Option A) (spells : A → Phrase) → One of spells → (xs : List A) (here after : List Token)
+    → WithCommas spells xs here after → is_comma_next (next after) ≡ false → some_read of here ≡ Some (xs, after)
 some_found of spells one [] here after s e = absurd s
 some_found of spells one (x ∷ xs) here after s e =
     let o = one.reads x here s.0 s.1 in
@@ -91,12 +98,15 @@ comma_token token e tokens = comma_at token.kind (record { line = token.line; fi
     comma_at (PunctuationKind Comma) place e tokens = (place, refl)
     comma_at _ place e tokens = absurd (false≢true e)
 
-same_further : {A : Type 0} (spells : List A → Phrase) (here : List Token) (xs ys : List A) (after rest : List Token) → ◌≡◌ {A = List A × List Token} (xs, after) (ys, rest) → Further spells xs here after → Further spells ys here rest
+same_further : {A : Type 0} (spells : List A → Phrase) (here : List Token) (xs ys : List A) (after rest : List Token)
+    → ◌≡◌ {A = List A × List Token} (xs, after) (ys, rest) → Further spells xs here after → Further spells ys here rest
 same_further {A} spells here xs ys after rest e f = subst (λ (r : List A × List Token). Further spells r.0 here r.1) e f
 
-further_step : {A : Type 0} (of : Token → Option A) (spells : A → Phrase) → One of spells → (comma : Bool) (token x : Token) (rest : List Token) (y : Option A) (others : Option (List A × List Token)) → is_comma token.kind ≡ comma → of x ≡ y
+further_step : {A : Type 0} (of : Token → Option A) (spells : A → Phrase) → One of spells
+    → (comma : Bool) (token x : Token) (rest : List Token) (y : Option A) (others : Option (List A × List Token)) → is_comma token.kind ≡ comma → of x ≡ y
     → ((ys : List A) (r : List Token) → others ≡ Some (ys, r) → Further (MoreWithCommas spells) ys rest r)
-    → (xs : List A) (after : List Token) → further_by comma y others (token ∷ x ∷ rest) ≡ Some (xs, after) → Further (MoreWithCommas spells) xs (token ∷ x ∷ rest) after
+    → (xs : List A) (after : List Token) → further_by comma y others (token ∷ x ∷ rest) ≡ Some (xs, after)
+    → Further (MoreWithCommas spells) xs (token ∷ x ∷ rest) after
 further_step of spells one true token x rest None others c o f xs after e = absurd (none-some (xs, after) e)
 further_step of spells one true token x rest (Some y) None c o f xs after e = absurd (none-some (xs, after) e)
 further_step of spells one true token x rest (Some y) (Some found) c o f xs after e =
@@ -104,25 +114,35 @@ further_step of spells one true token x rest (Some y) (Some found) c o f xs afte
     same_further (MoreWithCommas spells) (token ∷ x ∷ rest) (y ∷ found.0) xs found.1 after (same_Some (y ∷ found.0, found.1) (xs, after) e)
     (record { spelled = (x ∷ rest, comma_token token c (x ∷ rest), (rest, one.sound y x rest o, g.spelled)); stops = g.stops })
 further_step of spells one false token x rest y others c o f xs after e =
-    same_further (MoreWithCommas spells) (token ∷ x ∷ rest) [] xs (token ∷ x ∷ rest) after (same_Some ([], token ∷ x ∷ rest) (xs, after) e) (record { spelled = refl; stops = c })
+    same_further (MoreWithCommas spells) (token ∷ x ∷ rest) [] xs (token ∷ x ∷ rest) after (same_Some ([], token ∷ x ∷ rest) (xs, after) e)
+    (record { spelled = refl; stops = c })
 
-last_step : {A : Type 0} (spells : A → Phrase) (comma : Bool) (token : Token) → is_comma token.kind ≡ comma → (xs : List A) (after : List Token) → further_by comma None None (token ∷ []) ≡ Some (xs, after) → Further (MoreWithCommas spells) xs (token ∷ []) after
+last_step : {A : Type 0} (spells : A → Phrase) (comma : Bool) (token : Token) → is_comma token.kind ≡ comma → (xs : List A) (after : List Token)
+    → further_by comma None None (token ∷ []) ≡ Some (xs, after) → Further (MoreWithCommas spells) xs (token ∷ []) after
 last_step spells true token c xs after e = absurd (none-some (xs, after) e)
-last_step spells false token c xs after e = same_further (MoreWithCommas spells) (token ∷ []) [] xs (token ∷ []) after (same_Some ([], token ∷ []) (xs, after) e) (record { spelled = refl; stops = c })
+last_step spells false token c xs after e =
+    same_further (MoreWithCommas spells) (token ∷ []) [] xs (token ∷ []) after (same_Some ([], token ∷ []) (xs, after) e) (record { spelled = refl; stops = c })
 
-further_sound : {A : Type 0} (of : Token → Option A) (spells : A → Phrase) → One of spells → (here : List Token) (xs : List A) (after : List Token) → further of here ≡ Some (xs, after) → Further (MoreWithCommas spells) xs here after
-further_sound of spells one [] xs after e = same_further (MoreWithCommas spells) [] [] xs [] after (same_Some ([], []) (xs, after) e) (record { spelled = refl; stops = refl })
+further_sound : {A : Type 0} (of : Token → Option A) (spells : A → Phrase) → One of spells → (here : List Token) (xs : List A) (after : List Token)
+    → further of here ≡ Some (xs, after) → Further (MoreWithCommas spells) xs here after
+further_sound of spells one [] xs after e =
+    same_further (MoreWithCommas spells) [] [] xs [] after (same_Some ([], []) (xs, after) e) (record { spelled = refl; stops = refl })
 further_sound of spells one (token ∷ []) xs after e = last_step spells (is_comma token.kind) token refl xs after e
-further_sound of spells one (token ∷ x ∷ rest) xs after e = further_step of spells one (is_comma token.kind) token x rest (of x) (further of rest) refl refl (further_sound of spells one rest) xs after e
+further_sound of spells one (token ∷ x ∷ rest) xs after e =
+    further_step of spells one (is_comma token.kind) token x rest (of x) (further of rest) refl refl (further_sound of spells one rest) xs after e
 
-some_step : {A : Type 0} (of : Token → Option A) (spells : A → Phrase) → One of spells → (token : Token) (tokens : List Token) (y : Option A) (others : Option (List A × List Token)) → of token ≡ y → further of tokens ≡ others → (xs : List A) (after : List Token) → in_front y others ≡ Some (xs, after) → Further (WithCommas spells) xs (token ∷ tokens) after
+some_step : {A : Type 0} (of : Token → Option A) (spells : A → Phrase)
+    → One of spells → (token : Token) (tokens : List Token) (y : Option A) (others : Option (List A × List Token)) → of token ≡ y → further of tokens ≡ others
+    → (xs : List A) (after : List Token) → in_front y others ≡ Some (xs, after) → Further (WithCommas spells) xs (token ∷ tokens) after
 some_step of spells one token tokens None others o f xs after e = absurd (none-some (xs, after) e)
 some_step of spells one token tokens (Some y) None o f xs after e = absurd (none-some (xs, after) e)
 some_step of spells one token tokens (Some y) (Some found) o f xs after e =
     let g = further_sound of spells one tokens found.0 found.1 f in
-    same_further (WithCommas spells) (token ∷ tokens) (y ∷ found.0) xs found.1 after (same_Some (y ∷ found.0, found.1) (xs, after) e) (record { spelled = (tokens, one.sound y token tokens o, g.spelled); stops = g.stops })
+    same_further (WithCommas spells) (token ∷ tokens) (y ∷ found.0) xs found.1 after (same_Some (y ∷ found.0, found.1) (xs, after) e)
+    (record { spelled = (tokens, one.sound y token tokens o, g.spelled); stops = g.stops })
 
-pub some_sound : {A : Type 0} (of : Token → Option A) (spells : A → Phrase) → One of spells → (here : List Token) (xs : List A) (after : List Token) → some_read of here ≡ Some (xs, after) → Further (WithCommas spells) xs here after
+pub some_sound : {A : Type 0} (of : Token → Option A) (spells : A → Phrase) → One of spells → (here : List Token) (xs : List A) (after : List Token)
+    → some_read of here ≡ Some (xs, after) → Further (WithCommas spells) xs here after
 some_sound of spells one [] xs after e = absurd (none-some (xs, after) e)
 some_sound of spells one (token ∷ tokens) xs after e = some_step of spells one token tokens (of token) (further of tokens) refl refl xs after e
 
@@ -137,7 +157,8 @@ pub record Tests (test : Option Kind → Bool) (kind : Kind) : Type 0 where
   pub alone : (k : Kind) → test (Some k) ≡ true → k ≡ kind
   pub none : test None ≡ false
 
-pub sign_found : (test : Option Kind → Bool) (kind : Kind) → Tests test kind → (here after : List Token) → sign kind here after → sign_read test here ≡ Some after
+pub sign_found : (test : Option Kind → Bool) (kind : Kind) → Tests test kind → (here after : List Token) → sign kind here after
+    → sign_read test here ≡ Some after
 sign_found test kind t here after s =
     ap (λ b. sign_by b here) (ap test (next_sign kind here after s) ∙ t.passes) ∙ ap (λ tokens. Some tokens) (behind_sign kind here after s)
 
@@ -145,11 +166,13 @@ sign_at_next : (test : Option Kind → Bool) (kind : Kind) → Tests test kind �
 sign_at_next test kind t [] e = absurd (false≢true (sym t.none ∙ e))
 sign_at_next test kind t (token ∷ tokens) e = kind_of token tokens kind (t.alone token.kind e)
 
-sign_by_sound : (test : Option Kind → Bool) (kind : Kind) → Tests test kind → (b : Bool) (here after : List Token) → test (next here) ≡ b → sign_by b here ≡ Some after → sign kind here after
+sign_by_sound : (test : Option Kind → Bool) (kind : Kind) → Tests test kind → (b : Bool) (here after : List Token) → test (next here) ≡ b
+    → sign_by b here ≡ Some after → sign kind here after
 sign_by_sound test kind t true here after f e = subst (λ tokens. sign kind here tokens) (same_Some (behind here) after e) (sign_at_next test kind t here f)
 sign_by_sound test kind t false here after f e = absurd (none-some after e)
 
-pub sign_sound : (test : Option Kind → Bool) (kind : Kind) → Tests test kind → (here after : List Token) → sign_read test here ≡ Some after → sign kind here after
+pub sign_sound : (test : Option Kind → Bool) (kind : Kind) → Tests test kind → (here after : List Token) → sign_read test here ≡ Some after
+    → sign kind here after
 sign_sound test kind t here after e = sign_by_sound test kind t (test (next here)) here after refl e
 
 pub no_comma : (kind : Kind) (here after : List Token) → sign kind here after → is_comma kind ≡ false → is_comma_next (next here) ≡ false

@@ -15,7 +15,8 @@ use Rattle.icn_tree.specs.TreeOf.{tree_of, all_of, clause_of, all_clauses_of}
 use Rattle.icn_parse.specs.Outcomes.{keywords, all_keywords, clause_keywords, clauses_keywords, known_keywords, is_known, first_unknown}
 use Rattle.icn_parse.specs.Views.{place_found}
 
-then_by : (t : Bool) (rest later all : Option Place) (place : Place) → None ≡ (if t then rest else Some place) → (None ≡ rest → later ≡ all) → (if t then later else Some place) ≡ all
+then_by : (t : Bool) (rest later all : Option Place) (place : Place) → None ≡ (if t then rest else Some place) → (None ≡ rest → later ≡ all)
+    → (if t then later else Some place) ≡ all
 then_by true rest later all place e h = h e
 then_by false rest later all place e h = absurd (none-some place e)
 
@@ -24,7 +25,8 @@ pub unknown_then : (a b : List Name) → None ≡ first_unknown a → first_unkn
 unknown_then [] b e = refl
 unknown_then (x ∷ a) b e = then_by (is_known x.text) (first_unknown a) (first_unknown (a ++ b)) (first_unknown b) x.place e (unknown_then a b)
 
-kept_by : (t : Bool) (rest later : Option Place) (place p : Place) → Some p ≡ (if t then rest else Some place) → (Some p ≡ rest → later ≡ Some p) → (if t then later else Some place) ≡ Some p
+kept_by : (t : Bool) (rest later : Option Place) (place p : Place) → Some p ≡ (if t then rest else Some place) → (Some p ≡ rest → later ≡ Some p)
+    → (if t then later else Some place) ≡ Some p
 kept_by true rest later place p e h = h e
 kept_by false rest later place p e h = sym e
 
@@ -34,7 +36,8 @@ unknown_kept [] b p e = absurd (none-some p (sym e))
 unknown_kept (x ∷ a) b p e = kept_by (is_known x.text) (first_unknown a) (first_unknown (a ++ b)) x.place p e (unknown_kept a b p)
 
 -- the same where it is passed on
-pub unknown_passed : (a b : List Name) (p : Place) (result : Result (Unit {0}) Place) → IsErrAnd result (λ q. q ≡ p) → Some p ≡ first_unknown a → place_found result ≡ first_unknown (a ++ b)
+pub unknown_passed : (a b : List Name) (p : Place) (result : Result (Unit {0}) Place) → IsErrAnd result (λ q. q ≡ p) → Some p ≡ first_unknown a
+    → place_found result ≡ first_unknown (a ++ b)
 unknown_passed a b p (Ok done) is e = absurd is
 unknown_passed a b p (Err q) is e = ap Some is ∙ sym (unknown_kept a b p e)
 
@@ -63,7 +66,8 @@ or_false : (s t : Bool) → s ≡ false → t ≡ false → (if s then true else
 or_false true t e f = e
 or_false false t e f = f
 
-none_named : (text : List ℕ) → ((any : Keyword) → keyword_name any ≢ text) → (ks : List Keyword) → list_any (λ keyword. bytes_eq text (keyword_name keyword)) ks ≡ false
+none_named : (text : List ℕ) → ((any : Keyword) → keyword_name any ≢ text) → (ks : List Keyword)
+    → list_any (λ keyword. bytes_eq text (keyword_name keyword)) ks ≡ false
 none_named text none [] = refl
 none_named text none (k ∷ ks) = rw (other_name text k (none k), none_named text none ks) refl
 

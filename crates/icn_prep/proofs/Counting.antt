@@ -32,7 +32,8 @@ both_false true b h g = h
 both_false false b h g = g
 
 fewer_by : (same : Bool) (word name : List ℕ) (names : List (List ℕ)) → (same || is_among word names) ≡ true
-    → (is_among word names ≡ true → length names ≡ suc (length (others word names))) → length (name ∷ names) ≡ suc (length (cond same names (name ∷ others word names)))
+    → (is_among word names ≡ true → length names ≡ suc (length (others word names)))
+    → length (name ∷ names) ≡ suc (length (cond same names (name ∷ others word names)))
 fewer_by true word name names h rest = refl
 fewer_by false word name names h rest = ap suc (rest h)
 
@@ -52,7 +53,8 @@ not_among : (word v : List ℕ) (names : List (List ℕ)) → bytes_eq word v �
 not_among word v [] apart h = h
 not_among word v (name ∷ names) apart h = not_among_by (bytes_eq name word) word name v names refl apart h (not_among word v names apart)
 
-covers_by : (same : Bool) (word v : List ℕ) (names : List (List ℕ)) (texts : TextOf) → bytes_eq word v ≡ same → Covers names texts → is_among v (others word names) ≡ false
+covers_by : (same : Bool) (word v : List ℕ) (names : List (List ℕ)) (texts : TextOf) → bytes_eq word v ≡ same → Covers names texts
+    → is_among v (others word names) ≡ false
     → cond same None (texts v) ≡ None
 covers_by true word v names texts e covers h = refl
 covers_by false word v names texts e covers h = covers v (not_among word v names e h)
@@ -61,7 +63,8 @@ covers_others : (word : List ℕ) (names : List (List ℕ)) (texts : TextOf) →
 covers_others word names texts covers v h = covers_by (bytes_eq word v) word v names texts refl covers h
 
 -- a word with a text is among the names
-among_by : (found : Bool) (names : List (List ℕ)) (texts : TextOf) (word text : List ℕ) → is_among word names ≡ found → Covers names texts → texts word ≡ Some text
+among_by : (found : Bool) (names : List (List ℕ)) (texts : TextOf) (word text : List ℕ) → is_among word names ≡ found → Covers names texts
+    → texts word ≡ Some text
     → is_among word names ≡ true
 among_by true names texts word text e covers h = e
 among_by false names texts word text e covers h = absurd (none-some text (sym (covers word e) ∙ h))
@@ -77,7 +80,8 @@ word_same : (n m : ℕ) → Same n m → (names : List (List ℕ)) (texts : Text
 word_same n m same names texts word None e covers a b = refl
 word_same n m same names texts word (Some text) e covers a b =
     let len = fewer word names (among names texts word text covers e) in
-    ap (λ reads. reads Outside text) (same (others word names) (without texts word) (covers_others word names texts covers) (omega (arith, len, a)) (omega (arith, len, b)))
+    ap (λ reads. reads Outside text)
+    (same (others word names) (without texts word) (covers_others word names texts covers) (omega (arith, len, a)) (omega (arith, len, b)))
 
 stands : (n : ℕ) (texts : TextOf) (word : List ℕ) (text : Option (List ℕ)) → text ≡ None → as_it_stands word ≡ word_read (replace_words n) texts word text
 stands n texts word None e = refl
@@ -104,7 +108,8 @@ more_covers texts name text names covers word h =
     let parts = neither (bytes_eq name word) (is_among word names) h in
     ap (λ same. cond same (Some text) (texts word)) parts.0 ∙ covers word parts.1
 
-more_counted : (texts : Texts) (name text : List ℕ) → Counted texts → Counted (let more : Texts = record { count = texts.count + 1; text_of = λ word. cond (bytes_eq name word) (Some text) (texts.text_of word) } in more)
+more_counted : (texts : Texts) (name text : List ℕ) → Counted texts
+    → Counted (let more : Texts = record { count = texts.count + 1; text_of = λ word. cond (bytes_eq name word) (Some text) (texts.text_of word) } in more)
 more_counted texts name text (names, len, covers) =
     (name ∷ names, omega (arith, len), λ word h. more_covers texts.text_of name text names covers word h)
 

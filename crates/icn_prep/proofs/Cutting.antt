@@ -20,7 +20,8 @@ last_byte : (b : ℕ) (rest : List ℕ) (newline return : Bool) → newline ≡ 
 last_byte b rest newline true h = rw h refl
 last_byte b rest newline false h = rw h refl
 
-inner_byte : (b : ℕ) (newline return next : Bool) (lines : List (List ℕ)) (line : List ℕ) (more : List (List ℕ)) → newline ≡ false → next ≡ false → lines ≡ line ∷ more
+inner_byte : (b : ℕ) (newline return next : Bool) (lines : List (List ℕ)) (line : List ℕ) (more : List (List ℕ)) → newline ≡ false → next ≡ false
+    → lines ≡ line ∷ more
     → cond newline ([] ∷ lines) (cond (return && next) lines (put_before b lines)) ≡ (b ∷ line) ∷ more
 inner_byte b newline true next lines line more h g is = rw (h, g, is) refl
 inner_byte b newline false next lines line more h g is = rw (h, is) refl
@@ -32,7 +33,8 @@ line_cut (b ∷ []) rest h = last_byte b rest (eqb b 10) (eqb b 13) (inner_first
 line_cut (b ∷ c ∷ line) rest h =
     let parts = inner_first (eqb b 10) _ h in
     let others = inner_first (eqb c 10) _ parts.1 in
-    inner_byte b (eqb b 10) (eqb b 13) (eqb c 10) (lines_of (c ∷ line ++ 10 ∷ rest)) (without_return (c ∷ line)) (lines_of rest) parts.0 others.0 (line_cut (c ∷ line) rest parts.1)
+    inner_byte b (eqb b 10) (eqb b 13) (eqb c 10) (lines_of (c ∷ line ++ 10 ∷ rest)) (without_return (c ∷ line)) (lines_of rest) parts.0 others.0
+    (line_cut (c ∷ line) rest parts.1)
 
 alone_byte : (b : ℕ) (newline return : Bool) → newline ≡ false → cond newline ([] ∷ []) (cond (return && false) [] ((b ∷ []) ∷ [])) ≡ (b ∷ []) ∷ []
 alone_byte b newline true h = rw h refl
@@ -72,7 +74,8 @@ cut_none_by (b ∷ rest) l h = line_alone b rest h
 pub cut_none : (text : List ℕ) → 0 < length text → ((k : ℕ) → k < length text → eqb (get_or text k 0) 10 ≡ true → ⊥)
     → lines_of text ≡ text ∷ lines_of (drop (length text) text)
 cut_none text l none =
-    let inner : list_all is_inner (take (length text) text) ≡ true = all_before is_inner text (length text) (λ k g. inner_at (get_or text k 0) (none k g)) (omega arith) in
+    let inner : list_all is_inner (take (length text) text)
+    ≡ true = all_before is_inner text (length text) (λ k g. inner_at (get_or text k 0) (none k g)) (omega arith) in
     let whole : take (length text) text ≡ text = take_all (length text) text (omega arith) in
     let nothing : drop (length text) text ≡ [] = drop_all (length text) text (omega arith) in
     cut_none_by text l (rw whole at inner) ∙ ap (λ rest. text ∷ lines_of rest) (sym nothing)

@@ -46,7 +46,8 @@ either false x y h g = g
 given_text : (s : State) (place : Place) (bytes : List ℕ) (literal : LiteralState) → OfText (give_line s place bytes literal)
 given_text s place bytes literal = given_by (nat_lt 16777216 (joined_len (s.lines ++ (record { bytes = bytes; file = place.file; number = place.line }) ∷ [])))
   where
-    given_by : (b : Bool) → OfText (cond b (Err (Broken P9 (name_at s 0) 0)) (Ok (record s { lines = s.lines ++ (record { bytes = bytes; file = place.file; number = place.line }) ∷ []; literal = literal })))
+    given_by : (b : Bool) → OfText (cond b (Err (Broken P9 (name_at s 0) 0))
+        (Ok (record s { lines = s.lines ++ (record { bytes = bytes; file = place.file; number = place.line }) ∷ []; literal = literal })))
     given_by true = breaks P9 (name_at s 0) 0
     given_by false = plain _
 
@@ -68,7 +69,8 @@ undef_text : (s : State) (place : Place) (name : Option (List ℕ)) → OfText (
 undef_text s place None = breaks _ _ _
 undef_text s place (Some name) = passed_text (record s { texts = without_text s.texts name }) place (next_line place)
 
-include_text : (includes : IncludeStep) → IncludesText includes → (s : State) (place : Place) (name : Option (List ℕ)) → OfText (include_line includes s place name)
+include_text : (includes : IncludeStep) → IncludesText includes → (s : State) (place : Place) (name : Option (List ℕ))
+    → OfText (include_line includes s place name)
 include_text includes h s place None = breaks _ _ _
 include_text includes h s place (Some name) = then_text (includes name s place) _ (h name s place) (λ s'. plain _)
 
@@ -86,13 +88,15 @@ endif_text s place (innermost ∷ others) = passed_text s place _
 
 renumbered_text : (s : State) (place : Place) (number : ℕ) (name : Option (List ℕ)) → OfText (renumber s place number name)
 renumbered_text s place number None = passed_text s place (record place { line = number })
-renumbered_text s place number (Some name) = passed_text (record s { names = s.names ++ name ∷ [] }) place (record place { file = length s.names; line = number })
+renumbered_text s place number (Some name) =
+    passed_text (record s { names = s.names ++ name ∷ [] }) place (record place { file = length s.names; line = number })
 
 line_text : (s : State) (place : Place) (numbered : Option (ℕ × Option (List ℕ))) → OfText (line_line s place numbered)
 line_text s place None = breaks _ _ _
 line_text s place (Some numbered) = renumbered_text s place numbered.0 numbered.1
 
-directive_text : (includes : IncludeStep) → IncludesText includes → (s : State) (place : Place) (keyword : Option Keyword) (text : List ℕ) → OfText (directive_line includes s place keyword text)
+directive_text : (includes : IncludeStep) → IncludesText includes → (s : State) (place : Place) (keyword : Option Keyword) (text : List ℕ)
+    → OfText (directive_line includes s place keyword text)
 directive_text includes h s place None text = taken_text s place _ (breaks _ _ _)
 directive_text includes h s place (Some Define) text = taken_text s place _ (define_text s place (define_operand text))
 directive_text includes h s place (Some Undef) text = taken_text s place _ (undef_text s place (name_operand text))
@@ -110,7 +114,8 @@ read_text includes h s place line =
     (taken_text s place _ (plain_text (replace_words s.texts.count s.texts.text_of s.literal line)))
   where
     plain_text : (read : ReplacedText) → OfText (text_line s place read)
-    plain_text read = then_text (give_line s place read.bytes (next_line_state read.state)) _ (given_text s place read.bytes (next_line_state read.state)) (λ s'. plain _)
+    plain_text read =
+        then_text (give_line s place read.bytes (next_line_state read.state)) _ (given_text s place read.bytes (next_line_state read.state)) (λ s'. plain _)
 
 ended_text : (s : State) (conditionals : List Conditional) → OfText (end_file s conditionals)
 ended_text s [] = plain _
@@ -118,7 +123,8 @@ ended_text s (innermost ∷ others) = breaks _ _ _
 
 lines_text : (includes : IncludeStep) → IncludesText includes → (s : State) (place : Place) (lines : List (List ℕ)) → OfText (lines_read includes s place lines)
 lines_text includes h s place [] = ended_text s place.conditionals
-lines_text includes h s place (line ∷ rest) = then_text (line_read includes s place line) _ (read_text includes h s place line) (λ after. lines_text includes h after.0 after.1 rest)
+lines_text includes h s place (line ∷ rest) =
+    then_text (line_read includes s place line) _ (read_text includes h s place line) (λ after. lines_text includes h after.0 after.1 rest)
 
 file_text : (includes : IncludeStep) → IncludesText includes → (name : List ℕ) (s : State) (bytes : List ℕ) → OfText (file_read includes name s bytes)
 file_text includes h name s bytes = lines_text includes h (record s { names = s.names ++ name ∷ [] }) (start_of (length s.names)) (lines_of bytes)
@@ -127,9 +133,11 @@ deep_text : (name : List ℕ) (s : State) (place : Place) (content : Option (Lis
 deep_text name s place None = breaks _ _ _
 deep_text name s place (Some bytes) = breaks _ _ _
 
-found_text : (includes : IncludeStep) → IncludesText includes → (name : List ℕ) (s : State) (place : Place) (content : Option (List ℕ)) → OfText (include_found includes name s place content)
+found_text : (includes : IncludeStep) → IncludesText includes → (name : List ℕ) (s : State) (place : Place) (content : Option (List ℕ))
+    → OfText (include_found includes name s place content)
 found_text includes h name s place None = breaks _ _ _
-found_text includes h name s place (Some bytes) = either _ _ _ (breaks _ _ _) (then_text (left_empty s place) _ (given_text s place [] _) (λ s'. file_text includes h name s' bytes))
+found_text includes h name s place (Some bytes) =
+    either _ _ _ (breaks _ _ _) (then_text (left_empty s place) _ (given_text s place [] _) (λ s'. file_text includes h name s' bytes))
 
 included_text : (files : FileMap) (n : ℕ) → IncludesText (include_file files n)
 included_text files zero name s place = deep_text name s place (files name)

@@ -13,23 +13,28 @@ use Rattle.icn_prep.specs.Sizes.{ended_len}
 use Rattle.icn_prep.specs.SourceLines.{State, name_at, give_line}
 use Rattle.icn_prep.proofs.Sizing.{joined_more}
 
-pub refuses_by : {A : Type 0} (outcome : Result A PrepFault) (fault wanted : PrepFault) → outcome ≡ Err wanted → (fault ≡ NoMemory) ⊎ (fault ≡ wanted) → Refuses outcome fault
+pub refuses_by : {A : Type 0} (outcome : Result A PrepFault) (fault wanted : PrepFault) → outcome ≡ Err wanted → (fault ≡ NoMemory) ⊎ (fault ≡ wanted)
+    → Refuses outcome fault
 refuses_by outcome fault wanted is (inl e) = inl e
 refuses_by outcome fault wanted is (inr e) = inr (is ∙ ap Err (sym e))
 
-longer_line : (s : State) (place : Place) (bytes : List ℕ) → joined_len (s.lines ++ (record { bytes = bytes; file = place.file; number = place.line }) ∷ []) ≡ ended_len s.lines + length bytes
+longer_line : (s : State) (place : Place) (bytes : List ℕ)
+    → joined_len (s.lines ++ (record { bytes = bytes; file = place.file; number = place.line }) ∷ []) ≡ ended_len s.lines + length bytes
 longer_line s place bytes = joined_more s.lines (record { bytes = bytes; file = place.file; number = place.line })
 
 pub given_long : (s : State) (place : Place) (bytes : List ℕ) (literal : LiteralState) (size : ℕ) → size ≡ ended_len s.lines → 16777216 < size + length bytes
     → give_line s place bytes literal ≡ Err (Broken P9 (name_at s 0) 0)
 given_long s place bytes literal size is l =
     let len = longer_line s place bytes in
-    let long : nat_lt 16777216 (joined_len (s.lines ++ (record { bytes = bytes; file = place.file; number = place.line }) ∷ [])) ≡ true = grind (arith, nat_tests) in
+    let long : nat_lt 16777216 (joined_len (s.lines ++ (record { bytes = bytes; file = place.file; number = place.line }) ∷ []))
+    ≡ true = grind (arith, nat_tests) in
     cond-true _ _ _ long
 
 pub given_short : (s : State) (place : Place) (bytes : List ℕ) (literal : LiteralState) (size : ℕ) → size ≡ ended_len s.lines → size + length bytes ≤ 16777216
-    → give_line s place bytes literal ≡ Ok (record s { lines = s.lines ++ (record { bytes = bytes; file = place.file; number = place.line }) ∷ []; literal = literal })
+    → give_line s place bytes literal
+    ≡ Ok (record s { lines = s.lines ++ (record { bytes = bytes; file = place.file; number = place.line }) ∷ []; literal = literal })
 given_short s place bytes literal size is l =
     let len = longer_line s place bytes in
-    let short : nat_lt 16777216 (joined_len (s.lines ++ (record { bytes = bytes; file = place.file; number = place.line }) ∷ [])) ≡ false = grind (arith, nat_tests) in
+    let short : nat_lt 16777216 (joined_len (s.lines ++ (record { bytes = bytes; file = place.file; number = place.line }) ∷ []))
+    ≡ false = grind (arith, nat_tests) in
     cond-false _ _ _ short

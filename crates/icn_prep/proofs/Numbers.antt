@@ -18,7 +18,8 @@ pub one_more : (n d i : ℕ) → n < 10 ^ i → d ≤ 9 → n * 10 + d < 10 ^ (i
 one_more n d i h small = let power : 10 ^ (i + 1) ≡ 10 ^ i * 10 = rw add-one (pow-suc 10 i) in omega arith
 
 test_at : (digits : List ℕ) (i d : ℕ) → list_all is_digit digits ≡ true → i < length digits → is_digit (get_or digits i d) ≡ true
-test_at digits i d all within = true_from_ne_false (is_digit (get_or digits i d)) (λ fails. absurd (false≢true (sym (list_all_at is_digit digits i d within fails) ∙ all)))
+test_at digits i d all within =
+    true_from_ne_false (is_digit (get_or digits i d)) (λ fails. absurd (false≢true (sym (list_all_at is_digit digits i d within fails) ∙ all)))
 
 bounds : (b : ℕ) → is_digit b ≡ true → (48 ≤ b) × (b ≤ 57)
 bounds b h = (grind (arith, nat_tests), grind (arith, nat_tests))

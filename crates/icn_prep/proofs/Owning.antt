@@ -29,7 +29,8 @@ kept_by : (begins : Bool) (taken : ℕ) (b : ℕ) (rest : List ℕ) (word other 
 kept_by true taken b rest word other h g = ap (λ xs. b ∷ xs) (take-append-drop taken rest)
 kept_by false taken b rest word other h g = ap (λ xs. b ∷ xs) g
 
-bytes_by : (begins : Bool) (word front : List ℕ) (a b : ReplacedText) → (let read = cond begins (behind word a) (behind front b) in read).bytes ≡ cond begins (word ++ a.bytes) (front ++ b.bytes)
+bytes_by : (begins : Bool) (word front : List ℕ) (a b : ReplacedText)
+    → (let read = cond begins (behind word a) (behind front b) in read).bytes ≡ cond begins (word ++ a.bytes) (front ++ b.bytes)
 bytes_by true word front a b = refl
 bytes_by false word front a b = refl
 
@@ -40,8 +41,10 @@ own_bytes (suc n) state (b ∷ rest) = own_bytes n state rest
 own_bytes zero state (b ∷ rest) =
     let count = prefix_len continues_identifier rest in
     bytes_by (begins_word state b) (b ∷ take count rest) (b ∷ []) (read_from as_it_stands count Outside rest) (read_from as_it_stands zero (after state b) rest)
-    ∙ (ap (λ xs. cond (begins_word state b) ((b ∷ take count rest) ++ xs) ((b ∷ []) ++ (read_from as_it_stands zero (after state b) rest).bytes)) (own_bytes count Outside rest)
-    ∙ kept_by (begins_word state b) count b rest (take count rest ++ drop count rest) (read_from as_it_stands zero (after state b) rest).bytes refl (own_bytes zero (after state b) rest))
+    ∙ (ap (λ xs. cond (begins_word state b) ((b ∷ take count rest) ++ xs) ((b ∷ []) ++ (read_from as_it_stands zero (after state b) rest).bytes))
+    (own_bytes count Outside rest)
+    ∙ kept_by (begins_word state b) count b rest (take count rest ++ drop count rest) (read_from as_it_stands zero (after state b) rest).bytes refl
+    (own_bytes zero (after state b) rest))
 
 -- How long the lines of a file are.
 
@@ -94,7 +97,8 @@ read_own s line none = ap (λ (t : Texts). (replace_words t.count t.text_of s.li
 abbrev state_behind : State → ℕ → ℕ → List ℕ → State
 state_behind s file number line = record s { lines = s.lines ++ line_at file number line ∷ []; literal = next_line_state (read_of s line).state }
 
-line_own : (includes : IncludeStep) (s : State) (file number : ℕ) (line : List ℕ) → s.texts ≡ no_texts → begins_directive line ≡ false → ended_len s.lines + length line ≤ 16777216
+line_own : (includes : IncludeStep) (s : State) (file number : ℕ) (line : List ℕ) → s.texts ≡ no_texts → begins_directive line ≡ false
+    → ended_len s.lines + length line ≤ 16777216
     → line_read includes s (place_at file number) line ≡ Ok (state_behind s file number line, place_at file (number + 1))
 line_own includes s file number line none plain l =
     let literal = next_line_state (read_of s line).state in
@@ -105,8 +109,10 @@ line_own includes s file number line none plain l =
 ended_more : (lines : List SourceLine) (line : SourceLine) → ended_len (lines ++ line ∷ []) ≡ ended_len lines + (length line.bytes + 1)
 ended_more lines line = sum_by-append (λ line. length line.bytes + 1) lines (line ∷ []) ∙ ap (λ n. ended_len lines + n) (omega arith)
 
-lines_own : (includes : IncludeStep) (s : State) (file number : ℕ) (lines : List (List ℕ)) → s.texts ≡ no_texts → has_no_directive lines ≡ true → ended_len s.lines + bytes_with_ends lines ≤ 16777217
-    → (literal : LiteralState) × (lines_read includes s (place_at file number) lines ≡ Ok (record s { lines = s.lines ++ numbered_lines file number lines; literal = literal }))
+lines_own : (includes : IncludeStep) (s : State) (file number : ℕ) (lines : List (List ℕ)) → s.texts ≡ no_texts → has_no_directive lines ≡ true
+    → ended_len s.lines + bytes_with_ends lines ≤ 16777217
+    → (literal : LiteralState)
+    × (lines_read includes s (place_at file number) lines ≡ Ok (record s { lines = s.lines ++ numbered_lines file number lines; literal = literal }))
 lines_own includes s file number [] none plain l =
     (s.literal, ap (λ lines. let outcome : Outcome = Ok (record s { lines = lines; literal = s.literal }) in outcome) (sym (append-nil s.lines)))
 lines_own includes s file number (line ∷ rest) none plain l =
@@ -117,10 +123,12 @@ lines_own includes s file number (line ∷ rest) none plain l =
       more.0,
       ap (λ o. o >>= λ after. lines_read includes after.0 after.1 rest) (line_own includes s file number line none parts.0 (omega arith))
           ∙ (more.1
-          ∙ ap (λ lines. let outcome : Outcome = Ok (record s { lines = lines; literal = more.0 }) in outcome) (append_assoc s.lines (line_at file number line ∷ []) (numbered_lines file (number + 1) rest))),
+          ∙ ap (λ lines. let outcome : Outcome = Ok (record s { lines = lines; literal = more.0 }) in outcome)
+          (append_assoc s.lines (line_at file number line ∷ []) (numbered_lines file (number + 1) rest))),
     )
 
-own_file : (outcome : Outcome) (names : List (List ℕ)) (lines : List SourceLine) (texts : Texts) (literal : LiteralState) → outcome ≡ Ok (record { names = names; lines = lines; texts = texts; literal = literal })
+own_file : (outcome : Outcome) (names : List (List ℕ)) (lines : List SourceLine) (texts : Texts) (literal : LiteralState)
+    → outcome ≡ Ok (record { names = names; lines = lines; texts = texts; literal = literal })
     → source_of outcome ≡ Ok (record { names = names; lines = lines })
 own_file outcome names lines texts literal is = ap source_of is
 

@@ -47,10 +47,12 @@ pub pending_by : (n : ℕ) (texts : TextOf) (outer : List Outer) (state onward :
 pending_by n texts [] state onward rest left front h = h
 pending_by n texts (o ∷ outer) state onward rest left front h =
     ap (λ read. behind read.bytes (pending (suc n) texts outer read.state o.1.now)) h
-    ∙ behind_behind front (replace_words n (texts_left texts (o ∷ outer)) onward left).bytes (pending (suc n) texts outer (replace_words n (texts_left texts (o ∷ outer)) onward left).state o.1.now)
+    ∙ behind_behind front (replace_words n (texts_left texts (o ∷ outer)) onward left).bytes
+    (pending (suc n) texts outer (replace_words n (texts_left texts (o ∷ outer)) onward left).state o.1.now)
 
 -- bytes that were taken are skipped
-skips : (becomes : List ℕ → ReplacedText) (n : ℕ) (state : LiteralState) (rest : List ℕ) → read_from becomes n state rest ≡ read_from becomes zero state (drop n rest)
+skips : (becomes : List ℕ → ReplacedText) (n : ℕ) (state : LiteralState) (rest : List ℕ)
+    → read_from becomes n state rest ≡ read_from becomes zero state (drop n rest)
 skips becomes zero state rest = refl
 skips becomes (suc n) state [] = refl
 skips becomes (suc n) state (b ∷ rest) = skips becomes n state rest
@@ -101,11 +103,13 @@ front_by b rest first h =
     (rw (h, same) refl, rw (h, same) refl)
 
 front_of : (b : ℕ) (rest : List ℕ) → continues_identifier b ≡ true
-    → (first_word (b ∷ rest) ≡ b ∷ take (prefix_len continues_identifier rest) rest) × (behind_word (b ∷ rest) ≡ drop (prefix_len continues_identifier rest) rest)
+    → (first_word (b ∷ rest) ≡ b ∷ take (prefix_len continues_identifier rest) rest)
+    × (behind_word (b ∷ rest) ≡ drop (prefix_len continues_identifier rest) rest)
 front_of b rest h = front_by b rest (continues_identifier b) h
 
 -- a word at the front, by the code's cut
-pub word_first : (n : ℕ) (texts : TextOf) (b : ℕ) (others rest word left : List ℕ) → continues_identifier b ≡ true → rest ≡ b ∷ others → word ≡ first_word rest → left ≡ behind_word rest
+pub word_first : (n : ℕ) (texts : TextOf) (b : ℕ) (others rest word left : List ℕ) → continues_identifier b ≡ true → rest ≡ b ∷ others → word ≡ first_word rest
+    → left ≡ behind_word rest
     → let read = becomes n texts word in replace_words n texts Outside rest ≡ behind read.bytes (replace_words n texts read.state left)
 word_first n texts b others rest word left h is w l =
     let parts = front_of b others h in
@@ -141,7 +145,8 @@ left_at (o ∷ entries) texts word =
     ∙ off_by (bytes_eq word o.0.now) (is_off word entries) o (lookup (λ name. bytes_eq word name.now) entries) (texts word) refl)))
 
 -- how reading a line stands
-pub record ReadSo (count : ℕ) (texts : TextOf) (literal : LiteralState) (line : List ℕ) (most : ℕ) (given : List ℕ) (entries : List Outer) (state : LiteralState) (rest : List ℕ) : Type 0 where
+pub record ReadSo (count : ℕ) (texts : TextOf) (literal : LiteralState) (line : List ℕ) (most : ℕ) (given : List ℕ) (entries : List Outer)
+    (state : LiteralState) (rest : List ℕ) : Type 0 where
   pub whole : replace_words count texts literal line ≡ behind given (pending (count - length entries) texts (reverse entries) state rest)
   pub within : length given ≤ most
   pub depth : length entries ≤ count
@@ -154,13 +159,16 @@ so_begins count texts literal line most = record {
   depth = omega arith;
 }
 
-read_none : (n : ℕ) (texts : TextOf) (state : LiteralState) → replace_words n texts state [] ≡ (let r : ReplacedText = record { bytes = []; state = state } in r)
+read_none : (n : ℕ) (texts : TextOf) (state : LiteralState) → replace_words n texts state [] ≡ (let r : ReplacedText = record { bytes = []; state = state } in
+    r)
 read_none zero texts state = refl
 read_none (suc n) texts state = refl
 
 -- a text ended, and no other stands round it
-pub so_ends : (count : ℕ) (texts : TextOf) (literal : LiteralState) (line : List ℕ) (most : ℕ) (given : List ℕ) (entries : List Outer) (state : LiteralState) (rest : List ℕ)
-    → ReadSo count texts literal line most given entries state rest → entries ≡ [] → rest ≡ [] → replace_words count texts literal line ≡ (let r : ReplacedText = record { bytes = given; state = state } in r)
+pub so_ends : (count : ℕ) (texts : TextOf) (literal : LiteralState) (line : List ℕ) (most : ℕ) (given : List ℕ) (entries : List Outer) (state : LiteralState)
+    (rest : List ℕ)
+    → ReadSo count texts literal line most given entries state rest → entries ≡ [] → rest ≡ []
+    → replace_words count texts literal line ≡ (let r : ReplacedText = record { bytes = given; state = state } in r)
 so_ends count texts literal line most given entries state rest so none end =
     let at_end : replace_words count texts literal line ≡ behind given (pending (count - length entries) texts (reverse entries) state rest) = so.whole in
     at_end
@@ -173,8 +181,10 @@ reversed : (entries others : List Outer) (o : Outer) → entries ≡ others ++ o
 reversed entries others o is = ap reverse is ∙ reverse-append others (o ∷ [])
 
 -- a text ended, and what stands behind its name comes next
-pub so_pops : (count : ℕ) (texts : TextOf) (literal : LiteralState) (line : List ℕ) (most : ℕ) (given : List ℕ) (entries others : List Outer) (o : Outer) (state : LiteralState) (rest : List ℕ)
-    → ReadSo count texts literal line most given entries state rest → entries ≡ others ++ o ∷ [] → rest ≡ [] → ReadSo count texts literal line most given others state o.1.now
+pub so_pops : (count : ℕ) (texts : TextOf) (literal : LiteralState) (line : List ℕ) (most : ℕ) (given : List ℕ) (entries others : List Outer) (o : Outer)
+    (state : LiteralState) (rest : List ℕ)
+    → ReadSo count texts literal line most given entries state rest → entries ≡ others ++ o ∷ [] → rest ≡ []
+    → ReadSo count texts literal line most given others state o.1.now
 so_pops count texts literal line most given entries others o state rest so is end =
     let len : length entries ≡ length others + 1 = ap length is ∙ length-append others (o ∷ []) in
     let deep : length entries ≤ count = so.depth in
@@ -185,7 +195,8 @@ so_pops count texts literal line most given entries others o state rest so is en
           so.whole
           ∙ (ap (λ es. behind given (pending n texts es state rest)) (reversed entries others o is)
           ∙ (ap (λ r. behind given (pending n texts (o ∷ reverse others) state r)) end
-          ∙ (ap (λ (read : ReplacedText). behind given (behind read.bytes (pending (suc n) texts (reverse others) read.state o.1.now))) (read_none n (texts_left texts (o ∷ reverse others)) state)
+          ∙ (ap (λ (read : ReplacedText). behind given (behind read.bytes (pending (suc n) texts (reverse others) read.state o.1.now)))
+          (read_none n (texts_left texts (o ∷ reverse others)) state)
           ∙ ap (λ m. behind given (pending m texts (reverse others) state o.1.now)) level)));
       within = so.within;
       depth = omega arith;
@@ -200,7 +211,8 @@ becomes_by (suc n) texts word (inr h) = ap (word_read (replace_words n) texts wo
 abbrev pub chosen : ℕ → TextOf → List Outer → List ℕ → Option (List ℕ)
 chosen count texts entries word = if nat_lt (length entries) count && not (is_off word entries) then texts word else None
 
-stays_by : (n count len : ℕ) (low off : Bool) (text left : Option (List ℕ)) → (low ≡ false → n ≡ 0) → left ≡ cond off None text → None ≡ cond (low && not off) text None → (n ≡ 0) ⊎ (left ≡ None)
+stays_by : (n count len : ℕ) (low off : Bool) (text left : Option (List ℕ)) → (low ≡ false → n ≡ 0) → left ≡ cond off None text
+    → None ≡ cond (low && not off) text None → (n ≡ 0) ⊎ (left ≡ None)
 stays_by n count len false off text left none is h = inl (none refl)
 stays_by n count len true true text left none is h = inr is
 stays_by n count len true false text left none is h = inr (is ∙ sym h)
@@ -209,7 +221,8 @@ stays : (count : ℕ) (texts : TextOf) (entries : List Outer) (word : List ℕ) 
     → becomes (count - length entries) (texts_left texts (reverse entries)) word ≡ as_it_stands word
 stays count texts entries word h =
     becomes_by (count - length entries) (texts_left texts (reverse entries)) word
-    (stays_by (count - length entries) count (length entries) (nat_lt (length entries) count) (is_off word entries) (texts word) (texts_left texts (reverse entries) word)
+    (stays_by (count - length entries) count (length entries) (nat_lt (length entries) count) (is_off word entries) (texts word)
+    (texts_left texts (reverse entries) word)
     (λ low. grind (arith, nat_tests)) (left_at entries texts word) h)
 
 pub record Goes (count : ℕ) (texts : TextOf) (entries : List Outer) (word text : List ℕ) : Type 0 where
@@ -217,12 +230,14 @@ pub record Goes (count : ℕ) (texts : TextOf) (entries : List Outer) (word text
   pub on : is_off word entries ≡ false
   pub has : texts_left texts (reverse entries) word ≡ Some text
 
-goes_by : (low off : Bool) (text : Option (List ℕ)) (found : List ℕ) → Some found ≡ cond (low && not off) text None → (low ≡ true) × (off ≡ false) × (text ≡ Some found)
+goes_by : (low off : Bool) (text : Option (List ℕ)) (found : List ℕ) → Some found ≡ cond (low && not off) text None
+    → (low ≡ true) × (off ≡ false) × (text ≡ Some found)
 goes_by false off text found h = absurd (none-some found (sym h))
 goes_by true true text found h = absurd (none-some found (sym h))
 goes_by true false text found h = (refl, refl, sym h)
 
-pub goes : (count : ℕ) (texts : TextOf) (entries : List Outer) (word text : List ℕ) → Some text ≡ chosen count texts entries word → Goes count texts entries word text
+pub goes : (count : ℕ) (texts : TextOf) (entries : List Outer) (word text : List ℕ) → Some text ≡ chosen count texts entries word
+    → Goes count texts entries word text
 goes count texts entries word text h =
     let parts = goes_by (nat_lt (length entries) count) (is_off word entries) (texts word) text h in
     record {
@@ -232,17 +247,22 @@ goes count texts entries word text h =
     }
 
 -- a word that stays
-pub word_stays : (count : ℕ) (texts : TextOf) (entries : List Outer) (b : ℕ) (others rest word left : List ℕ) → continues_identifier b ≡ true → rest ≡ b ∷ others → word ≡ first_word rest → left ≡ behind_word rest
+pub word_stays : (count : ℕ) (texts : TextOf) (entries : List Outer) (b : ℕ) (others rest word left : List ℕ) → continues_identifier b ≡ true
+    → rest ≡ b ∷ others → word ≡ first_word rest → left ≡ behind_word rest
     → None ≡ chosen count texts entries word
-    → pending (count - length entries) texts (reverse entries) Outside rest ≡ behind word (pending (count - length entries) texts (reverse entries) Outside left)
+    → pending (count - length entries) texts (reverse entries) Outside rest
+    ≡ behind word (pending (count - length entries) texts (reverse entries) Outside left)
 word_stays count texts entries b others rest word left h is w l none =
     let n = count - length entries in
     let t = texts_left texts (reverse entries) in
     pending_by n texts (reverse entries) Outside Outside rest left word
-    (word_first n t b others rest word left h is w l ∙ ap (λ (read : ReplacedText). behind read.bytes (replace_words n t read.state left)) (stays count texts entries word none))
+    (word_first n t b others rest word left h is w l
+    ∙ ap (λ (read : ReplacedText). behind read.bytes (replace_words n t read.state left)) (stays count texts entries word none))
 
-pub byte_stays : (count : ℕ) (texts : TextOf) (entries : List Outer) (state : LiteralState) (b : ℕ) (others rest : List ℕ) → begins_word state b ≡ false → rest ≡ b ∷ others
-    → pending (count - length entries) texts (reverse entries) state rest ≡ behind (b ∷ []) (pending (count - length entries) texts (reverse entries) (after state b) others)
+pub byte_stays : (count : ℕ) (texts : TextOf) (entries : List Outer) (state : LiteralState) (b : ℕ) (others rest : List ℕ) → begins_word state b ≡ false
+    → rest ≡ b ∷ others
+    → pending (count - length entries) texts (reverse entries) state rest
+    ≡ behind (b ∷ []) (pending (count - length entries) texts (reverse entries) (after state b) others)
 byte_stays count texts entries state b others rest h is =
     let n = count - length entries in
     let t = texts_left texts (reverse entries) in
@@ -250,7 +270,8 @@ byte_stays count texts entries state b others rest h is =
     (ap (replace_words n t state) is ∙ byte_read n t state b others h)
 
 -- bytes that stay join the given ones
-pub so_gives : (count : ℕ) (texts : TextOf) (literal : LiteralState) (line : List ℕ) (most : ℕ) (given : List ℕ) (entries : List Outer) (state onward : LiteralState) (rest left front : List ℕ)
+pub so_gives : (count : ℕ) (texts : TextOf) (literal : LiteralState) (line : List ℕ) (most : ℕ) (given : List ℕ) (entries : List Outer)
+    (state onward : LiteralState) (rest left front : List ℕ)
     → ReadSo count texts literal line most given entries state rest
     → pending (count - length entries) texts (reverse entries) state rest ≡ behind front (pending (count - length entries) texts (reverse entries) onward left)
     → length given + length front ≤ most → ReadSo count texts literal line most (given ++ front) entries onward left
@@ -263,19 +284,24 @@ so_gives count texts literal line most given entries state onward rest left fron
     }
 
 -- there are more bytes than may be given
-pub so_long : (count : ℕ) (texts : TextOf) (literal : LiteralState) (line : List ℕ) (most : ℕ) (given : List ℕ) (entries : List Outer) (state onward : LiteralState) (rest left front : List ℕ)
+pub so_long : (count : ℕ) (texts : TextOf) (literal : LiteralState) (line : List ℕ) (most : ℕ) (given : List ℕ) (entries : List Outer)
+    (state onward : LiteralState) (rest left front : List ℕ)
     → ReadSo count texts literal line most given entries state rest
     → pending (count - length entries) texts (reverse entries) state rest ≡ behind front (pending (count - length entries) texts (reverse entries) onward left)
     → most < length given + length front → most < length (replace_words count texts literal line).bytes
 so_long count texts literal line most given entries state onward rest left front so step l =
     let p = pending (count - length entries) texts (reverse entries) onward left in
-    let whole : (replace_words count texts literal line).bytes ≡ given ++ (front ++ p.bytes) = ap (λ (read : ReplacedText). read.bytes) (so.whole ∙ ap (behind given) step) in
-    let len : length (replace_words count texts literal line).bytes ≡ length given + (length front + length p.bytes) = ap length whole ∙ (length-append given (front ++ p.bytes) ∙ ap (λ n. length given + n) (length-append front p.bytes)) in
+    let whole : (replace_words count texts literal line).bytes
+    ≡ given ++ (front ++ p.bytes) = ap (λ (read : ReplacedText). read.bytes) (so.whole ∙ ap (behind given) step) in
+    let len : length (replace_words count texts literal line).bytes ≡ length given + (length front + length p.bytes) = ap length whole
+    ∙ (length-append given (front ++ p.bytes) ∙ ap (λ n. length given + n) (length-append front p.bytes)) in
     omega arith
 
 -- a word is replaced: its text comes next
-pub so_pushes : (count : ℕ) (texts : TextOf) (literal : LiteralState) (line : List ℕ) (most : ℕ) (given : List ℕ) (entries : List Outer) (b : ℕ) (others rest : List ℕ) (word left : Bor (List ℕ)) (text : List ℕ)
-    → ReadSo count texts literal line most given entries Outside rest → continues_identifier b ≡ true → rest ≡ b ∷ others → word.now ≡ first_word rest → left.now ≡ behind_word rest
+pub so_pushes : (count : ℕ) (texts : TextOf) (literal : LiteralState) (line : List ℕ) (most : ℕ) (given : List ℕ) (entries : List Outer) (b : ℕ)
+    (others rest : List ℕ) (word left : Bor (List ℕ)) (text : List ℕ)
+    → ReadSo count texts literal line most given entries Outside rest → continues_identifier b ≡ true → rest ≡ b ∷ others → word.now ≡ first_word rest
+    → left.now ≡ behind_word rest
     → Goes count texts entries word.now text → ReadSo count texts literal line most given (entries ++ (word, left) ∷ []) Outside text
 so_pushes count texts literal line most given entries b others rest word left text so h is w l g =
     let es = reverse entries in
@@ -316,7 +342,8 @@ weight_some : (n : ℕ) → 0 < weight n
 weight_some zero = omega arith
 weight_some (suc n) = omega arith
 
-pub less_bytes : (count : ℕ) (entries : List Outer) (rest left : List ℕ) → length left < length rest → work_left count entries left < work_left count entries rest
+pub less_bytes : (count : ℕ) (entries : List Outer) (rest left : List ℕ) → length left < length rest
+    → work_left count entries left < work_left count entries rest
 less_bytes count entries rest left l =
     let w = weight (count - length entries) in
     let some : 0 < w = weight_some (count - length entries) in
@@ -329,7 +356,8 @@ fewer a b before after w now next = omega arith
 less_by : (before after x y : ℕ) → before ≡ x → after ≡ y → y < x → after < before
 less_by before after x y now next l = omega arith
 
-pub less_texts : (count : ℕ) (entries others : List Outer) (o : Outer) (rest : List ℕ) → length entries ≤ count → entries ≡ others ++ o ∷ [] → rest ≡ [] → work_left count others o.1.now < work_left count entries rest
+pub less_texts : (count : ℕ) (entries others : List Outer) (o : Outer) (rest : List ℕ) → length entries ≤ count → entries ≡ others ++ o ∷ [] → rest ≡ []
+    → work_left count others o.1.now < work_left count entries rest
 less_texts count entries others o rest deep is end =
     let len : length entries ≡ length others + 1 = ap length is ∙ length-append others (o ∷ []) in
     let level : count - length others ≡ suc (count - length entries) = omega arith in
@@ -343,7 +371,8 @@ less_texts count entries others o rest deep is end =
 paid : (a b t w x k u : ℕ) → k ≡ 2 + u → (a + 1) * k ≤ b * k → t * w ≤ u → t * w + (1 + a * k + x) < b * k + x
 paid a b t w x k u is more less = omega arith
 
-pub less_names : (count : ℕ) (entries : List Outer) (rest : List ℕ) (word left : Bor (List ℕ)) (text : List ℕ) → length entries < count → length left.now < length rest → length text < 2 ^ 64
+pub less_names : (count : ℕ) (entries : List Outer) (rest : List ℕ) (word left : Bor (List ℕ)) (text : List ℕ) → length entries < count
+    → length left.now < length rest → length text < 2 ^ 64
     → work_left count (entries ++ (word, left) ∷ []) text < work_left count entries rest
 less_names count entries rest word left text low l short =
     let m = count - (length entries + 1) in
@@ -356,7 +385,8 @@ less_names count entries rest word left text low l short =
     ap (λ n. length text * weight (count - n) + work_behind (count - n) (reverse (entries ++ (word, left) ∷ []))) len
     ∙ ap (λ os. length text * weight m + work_behind m os) (reversed (entries ++ (word, left) ∷ []) entries (word, left) refl) in
     less_by _ _ _ _ now next
-    (paid (length left.now) (length rest) (length text) (weight m) (work_behind (suc m) es) (weight (suc m)) (2 ^ 64 * weight m) refl (mul-le-mul_right (weight (suc m)) (omega arith)) (mul-le-mul_right (weight m) (omega arith)))
+    (paid (length left.now) (length rest) (length text) (weight m) (work_behind (suc m) es) (weight (suc m)) (2 ^ 64 * weight m) refl
+    (mul-le-mul_right (weight (suc m)) (omega arith)) (mul-le-mul_right (weight m) (omega arith)))
 
 pub none_left : (n : ℕ) → (0 < n → ⊥) → n ≡ 0
 none_left zero h = refl
@@ -367,26 +397,32 @@ not_found None h = refl
 not_found (Some x) h = absurd (false≢true (sym h))
 
 -- the same where a word begins
-pub word_given : (count : ℕ) (texts : TextOf) (entries : List Outer) (state : LiteralState) (b : ℕ) (others rest word left : List ℕ) → begins_word state b ≡ true → rest ≡ b ∷ others
+pub word_given : (count : ℕ) (texts : TextOf) (entries : List Outer) (state : LiteralState) (b : ℕ) (others rest word left : List ℕ)
+    → begins_word state b ≡ true → rest ≡ b ∷ others
     → word ≡ first_word rest → left ≡ behind_word rest → None ≡ chosen count texts entries word
     → pending (count - length entries) texts (reverse entries) state rest ≡ behind word (pending (count - length entries) texts (reverse entries) state left)
 word_given count texts entries state b others rest word left h is w l none =
     let parts = begun state b h in
     rw parts.0 (word_stays count texts entries b others rest word left parts.1 is w l none)
 
-pub word_replaced : (count : ℕ) (texts : TextOf) (literal : LiteralState) (line : List ℕ) (most : ℕ) (given : List ℕ) (entries : List Outer) (state : LiteralState) (b : ℕ) (others rest : List ℕ) (word left : Bor (List ℕ)) (text : List ℕ)
-    → ReadSo count texts literal line most given entries state rest → begins_word state b ≡ true → rest ≡ b ∷ others → word.now ≡ first_word rest → left.now ≡ behind_word rest
+pub word_replaced : (count : ℕ) (texts : TextOf) (literal : LiteralState) (line : List ℕ) (most : ℕ) (given : List ℕ) (entries : List Outer)
+    (state : LiteralState) (b : ℕ) (others rest : List ℕ) (word left : Bor (List ℕ)) (text : List ℕ)
+    → ReadSo count texts literal line most given entries state rest → begins_word state b ≡ true → rest ≡ b ∷ others → word.now ≡ first_word rest
+    → left.now ≡ behind_word rest
     → Some text ≡ chosen count texts entries word.now → ReadSo count texts literal line most given (entries ++ (word, left) ∷ []) state text
 word_replaced count texts literal line most given entries state b others rest word left text so h is w l some =
     let parts = begun state b h in
-    let so' : ReadSo count texts literal line most given entries Outside rest = subst (λ s. ReadSo count texts literal line most given entries s rest) parts.0 so in
+    let so' : ReadSo count texts literal line most given entries Outside rest = subst (λ s. ReadSo count texts literal line most given entries s rest) parts.0
+    so in
     subst (λ s. ReadSo count texts literal line most given (entries ++ (word, left) ∷ []) s text) (sym parts.0)
     (so_pushes count texts literal line most given entries b others rest word left text so' parts.1 is w l (goes count texts entries word.now text some))
 
 -- what stands behind a word is shorter
-pub shorter : (state : LiteralState) (b : ℕ) (others rest left : List ℕ) → begins_word state b ≡ true → rest ≡ b ∷ others → left ≡ behind_word rest → length left < length rest
+pub shorter : (state : LiteralState) (b : ℕ) (others rest left : List ℕ) → begins_word state b ≡ true → rest ≡ b ∷ others → left ≡ behind_word rest
+    → length left < length rest
 shorter state b others rest left h is l =
     let parts = front_of b others (begun state b h).1 in
-    let there : length left ≡ length others - prefix_len continues_identifier others = ap length (l ∙ (ap behind_word is ∙ parts.1)) ∙ length-drop (prefix_len continues_identifier others) others in
+    let there : length left ≡ length others - prefix_len continues_identifier others = ap length (l ∙ (ap behind_word is ∙ parts.1))
+    ∙ length-drop (prefix_len continues_identifier others) others in
     let len : length rest ≡ suc (length others) = ap length is in
     omega arith

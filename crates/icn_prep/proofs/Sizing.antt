@@ -23,9 +23,11 @@ both_stay true b here h rest = rw (here refl, rest h) refl
 both_stay false b here h rest = absurd (false≢true h)
 
 -- names that come later leave lines their files
-pub files_stay : (names more : List (List ℕ)) (lines : List SourceLine) → names_files names lines ≡ true → length names ≤ length more → names_files more lines ≡ true
+pub files_stay : (names more : List (List ℕ)) (lines : List SourceLine) → names_files names lines ≡ true → length names ≤ length more
+    → names_files more lines ≡ true
 files_stay names more [] h l = refl
-files_stay names more (line ∷ lines) h l = both_stay (nat_lt line.file (length names)) (nat_lt line.file (length more)) (λ e. grind (arith, nat_tests)) h (λ g. files_stay names more lines g l)
+files_stay names more (line ∷ lines) h l =
+    both_stay (nat_lt line.file (length names)) (nat_lt line.file (length more)) (λ e. grind (arith, nat_tests)) h (λ g. files_stay names more lines g l)
 
 -- joined by one newline they have one byte less
 joined_front : (a : SourceLine) (lines : List SourceLine) → joined_len (a ∷ lines) + 1 ≡ ended_len (a ∷ lines)

@@ -22,7 +22,8 @@ then_then (Ok a) f g = refl
 then_then (Err e) f g = refl
 
 -- so far reading the lines of a file gives what reading all of them gives
-pub record LinesSo (includes : IncludeStep) (s : State) (place : Place) (lines : List (List ℕ)) (s' : State) (place' : Place) (rest : List (List ℕ)) : Type 0 where
+pub record LinesSo (includes : IncludeStep) (s : State) (place : Place) (lines : List (List ℕ)) (s' : State) (place' : Place)
+    (rest : List (List ℕ)) : Type 0 where
   pub same : lines_read includes s place lines ≡ lines_read includes s' place' rest
 
 -- the next line
@@ -30,18 +31,21 @@ step_of : (includes : IncludeStep) (s : State) (place : Place) (line : List ℕ)
     → lines_read includes s place (line ∷ rest) ≡ (step >>= λ after. lines_read includes after.0 after.1 rest)
 step_of includes s place line rest step is = ap (λ o. o >>= λ after. lines_read includes after.0 after.1 rest) is
 
-pub passes_line : (includes : IncludeStep) (s s' : State) (place place' : Place) (line : List ℕ) (lines rest : List (List ℕ)) → lines ≡ line ∷ rest → line_read includes s place line ≡ Ok (s', place')
+pub passes_line : (includes : IncludeStep) (s s' : State) (place place' : Place) (line : List ℕ) (lines rest : List (List ℕ)) → lines ≡ line ∷ rest
+    → line_read includes s place line ≡ Ok (s', place')
     → lines_read includes s place lines ≡ lines_read includes s' place' rest
 passes_line includes s s' place place' line lines rest cut is = ap (lines_read includes s place) cut ∙ step_of includes s place line rest (Ok (s', place')) is
 
-pub stops_line : (includes : IncludeStep) (s s' : State) (place place' : Place) (line name : List ℕ) (lines rest : List (List ℕ)) → lines ≡ line ∷ rest → line_read includes s place line ≡ rest_of_line includes (Some name) s' place'
+pub stops_line : (includes : IncludeStep) (s s' : State) (place place' : Place) (line name : List ℕ) (lines rest : List (List ℕ)) → lines ≡ line ∷ rest
+    → line_read includes s place line ≡ rest_of_line includes (Some name) s' place'
     → lines_read includes s place lines ≡ (includes name s' place' >>= λ t. lines_read includes t (next_line place') rest)
 stops_line includes s s' place place' line name lines rest cut is =
     ap (lines_read includes s place) cut
     ∙ (step_of includes s place line rest (rest_of_line includes (Some name) s' place') is
     ∙ then_then (includes name s' place') (λ t. Ok (t, next_line place')) (λ after. lines_read includes after.0 after.1 rest))
 
-pub refuses_line : (includes : IncludeStep) (s : State) (place : Place) (line : List ℕ) (lines rest : List (List ℕ)) (fault : PrepFault) → lines ≡ line ∷ rest → Refuses (line_read includes s place line) fault
+pub refuses_line : (includes : IncludeStep) (s : State) (place : Place) (line : List ℕ) (lines rest : List (List ℕ)) (fault : PrepFault) → lines ≡ line ∷ rest
+    → Refuses (line_read includes s place line) fault
     → Refuses (lines_read includes s place lines) fault
 refuses_line includes s place line lines rest fault cut (inl e) = inl e
 refuses_line includes s place line lines rest fault cut (inr e) = inr (ap (lines_read includes s place) cut ∙ step_of includes s place line rest (Err fault) e)
@@ -64,20 +68,25 @@ top_of : (stack others : List OpenFile) (f : OpenFile) → stack ≡ others ++ f
 top_of stack others f is = ap reverse is ∙ reverse-append others (f ∷ [])
 
 -- the file on top
-pub on_top : (files : FileMap) (whole : Outcome) (stack others : List OpenFile) (f : OpenFile) (s : State) → StackSo files whole stack s → stack ≡ others ++ f ∷ []
-    → whole ≡ (lines_read (include_file files (32 - length others)) s (place_of f.place) (lines_of (drop f.at f.content.items)) >>= stack_read files (reverse others))
+pub on_top : (files : FileMap) (whole : Outcome) (stack others : List OpenFile) (f : OpenFile) (s : State) → StackSo files whole stack s
+    → stack ≡ others ++ f ∷ []
+    → whole ≡ (lines_read (include_file files (32 - length others)) s (place_of f.place) (lines_of (drop f.at f.content.items))
+    >>= stack_read files (reverse others))
 on_top files whole stack others f s so is =
     so ∙ (ap (λ fs. stack_read files fs s) (top_of stack others f is)
-    ∙ ap (λ n. lines_read (include_file files (32 - n)) s (place_of f.place) (lines_of (drop f.at f.content.items)) >>= stack_read files (reverse others)) (length-reverse others))
+    ∙ ap (λ n. lines_read (include_file files (32 - n)) s (place_of f.place) (lines_of (drop f.at f.content.items)) >>= stack_read files (reverse others))
+    (length-reverse others))
 
 -- the file on top ended
-pub file_ended : (files : FileMap) (whole : Outcome) (stack others : List OpenFile) (f : OpenFile) (s s' : State) → StackSo files whole stack s → stack ≡ others ++ f ∷ []
+pub file_ended : (files : FileMap) (whole : Outcome) (stack others : List OpenFile) (f : OpenFile) (s s' : State) → StackSo files whole stack s
+    → stack ≡ others ++ f ∷ []
     → lines_read (include_file files (32 - length others)) s (place_of f.place) (lines_of (drop f.at f.content.items)) ≡ Ok s' → StackSo files whole others s'
 file_ended files whole stack others f s s' so is step =
     on_top files whole stack others f s so is ∙ ap (λ o. o >>= stack_read files (reverse others)) step
 
 -- it was refused
-pub file_refused : (files : FileMap) (whole : Outcome) (stack others : List OpenFile) (f : OpenFile) (s : State) (fault : PrepFault) → StackSo files whole stack s → stack ≡ others ++ f ∷ []
+pub file_refused : (files : FileMap) (whole : Outcome) (stack others : List OpenFile) (f : OpenFile) (s : State) (fault : PrepFault)
+    → StackSo files whole stack s → stack ≡ others ++ f ∷ []
     → Refuses (lines_read (include_file files (32 - length others)) s (place_of f.place) (lines_of (drop f.at f.content.items))) fault → IsAnswer whole fault
 file_refused files whole stack others f s fault so is (inl e) = inl (inr e)
 file_refused files whole stack others f s fault so is (inr e) =
@@ -88,8 +97,10 @@ abbrev pub including_so : FileMap → Outcome → List OpenFile → Place → Li
 including_so files whole others place rest outcome =
     whole ≡ ((outcome >>= λ t. lines_read (include_file files (32 - length others)) t (next_line place) (lines_of rest)) >>= stack_read files (reverse others))
 
-pub file_includes : (files : FileMap) (whole : Outcome) (stack others : List OpenFile) (f : OpenFile) (s s' : State) (place : Place) (name : List ℕ) (at : ℕ) → StackSo files whole stack s → stack ≡ others ++ f ∷ []
-    → lines_read (include_file files (32 - length others)) s (place_of f.place) (lines_of (drop f.at f.content.items)) ≡ rest_of_lines (include_file files (32 - length others)) (Some (name, at)) s' place f.content.items
+pub file_includes : (files : FileMap) (whole : Outcome) (stack others : List OpenFile) (f : OpenFile) (s s' : State) (place : Place) (name : List ℕ) (at : ℕ)
+    → StackSo files whole stack s → stack ≡ others ++ f ∷ []
+    → lines_read (include_file files (32 - length others)) s (place_of f.place) (lines_of (drop f.at f.content.items))
+    ≡ rest_of_lines (include_file files (32 - length others)) (Some (name, at)) s' place f.content.items
     → including_so files whole others place (drop at f.content.items) (include_file files (32 - length others) name s' place)
 file_includes files whole stack others f s s' place name at so is step =
     on_top files whole stack others f s so is ∙ ap (λ o. o >>= stack_read files (reverse others)) step
@@ -99,10 +110,12 @@ pub including_refused : (files : FileMap) (whole : Outcome) (others : List OpenF
     → including_so files whole others place rest outcome → IsAnswer outcome fault → IsAnswer whole fault
 including_refused files whole others place rest outcome fault so (inl e) = inl e
 including_refused files whole others place rest outcome fault so (inr e) =
-    inr (so ∙ ap (λ o. (o >>= λ t. lines_read (include_file files (32 - length others)) t (next_line place) (lines_of rest)) >>= stack_read files (reverse others)) e)
+    inr (so
+    ∙ ap (λ o. (o >>= λ t. lines_read (include_file files (32 - length others)) t (next_line place) (lines_of rest)) >>= stack_read files (reverse others)) e)
 
 -- the file is there
-pub included_is : (files : FileMap) (depth : ℕ) (name bytes : List ℕ) (s : State) (place : Place) → depth < 32 → files name ≡ Some bytes → length bytes ≤ 16777216
+pub included_is : (files : FileMap) (depth : ℕ) (name bytes : List ℕ) (s : State) (place : Place) → depth < 32 → files name ≡ Some bytes
+    → length bytes ≤ 16777216
     → include_file files (32 - depth) name s place ≡ (left_empty s place >>= λ t. file_read (include_file files (32 - (depth + 1))) name t bytes)
 included_is files depth name bytes s place l there short =
     let level : 32 - depth ≡ suc (32 - (depth + 1)) = omega arith in
@@ -111,22 +124,26 @@ included_is files depth name bytes s place l there short =
     ∙ (ap (include_found (include_file files (32 - (depth + 1))) name s place) there
     ∙ cond-false (nat_lt 16777216 (length bytes)) _ _ within)
 
-pub line_refused : (files : FileMap) (depth : ℕ) (name bytes : List ℕ) (s : State) (place : Place) (fault : PrepFault) → depth < 32 → files name ≡ Some bytes → length bytes ≤ 16777216
+pub line_refused : (files : FileMap) (depth : ℕ) (name bytes : List ℕ) (s : State) (place : Place) (fault : PrepFault) → depth < 32 → files name ≡ Some bytes
+    → length bytes ≤ 16777216
     → Refuses (left_empty s place) fault → IsAnswer (include_file files (32 - depth) name s place) fault
 line_refused files depth name bytes s place fault l there short (inl e) = inl (inr e)
 line_refused files depth name bytes s place fault l there short (inr e) =
     inr (included_is files depth name bytes s place l there short ∙ ap (λ o. o >>= λ t. file_read (include_file files (32 - (depth + 1))) name t bytes) e)
 
 -- the included file stands on top, and behind it the file that goes on
-pub file_begun : (files : FileMap) (whole : Outcome) (others : List OpenFile) (place : Place) (name bytes rest : List ℕ) (s t u : State) (onward next : OpenFile)
-    → including_so files whole others place rest (include_file files (32 - length others) name s place) → length others < 32 → files name ≡ Some bytes → length bytes ≤ 16777216
+pub file_begun : (files : FileMap) (whole : Outcome) (others : List OpenFile) (place : Place) (name bytes rest : List ℕ) (s t u : State)
+    (onward next : OpenFile)
+    → including_so files whole others place rest (include_file files (32 - length others) name s place) → length others < 32 → files name ≡ Some bytes
+    → length bytes ≤ 16777216
     → left_empty s place ≡ Ok t → u ≡ record t { names = t.names ++ name ∷ [] }
     → place_of onward.place ≡ next_line place → drop onward.at onward.content.items ≡ rest
     → place_of next.place ≡ start_of (length t.names) → drop next.at next.content.items ≡ bytes
     → StackSo files whole ((others ++ onward ∷ []) ++ next ∷ []) u
 file_begun files whole others place name bytes rest s t u onward next so l there short given named goes left starts all =
     let m = 32 - (length others + 1) in
-    let inner : include_file files (32 - length others) name s place ≡ lines_read (include_file files m) u (place_of next.place) (lines_of (drop next.at next.content.items)) =
+    let inner : include_file files (32 - length others) name s place
+    ≡ lines_read (include_file files m) u (place_of next.place) (lines_of (drop next.at next.content.items)) =
     included_is files (length others) name bytes s place l there short
     ∙ (ap (λ o. o >>= λ v. file_read (include_file files m) name v bytes) given
     ∙ (ap (λ v. lines_read (include_file files m) v (start_of (length t.names)) (lines_of bytes)) (sym named)
@@ -137,24 +154,33 @@ file_begun files whole others place name bytes rest s t u onward next so l there
     let back : reverse ((others ++ onward ∷ []) ++ next ∷ []) ≡ next ∷ onward ∷ reverse others =
     reverse-append (others ++ onward ∷ []) (next ∷ []) ∙ ap (λ fs. next ∷ fs) (reverse-append others (onward ∷ [])) in
     so
-    ∙ (ap (λ o. (o >>= λ v. lines_read (include_file files (32 - length others)) v (next_line place) (lines_of rest)) >>= stack_read files (reverse others)) inner
-    ∙ (then_then (lines_read (include_file files m) u (place_of next.place) (lines_of (drop next.at next.content.items))) (λ v. lines_read (include_file files (32 - length others)) v (next_line place) (lines_of rest)) (stack_read files (reverse others))
-    ∙ (ap (λ p. lines_read (include_file files m) u (place_of next.place) (lines_of (drop next.at next.content.items)) >>= λ v. lines_read (include_file files (32 - length others)) v p (lines_of rest) >>= stack_read files (reverse others)) (sym goes)
-    ∙ (ap (λ b. lines_read (include_file files m) u (place_of next.place) (lines_of (drop next.at next.content.items)) >>= λ v. lines_read (include_file files (32 - length others)) v (place_of onward.place) (lines_of b) >>= stack_read files (reverse others)) (sym left)
-    ∙ (ap (λ n. lines_read (include_file files m) u (place_of next.place) (lines_of (drop next.at next.content.items)) >>= λ v. lines_read (include_file files (32 - n)) v (place_of onward.place) (lines_of (drop onward.at onward.content.items)) >>= stack_read files (reverse others)) (sym len)
-    ∙ (ap (λ n. lines_read (include_file files (32 - n)) u (place_of next.place) (lines_of (drop next.at next.content.items)) >>= stack_read files (onward ∷ reverse others)) (sym outer)
+    ∙ (ap (λ o. (o >>= λ v. lines_read (include_file files (32 - length others)) v (next_line place) (lines_of rest)) >>= stack_read files (reverse others))
+    inner
+    ∙ (then_then (lines_read (include_file files m) u (place_of next.place) (lines_of (drop next.at next.content.items)))
+    (λ v. lines_read (include_file files (32 - length others)) v (next_line place) (lines_of rest)) (stack_read files (reverse others))
+    ∙ (ap (λ p. lines_read (include_file files m) u (place_of next.place) (lines_of (drop next.at next.content.items))
+    >>= λ v. lines_read (include_file files (32 - length others)) v p (lines_of rest) >>= stack_read files (reverse others)) (sym goes)
+    ∙ (ap (λ b. lines_read (include_file files m) u (place_of next.place) (lines_of (drop next.at next.content.items))
+    >>= λ v. lines_read (include_file files (32 - length others)) v (place_of onward.place) (lines_of b) >>= stack_read files (reverse others)) (sym left)
+    ∙ (ap (λ n. lines_read (include_file files m) u (place_of next.place) (lines_of (drop next.at next.content.items)) >>= λ v. lines_read (include_file files
+    (32 - n)) v (place_of onward.place) (lines_of (drop onward.at onward.content.items)) >>= stack_read files (reverse others)) (sym len)
+    ∙ (ap (λ n. lines_read (include_file files (32 - n)) u (place_of next.place) (lines_of (drop next.at next.content.items))
+    >>= stack_read files (onward ∷ reverse others)) (sym outer)
     ∙ ap (λ fs. stack_read files fs u) (sym back)))))))
 
 -- the whole, as it is answered
-pub answered_err : (whole : Outcome) (fault : PrepFault) → IsAnswer whole fault → let result : Result Lines PrepFault = Err fault in IsOutside result ⊎ (outcome_of result ≡ source_of whole)
+pub answered_err : (whole : Outcome) (fault : PrepFault) → IsAnswer whole fault → let result : Result Lines PrepFault = Err fault in
+    IsOutside result ⊎ (outcome_of result ≡ source_of whole)
 answered_err whole fault (inl (inl e)) = inl (inl (ap Err e))
 answered_err whole fault (inl (inr e)) = inl (inr (ap Err e))
 answered_err whole fault (inr e) = inr (sym (ap source_of e))
 
-pub answered_ok : (files : FileMap) (whole : Outcome) (stack : List OpenFile) (s : State) → StackSo files whole stack s → stack ≡ [] → source_of whole ≡ Ok (record { names = s.names; lines = s.lines })
+pub answered_ok : (files : FileMap) (whole : Outcome) (stack : List OpenFile) (s : State) → StackSo files whole stack s → stack ≡ []
+    → source_of whole ≡ Ok (record { names = s.names; lines = s.lines })
 answered_ok files whole stack s so none = ap source_of (so ∙ ap (λ fs. stack_read files (reverse fs) s) none)
 
-pub first_file : (files : FileMap) (name bytes : List ℕ) (s : State) (f : OpenFile) → files name ≡ Some bytes → length bytes ≤ 16777216 → s ≡ record first_state { names = name ∷ [] }
+pub first_file : (files : FileMap) (name bytes : List ℕ) (s : State) (f : OpenFile) → files name ≡ Some bytes → length bytes ≤ 16777216
+    → s ≡ record first_state { names = name ∷ [] }
     → place_of f.place ≡ start_of 0 → drop f.at f.content.items ≡ bytes → StackSo files (named_file files name (files name)) (f ∷ []) s
 first_file files name bytes s f there short is starts all =
     let within : nat_lt 16777216 (length bytes) ≡ false = grind (arith, nat_tests) in
@@ -166,14 +192,16 @@ first_file files name bytes s f there short is starts all =
     ∙ sym (then_ok (lines_read (include_file files 32) s (place_of f.place) (lines_of (drop f.at f.content.items))))))))
 
 -- what the exit of a `?` returns
-pub answered : (whole : Outcome) (result : Result Lines PrepFault) (fault given : PrepFault) → result ≡ Err given → given ≡ fault → IsAnswer whole fault → IsOutside result ⊎ (outcome_of result ≡ source_of whole)
+pub answered : (whole : Outcome) (result : Result Lines PrepFault) (fault given : PrepFault) → result ≡ Err given → given ≡ fault → IsAnswer whole fault
+    → IsOutside result ⊎ (outcome_of result ≡ source_of whole)
 answered whole result fault given is same h = subst (λ r. IsOutside r ⊎ (outcome_of r ≡ source_of whole)) (sym (is ∙ ap Err same)) (answered_err whole fault h)
 
 -- the files' names stand among the names
 abbrev pub AllNamed : ℕ → List OpenFile → Type 0
 AllNamed names files = All (λ f. f.place.file < names) files
 
-pub named_front : (names more : ℕ) (stack others : List OpenFile) (f : OpenFile) → AllNamed names stack → stack ≡ others ++ f ∷ [] → names ≤ more → AllNamed more others
+pub named_front : (names more : ℕ) (stack others : List OpenFile) (f : OpenFile) → AllNamed names stack → stack ≡ others ++ f ∷ [] → names ≤ more
+    → AllNamed more others
 named_front names more stack others f all is l = λ k d h.
     let len : length stack ≡ length others + 1 = ap length is ∙ length-append others (f ∷ []) in
     let same : get_or stack k d ≡ get_or others k d = ap (λ fs. get_or fs k d) is ∙ get_or_append_left others (f ∷ []) d k h in
@@ -185,6 +213,7 @@ alone : (more : ℕ) (f : OpenFile) → f.place.file < more → AllNamed more (f
 alone more f h zero d g = h
 alone more f h (suc k) d g = absurd (omega arith)
 
-pub named_push : (names more : ℕ) (others : List OpenFile) (f : OpenFile) → AllNamed names others → names ≤ more → f.place.file < more → AllNamed more (others ++ f ∷ [])
+pub named_push : (names more : ℕ) (others : List OpenFile) (f : OpenFile) → AllNamed names others → names ≤ more → f.place.file < more
+    → AllNamed more (others ++ f ∷ [])
 named_push names more others f all l h =
     All-append (λ f. f.place.file < more) others (f ∷ []) (λ k d g. let there = all k d g in omega (arith, there)) (alone more f h)

@@ -34,7 +34,8 @@ long_file bytes content is l =
     grind (arith, nat_tests)
 
 -- a file that is there, by what comes of its content
-pub answers : {Z : Type 0} (files : FileMap) (name content : List ℕ) (result : Result (Vec ℕ Z) PrepFault) (outcome inner : Outcome) (bytes : List ℕ) → files name ≡ Some bytes → content ≡ take 16777217 bytes
+pub answers : {Z : Type 0} (files : FileMap) (name content : List ℕ) (result : Result (Vec ℕ Z) PrepFault) (outcome inner : Outcome) (bytes : List ℕ)
+    → files name ≡ Some bytes → content ≡ take 16777217 bytes
     → outcome ≡ unless_long name bytes inner → Kept name content result → MatchResult result (λ c. files name ≡ Some c.items) (IsAnswer outcome)
 answers files name content (Ok whole) outcome inner bytes there is o kept = there ∙ ap Some (whole_file bytes content is (kept.ok).1 ∙ sym (kept.ok).0)
 answers files name content (Err fault) outcome inner bytes there is o kept = by kept.err
@@ -44,7 +45,8 @@ answers files name content (Err fault) outcome inner bytes there is o kept = by 
     by (inr e) = inr (o ∙ (cond-true (nat_lt 16777216 (length bytes)) _ _ (long_file bytes content is e.0) ∙ ap Err (sym e.1)))
 
 -- the named file is there
-pub named_there : (files : FileMap) (name bytes : List ℕ) → files name ≡ Some bytes → (inner : Outcome) × (named_file files name (files name) ≡ unless_long name bytes inner)
+pub named_there : (files : FileMap) (name bytes : List ℕ) → files name ≡ Some bytes
+    → (inner : Outcome) × (named_file files name (files name) ≡ unless_long name bytes inner)
 named_there files name bytes there = (_, ap (named_file files name) there)
 
 -- an included file is there, and not too deep
@@ -59,7 +61,8 @@ absent_by files zero name s place none = ap (too_deep name s place) none
 absent_by files (suc n) name s place none = ap (include_found (include_file files n) name s place) none
 
 -- an included file is not there
-pub absent_answers : (files : FileMap) (n : ℕ) (name : List ℕ) (s : State) (place : Place) (fault : PrepFault) → files name ≡ None → (fault ≡ NoMemory) ⊎ (fault ≡ Broken P6 (name_at s place.file) place.line)
+pub absent_answers : (files : FileMap) (n : ℕ) (name : List ℕ) (s : State) (place : Place) (fault : PrepFault) → files name ≡ None
+    → (fault ≡ NoMemory) ⊎ (fault ≡ Broken P6 (name_at s place.file) place.line)
     → IsAnswer (include_file files n name s place) fault
 absent_answers files n name s place fault none (inl e) = inl (inr e)
 absent_answers files n name s place fault none (inr e) = inr (absent_by files n name s place none ∙ ap Err (sym e))

@@ -33,5 +33,7 @@ module _ {K M : Type 0} (C : Calls K M) (P : Program) where
 pub flat_once : (tables : Tables) (launch : Launch) (a b : Observed) → Flat.Runs tables launch a → Flat.Runs tables launch b → a ≡ b
 flat_once tables launch a b x y = observed_once (Flat.step tables) observed (kept flat tables) (Flat.start tables launch) a b x y
 
-pub linked_once : (repeats : ℕ → ℕ → Bool) (tables : Tables) (launch : Launch) (a b : Observed) → Linked.Runs repeats tables launch a → Linked.Runs repeats tables launch b → a ≡ b
-linked_once repeats tables launch a b x y = observed_once (Linked.step repeats tables) observed (kept (linked repeats) tables) (Linked.start repeats tables launch) a b x y
+pub linked_once : (repeats : ℕ → ℕ → Bool) (tables : Tables) (launch : Launch) (a b : Observed) → Linked.Runs repeats tables launch a
+    → Linked.Runs repeats tables launch b → a ≡ b
+linked_once repeats tables launch a b x y =
+    observed_once (Linked.step repeats tables) observed (kept (linked repeats) tables) (Linked.start repeats tables launch) a b x y

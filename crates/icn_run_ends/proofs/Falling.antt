@@ -39,7 +39,8 @@ use Rattle.icn_run_ends.specs.Weights.{stack_weight}
 use Rattle.icn_run_ends.proofs.Weights.{least, bounds}
 
 -- a place with an instruction is below the count of all
-place_within : (procs : List Procedure) (n place : ℕ) (instr : Instr) → slice_get (option_map_or (λ (entry : Procedure). entry.instrs) (slice_get procs n) []) place ≡ Some instr → place < instr_count procs
+place_within : (procs : List Procedure) (n place : ℕ) (instr : Instr)
+    → slice_get (option_map_or (λ (entry : Procedure). entry.instrs) (slice_get procs n) []) place ≡ Some instr → place < instr_count procs
 place_within [] n place instr e = absurd (cc e)
 place_within (proc ∷ procs) zero place instr e = let l = within proc.instrs place instr e in omega (arith, l)
 place_within (proc ∷ procs) (suc n) place instr e = let l = place_within procs n place instr e in omega (arith, l)
@@ -85,11 +86,13 @@ module _ (tables : Tables) (have : HaveShapes tables) (ok : TablesOk tables) (ke
 
   -- Where nothing leads back
 
-  forward_near : (m : Frames) (st : Store Frames) → IsNear (running m st) → (instr : Instr) → instruction_at flat tables m ≡ Some instr → IsForward m.place instr
+  forward_near : (m : Frames) (st : Store Frames) → IsNear (running m st) → (instr : Instr) → instruction_at flat tables m ≡ Some instr
+      → IsForward m.place instr
   forward_near m st x instr e =
       let shaped : IsFlatShapedAt tables (shapes_of tables have) m st = shaped_in tables have ok keep x.state (running m st) x.same x.safe in
       let same : instr ≡ shaped.fine.instr = some_inj (sym e ∙ shaped.fine.stands) in
-      subst (IsForward m.place) (sym same) (goes_forward shaped.fine.instr shaped.shape m.place (λ to. shapes_of tables have (flat.proc m) to.0 ≡ Some to.1) shaped.fine.onward)
+      subst (IsForward m.place) (sym same)
+      (goes_forward shaped.fine.instr shaped.shape m.place (λ to. shapes_of tables have (flat.proc m) to.0 ≡ Some to.1) shaped.fine.onward)
 
   -- nothing leads back, or a turn more was made
   abbrev Settled : ℕ → State Frames Frames → Type 0
@@ -114,32 +117,38 @@ module _ (tables : Tables) (have : HaveShapes tables) (ok : TablesOk tables) (ke
   turn_settled n stuck e = tt
 
   settled_next : (s : State Frames Frames) → IsNear s → Settled (made_turns s) (step flat tables s)
-  settled_next s x = by (one_step (linked repeats_anywhere) flat tables (Lacks repeats_anywhere (Opens tables)) (Unit {0}) (linked_agrees repeats_anywhere (Opens tables)) rows_keep (λ lacks. tt) x.same)
+  settled_next s x = by (one_step (linked repeats_anywhere) flat tables (Lacks repeats_anywhere (Opens tables)) (Unit {0})
+      (linked_agrees repeats_anywhere (Opens tables)) rows_keep (λ lacks. tt) x.same)
     where
       next : State Parked Linked
       next = step (linked repeats_anywhere) tables x.state
 
-      by : Reaches (linked repeats_anywhere) flat tables (Lacks repeats_anywhere (Opens tables)) (Unit {0}) (linked_agrees repeats_anywhere (Opens tables)) rows_keep (made_turns s) next (step flat tables s)
+      by : Reaches (linked repeats_anywhere) flat tables (Lacks repeats_anywhere (Opens tables)) (Unit {0})
+          (linked_agrees repeats_anywhere (Opens tables)) rows_keep (made_turns s) next (step flat tables s)
           → Settled (made_turns s) (step flat tables s)
-      by (inl y) = near_settled (made_turns s) (step flat tables s) (record { state = next; safe = step_ok tables (shapes_of tables have) (given tables have ok keep) keep ok x.state x.safe; same = y })
+      by (inl y) = near_settled (made_turns s) (step flat tables s)
+          (record { state = next; safe = step_ok tables (shapes_of tables have) (given tables have ok keep) keep ok x.state x.safe; same = y })
       by (inr y) = turn_settled (made_turns s) (step flat tables s) y.1.1
 
   -- What a step comes to
 
-  running_falls : (n w : ℕ) (before : State Frames Frames) (m : Frames) (st : Store Frames) (f : Fits flat N B W m) → turns_of before ≡ n → w ≤ left_of tables before
+  running_falls : (n w : ℕ) (before : State Frames Frames) (m : Frames) (st : Store Frames) (f : Fits flat N B W m) → turns_of before ≡ n
+      → w ≤ left_of tables before
       → TurnedOrLighter flat N B W st.turns (worth N m.place + f.0) n w → Settled n (running m st) → Falls tables B before (running m st)
   running_falls n w before m st f e le (inl turn) settled = let a = turn.0 in let b = turn.1 in turn_made (omega (arith, b, e)) (omega (arith, a, e))
   running_falls n w before m st f e le (inr less) (inl none) =
       let a = less.0 in let b = less.1 in let c = weighs_least m f in lighter (omega (arith, a, e)) (omega (arith, b, c, none, le))
   running_falls n w before m st f e le (inr less) (inr turn) = let a = less.0 in absurd (omega (arith, a, turn))
 
-  failing_falls : (n w : ℕ) (before : State Frames Frames) (m : Frames) (st : Store Frames) (f : Fits flat N B W m) → turns_of before ≡ n → w ≤ left_of tables before
+  failing_falls : (n w : ℕ) (before : State Frames Frames) (m : Frames) (st : Store Frames) (f : Fits flat N B W m) → turns_of before ≡ n
+      → w ≤ left_of tables before
       → TurnedOrLighter flat N B W st.turns f.0 n w → Falls tables B before (failing m st)
   failing_falls n w before m st f e le (inl turn) = let a = turn.0 in let b = turn.1 in turn_made (omega (arith, b, e)) (omega (arith, a, e))
   failing_falls n w before m st f e le (inr less) =
       let a = less.0 in let b = less.1 in let c = weighs_least m f in lighter (omega (arith, a, e)) (omega (arith, b, c, le))
 
-  later_falls : (n w : ℕ) (before after : State Frames Frames) → turns_of before ≡ n → w ≤ left_of tables before → Later flat N B W n w after → Settled n after → Falls tables B before after
+  later_falls : (n w : ℕ) (before after : State Frames Frames) → turns_of before ≡ n → w ≤ left_of tables before → Later flat N B W n w after → Settled n after
+      → Falls tables B before after
   later_falls n w before (running m st) e le l settled = running_falls n w before m st l.0 e le l.2 settled
   later_falls n w before (failing m st) e le l settled = failing_falls n w before m st l.0 e le l.2
   later_falls n w before (hopping m st) e le l settled = let a = l.1.0 in let b = l.1.1 in turn_made (omega (arith, b, e)) (omega (arith, a, e))
@@ -157,13 +166,15 @@ module _ (tables : Tables) (have : HaveShapes tables) (ok : TablesOk tables) (ke
   later_sound n w (over ending outside) few l = tt
   later_sound n w stuck few l = tt
 
-  at_instruction : (m : Frames) (st : Store Frames) (h : IsSound (running m st)) → ((instr : Instr) → instruction_at flat tables m ≡ Some instr → IsForward m.place instr) → (o : Option Instr) → instruction_at flat tables m ≡ o
+  at_instruction : (m : Frames) (st : Store Frames) (h : IsSound (running m st))
+      → ((instr : Instr) → instruction_at flat tables m ≡ Some instr → IsForward m.place instr) → (o : Option Instr) → instruction_at flat tables m ≡ o
       → Later flat N B W st.turns (worth N m.place + stack_weight N m) (with_found o (λ instr. instruction flat tables instr (flat.go (suc m.place) m) st))
   at_instruction m st h forward None e = tt
   at_instruction m st h forward (Some i) e =
       let y = worth_next N m.place (place_within tables.procs (flat.proc m) m.place i e) in
       let f = least_fits m h.0 in
-      l_instruction flat N W tables B st.turns (worth N m.place + stack_weight N m) h.2 (flat.go (suc m.place) m) (f.0, W.go (suc m.place) m f.0 f.1) (omega (arith, y)) i st
+      l_instruction flat N W tables B st.turns (worth N m.place + stack_weight N m) h.2 (flat.go (suc m.place) m) (f.0, W.go (suc m.place) m f.0 f.1)
+      (omega (arith, y)) i st
       (behind m.place i (forward i e)) (record { fit = h.1; turns = refl })
 
   -- what is left of a state, but for a label that leads back
@@ -197,8 +208,10 @@ module _ (tables : Tables) (have : HaveShapes tables) (ok : TablesOk tables) (ke
 
   near_later : (s : State Frames Frames) → IsSound s → IsNear s → Later flat N B W (made_turns s) (weight_left s) (step flat tables s)
   near_later (running m st) h x = at_instruction m st h (forward_near m st x) (instruction_at flat tables m) refl
-  near_later (failing m st) h x = let f = least_fits m h.0 in f_fails flat N W tables B st.turns (stack_weight N m) h.2 m f (omega arith) st (record { fit = h.1; turns = refl })
-  near_later (hopping m st) h x = turned flat N W tables B st.turns 0 h.1 st (λ st. passed_failure flat (activator_of st.active st) m st) (record { fit = h.0; turns = refl })
+  near_later (failing m st) h x =
+      let f = least_fits m h.0 in f_fails flat N W tables B st.turns (stack_weight N m) h.2 m f (omega arith) st (record { fit = h.1; turns = refl })
+  near_later (hopping m st) h x =
+      turned flat N W tables B st.turns 0 h.1 st (λ st. passed_failure flat (activator_of st.active st) m st) (record { fit = h.0; turns = refl })
       (a_to_activator flat N W tables B st.turns m (TurnOf flat N W tables B st.turns 0 h.1 st) (h.0, omega arith))
   near_later (over ending outside) h x = tt
   near_later stuck h x = tt
@@ -206,7 +219,8 @@ module _ (tables : Tables) (have : HaveShapes tables) (ok : TablesOk tables) (ke
   -- Where a mark is due to which failure came back
 
   -- its label leads forward, or is counted
-  mark_lighter : (place more : ℕ) (label : Option ℕ) → place < N → more ≤ suc (worth_of N label) → worth N (suc place) + more < worth N place + backward_worth N place (Some (mark_of label))
+  mark_lighter : (place more : ℕ) (label : Option ℕ) → place < N → more ≤ suc (worth_of N label)
+      → worth N (suc place) + more < worth N place + backward_worth N place (Some (mark_of label))
   mark_lighter place more None low le = let y = worth_next N place low in let one = cost_some (N - suc place) in omega (arith, y, one, le)
   mark_lighter place more (Some label) low le = by (nat_le label place) refl
     where
@@ -218,7 +232,8 @@ module _ (tables : Tables) (have : HaveShapes tables) (ok : TablesOk tables) (ke
   abbrev opened : Option ℕ → Frames → Frames
   opened label m = flat.mark label (flat.go (suc m.place) m)
 
-  due_falls : (m : Frames) (st : Store Frames) (label : Option ℕ) → instruction_at flat tables m ≡ Some (mark_of label) → IsSound (running m st) → IsNear (running (opened label m) st) → Falls tables B (running m st) (running (opened label m) st)
+  due_falls : (m : Frames) (st : Store Frames) (label : Option ℕ) → instruction_at flat tables m ≡ Some (mark_of label) → IsSound (running m st)
+      → IsNear (running (opened label m) st) → Falls tables B (running m st) (running (opened label m) st)
   due_falls m st label stands h near =
       let f = least_fits m h.0 in
       let stays = W.mark label (flat.go (suc m.place) m) (f.0, W.go (suc m.place) m f.0 f.1) in
@@ -227,7 +242,8 @@ module _ (tables : Tables) (have : HaveShapes tables) (ok : TablesOk tables) (ke
       let none = backward_none N (suc m.place) (instruction_at flat tables (opened label m)) (forward_near (opened label m) st near) in
       let low = place_within tables.procs (flat.proc m) m.place (mark_of label) stands in
       let less = mark_lighter m.place (suc (worth_of N label)) label low (omega arith) in
-      let there : backward_worth N m.place (instruction_at flat tables m) ≡ backward_worth N m.place (Some (mark_of label)) = ap (backward_worth N m.place) stands in
+      let there : backward_worth N m.place (instruction_at flat tables m)
+      ≡ backward_worth N m.place (Some (mark_of label)) = ap (backward_worth N m.place) stands in
       lighter refl (omega (arith, most, weighs, none, less, there))
 
   due_sound : (m : Frames) (st : Store Frames) (label : Option ℕ) → IsSound (running m st) → IsSound (running (opened label m) st)
@@ -238,7 +254,8 @@ module _ (tables : Tables) (have : HaveShapes tables) (ok : TablesOk tables) (ke
   abbrev Goes : State Frames Frames → Type 0
   Goes s = IsSound s × Follows tables have ok keep s
 
-  due_step : (s : State Frames Frames) → IsSound s → IsDue tables have ok keep s → IsNear (step flat tables s) → Falls tables B s (step flat tables s) × IsSound (step flat tables s)
+  due_step : (s : State Frames Frames) → IsSound s → IsDue tables have ok keep s → IsNear (step flat tables s)
+      → Falls tables B s (step flat tables s) × IsSound (step flat tables s)
   due_step (running m st) h due near =
       let e = opens_mark tables have ok keep due.0 m st due.1 in
       subst (λ s. Falls tables B (running m st) s × IsSound s) (sym e) (due_falls m st due.0 due.1 h (subst IsNear e near), due_sound m st due.0 h)
@@ -248,8 +265,10 @@ module _ (tables : Tables) (have : HaveShapes tables) (ok : TablesOk tables) (ke
   due_step stuck h due near = absurd due
 
   step_falls : (s : State Frames Frames) → Goes s → Falls tables B s (step flat tables s) × IsSound (step flat tables s)
-  step_falls s (h, inl x) = let l = near_later s h x in
-      (later_falls (made_turns s) (weight_left s) s (step flat tables s) (same_turns s) (weight_within s) l (settled_next s x), later_sound (made_turns s) (weight_left s) (step flat tables s) (few_made s h) l)
+  step_falls s (h, inl x) = let l = near_later s h x in (
+    later_falls (made_turns s) (weight_left s) s (step flat tables s) (same_turns s) (weight_within s) l (settled_next s x),
+    later_sound (made_turns s) (weight_left s) (step flat tables s) (few_made s h) l,
+  )
   step_falls s (h, inr x) = due_step s h x.0 x.1
 
   goes_next : (s : State Frames Frames) → Goes s → Goes (step flat tables s)
@@ -286,4 +305,5 @@ pub each_falls : (tables : Tables) → HaveShapes tables → TablesOk tables →
 each_falls tables have ok keep launch outsides outside =
     let B = launch.bounds.turns in
     (step_falls tables have ok keep B (over_outside outside (run_over tables outsides (Flat.start tables launch)))
-    (goes_over tables have ok keep B outside (run_over tables outsides (Flat.start tables launch)) (goes_run tables have ok keep B outsides (Flat.start tables launch) (start_goes tables have ok keep B launch refl)))).0
+    (goes_over tables have ok keep B outside (run_over tables outsides (Flat.start tables launch))
+    (goes_run tables have ok keep B outsides (Flat.start tables launch) (start_goes tables have ok keep B launch refl)))).0

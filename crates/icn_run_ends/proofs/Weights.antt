@@ -38,7 +38,8 @@ module _ (N : ℕ) where
         let inside = least f n in subst (λ x. outer_weight N (W n) x ≤ o) (sym c) (omega (arith, inside, e))
     outer_least {cells} {m} {b} {o} (at_base proc locals below c len frame) n = subst (λ x. outer_weight N (W n) x ≤ o) (sym c) (omega arith)
 
-    newest_least : {cells : List Cell} {newest : Option ℕ} {s o : ℕ} → Newest N cells newest s o → (n : ℕ) → weight_up_to (newest_weight (W n)) cells newest ≤ s + o
+    newest_least : {cells : List Cell} {newest : Option ℕ} {s o : ℕ} → Newest N cells newest s o → (n : ℕ)
+        → weight_up_to (newest_weight (W n)) cells newest ≤ s + o
     newest_least {cells} {newest} {s} {o} (nothing e) n = subst (λ x. weight_up_to (newest_weight (W n)) cells x ≤ s + o) (sym e) (omega arith)
     newest_least {cells} {newest} {s} {o} (newest_at h why r place below s' o' e c len f back) n =
         subst (λ x. weight_up_to (newest_weight (W n)) cells x ≤ s + o) (sym e)
@@ -63,7 +64,8 @@ module _ (N : ℕ) where
     is : inner + o ≡ max o (weight_up_to (newest_weight (W n)) cells newest)
 
   fewer : (cells : List Cell) (h : ℕ) (x : Cell) (below : List Cell) → cut h cells ≡ x ∷ below → length below < length cells
-  fewer cells h x below e = let a : length (cut h cells) ≡ suc (length below) = ap length e in let b = length-drop (length cells - h) cells in omega (arith, a, b)
+  fewer cells h x below e =
+      let a : length (cut h cells) ≡ suc (length below) = ap length e in let b = length-drop (length cells - h) cells in omega (arith, a, b)
 
   back_bounds : (why : Why) (w inside here : ℕ) → inside ≡ w → back_weight why w ≤ here → Back why inside here
   back_bounds Alt w inside here e le = omega (arith, e, le)
@@ -114,7 +116,8 @@ module _ (N : ℕ) where
     outer_bounds {cells} {m} {b} {o} (at_base proc locals below c len frame) n few =
         record { outer = 0; fits = at_base proc locals below c len frame; is = ap (outer_weight N (W n)) (sym c) }
 
-    newest_bounds : {cells : List Cell} {newest : Option ℕ} {s o : ℕ} → Newest N cells newest s o → (out n : ℕ) → length cells ≤ n → BoundsNewest n cells newest out
+    newest_bounds : {cells : List Cell} {newest : Option ℕ} {s o : ℕ} → Newest N cells newest s o → (out n : ℕ) → length cells ≤ n
+        → BoundsNewest n cells newest out
     newest_bounds {cells} {newest} {s} {o} (nothing e) out n few =
         let w = weight_up_to (newest_weight (W n)) cells newest in
         let more = le-max_left out w in
@@ -128,6 +131,7 @@ module _ (N : ℕ) where
         let is : w ≡ back_weight why (W n below r) = ap (weight_up_to (newest_weight (W n)) cells) e ∙ ap (newest_weight (W n)) c in
         record {
           inner = max out w - out;
-          fits = newest_at h why r place below inside.newest inside.outer e c len inside.fits (back_bounds why (W n below r) (inside.newest + inside.outer) ((max out w - out) + out) inside.is (omega (arith, more, most, is)));
+          fits = newest_at h why r place below inside.newest inside.outer e c len inside.fits
+              (back_bounds why (W n below r) (inside.newest + inside.outer) ((max out w - out) + out) inside.is (omega (arith, more, most, is)));
           is = omega (arith, more);
         }

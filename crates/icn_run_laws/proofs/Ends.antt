@@ -40,7 +40,8 @@ module _ {K M : Type 0} (C : Calls K M) (N : ℕ) (W : Weighs C N) (P : Program)
   turns_of (hopping m st) = st.turns
   turns_of _ = 0
 
-  at_instruction : (m : M) (st : Store K) (o : Option Instr) → instruction_at C P m ≡ o → Kept (running m st) → (f : Fits C N B W m) → Held C N B W st → (few : st.turns ≤ B)
+  at_instruction : (m : M) (st : Store K) (o : Option Instr) → instruction_at C P m ≡ o → Kept (running m st) → (f : Fits C N B W m) → Held C N B W st
+      → (few : st.turns ≤ B)
       → Later C N B W st.turns (worth N (C.place m) + f.0) (with_found o (λ instr. instruction C P instr (C.go (suc (C.place m)) m) st))
   at_instruction m st None q kept f g few = tt
   at_instruction m st (Some i) q kept f g few =
@@ -54,7 +55,8 @@ module _ {K M : Type 0} (C : Calls K M) (N : ℕ) (W : Weighs C N) (P : Program)
   pub falls : (s : State K M) (h : Sound C N B W s) → Kept s → Later C N B W (turns_of s) (left s h) (step C P s)
   falls (running m st) h kept = at_instruction m st (instruction_at C P m) refl kept h.0 h.1 h.2
   falls (failing m st) h kept = f_fails C N W P B st.turns h.0.0 h.2 m h.0 (omega arith) st (record { fit = h.1; turns = refl })
-  falls (hopping m st) h kept = turned C N W P B st.turns 0 h.1 st (λ st. passed_failure C (activator_of st.active st) m st) (record { fit = h.0; turns = refl }) (a_to_activator C N W P B st.turns m (TurnOf C N W P B st.turns 0 h.1 st) (h.0, omega arith))
+  falls (hopping m st) h kept = turned C N W P B st.turns 0 h.1 st (λ st. passed_failure C (activator_of st.active st) m st)
+      (record { fit = h.0; turns = refl }) (a_to_activator C N W P B st.turns m (TurnOf C N W P B st.turns 0 h.1 st) (h.0, omega arith))
   falls (over ending outside) h kept = tt
   falls stuck h kept = tt
 
@@ -65,11 +67,14 @@ module _ {K M : Type 0} (C : Calls K M) (N : ℕ) (W : Weighs C N) (P : Program)
   abbrev Ends : ℕ → ℕ → Type 0
   Ends k w = (s : State K M) (h : Sound C N B W s) → Kept s → turns_of s + k ≡ B → left s h < w → EndsFrom C P s
 
-  on_falls : (k w n : ℕ) → ((j : ℕ) → suc j ≡ k → (v : ℕ) → Ends j v) → Ends k w → (t : State K M) (h : Sound C N B W t) → Kept t → n + k ≡ B → (v : ℕ) → v ≤ w → Falls C N B W (turns_of t) (left t h) n v → EndsFrom C P t
-  on_falls k w n fewer lighter t h kept e v le (inl turn) = let a = turn.0 in let b = turn.1 in fewer (k - 1) (omega arith) (suc (left t h)) t h kept (omega arith) (omega arith)
+  on_falls : (k w n : ℕ) → ((j : ℕ) → suc j ≡ k → (v : ℕ) → Ends j v) → Ends k w → (t : State K M) (h : Sound C N B W t) → Kept t → n + k ≡ B → (v : ℕ) → v ≤ w
+      → Falls C N B W (turns_of t) (left t h) n v → EndsFrom C P t
+  on_falls k w n fewer lighter t h kept e v le (inl turn) =
+      let a = turn.0 in let b = turn.1 in fewer (k - 1) (omega arith) (suc (left t h)) t h kept (omega arith) (omega arith)
   on_falls k w n fewer lighter t h kept e v le (inr less) = let a = less.0 in let b = less.1 in lighter t h kept (omega arith) (omega arith)
 
-  on_next : (k w n v : ℕ) → ((j : ℕ) → suc j ≡ k → (v : ℕ) → Ends j v) → Ends k w → n + k ≡ B → v ≤ w → (t : State K M) → Kept t → Later C N B W n v t → EndsFrom C P t
+  on_next : (k w n v : ℕ) → ((j : ℕ) → suc j ≡ k → (v : ℕ) → Ends j v) → Ends k w → n + k ≡ B → v ≤ w → (t : State K M) → Kept t → Later C N B W n v t
+      → EndsFrom C P t
   on_next k w n v fewer lighter e le (running m st) kept l = on_falls k w n fewer lighter (running m st) (l.0, l.1, few l.2) kept e v le l.2
     where
       few : Falls C N B W st.turns (worth N (C.place m) + l.0.0) n v → st.turns ≤ B
@@ -80,13 +85,15 @@ module _ {K M : Type 0} (C : Calls K M) (N : ℕ) (W : Weighs C N) (P : Program)
       few : Falls C N B W st.turns l.0.0 n v → st.turns ≤ B
       few (inl turn) = let a = turn.0 in let b = turn.1 in omega arith
       few (inr less) = let a = less.0 in omega arith
-  on_next k w n v fewer lighter e le (hopping m st) kept l = let a = l.1.0 in let b = l.1.1 in on_falls k w n fewer lighter (hopping m st) (l.0, omega arith) kept e v le (inl l.1)
+  on_next k w n v fewer lighter e le (hopping m st) kept l =
+      let a = l.1.0 in let b = l.1.1 in on_falls k w n fewer lighter (hopping m st) (l.0, omega arith) kept e v le (inl l.1)
   on_next k w n v fewer lighter e le (over ending outside) kept l = record { count = 0; is_end = tt }
   on_next k w n v fewer lighter e le stuck kept l = record { count = 0; is_end = tt }
 
   by_weight : (k : ℕ) → ((j : ℕ) → suc j ≡ k → (v : ℕ) → Ends j v) → (w : ℕ) → Ends k w
   by_weight k fewer zero s h kept e lt = absurd (omega arith)
-  by_weight k fewer (suc w) s h kept e lt = one_step s (on_next k w (turns_of s) (left s h) fewer (by_weight k fewer w) e (omega arith) (step C P s) (code.on s kept) (falls s h kept))
+  by_weight k fewer (suc w) s h kept e lt =
+      one_step s (on_next k w (turns_of s) (left s h) fewer (by_weight k fewer w) e (omega arith) (step C P s) (code.on s kept) (falls s h kept))
 
   by_turns : (k w : ℕ) → Ends k w
   by_turns zero w = by_weight zero (λ j q. absurd (omega arith)) w
@@ -109,7 +116,8 @@ module _ {K M : Type 0} (C : Calls K M) (N : ℕ) (W : Weighs C N) (P : Program)
   abbrev Starts : Store K → Type 0
   Starts st = Held C N B W st × (st.turns ≤ B)
 
-  s_made : (o : Outcome) (m : M) (st : Store K) (next : Value → M → Store K → State K M) → IsMade o → KeepsIn (here C m st) o → Starts st → ((v : Value) (a : M) (st' : Store K) → Starts st' → Sound C N B W (next v a st')) → Sound C N B W (with_made C o m st next)
+  s_made : (o : Outcome) (m : M) (st : Store K) (next : Value → M → Store K → State K M) → IsMade o → KeepsIn (here C m st) o → Starts st
+      → ((v : Value) (a : M) (st' : Store K) → Starts st' → Sound C N B W (next v a st')) → Sound C N B W (with_made C o m st next)
   s_made (Gives (Val v) seen) m st next i k h f = f v (C.set_locals seen.locals m) (with_at seen st) ((h.0.0, ap (λ b. b.turns) k.bounds ∙ h.0.1), h.1)
   s_made (Gives (Var v) seen) m st next i k h f = absurd i
   s_made (Error j v seen) m st next i k h f = tt
@@ -117,9 +125,12 @@ module _ {K M : Type 0} (C : Calls K M) (N : ℕ) (W : Weighs C N) (P : Program)
   s_made (Suspends item r seen) m st next i k h f = absurd i
   s_made (Ended j seen) m st next i k h f = absurd i
 
-  s_collected : (b : Bool) (k : ℕ) (vs : List Value) (m : M) (st : Store K) (next : List Value → M → Store K → State K M) → Starts st → ((ps : List Value) (a : M) (st' : Store K) → Starts st' → Sound C N B W (next ps a st')) → Sound C N B W (collect_rest C b k vs m st next)
+  s_collected : (b : Bool) (k : ℕ) (vs : List Value) (m : M) (st : Store K) (next : List Value → M → Store K → State K M) → Starts st
+      → ((ps : List Value) (a : M) (st' : Store K) → Starts st' → Sound C N B W (next ps a st')) → Sound C N B W (collect_rest C b k vs m st next)
   s_collected false k vs m st next h f = f (fill_nulls k vs) m st h
-  s_collected true k vs m st next h f = s_made (list_row (drop (k - 1) vs) (here C m st)) m st (λ rest m st. next (fill_nulls (k - 1) vs ++ rest ∷ []) m st) (rows_keep.list_made (drop (k - 1) vs) (here C m st)) (rows_keep.listed (drop (k - 1) vs) (here C m st)) h (λ rest a st' h'. f (fill_nulls (k - 1) vs ++ rest ∷ []) a st' h')
+  s_collected true k vs m st next h f = s_made (list_row (drop (k - 1) vs) (here C m st)) m st (λ rest m st. next (fill_nulls (k - 1) vs ++ rest ∷ []) m st)
+      (rows_keep.list_made (drop (k - 1) vs) (here C m st)) (rows_keep.listed (drop (k - 1) vs) (here C m st)) h
+      (λ rest a st' h'. f (fill_nulls (k - 1) vs ++ rest ∷ []) a st' h')
 
   s_begun : (b : Bool) (main : ℕ) (entry : Procedure) (vs : List Value) (m : M) (st : Store K) → Starts st → Sound C N B W (begun_if C b main entry vs m st)
   s_begun false main entry vs m st h = tt
@@ -128,7 +139,8 @@ module _ {K M : Type 0} (C : Calls K M) (N : ℕ) (W : Weighs C N) (P : Program)
   pub s_start : (words : List (List ℕ)) (m : M) (st : Store K) (o : Option ℕ) → Starts st → Sound C N B W (start_of C P words m st o)
   s_start words m st None h = tt
   s_start words m st (Some main) h = when_found (Sound C N B W) s_allowed (λ x. Unit {0}) (slice_get P.procs main) _ (there _) (λ entry _.
-      s_made (words_row words (here C m st)) m st (λ list m st. begun_if C (nat_le 1 st.world.heap.bounds.levels) main entry (list ∷ []) m st) (rows_keep.words_made words (here C m st)) (rows_keep.worded words (here C m st)) h
+      s_made (words_row words (here C m st)) m st (λ list m st. begun_if C (nat_le 1 st.world.heap.bounds.levels) main entry (list ∷ []) m st)
+      (rows_keep.words_made words (here C m st)) (rows_keep.worded words (here C m st)) h
       (λ v a st' h'. s_begun (nat_le 1 st'.world.heap.bounds.levels) main entry (v ∷ []) a st' h'))
 
   -- each run ends
@@ -136,7 +148,8 @@ module _ {K M : Type 0} (C : Calls K M) (N : ℕ) (W : Weighs C N) (P : Program)
   ends_by m launch e kept = run_ends (start C m P launch) (s_start launch.words m (first_store P launch) (main_of P) (((tt, tt), e), omega arith)) kept
 
 -- where all labels go forward, nothing needs to be kept
-pub ends : {K M : Type 0} (C : Calls K M) (N : ℕ) (W : Weighs C N) (P : Program) (B : ℕ) → Forward N P → (m : M) (launch : Launch) → launch.bounds.turns ≡ B → EndsFrom C P (start C m P launch)
+pub ends : {K M : Type 0} (C : Calls K M) (N : ℕ) (W : Weighs C N) (P : Program) (B : ℕ) → Forward N P → (m : M) (launch : Launch) → launch.bounds.turns ≡ B
+    → EndsFrom C P (start C m P launch)
 ends C N W P B code m launch e = ends_by C N W P B (λ s. Unit {0}) (record {
   on = λ s kept. tt;
   within = λ m st kept i q. code.within (C.proc m) (C.place m) i q;

@@ -44,22 +44,26 @@ pub there : {A : Type 0} (o : Option A) → IfThere o (λ x. Unit {0})
 there None = tt
 there (Some x) = tt
 
-pub fit_get : {K : Type 0} (F : K → Type 0) (coexps : List (Coexp K)) (n : ℕ) → FitAll F coexps → IfThere (slice_get coexps n) (λ coexp. FitsStatus F coexp.status)
+pub fit_get : {K : Type 0} (F : K → Type 0) (coexps : List (Coexp K)) (n : ℕ) → FitAll F coexps
+    → IfThere (slice_get coexps n) (λ coexp. FitsStatus F coexp.status)
 fit_get F [] n h = tt
 fit_get F (c ∷ cs) zero h = h.0
 fit_get F (c ∷ cs) (suc n) h = fit_get F cs n h.1
 
-fit_set : {K : Type 0} (F : K → Type 0) (coexps : List (Coexp K)) (n : ℕ) (coexp : Coexp K) → FitsStatus F coexp.status → FitAll F coexps → FitAll F (slice_set coexps n coexp)
+fit_set : {K : Type 0} (F : K → Type 0) (coexps : List (Coexp K)) (n : ℕ) (coexp : Coexp K) → FitsStatus F coexp.status → FitAll F coexps
+    → FitAll F (slice_set coexps n coexp)
 fit_set F [] n coexp s h = tt
 fit_set F (c ∷ cs) zero coexp s h = (s, h.1)
 fit_set F (c ∷ cs) (suc n) coexp s h = (h.0, fit_set F cs n coexp s h.1)
 
-pub fit_at : {K : Type 0} (F : K → Type 0) (coexps : List (Coexp K)) (n : ℕ) (d : Coexp K) → FitsStatus F d.status → FitAll F coexps → FitsStatus F (slice_index_or coexps n d).status
+pub fit_at : {K : Type 0} (F : K → Type 0) (coexps : List (Coexp K)) (n : ℕ) (d : Coexp K) → FitsStatus F d.status → FitAll F coexps
+    → FitsStatus F (slice_index_or coexps n d).status
 fit_at F [] n d s h = s
 fit_at F (c ∷ cs) zero d s h = h.0
 fit_at F (c ∷ cs) (suc n) d s h = fit_at F cs n d s h.1
 
-fit_more : {K : Type 0} (F : K → Type 0) (coexps : List (Coexp K)) (coexp : Coexp K) → FitsStatus F coexp.status → FitAll F coexps → FitAll F (coexps ++ coexp ∷ [])
+fit_more : {K : Type 0} (F : K → Type 0) (coexps : List (Coexp K)) (coexp : Coexp K) → FitsStatus F coexp.status → FitAll F coexps
+    → FitAll F (coexps ++ coexp ∷ [])
 fit_more F [] coexp s h = (s, tt)
 fit_more F (c ∷ cs) coexp s h = (h.0, fit_more F cs coexp s h.1)
 
@@ -105,7 +109,8 @@ module _ {K M : Type 0} (C : Calls K M) (N : ℕ) (W : Weighs C N) (P : Program)
   a_outcome : (o : Outcome) (m : M) (st : Store K) → KeepsIn (here C m st) o → Ready m st → A (outcome C o m st)
   a_outcome (Fails seen) m st k h = ((W.set_locals seen.locals m h.0).fits, after_row m st seen k h.1, h.2)
   a_outcome (Gives item seen) m st k h = ((W.push item _ (W.set_locals seen.locals m h.0).fits).fits, after_row m st seen k h.1, h.2)
-  a_outcome (Suspends item r seen) m st k h = ((W.push item _ (W.suspend (Operating r) _ tt (W.set_locals seen.locals m h.0).fits).fits).fits, after_row m st seen k h.1, h.2)
+  a_outcome (Suspends item r seen) m st k h =
+      ((W.push item _ (W.suspend (Operating r) _ tt (W.set_locals seen.locals m h.0).fits).fits).fits, after_row m st seen k h.1, h.2)
   a_outcome (Error j v seen) m st k h = tt
   a_outcome (Ends j seen) m st k h = tt
 
@@ -120,23 +125,29 @@ module _ {K M : Type 0} (C : Calls K M) (N : ℕ) (W : Weighs C N) (P : Program)
   a_value : (item : Item) (m : M) (st : Store K) (next : Value → State K M) → Ready m st → ((v : Value) → A (next v)) → A (with_value C item m st next)
   a_value item m st next h f = a_valued (value_row item (here C m st)) m st next h f
 
-  a_values : (items : List Item) (m : M) (st : Store K) (next : List Value → State K M) → Ready m st → ((vs : List Value) → A (next vs)) → A (with_values C items m st next)
+  a_values : (items : List Item) (m : M) (st : Store K) (next : List Value → State K M) → Ready m st → ((vs : List Value) → A (next vs))
+      → A (with_values C items m st next)
   a_values [] m st next h f = f []
-  a_values (item ∷ items) m st next h f = a_value item m st (λ value. with_values C items m st (λ values. next (value ∷ values))) h (λ v. a_values items m st (λ values. next (v ∷ values)) h (λ vs. f (v ∷ vs)))
+  a_values (item ∷ items) m st next h f = a_value item m st (λ value. with_values C items m st (λ values. next (value ∷ values))) h
+      (λ v. a_values items m st (λ values. next (v ∷ values)) h (λ vs. f (v ∷ vs)))
 
   -- what is made changes the store
-  a_made : (o : Outcome) (m : M) (st : Store K) (next : Value → M → Store K → State K M) → KeepsIn (here C m st) o → Ready m st → ((v : Value) (a : M) (st' : Store K) → Ready a st' → A (next v a st')) → A (with_made C o m st next)
-  a_made (Gives (Val v) seen) m st next k h f = f v (C.set_locals seen.locals m) (with_at seen st) ((W.set_locals seen.locals m h.0).fits, after_row m st seen k h.1, h.2)
+  a_made : (o : Outcome) (m : M) (st : Store K) (next : Value → M → Store K → State K M) → KeepsIn (here C m st) o → Ready m st
+      → ((v : Value) (a : M) (st' : Store K) → Ready a st' → A (next v a st')) → A (with_made C o m st next)
+  a_made (Gives (Val v) seen) m st next k h f =
+      f v (C.set_locals seen.locals m) (with_at seen st) ((W.set_locals seen.locals m h.0).fits, after_row m st seen k h.1, h.2)
   a_made (Gives (Var v) seen) m st next k h f = h
   a_made (Error j v seen) m st next k h f = tt
   a_made (Fails seen) m st next k h f = h
   a_made (Suspends item r seen) m st next k h f = h
   a_made (Ends j seen) m st next k h f = h
 
-  a_list : (values : List Value) (m : M) (st : Store K) (next : Value → M → Store K → State K M) → Ready m st → ((v : Value) (a : M) (st' : Store K) → Ready a st' → A (next v a st')) → A (list_made C values m st next)
+  a_list : (values : List Value) (m : M) (st : Store K) (next : Value → M → Store K → State K M) → Ready m st
+      → ((v : Value) (a : M) (st' : Store K) → Ready a st' → A (next v a st')) → A (list_made C values m st next)
   a_list values m st next h f = a_made (list_row values (here C m st)) m st next (rows_keep.listed values (here C m st)) h f
 
-  a_maybe : (v : ℕ) (o : Option (Pair × M)) (m : M) (st : Store K) → IfThere o (λ swap. Stays W.Bounded C.place 0 v m swap.1) → Ready m st → A (maybe_exchanged o m st running)
+  a_maybe : (v : ℕ) (o : Option (Pair × M)) (m : M) (st : Store K) → IfThere o (λ swap. Stays W.Bounded C.place 0 v m swap.1) → Ready m st
+      → A (maybe_exchanged o m st running)
   a_maybe v None m st i h = h
   a_maybe v (Some swap) m st i h = (i.fits, h.1, h.2)
 
@@ -158,23 +169,34 @@ module _ {K M : Type 0} (C : Calls K M) (N : ℕ) (W : Weighs C N) (P : Program)
   a_to_activator m st h = a_pass_failure (activator_of st.active st) m st h
 
   a_exhausted : (m : M) (st : Store K) → Rest st → A (passed_failure C (activator_of st.active st) m (with_status st.active Exhausted st))
-  a_exhausted m st h = a_pass_failure (activator_of st.active st) m (with_status st.active Exhausted st) ((fit_set W.FitsAway st.coexps st.active _ tt h.0.0, h.0.1), h.1)
+  a_exhausted m st h =
+      a_pass_failure (activator_of st.active st) m (with_status st.active Exhausted st) ((fit_set W.FitsAway st.coexps st.active _ tt h.0.0, h.0.1), h.1)
 
   a_give_by : (s : Status K) (k : ℕ) (v : Value) (m : M) (st : Store K) → Rest st → FitsStatus W.FitsAway s → A (give_by C s k v m st)
   a_give_by Fresh k v m st h f = (W.begin _ _ _ m, (fit_set W.FitsAway st.coexps k _ tt h.0.0, h.0.1), h.1)
   a_give_by Active k v m st h f = tt
-  a_give_by (Waiting w) k v m st h f = ((W.push (Val v) (C.taken_up w m) (W.taken_up w m f)).fits, (fit_set W.FitsAway st.coexps k (record (coexp_at k st) { status = Active }) tt h.0.0, h.0.1), h.1)
+  a_give_by (Waiting w) k v m st h f = (
+    (W.push (Val v) (C.taken_up w m) (W.taken_up w m f)).fits,
+    (fit_set W.FitsAway st.coexps k (record (coexp_at k st) { status = Active }) tt h.0.0, h.0.1),
+    h.1,
+  )
   a_give_by Exhausted k v m st h f = h
 
   a_pass_value : (k : ℕ) (v : Value) (m : M) (st : Store K) → Rest st → A (passed_value C k v m st)
   a_pass_value k v m st h = a_give_by (status_of k st) k v m st h (status_fits k st h.0)
 
   a_result : (v : Value) (m : M) (st : Store K) → Ready m st → A (result_given C v m st)
-  a_result v m st h = a_pass_value (activator_of st.active st) v m (counted_result st.active (with_status st.active (Waiting (C.kept m)) st)) ((fit_set W.FitsAway st.coexps st.active _ (W.kept m h.0) h.1.0, h.1.1), h.2)
+  a_result v m st h = a_pass_value (activator_of st.active st) v m (counted_result st.active (with_status st.active (Waiting (C.kept m)) st))
+      ((fit_set W.FitsAway st.coexps st.active _ (W.kept m h.0) h.1.0, h.1.1), h.2)
 
   a_new : (values : List Value) (proc place : ℕ) (m : M) (st : Store K) → Ready m st → A (coexp_made C values proc place m st)
-  a_new values proc place m st h = a_made (coexpression_row (length values) (here C m st)) m st (λ value m st. push_item C (Val value) m (with_new values proc place st)) (rows_keep.created (length values) (here C m st)) h
-      (λ v a st' h'. ((W.push (Val v) a h'.0).fits, (fit_more W.FitsAway st'.coexps (record { status = Fresh; activator = 0; values = values; proc = proc; place = place }) tt h'.1.0, h'.1.1), h'.2))
+  a_new values proc place m st h = a_made (coexpression_row (length values) (here C m st)) m st
+      (λ value m st. push_item C (Val value) m (with_new values proc place st)) (rows_keep.created (length values) (here C m st)) h
+      (λ v a st' h'. (
+        (W.push (Val v) a h'.0).fits,
+        (fit_more W.FitsAway st'.coexps (record { status = Fresh; activator = 0; values = values; proc = proc; place = place }) tt h'.1.0, h'.1.1),
+        h'.2,
+      ))
 
   a_refreshed_from : (o : Option (Coexp K)) (m : M) (st : Store K) → Ready m st → A (refreshed_from C o m st)
   a_refreshed_from None m st h = tt
@@ -210,9 +232,11 @@ module _ {K M : Type 0} (C : Calls K M) (N : ℕ) (W : Weighs C N) (P : Program)
 
   -- calls
 
-  a_collected : (b : Bool) (k : ℕ) (vs : List Value) (m : M) (st : Store K) (next : List Value → M → Store K → State K M) → Ready m st → ((ps : List Value) (a : M) (st' : Store K) → Ready a st' → A (next ps a st')) → A (collect_rest C b k vs m st next)
+  a_collected : (b : Bool) (k : ℕ) (vs : List Value) (m : M) (st : Store K) (next : List Value → M → Store K → State K M) → Ready m st
+      → ((ps : List Value) (a : M) (st' : Store K) → Ready a st' → A (next ps a st')) → A (collect_rest C b k vs m st next)
   a_collected false k vs m st next h f = f (fill_nulls k vs) m st h
-  a_collected true k vs m st next h f = a_list (drop (k - 1) vs) m st (λ rest m st. next (fill_nulls (k - 1) vs ++ rest ∷ []) m st) h (λ rest a st' h'. f (fill_nulls (k - 1) vs ++ rest ∷ []) a st' h')
+  a_collected true k vs m st next h f = a_list (drop (k - 1) vs) m st (λ rest m st. next (fill_nulls (k - 1) vs ++ rest ∷ []) m st) h
+      (λ rest a st' h'. f (fill_nulls (k - 1) vs ++ rest ∷ []) a st' h')
 
   a_called_if : (b : Bool) (k : ℕ) (entry : Procedure) (vs : List Value) (m : M) (st : Store K) → Ready m st → A (called_if C b k entry vs m st)
   a_called_if false k entry vs m st h = tt
@@ -220,8 +244,11 @@ module _ {K M : Type 0} (C : Calls K M) (N : ℕ) (W : Weighs C N) (P : Program)
 
   a_callee : (c : Callee) (k : ℕ) (items : List Item) (m : M) (st : Store K) → Ready m st → A (callee_called C c k items m st)
   a_callee (IsProc entry) k items m st h = a_values items m st _ h (λ vs. a_called_if (nat_le (suc (C.level m)) st.world.heap.bounds.levels) k entry vs m st h)
-  a_callee (IsRecord kind entry) k items m st h = a_values items m st _ h (λ vs. a_made (record_row kind (fill_nulls (length entry.fields) vs) (here C m st)) m st (λ value m st. push_item C (Val value) m st) (rows_keep.recorded kind (fill_nulls (length entry.fields) vs) (here C m st)) h (λ v a st' h'. a_push (Val v) a st' h'))
-  a_callee (IsFunc func) k items m st h = a_outcome (apply st.names (Function func) items (here C m st)) m st (rows_keep.applied st.names (Function func) items (here C m st)) h
+  a_callee (IsRecord kind entry) k items m st h = a_values items
+      m st _ h (λ vs. a_made (record_row kind (fill_nulls (length entry.fields) vs) (here C m st)) m st (λ value m st. push_item C (Val value) m st)
+      (rows_keep.recorded kind (fill_nulls (length entry.fields) vs) (here C m st)) h (λ v a st' h'. a_push (Val v) a st' h'))
+  a_callee (IsFunc func) k items m st h =
+      a_outcome (apply st.names (Function func) items (here C m st)) m st (rows_keep.applied st.names (Function func) items (here C m st)) h
   a_callee IsNothing k items m st h = tt
 
   a_or_fails : (o : Option Item) (m : M) (st : Store K) → Ready m st → A (pushed_or_fails C o m st)
@@ -262,12 +289,14 @@ module _ {K M : Type 0} (C : Calls K M) (N : ℕ) (W : Weighs C N) (P : Program)
   a_field_applied field (item ∷ items) m st h = a_value item m st _ h (λ v. a_field field v m st h)
 
   a_refreshing : (items : List Item) (m : M) (st : Store K) → Ready m st → A (operate C Ops.Refresh items m st)
-  a_refreshing [] m st h = a_outcome (apply st.names (Operation Ops.Refresh) [] (here C m st)) m st (rows_keep.applied st.names (Operation Ops.Refresh) [] (here C m st)) h
+  a_refreshing [] m st h =
+      a_outcome (apply st.names (Operation Ops.Refresh) [] (here C m st)) m st (rows_keep.applied st.names (Operation Ops.Refresh) [] (here C m st)) h
   a_refreshing (item ∷ items) m st h = a_value item m st _ h (λ v. a_refresh v m st h)
 
   a_operated : (op : Op) (items : List Item) (m : M) (st : Store K) → Ready m st → A (operate C op items m st)
   a_operated Ops.Refresh items m st h = a_refreshing items m st h
-  a_operated op items m st h = a_outcome (apply st.names (Operation op) items (here C m st)) m st (rows_keep.applied st.names (Operation op) items (here C m st)) h
+  a_operated op items m st h =
+      a_outcome (apply st.names (Operation op) items (here C m st)) m st (rows_keep.applied st.names (Operation op) items (here C m st)) h
 
 -- what is true of a step: a turn is made, or what is left becomes lighter than w
 module _ {K M : Type 0} (C : Calls K M) (N : ℕ) (W : Weighs C N) (P : Program) (B : ℕ) (n w : ℕ) (few : n ≤ B) where
@@ -292,7 +321,8 @@ module _ {K M : Type 0} (C : Calls K M) (N : ℕ) (W : Weighs C N) (P : Program)
   abbrev pub TurnOf : Store K → Store K
   TurnOf st = record st { turns = suc st.turns }
 
-  by_bound : (st : Store K) (event : Store K → State K M) (b : Bool) → nat_lt st.turns st.world.heap.bounds.turns ≡ b → st.turns ≡ n → st.world.heap.bounds.turns ≡ B → After C N B W n (event (TurnOf st)) → Lt (turn_if b st event)
+  by_bound : (st : Store K) (event : Store K → State K M) (b : Bool) → nat_lt st.turns st.world.heap.bounds.turns ≡ b → st.turns ≡ n
+      → st.world.heap.bounds.turns ≡ B → After C N B W n (event (TurnOf st)) → Lt (turn_if b st event)
   by_bound st event false q e g h = tt
   by_bound st event true q e g h = let lt = ltb-true st.turns st.world.heap.bounds.turns q in after_turn _ h (omega arith)
 
@@ -315,7 +345,8 @@ module _ {K M : Type 0} (C : Calls K M) (N : ℕ) (W : Weighs C N) (P : Program)
   -- the place is that of the next instruction
   module _ (m : M) (fits : Fits C N B W m) (bound : worth N (C.place m) + worth N (C.place m) + worth N (C.place m) + worth N (C.place m) + fits.0 ≤ w) where
     go_on : (k : ℕ) (after : M) (st : Store K) → Stays W.Bounded C.place k fits.0 m after → k ≤ suc (worth N (C.place m)) → Same st → Lt (running after st)
-    go_on k after st s le g = let more = s.weighs in let e : worth N (C.place after) ≡ worth N (C.place m) = ap (worth N) s.stands in let one = cost_some (N - C.place m) in
+    go_on k after st s le g =
+        let more = s.weighs in let e : worth N (C.place after) ≡ worth N (C.place m) = ap (worth N) s.stands in let one = cost_some (N - C.place m) in
         (s.fits, g.fit, inr (g.turns, omega arith))
 
     fail_on : (k : ℕ) (after : M) (st : Store K) → Stays W.Bounded C.place k fits.0 m after → k ≤ suc (worth N (C.place m)) → Same st → Lt (failing after st)
@@ -324,32 +355,41 @@ module _ {K M : Type 0} (C : Calls K M) (N : ℕ) (W : Weighs C N) (P : Program)
     abbrev stay : Stays W.Bounded C.place 0 fits.0 m m
     stay = record { fits = fits; weighs = omega arith; stands = refl }
 
-    andthen : (j k : ℕ) (a b : M) → (s : Stays W.Bounded C.place j fits.0 m a) → Stays W.Bounded C.place k s.fits.0 a b → Stays W.Bounded C.place (k + j) fits.0 m b
+    andthen : (j k : ℕ) (a b : M) → (s : Stays W.Bounded C.place j fits.0 m a) → Stays W.Bounded C.place k s.fits.0 a b
+        → Stays W.Bounded C.place (k + j) fits.0 m b
     andthen j k a b s t = let x = s.weighs in let y = t.weighs in record { fits = t.fits; weighs = omega arith; stands = t.stands ∙ s.stands }
 
     then_same : (k : ℕ) (a b : M) → (s : Stays W.Bounded C.place k fits.0 m a) → Stays W.Bounded C.place 0 s.fits.0 a b → Stays W.Bounded C.place k fits.0 m b
     then_same k a b s t = let x = s.weighs in let y = t.weighs in record { fits = t.fits; weighs = omega arith; stands = t.stands ∙ s.stands }
 
     -- a call that the weight paid for
-    paid_on : (k : ℕ) (a after : M) (st : Store K) → (s : Stays W.Bounded C.place k fits.0 m a) → k ≤ suc (worth N (C.place m)) → Pays W.Bounded C.place N s.fits.0 after → Same st → Lt (running after st)
+    paid_on : (k : ℕ) (a after : M) (st : Store K) → (s : Stays W.Bounded C.place k fits.0 m a) → k ≤ suc (worth N (C.place m))
+        → Pays W.Bounded C.place N s.fits.0 after → Same st → Lt (running after st)
     paid_on k a after st s le p g = let x = s.weighs in let y = p.weighs in let one = cost_some (N - C.place m) in (p.fits, g.fit, inr (g.turns, omega arith))
 
-    paid_push : (k : ℕ) (a after : M) (item : Item) (st : Store K) → (s : Stays W.Bounded C.place k fits.0 m a) → k ≤ suc (worth N (C.place m)) → Pays W.Bounded C.place N s.fits.0 after → Same st → Lt (push_item C item after st)
-    paid_push k a after item st s le p g = let t = W.push item after p.fits in let x = s.weighs in let y = p.weighs in let z = t.weighs in let one = cost_some (N - C.place m) in
+    paid_push : (k : ℕ) (a after : M) (item : Item) (st : Store K) → (s : Stays W.Bounded C.place k fits.0 m a) → k ≤ suc (worth N (C.place m))
+        → Pays W.Bounded C.place N s.fits.0 after → Same st → Lt (push_item C item after st)
+    paid_push k a after item st s le p g =
+        let t = W.push item after p.fits in let x = s.weighs in let y = p.weighs in let z = t.weighs in let one = cost_some (N - C.place m) in
         let e : worth N (C.place (C.push item after)) ≡ worth N (C.place after) = ap (worth N) t.stands in
         (t.fits, g.fit, inr (g.turns, omega arith))
 
-    paid_fail : (k : ℕ) (a after : M) (st : Store K) → (s : Stays W.Bounded C.place k fits.0 m a) → k ≤ suc (worth N (C.place m)) → Pays W.Bounded C.place N s.fits.0 after → Same st → Lt (failing after st)
+    paid_fail : (k : ℕ) (a after : M) (st : Store K) → (s : Stays W.Bounded C.place k fits.0 m a) → k ≤ suc (worth N (C.place m))
+        → Pays W.Bounded C.place N s.fits.0 after → Same st → Lt (failing after st)
     paid_fail k a after st s le p g = let x = s.weighs in let y = p.weighs in let one = cost_some (N - C.place m) in (p.fits, g.fit, inr (g.turns, omega arith))
 
     -- a label behind the instruction
     jump : (label : ℕ) (st : Store K) → C.place m ≤ label → Same st → Lt (running (C.go label m) st)
-    jump label st le g = let e : worth N (C.place (C.go label m)) ≡ worth N label = ap (worth N) (W.go_stands label m) in let y = worth_less N (C.place m) label le in let one = cost_some (N - C.place m) in ((fits.0, W.go label m fits.0 fits.1), g.fit, inr (g.turns, omega arith))
+    jump label st le g =
+        let e : worth N (C.place (C.go label m)) ≡ worth N label = ap (worth N) (W.go_stands label m) in let y = worth_less N (C.place m) label le in
+        let one = cost_some (N - C.place m) in ((fits.0, W.go label m fits.0 fits.1), g.fit, inr (g.turns, omega arith))
 
-    push_on : (k : ℕ) (a : M) (item : Item) (st : Store K) → Stays W.Bounded C.place k fits.0 m a → k ≤ suc (worth N (C.place m)) → Same st → Lt (push_item C item a st)
+    push_on : (k : ℕ) (a : M) (item : Item) (st : Store K) → Stays W.Bounded C.place k fits.0 m a → k ≤ suc (worth N (C.place m)) → Same st
+        → Lt (push_item C item a st)
     push_on k a item st s le g = go_on (0 + k) (C.push item a) st (andthen k 0 a (C.push item a) s (W.push item a s.fits)) (omega arith) g
 
-    lt_valued : (o : Outcome) (a : M) (st : Store K) (next : Value → State K M) → Stays W.Bounded C.place 0 fits.0 m a → Same st → ((v : Value) → Lt (next v)) → Lt (with_given o a st next)
+    lt_valued : (o : Outcome) (a : M) (st : Store K) (next : Value → State K M) → Stays W.Bounded C.place 0 fits.0 m a → Same st → ((v : Value) → Lt (next v))
+        → Lt (with_given o a st next)
     lt_valued (Gives (Val v) seen) a st next s g f = f v
     lt_valued (Gives (Var v) seen) a st next s g f = fail_on 0 a st s (omega arith) g
     lt_valued (Error j v seen) a st next s g f = tt
@@ -357,11 +397,15 @@ module _ {K M : Type 0} (C : Calls K M) (N : ℕ) (W : Weighs C N) (P : Program)
     lt_valued (Suspends item r seen) a st next s g f = fail_on 0 a st s (omega arith) g
     lt_valued (Ends j seen) a st next s g f = fail_on 0 a st s (omega arith) g
 
-    lt_value : (item : Item) (a : M) (st : Store K) (next : Value → State K M) → Stays W.Bounded C.place 0 fits.0 m a → Same st → ((v : Value) → Lt (next v)) → Lt (with_value C item a st next)
+    lt_value : (item : Item) (a : M) (st : Store K) (next : Value → State K M) → Stays W.Bounded C.place 0 fits.0 m a → Same st → ((v : Value) → Lt (next v))
+        → Lt (with_value C item a st next)
     lt_value item a st next s g f = lt_valued (value_row item (here C a st)) a st next s g f
 
-    lt_made : (o : Outcome) (a : M) (st : Store K) (next : Value → M → Store K → State K M) → KeepsIn (here C a st) o → Stays W.Bounded C.place 0 fits.0 m a → Same st → ((v : Value) (b : M) (st' : Store K) → Stays W.Bounded C.place 0 fits.0 m b → Same st' → Lt (next v b st')) → Lt (with_made C o a st next)
-    lt_made (Gives (Val v) seen) a st next k s g f = f v (C.set_locals seen.locals a) (with_at seen st) (then_same 0 a (C.set_locals seen.locals a) s (W.set_locals seen.locals a s.fits)) (record { fit = (g.fit.0, ap (λ b. b.turns) k.bounds ∙ g.fit.1); turns = g.turns })
+    lt_made : (o : Outcome) (a : M) (st : Store K) (next : Value → M → Store K → State K M) → KeepsIn (here C a st) o → Stays W.Bounded C.place 0 fits.0 m a
+        → Same st → ((v : Value) (b : M) (st' : Store K) → Stays W.Bounded C.place 0 fits.0 m b → Same st' → Lt (next v b st')) → Lt (with_made C o a st next)
+    lt_made (Gives (Val v) seen) a st next k s g f =
+        f v (C.set_locals seen.locals a) (with_at seen st) (then_same 0 a (C.set_locals seen.locals a) s (W.set_locals seen.locals a s.fits))
+        (record { fit = (g.fit.0, ap (λ b. b.turns) k.bounds ∙ g.fit.1); turns = g.turns })
     lt_made (Gives (Var v) seen) a st next k s g f = fail_on 0 a st s (omega arith) g
     lt_made (Error j v seen) a st next k s g f = tt
     lt_made (Fails seen) a st next k s g f = fail_on 0 a st s (omega arith) g
@@ -371,20 +415,24 @@ module _ {K M : Type 0} (C : Calls K M) (N : ℕ) (W : Weighs C N) (P : Program)
     popping : (next : Item → M → State K M) → ((item : Item) (a : M) → Stays W.Bounded C.place 0 fits.0 m a → Lt (next item a)) → Lt (with_popped C m next)
     popping next f = when_found Lt lt_allowed (λ top. Stays W.Bounded C.place 0 fits.0 m top.1) (C.pop m) _ (W.pop m fits) (λ top s. f top.0 top.1 s)
 
-    taking : (k : ℕ) (next : List Item → M → State K M) → ((items : List Item) (a : M) → Stays W.Bounded C.place 0 fits.0 m a → Lt (next items a)) → Lt (with_taken C k m next)
-    taking k next f = when_found Lt lt_allowed (λ tops. Stays W.Bounded C.place 0 fits.0 m tops.1) (C.take k m) _ (W.take k m fits) (λ tops s. f tops.0 tops.1 s)
+    taking : (k : ℕ) (next : List Item → M → State K M) → ((items : List Item) (a : M) → Stays W.Bounded C.place 0 fits.0 m a → Lt (next items a))
+        → Lt (with_taken C k m next)
+    taking k next f =
+        when_found Lt lt_allowed (λ tops. Stays W.Bounded C.place 0 fits.0 m tops.1) (C.take k m) _ (W.take k m fits) (λ tops s. f tops.0 tops.1 s)
 
     unmarking : (k : ℕ) (a : M) (st : Store K) (next : M → Store K → State K M) → Stays W.Bounded C.place k fits.0 m a → Same st
         → ((b : M) (st' : Store K) → Stays W.Bounded C.place k fits.0 m b → Same st' → Lt (next b st')) → Lt (unmark_then C a st next)
     unmarking k a st next s g f = when_found Lt lt_allowed (λ outside. Stays W.Bounded C.place 0 s.fits.0 a outside.0) (C.unmark a) _ (W.unmark a s.fits)
         (λ outside t. f outside.0 (scans_left outside.1 st) (then_same k a outside.0 s t) (same_left outside.1 st g))
 
-    exchanging_at : (a : M) → (s : Stays W.Bounded C.place 0 fits.0 m a) → (o : Option (Pair × M)) (next : M → Store K → State K M) (st : Store K) → IfThere o (λ swap. Stays W.Bounded C.place 0 s.fits.0 a swap.1) → Same st
+    exchanging_at : (a : M) → (s : Stays W.Bounded C.place 0 fits.0 m a) → (o : Option (Pair × M)) (next : M → Store K → State K M) (st : Store K)
+        → IfThere o (λ swap. Stays W.Bounded C.place 0 s.fits.0 a swap.1) → Same st
         → ((b : M) (st' : Store K) → Stays W.Bounded C.place 0 fits.0 m b → Same st' → Lt (next b st')) → Lt (with_exchange o next st)
     exchanging_at a s None next st i g f = tt
     exchanging_at a s (Some swap) next st i g f = f swap.1 (with_pair swap.0 st) (then_same 0 a swap.1 s i) (record { fit = g.fit; turns = g.turns })
 
-    exchanging : (o : Option (Pair × M)) (next : M → Store K → State K M) (st : Store K) → IfThere o (λ swap. Stays W.Bounded C.place 0 fits.0 m swap.1) → Same st
+    exchanging : (o : Option (Pair × M)) (next : M → Store K → State K M) (st : Store K) → IfThere o (λ swap. Stays W.Bounded C.place 0 fits.0 m swap.1)
+        → Same st
         → ((b : M) (st' : Store K) → Stays W.Bounded C.place 0 fits.0 m b → Same st' → Lt (next b st')) → Lt (with_exchange o next st)
     exchanging None next st i g f = tt
     exchanging (Some swap) next st i g f = f swap.1 (with_pair swap.0 st) i (record { fit = g.fit; turns = g.turns })
@@ -395,34 +443,42 @@ module _ {K M : Type 0} (C : Calls K M) (N : ℕ) (W : Weighs C N) (P : Program)
     maybe (Some swap) next st i g f = f swap.1 (with_pair swap.0 st) i (record { fit = g.fit; turns = g.turns })
 
     -- back in the caller, or at the end of the run
-    returning : (k : ℕ) (a : M) (o : Option M) (next : M → Store K → State K M) (st : Store K) → (s : Stays W.Bounded C.place k fits.0 m a) → k ≤ suc (worth N (C.place m))
-        → IfThere o (λ caller. Pays W.Bounded C.place N s.fits.0 caller) → Same st → ((caller : M) → Pays W.Bounded C.place N s.fits.0 caller → Lt (next caller st)) → Lt (return_to o next st)
+    returning : (k : ℕ) (a : M) (o : Option M) (next : M → Store K → State K M) (st : Store K) → (s : Stays W.Bounded C.place k fits.0 m a)
+        → k ≤ suc (worth N (C.place m))
+        → IfThere o (λ caller. Pays W.Bounded C.place N s.fits.0 caller) → Same st
+        → ((caller : M) → Pays W.Bounded C.place N s.fits.0 caller → Lt (next caller st)) → Lt (return_to o next st)
     returning k a None next st s le i g f = either_way Lt (is_main st.active) _ _ tt tt
     returning k a (Some caller) next st s le i g f = f caller i
 
-    resulting_at : (a : M) (item : Item) (st : Store K) (next : Item → State K M) → Stays W.Bounded C.place 0 fits.0 m a → Same st → ((x : Item) → Lt (next x)) → Lt (with_result C item a st next)
+    resulting_at : (a : M) (item : Item) (st : Store K) (next : Item → State K M) → Stays W.Bounded C.place 0 fits.0 m a → Same st → ((x : Item) → Lt (next x))
+        → Lt (with_result C item a st next)
     resulting_at a (Var (Whole (Local k))) st next s g f = lt_value (Var (Whole (Local k))) a st (λ value. next (Val value)) s g (λ v. f (Val v))
-    resulting_at a (Var (Part (Local k) place size)) st next s g f = lt_value (Var (Part (Local k) place size)) a st (λ value. next (Val value)) s g (λ v. f (Val v))
+    resulting_at a (Var (Part (Local k) place size)) st next s g f =
+        lt_value (Var (Part (Local k) place size)) a st (λ value. next (Val value)) s g (λ v. f (Val v))
     resulting_at a item st next s g f = f item
 
     l_limited : (a : M) (v : Value) (o : Option ℤ) (st : Store K) → Stays W.Bounded C.place 0 fits.0 m a → Same st → Lt (limit_results C v o a st)
     l_limited a v None st s g = tt
     l_limited a v (Some (negsuc k)) st s g = tt
     l_limited a v (Some (pos zero)) st s g = fail_on 0 a st s (omega arith) g
-    l_limited a v (Some (pos (suc k))) st s g = go_on (1 + 0) (C.limit (suc k) a) st (andthen 0 1 a (C.limit (suc k) a) s (W.limit (suc k) a s.fits)) (omega arith) g
+    l_limited a v (Some (pos (suc k))) st s g =
+        go_on (1 + 0) (C.limit (suc k) a) st (andthen 0 1 a (C.limit (suc k) a) s (W.limit (suc k) a s.fits)) (omega arith) g
 
     l_limited_result : (item : Item) (k : ℕ) (a : M) (st : Store K) → Stays W.Bounded C.place 0 fits.0 m a → Same st → Lt (limited_result C item k a st)
     l_limited_result item zero a st s g = unmarking 0 a st (push_item C item) s g (λ b st' t g'. push_on 0 b item st' t (omega arith) g')
-    l_limited_result item (suc k) a st s g = when_found Lt lt_allowed (λ b. Stays W.Bounded C.place 1 s.fits.0 a b) (C.suspend_mark a) _ (W.suspend_mark a s.fits)
+    l_limited_result item (suc k) a st s g =
+        when_found Lt lt_allowed (λ b. Stays W.Bounded C.place 1 s.fits.0 a b) (C.suspend_mark a) _ (W.suspend_mark a s.fits)
         (λ b t. push_on (1 + 0) b item st (andthen 0 1 a b s t) (omega arith) g)
 
     l_scan : (v : Value) (a : M) (st : Store K) → Stays W.Bounded C.place 0 fits.0 m a → Same st → Lt (scan_opened C v a st)
-    l_scan (Text text) a st s g = go_on (1 + 0) (C.suspend (Scan (pair_now st)) a) (with_pair (record { subject = text; position = 1 }) st) (andthen 0 1 a (C.suspend (Scan (pair_now st)) a) s (W.suspend (Scan (pair_now st)) a tt s.fits)) (omega arith) (record { fit = g.fit; turns = g.turns })
+    l_scan (Text text) a st s g = go_on (1 + 0) (C.suspend (Scan (pair_now st)) a) (with_pair (record { subject = text; position = 1 }) st) (andthen 0 1 a
+        (C.suspend (Scan (pair_now st)) a) s (W.suspend (Scan (pair_now st)) a tt s.fits)) (omega arith) (record { fit = g.fit; turns = g.turns })
     l_scan _ a st s g = fail_on 0 a st s (omega arith) g
 
     l_init_if : (b : Bool) (label : ℕ) (st : Store K) → C.place m ≤ label → Same st → Lt (initial_if C b label m st)
     l_init_if true label st le g = jump label st le g
-    l_init_if false label st le g = go_on 0 m (record st { begun = slice_set st.begun (C.proc m) true }) stay (omega arith) (record { fit = g.fit; turns = g.turns })
+    l_init_if false label st le g =
+        go_on 0 m (record st { begun = slice_set st.begun (C.proc m) true }) stay (omega arith) (record { fit = g.fit; turns = g.turns })
 
     l_or_fails : (o : Option Item) (st : Store K) → Same st → Lt (pushed_or_fails C o m st)
     l_or_fails (Some item) st g = push_on 0 m item st stay (omega arith) g
@@ -431,55 +487,83 @@ module _ {K M : Type 0} (C : Calls K M) (N : ℕ) (W : Weighs C N) (P : Program)
     -- an instruction is a turn, or what is left becomes lighter
     pub l_instruction : (i : Instr) (st : Store K) → IsForward' (C.place m) i → Same st → Lt (instruction C P i m st)
     l_instruction I.Pnull st le g = push_on 0 m (Val Null) st stay (omega arith) g
-    l_instruction (I.Int k) st le g = when_found Lt lt_allowed (λ x. Unit {0}) (slice_get P.integers k) _ (there _) (λ x _. push_on 0 m (Val (Integer x)) st stay (omega arith) g)
-    l_instruction (I.Str k) st le g = when_found Lt lt_allowed (λ x. Unit {0}) (slice_get P.strings k) _ (there _) (λ x _. push_on 0 m (Val (Text x)) st stay (omega arith) g)
-    l_instruction (I.Cset k) st le g = when_found Lt lt_allowed (λ x. Unit {0}) (slice_get P.csets k) _ (there _) (λ x _. push_on 0 m (Val (Chars (members_of x))) st stay (omega arith) g)
+    l_instruction (I.Int k) st le g =
+        when_found Lt lt_allowed (λ x. Unit {0}) (slice_get P.integers k) _ (there _) (λ x _. push_on 0 m (Val (Integer x)) st stay (omega arith) g)
+    l_instruction (I.Str k) st le g =
+        when_found Lt lt_allowed (λ x. Unit {0}) (slice_get P.strings k) _ (there _) (λ x _. push_on 0 m (Val (Text x)) st stay (omega arith) g)
+    l_instruction (I.Cset k) st le g =
+        when_found Lt lt_allowed (λ x. Unit {0}) (slice_get P.csets k) _ (there _) (λ x _. push_on 0 m (Val (Chars (members_of x))) st stay (omega arith) g)
     l_instruction (I.Local k) st le g = push_on 0 m _ st stay (omega arith) g
     l_instruction (I.Static k) st le g = push_on 0 m _ st stay (omega arith) g
     l_instruction (I.Global k) st le g = push_on 0 m _ st stay (omega arith) g
     l_instruction (I.Keywd keyword) st le g = l_or_fails (keyword_item (standing_of C m st) keyword) st g
     l_instruction I.Pop st le g = popping _ (λ item a s. go_on 0 a st s (omega arith) g)
     l_instruction I.Dup st le g = popping _ (λ item a s. push_on 0 m item st stay (omega arith) g)
-    l_instruction (I.Op op) st le g = taking (arity op) _ (λ items a s. turned st (operate C op items a) g (a_operated C N W P B n op items a (TurnOf st) (ready a st s.fits g)))
-    l_instruction (I.Llist k) st le g = taking k _ (λ items a s. turned st (λ st. with_values C items a st (λ values. list_made C values a st (λ list m st. push_item C (Val list) m st))) g (a_values C N W P B n items a (TurnOf st) _ (ready a st s.fits g) (λ vs. a_list C N W P B n vs a (TurnOf st) (λ list m st. push_item C (Val list) m st) (ready a st s.fits g) (λ v b st' h'. a_push C N W P B n (Val v) b st' h'))))
-    l_instruction (I.Field k) st le g = taking 1 _ (λ items a s. turned st (field_applied C P k items a) g (a_field_applied C N W P B n k items a (TurnOf st) (ready a st s.fits g)))
-    l_instruction (I.Invoke k) st le g = taking (suc k) _ (λ items a s. turned st (invoked_with C P items a) g (a_invoked_with C N W P B n items a (TurnOf st) (ready a st s.fits g)))
-    l_instruction I.Appl st le g = taking 2 _ (λ items a s. turned st (applied_to_elements C P items a) g (a_applied C N W P B n items a (TurnOf st) (ready a st s.fits g)))
-    l_instruction (I.Mark l) st le g = let y = worth_less N (C.place m) l le in go_on (suc (worth N l)) (C.mark (Some l) m) st (W.mark (Some l) m fits) (omega arith) g
+    l_instruction (I.Op op) st le g =
+        taking (arity op) _ (λ items a s. turned st (operate C op items a) g (a_operated C N W P B n op items a (TurnOf st) (ready a st s.fits g)))
+    l_instruction (I.Llist k) st le g =
+        taking k _ (λ items a s. turned st (λ st. with_values C items a st (λ values. list_made C values a st (λ list m st. push_item C (Val list) m st))) g
+        (a_values C N W P B n items a (TurnOf st) _ (ready a st s.fits g) (λ vs. a_list C N W P B n vs a (TurnOf st) (λ list m st. push_item C (Val list) m st)
+        (ready a st s.fits g) (λ v b st' h'. a_push C N W P B n (Val v) b st' h'))))
+    l_instruction (I.Field k) st le g =
+        taking 1 _ (λ items a s. turned st (field_applied C P k items a) g (a_field_applied C N W P B n k items a (TurnOf st) (ready a st s.fits g)))
+    l_instruction (I.Invoke k) st le g =
+        taking (suc k) _ (λ items a s. turned st (invoked_with C P items a) g (a_invoked_with C N W P B n items a (TurnOf st) (ready a st s.fits g)))
+    l_instruction I.Appl st le g =
+        taking 2 _ (λ items a s. turned st (applied_to_elements C P items a) g (a_applied C N W P B n items a (TurnOf st) (ready a st s.fits g)))
+    l_instruction (I.Mark l) st le g =
+        let y = worth_less N (C.place m) l le in go_on (suc (worth N l)) (C.mark (Some l) m) st (W.mark (Some l) m fits) (omega arith) g
     l_instruction I.Mark0 st le g = go_on 1 (C.mark None m) st (W.mark None m fits) (omega arith) g
     l_instruction I.Unmark st le g = unmarking 0 m st running stay g (λ b st' s g'. go_on 0 b st' s (omega arith) g')
-    l_instruction I.Eret st le g = popping _ (λ item a s. lt_value item a st _ s g (λ v. unmarking 0 a st (push_item C (Val v)) s g (λ b st' t g'. push_on 0 b (Val v) st' t (omega arith) g')))
-    l_instruction I.Esusp st le g = popping _ (λ item a s. when_found Lt lt_allowed (λ b. Stays W.Bounded C.place 1 s.fits.0 a b) (C.suspend_mark a) _ (W.suspend_mark a s.fits) (λ b t. push_on (1 + 0) b item st (andthen 0 1 a b s t) (omega arith) g))
+    l_instruction I.Eret st le g = popping _ (λ item a s.
+        lt_value item a st _ s g (λ v. unmarking 0 a st (push_item C (Val v)) s g (λ b st' t g'. push_on 0 b (Val v) st' t (omega arith) g')))
+    l_instruction I.Esusp st le g = popping _ (λ item a s. when_found Lt lt_allowed (λ b. Stays W.Bounded C.place 1 s.fits.0 a b)
+        (C.suspend_mark a) _ (W.suspend_mark a s.fits) (λ b t. push_on (1 + 0) b item st (andthen 0 1 a b s t) (omega arith) g))
     l_instruction I.Limit st le g = popping _ (λ item a s. lt_value item a st _ s g (λ v. l_limited a v (integer_of v) st s g))
-    l_instruction I.Lsusp st le g = popping _ (λ item a s. when_found Lt lt_allowed (λ count. Stays W.Bounded C.place 0 s.fits.0 a count.1) (C.count_down a) _ (W.count_down a s.fits) (λ count t. l_limited_result item count.0 count.1 st (then_same 0 a count.1 s t) g))
+    l_instruction I.Lsusp st le g = popping _ (λ item a s. when_found Lt lt_allowed (λ count. Stays W.Bounded C.place 0 s.fits.0 a count.1)
+        (C.count_down a) _ (W.count_down a s.fits) (λ count t. l_limited_result item count.0 count.1 st (then_same 0 a count.1 s t) g))
     l_instruction I.Efail st le g = fail_on 0 m st stay (omega arith) g
-    l_instruction (I.Chfail l) st le g = when_found Lt lt_allowed (λ after. Stays W.Bounded C.place 0 fits.0 m after) (C.relabel l m) _ (W.relabel l m fits) (λ after s. go_on 0 after st s (omega arith) g)
+    l_instruction (I.Chfail l) st le g = when_found Lt lt_allowed (λ after. Stays W.Bounded C.place 0 fits.0 m after) (C.relabel l m) _ (W.relabel l m fits)
+        (λ after s. go_on 0 after st s (omega arith) g)
     l_instruction (I.Goto l) st le g = jump l st le g
     l_instruction (I.Loop l) st le g = turned st (running (C.go l m)) g (ready (C.go l m) st ((fits.0, W.go l m fits.0 fits.1)) g)
-    l_instruction I.Bscan st le g = popping _ (λ item a s. lt_value item a st _ s g (λ v. lt_made (text_row v (here C a st)) a st (scan_opened C) (rows_keep.scanned v (here C a st)) s g (λ x b st' t g'. l_scan x b st' t g')))
-    l_instruction I.Escan st le g = popping _ (λ item a s. exchanging_at a s (C.swap_newest (pair_now st) a) _ st (W.swap_newest (pair_now st) a s.fits) g (λ b st' t g'. push_on (1 + 0) (C.suspend Escan b) item st' (andthen 0 1 b (C.suspend Escan b) t (W.suspend Escan b tt t.fits)) (omega arith) g'))
+    l_instruction I.Bscan st le g = popping _ (λ item a s. lt_value item a st _ s g
+        (λ v. lt_made (text_row v (here C a st)) a st (scan_opened C) (rows_keep.scanned v (here C a st)) s g (λ x b st' t g'. l_scan x b st' t g')))
+    l_instruction I.Escan st le g = popping _ (λ item a s. exchanging_at a s (C.swap_newest (pair_now st) a) _ st (W.swap_newest (pair_now st) a s.fits) g
+        (λ b st' t g'. push_on (1 + 0) (C.suspend Escan b) item st' (andthen 0 1 b (C.suspend Escan b) t (W.suspend Escan b tt t.fits)) (omega arith) g'))
     l_instruction I.Ccase st le g = when_found Lt lt_allowed (λ x. Unit {0}) (C.below m) _ (there _) (λ item _. push_on 0 m item st stay (omega arith) g)
     l_instruction (I.Init l) st le g = l_init_if (slice_index_or st.begun (C.proc m) true) l st le g
-    l_instruction I.Psusp st le g = popping _ (λ item a s. resulting_at m item st _ stay g (λ result. maybe (C.swap_oldest (pair_now st) m) _ st (W.swap_oldest (pair_now st) m fits) g
-        (λ b st' t g'. returning 0 b (C.suspend_proc b) (push_item C result) st' t (omega arith) (W.suspend_proc b t.fits) g' (λ caller p. paid_push 0 b caller result st' t (omega arith) p g'))))
-    l_instruction I.Pret st le g = popping _ (λ item a s. resulting_at a item st _ s g (λ result. returning 0 a (C.leave a) (push_item C result) (all_left C a st) s (omega arith) (W.leave a s.fits) (same_back _ st g)
+    l_instruction I.Psusp st le g =
+        popping _ (λ item a s. resulting_at m item st _ stay g (λ result. maybe (C.swap_oldest (pair_now st) m) _ st (W.swap_oldest (pair_now st) m fits) g
+        (λ b st' t g'. returning 0 b (C.suspend_proc b) (push_item C result) st' t (omega arith) (W.suspend_proc b t.fits) g'
+        (λ caller p. paid_push 0 b caller result st' t (omega arith) p g'))))
+    l_instruction I.Pret st le g = popping _ (λ item a s. resulting_at a item st _ s g
+        (λ result. returning 0 a (C.leave a) (push_item C result) (all_left C a st) s (omega arith) (W.leave a s.fits) (same_back _ st g)
         (λ caller p. paid_push 0 a caller result (all_left C a st) s (omega arith) p (same_back _ st g))))
-    l_instruction I.Pfail st le g = either_way Lt (is_create_body C m st) _ _ tt (returning 0 m (C.leave m) failing (all_left C m st) stay (omega arith) (W.leave m fits) (same_back _ st g)
+    l_instruction I.Pfail st le g =
+        either_way Lt (is_create_body C m st) _ _ tt (returning 0 m (C.leave m) failing (all_left C m st) stay (omega arith) (W.leave m fits) (same_back _ st g)
         (λ caller p. paid_fail 0 m caller (all_left C m st) stay (omega arith) p (same_back _ st g)))
-    l_instruction (I.Create l) st le g = turned st (coexp_made C (C.locals m) (C.proc m) (C.place m) (C.go l m)) g (a_new C N W P B n (C.locals m) (C.proc m) (C.place m) (C.go l m) (TurnOf st) (ready (C.go l m) st ((fits.0, W.go l m fits.0 fits.1)) g))
-    l_instruction I.Coact st le g = taking 2 _ (λ items a s. turned st (activation_of C items a) g (a_activation_of C N W P B n items a (TurnOf st) (ready a st s.fits g)))
-    l_instruction I.Coret st le g = either_way Lt (is_create_body C m st) _ _ (popping _ (λ item a s. turned st (λ st. with_value C item a st (λ value. result_given C value a st)) g (a_value C N W P B n item a (TurnOf st) _ (ready a st s.fits g) (λ v. a_result C N W P B n v a (TurnOf st) (ready a st s.fits g))))) tt
-    l_instruction I.Cofail st le g = either_way Lt (is_create_body C m st) _ _ (turned st (λ st. passed_failure C (activator_of st.active st) m (with_status st.active Exhausted st)) g (a_exhausted C N W P B n m (TurnOf st) ((ready m st fits g).1, (ready m st fits g).2))) tt
+    l_instruction (I.Create l) st le g = turned st (coexp_made C (C.locals m) (C.proc m) (C.place m) (C.go l m)) g
+        (a_new C N W P B n (C.locals m) (C.proc m) (C.place m) (C.go l m) (TurnOf st) (ready (C.go l m) st ((fits.0, W.go l m fits.0 fits.1)) g))
+    l_instruction I.Coact st le g =
+        taking 2 _ (λ items a s. turned st (activation_of C items a) g (a_activation_of C N W P B n items a (TurnOf st) (ready a st s.fits g)))
+    l_instruction I.Coret st le g =
+        either_way Lt (is_create_body C m st) _ _ (popping _ (λ item a s. turned st (λ st. with_value C item a st (λ value. result_given C value a st)) g
+        (a_value C N W P B n item a (TurnOf st) _ (ready a st s.fits g) (λ v. a_result C N W P B n v a (TurnOf st) (ready a st s.fits g))))) tt
+    l_instruction I.Cofail st le g = either_way Lt (is_create_body C m st) _ _ (turned st (λ st. passed_failure C (activator_of st.active st) m
+        (with_status st.active Exhausted st)) g (a_exhausted C N W P B n m (TurnOf st) ((ready m st fits g).1, (ready m st fits g).2))) tt
 
 -- what fails weighs w at most
-module _ {K M : Type 0} (C : Calls K M) (N : ℕ) (W : Weighs C N) (P : Program) (B : ℕ) (n w : ℕ) (few : n ≤ B) (m : M) (fits : Fits C N B W m) (bound : fits.0 ≤ w) where
+module _ {K M : Type 0} (C : Calls K M) (N : ℕ) (W : Weighs C N) (P : Program) (B : ℕ) (n w : ℕ) (few : n ≤ B) (m : M) (fits : Fits C N B W m)
+    (bound : fits.0 ≤ w) where
   abbrev pub L : State K M → Type 0
   L s = Later C N B W n w s
 
   lighter : (after : M) (st : Store K) → Lightens W.Bounded fits.0 after → Same C N W P B n w few st → L (failing after st)
   lighter after st l g = let x = l.weighs in (l.fits, g.fit, inr (g.turns, omega arith))
 
-  f_returned : (o : Option M) (st : Store K) → IfThere o (λ caller. Pays W.Bounded C.place N fits.0 caller) → Same C N W P B n w few st → L (return_to o failing st)
+  f_returned : (o : Option M) (st : Store K) → IfThere o (λ caller. Pays W.Bounded C.place N fits.0 caller) → Same C N W P B n w few st
+      → L (return_to o failing st)
   f_returned None st i g = either_way L (is_main st.active) _ _ tt tt
   f_returned (Some caller) st i g = let x = i.weighs in (i.fits, g.fit, inr (g.turns, omega arith))
 
@@ -488,7 +572,8 @@ module _ {K M : Type 0} (C : Calls K M) (N : ℕ) (W : Weighs C N) (P : Program)
       (a_exhausted C N W P B n m (TurnOf C N W P B n w few st) ((ready C N W P B n w few m st fits g).1, (ready C N W P B n w few m st fits g).2))
 
   f_without : (st : Store K) → Same C N W P B n w few st → L (without_mark C P m st)
-  f_without st g = either_way L (is_create_body C m st) _ _ (f_exhausted st g) (f_returned (C.leave m) (all_left C m st) (W.leave m fits) (same_back C N W P B n w few _ st g))
+  f_without st g = either_way L (is_create_body C m st) _ _ (f_exhausted st g)
+      (f_returned (C.leave m) (all_left C m st) (W.leave m fits) (same_back C N W P B n w few _ st g))
 
   f_dropped : (d : MarkDrop M) (st : Store K) → DropsWell W.Bounded C.place N fits.0 d → Same C N W P B n w few st → L (mark_dropped C P m st d)
   f_dropped NoMark st i g = f_without st g
@@ -496,20 +581,24 @@ module _ {K M : Type 0} (C : Calls K M) (N : ℕ) (W : Weighs C N) (P : Program)
   f_dropped (Repeats after) st i g = turned C N W P B n w few st (running after) g (ready C N W P B n w few after st i g)
   f_dropped (WithoutLabel after) st i g = lighter after st i g
 
-  f_escan : (after : M) (o : Option (Pair × M)) (st : Store K) → (l : Lightens W.Bounded fits.0 after) → IfThere o (λ swap. Stays W.Bounded C.place 0 l.fits.0 after swap.1) → Same C N W P B n w few st → L (with_exchange o failing st)
+  f_escan : (after : M) (o : Option (Pair × M)) (st : Store K) → (l : Lightens W.Bounded fits.0 after)
+      → IfThere o (λ swap. Stays W.Bounded C.place 0 l.fits.0 after swap.1) → Same C N W P B n w few st → L (with_exchange o failing st)
   f_escan after None st l i g = tt
   f_escan after (Some swap) st l i g = let x = l.weighs in let y = i.weighs in (i.fits, g.fit, inr (g.turns, omega arith))
 
   f_resumed : (why : Why) (after : M) (st : Store K) → ResumesWell W.Bounded fits.0 why after → Same C N W P B n w few st → L (resume_by C P why after st)
   f_resumed Alt after st i g = lighter after st i g
   f_resumed (Operating r) after st i g = turned C N W P B n w few st (λ st. outcome C (again r (here C after st)) after st) g
-      (a_outcome C N W P B n (again r (here C after (TurnOf C N W P B n w few st))) after (TurnOf C N W P B n w few st) (rows_keep.resumed r (here C after (TurnOf C N W P B n w few st))) (ready C N W P B n w few after st i g))
+      (a_outcome C N W P B n (again r (here C after (TurnOf C N W P B n w few st))) after (TurnOf C N W P B n w few st)
+      (rows_keep.resumed r (here C after (TurnOf C N W P B n w few st))) (ready C N W P B n w few after st i g))
   f_resumed (Scan pair) after st i g = lighter after (with_pair pair st) i (record { fit = g.fit; turns = g.turns })
   f_resumed Escan after st i g = f_escan after (C.swap_newest (pair_now st) after) st i (W.swap_newest (pair_now st) after i.fits) g
   f_resumed Proc after st i g = turned C N W P B n w few st (λ st. maybe_exchanged (C.swap_oldest (pair_now st) after) after st running) g
-      (a_maybe C N W P B n i.0 (C.swap_oldest (pair_now (TurnOf C N W P B n w few st)) after) after (TurnOf C N W P B n w few st) (W.swap_oldest (pair_now (TurnOf C N W P B n w few st)) after i) (ready C N W P B n w few after st i g))
+      (a_maybe C N W P B n i.0 (C.swap_oldest (pair_now (TurnOf C N W P B n w few st)) after) after (TurnOf C N W P B n w few st)
+      (W.swap_oldest (pair_now (TurnOf C N W P B n w few st)) after i) (ready C N W P B n w few after st i g))
 
-  f_back : (o : Option (Why × M)) (st : Store K) → IfThere o (λ back. ResumesWell W.Bounded fits.0 back.0 back.1) → Same C N W P B n w few st → L (resumed_or_dropped C P m st o)
+  f_back : (o : Option (Why × M)) (st : Store K) → IfThere o (λ back. ResumesWell W.Bounded fits.0 back.0 back.1) → Same C N W P B n w few st
+      → L (resumed_or_dropped C P m st o)
   f_back None st i g = f_dropped (C.drop_mark m) st (W.drop_mark m fits) g
   f_back (Some back) st i g = f_resumed back.0 back.1 st i g
 

@@ -30,12 +30,14 @@ cut_push x cells h le = let e : length (x ∷ cells) - h ≡ suc (length cells -
 height : (cells : List Cell) (h : ℕ) (x : Cell) (below : List Cell) → cut h cells ≡ x ∷ below → suc (length below) ≡ h → h ≤ length cells
 height cells h x below e len = let a : length (cut h cells) ≡ length (x ∷ below) = ap length e in let b = length-drop (length cells - h) cells in omega arith
 
-cut_cut : (cells : List Cell) (m h : ℕ) (x : Cell) (below : List Cell) → cut m cells ≡ x ∷ below → suc (length below) ≡ m → h ≤ length below → cut h cells ≡ cut h below
+cut_cut : (cells : List Cell) (m h : ℕ) (x : Cell) (below : List Cell) → cut m cells ≡ x ∷ below → suc (length below) ≡ m → h ≤ length below
+    → cut h cells ≡ cut h below
 cut_cut cells m h x below e len le =
     let top = height cells m x below e len in
     let a : length (cut m cells) ≡ suc (length below) = ap length e in
     let b : (length cells - m) + (length (cut m cells) - h) ≡ length cells - h = omega arith in
-    let c : cut h (cut m cells) ≡ drop ((length cells - m) + (length (cut m cells) - h)) cells = drop_drop (length (cut m cells) - h) (length cells - m) cells in
+    let c : cut h (cut m cells)
+    ≡ drop ((length cells - m) + (length (cut m cells) - h)) cells = drop_drop (length (cut m cells) - h) (length cells - m) cells in
     let d : cut h (cut m cells) ≡ cut h cells = c ∙ ap (λ k. drop k cells) b in
     sym d ∙ ap (λ xs. cut h xs) e ∙ cut_push x below h le
 
@@ -49,10 +51,12 @@ module _ (N : ℕ) where
 
   newest_above : (cells after : List Cell) (newest : Option ℕ) (s o : ℕ) → Above cells after → Newest N cells newest s o → Newest N after newest s o
   newest_above cells after newest s o up (nothing e) = nothing e
-  newest_above cells after newest s o up (newest_at h why r q below s' o' e c l f b) = newest_at h why r q below s' o' e (up h (height cells h _ below c l) ∙ c) l f b
+  newest_above cells after newest s o up (newest_at h why r q below s' o' e c l f b) =
+      newest_at h why r q below s' o' e (up h (height cells h _ below c l) ∙ c) l f b
 
   outer_above : (cells after : List Cell) (m b o : ℕ) → Above cells after → Outer N cells m b o → Outer N after m b o
-  outer_above cells after m b o up (at_mark label ch r below l s' o' c n w f e x) = at_mark label ch r below l s' o' (up m (height cells m _ below c n) ∙ c) n w f e x
+  outer_above cells after m b o up (at_mark label ch r below l s' o' c n w f e x) =
+      at_mark label ch r below l s' o' (up m (height cells m _ below c n) ∙ c) n w f e x
   outer_above cells after m b o up (at_limit k r below s' o' c n f e x) = at_limit k r below s' o' (up m (height cells m _ below c n) ∙ c) n f e x
   outer_above cells after m b o up (at_call p k lv r q below s' o' c n f e x) = at_call p k lv r q below s' o' (up m (height cells m _ below c n) ∙ c) n f e x
   outer_above cells after m b o up (at_base p k below c n x) = at_base p k below (up m (height cells m _ below c n) ∙ c) n x
@@ -74,7 +78,8 @@ module _ (N : ℕ) where
   kind_of [] = 3
   kind_of (x ∷ xs) = kind x
 
-  below_top : (x : Cell) (cells : List Cell) (h : ℕ) (y : Cell) (below : List Cell) → cut h (x ∷ cells) ≡ y ∷ below → suc (length below) ≡ h → kind x < kind y → h ≤ length cells
+  below_top : (x : Cell) (cells : List Cell) (h : ℕ) (y : Cell) (below : List Cell) → cut h (x ∷ cells) ≡ y ∷ below → suc (length below) ≡ h → kind x < kind y
+      → h ≤ length cells
   below_top x cells h y below c l lt = by_place (h == suc (length cells)) refl
     where
       by_place : (b : Bool) → (h == suc (length cells)) ≡ b → h ≤ length cells
@@ -169,30 +174,40 @@ module _ (N : ℕ) where
       let a : length after - h ≡ length cells - h = let b = likes_length ls in omega arith in
       likes_top (cut h cells) (cut h after) x below (subst (λ k. Likes (cut h cells) (drop k after)) (sym a) (likes_drop (length cells - h) ls)) e
 
-  newest_top : (after : List Cell) (newest : Option ℕ) (s o h : ℕ) (why : Why) (r : Registers) (q : ℕ) (below : List Cell) (s' o' : ℕ) → newest ≡ Some h → suc (length below) ≡ h
-      → ((below' : List Cell) → Likes below below' → F below' r s' o') → Back why (s' + o') (s + o) → LikesTop (suspension why r q) below (cut h after) → Newest N after newest s o
+  newest_top : (after : List Cell) (newest : Option ℕ) (s o h : ℕ) (why : Why) (r : Registers) (q : ℕ) (below : List Cell) (s' o' : ℕ) → newest ≡ Some h
+      → suc (length below) ≡ h
+      → ((below' : List Cell) → Likes below below' → F below' r s' o') → Back why (s' + o') (s + o) → LikesTop (suspension why r q) below (cut h after)
+      → Newest N after newest s o
   newest_top after newest s o h why r q below s' o' e n f b (top y below' c (same x) ls) =
       newest_at h why r q below' s' o' e c (let k = likes_length ls in omega arith) (f below' ls) b
   newest_top after newest s o h why r q below s' o' e n f b (top y below' c (l_exchanged old new r2 q2) ls) =
       newest_at h (Scan new) r q below' s' o' e c (let k = likes_length ls in omega arith) (f below' ls) b
 
-  mark_top : (after : List Cell) (m b o : ℕ) (label : Option ℕ) (changed : Bool) (r : Registers) (below : List Cell) (l s' o' : ℕ) → suc (length below) ≡ m → label_weight N label changed ≤ l
-      → ((below' : List Cell) → Likes below below' → F below' r s' o') → o ≡ suc l + (s' + o') → r.base ≡ b → LikesTop (mark label changed r) below (cut m after) → Outer N after m b o
+  mark_top : (after : List Cell) (m b o : ℕ) (label : Option ℕ) (changed : Bool) (r : Registers) (below : List Cell) (l s' o' : ℕ) → suc (length below) ≡ m
+      → label_weight N label changed ≤ l
+      → ((below' : List Cell) → Likes below below' → F below' r s' o') → o ≡ suc l + (s' + o') → r.base ≡ b
+      → LikesTop (mark label changed r) below (cut m after) → Outer N after m b o
   mark_top after m b o label changed r below l s' o' n w f e z (top y below' c (same x) ls) =
       at_mark label changed r below' l s' o' c (let k = likes_length ls in omega arith) w (f below' ls) e z
   mark_top after m b o label changed r below l s' o' n w f e z (top y below' c (l_relabelled old new changed2 r2) ls) =
       at_mark new true r below' l s' o' c (let k = likes_length ls in omega arith) (omega arith) (f below' ls) e z
 
   limit_top : (after : List Cell) (m b o count : ℕ) (r : Registers) (below : List Cell) (s' o' : ℕ) → suc (length below) ≡ m
-      → ((below' : List Cell) → Likes below below' → F below' r s' o') → o ≡ suc (s' + o') → r.base ≡ b → LikesTop (limit count r) below (cut m after) → Outer N after m b o
-  limit_top after m b o count r below s' o' n f e z (top y below' c (same x) ls) = at_limit count r below' s' o' c (let k = likes_length ls in omega arith) (f below' ls) e z
-  limit_top after m b o count r below s' o' n f e z (top y below' c (l_counted old new r2) ls) = at_limit new r below' s' o' c (let k = likes_length ls in omega arith) (f below' ls) e z
+      → ((below' : List Cell) → Likes below below' → F below' r s' o') → o ≡ suc (s' + o') → r.base ≡ b → LikesTop (limit count r) below (cut m after)
+      → Outer N after m b o
+  limit_top after m b o count r below s' o' n f e z (top y below' c (same x) ls) =
+      at_limit count r below' s' o' c (let k = likes_length ls in omega arith) (f below' ls) e z
+  limit_top after m b o count r below s' o' n f e z (top y below' c (l_counted old new r2) ls) =
+      at_limit new r below' s' o' c (let k = likes_length ls in omega arith) (f below' ls) e z
 
   call_top : (after : List Cell) (m b o p k lv : ℕ) (r : Registers) (q : ℕ) (below : List Cell) (s' o' : ℕ) → suc (length below) ≡ m
-      → ((below' : List Cell) → Likes below below' → F below' r s' o') → o ≡ suc (worth N q) + (s' + o') → m ≡ b → LikesTop (call p k lv r q) below (cut m after) → Outer N after m b o
-  call_top after m b o p k lv r q below s' o' n f e z (top y below' c (same x) ls) = at_call p k lv r q below' s' o' c (let k = likes_length ls in omega arith) (f below' ls) e z
+      → ((below' : List Cell) → Likes below below' → F below' r s' o') → o ≡ suc (worth N q) + (s' + o') → m ≡ b
+      → LikesTop (call p k lv r q) below (cut m after) → Outer N after m b o
+  call_top after m b o p k lv r q below s' o' n f e z (top y below' c (same x) ls) =
+      at_call p k lv r q below' s' o' c (let k = likes_length ls in omega arith) (f below' ls) e z
 
-  base_top : (after : List Cell) (m b o p k : ℕ) (below : List Cell) → suc (length below) ≡ m → m ≡ b → LikesTop (base p k) below (cut m after) → Outer N after m b o
+  base_top : (after : List Cell) (m b o p k : ℕ) (below : List Cell) → suc (length below) ≡ m → m ≡ b → LikesTop (base p k) below (cut m after)
+      → Outer N after m b o
   base_top after m b o p k below n z (top y below' c (same x) ls) = at_base p k below' c (let k = likes_length ls in omega arith) z
 
   mutual
@@ -216,12 +231,15 @@ module _ (N : ℕ) where
   -- The frame of the procedure that runs
 
   data AtFrame (cells : List Cell) (b o : ℕ) : Type 0 where
-    frame_call : (p k lv : ℕ) (r : Registers) (q : ℕ) (below : List Cell) (s' o' : ℕ) → cut b cells ≡ call p k lv r q ∷ below → suc (length below) ≡ b → F below r s' o' → suc (worth N q) + (s' + o') ≤ o → AtFrame cells b o
+    frame_call : (p k lv : ℕ) (r : Registers) (q : ℕ) (below : List Cell) (s' o' : ℕ) → cut b cells ≡ call p k lv r q ∷ below → suc (length below) ≡ b
+        → F below r s' o' → suc (worth N q) + (s' + o') ≤ o → AtFrame cells b o
     frame_base : (p k : ℕ) (below : List Cell) → cut b cells ≡ base p k ∷ below → suc (length below) ≡ b → AtFrame cells b o
 
-  lift_frame : (cells : List Cell) (m b b' o o' : ℕ) (x : Cell) (below : List Cell) → cut m cells ≡ x ∷ below → suc (length below) ≡ m → b' ≡ b → o' ≤ o → AtFrame below b' o' → AtFrame cells b o
+  lift_frame : (cells : List Cell) (m b b' o o' : ℕ) (x : Cell) (below : List Cell) → cut m cells ≡ x ∷ below → suc (length below) ≡ m → b' ≡ b → o' ≤ o
+      → AtFrame below b' o' → AtFrame cells b o
   lift_frame cells m b b' o o' x below c n e le (frame_call p k lv r q low s2 o2 c2 n2 f w) =
-      frame_call p k lv r q low s2 o2 (cut_cut cells m b x below c n (let h = height below b' _ low c2 n2 in omega arith) ∙ ap (λ h. cut h below) (sym e) ∙ c2) (omega arith) f (omega arith)
+      frame_call p k lv r q low s2 o2 (cut_cut cells m b x below c n (let h = height below b' _ low c2 n2 in omega arith) ∙ ap (λ h. cut h below) (sym e) ∙ c2)
+      (omega arith) f (omega arith)
   lift_frame cells m b b' o o' x below c n e le (frame_base p k low c2 n2) =
       frame_base p k low (cut_cut cells m b x below c n (let h = height below b' _ low c2 n2 in omega arith) ∙ ap (λ h. cut h below) (sym e) ∙ c2) (omega arith)
 
@@ -230,9 +248,11 @@ module _ (N : ℕ) where
     frame_in cells r s o (fit nw ot) = frame_at cells r.mark r.base o ot
 
     frame_at : (cells : List Cell) (m b o : ℕ) → Outer N cells m b o → AtFrame cells b o
-    frame_at cells m b o (at_mark label ch r below l s' o' c n w f e z) = lift_frame cells m b r.base o o' _ below c n z (omega arith) (frame_in below r s' o' f)
+    frame_at cells m b o (at_mark label ch r below l s' o' c n w f e z) =
+        lift_frame cells m b r.base o o' _ below c n z (omega arith) (frame_in below r s' o' f)
     frame_at cells m b o (at_limit k r below s' o' c n f e z) = lift_frame cells m b r.base o o' _ below c n z (omega arith) (frame_in below r s' o' f)
-    frame_at cells m b o (at_call p k lv r q below s' o' c n f e z) = frame_call p k lv r q below s' o' (ap (λ h. cut h cells) (sym z) ∙ c) (omega arith) f (omega arith)
+    frame_at cells m b o (at_call p k lv r q below s' o' c n f e z) =
+        frame_call p k lv r q below s' o' (ap (λ h. cut h cells) (sym z) ∙ c) (omega arith) f (omega arith)
     frame_at cells m b o (at_base p k below c n z) = frame_base p k below (ap (λ h. cut h cells) (sym z) ∙ c) (omega arith)
 
   -- The calls
@@ -258,18 +278,23 @@ module _ (N : ℕ) where
   set_like : (m : Frames) (h : ℕ) (x y : Cell) → cell_at h m.cells ≡ Some x → Like x y → (f : Fits m) → F (set_cell h y m.cells) m.registers f.1.0 f.1.1
   set_like m h x y e l f = fit_like m.cells _ m.registers f.1.0 f.1.1 (likes_set m.cells (length m.cells - h) x y e l) f.1.2
 
-  relabel_law : (label : ℕ) (m : Frames) (o : Option Cell) → cell_at m.registers.mark m.cells ≡ o → (f : Fits m) → IfThere (relabel_in label m o) (λ after. Stays Bounded place 0 f.0 m after)
-  relabel_law label m (Some (mark old ch r)) e f = keeps m _ f (set_like m m.registers.mark (mark old ch r) (mark (Some label) true r) e (l_relabelled old (Some label) ch r) f) refl
+  relabel_law : (label : ℕ) (m : Frames) (o : Option Cell) → cell_at m.registers.mark m.cells ≡ o → (f : Fits m)
+      → IfThere (relabel_in label m o) (λ after. Stays Bounded place 0 f.0 m after)
+  relabel_law label m (Some (mark old ch r)) e f =
+      keeps m _ f (set_like m m.registers.mark (mark old ch r) (mark (Some label) true r) e (l_relabelled old (Some label) ch r) f) refl
   relabel_law label m (Some _) e f = tt
   relabel_law label m None e f = tt
 
-  count_law : (m : Frames) (o : Option Cell) → cell_at m.registers.mark m.cells ≡ o → (f : Fits m) → IfThere (count_in m o) (λ count. Stays Bounded place 0 f.0 m count.1)
+  count_law : (m : Frames) (o : Option Cell) → cell_at m.registers.mark m.cells ≡ o → (f : Fits m)
+      → IfThere (count_in m o) (λ count. Stays Bounded place 0 f.0 m count.1)
   count_law m (Some (limit k r)) e f = keeps m _ f (set_like m m.registers.mark (limit k r) (limit (pred k) r) e (l_counted k (pred k) r) f) refl
   count_law m (Some _) e f = tt
   count_law m None e f = tt
 
-  pair_law : (pair : Pair) (h : ℕ) (m : Frames) (o : Option Cell) → cell_at h m.cells ≡ o → (f : Fits m) → IfThere (with_pair pair h m o) (λ swap. Stays Bounded place 0 f.0 m swap.1)
-  pair_law pair h m (Some (suspension (Scan old) r q)) e f = keeps m _ f (set_like m h (suspension (Scan old) r q) (suspension (Scan pair) r q) e (l_exchanged old pair r q) f) refl
+  pair_law : (pair : Pair) (h : ℕ) (m : Frames) (o : Option Cell) → cell_at h m.cells ≡ o → (f : Fits m)
+      → IfThere (with_pair pair h m o) (λ swap. Stays Bounded place 0 f.0 m swap.1)
+  pair_law pair h m (Some (suspension (Scan old) r q)) e f =
+      keeps m _ f (set_like m h (suspension (Scan old) r q) (suspension (Scan pair) r q) e (l_exchanged old pair r q) f) refl
   pair_law pair h m (Some (suspension Alt r q)) e f = tt
   pair_law pair h m (Some (suspension (Op x) r q)) e f = tt
   pair_law pair h m (Some (suspension Escan r q)) e f = tt
@@ -281,7 +306,8 @@ module _ (N : ℕ) where
   swap_law pair m None f = tt
   swap_law pair m (Some h) f = pair_law pair h m (cell_at h m.cells) refl f
 
-  local_law : (h : ℕ) (v : Value) (cells : List Cell) (r : Registers) (s o : ℕ) (c : Option Cell) → cell_at h cells ≡ c → F cells r s o → F (set_local h v cells c) r s o
+  local_law : (h : ℕ) (v : Value) (cells : List Cell) (r : Registers) (s o : ℕ) (c : Option Cell) → cell_at h cells ≡ c → F cells r s o
+      → F (set_local h v cells c) r s o
   local_law h v cells r s o (Some (local old)) e f = fit_like cells _ r s o (likes_set cells (length cells - h) (local old) (local v) e (l_assigned old v)) f
   local_law h v cells r s o (Some _) e f = f
   local_law h v cells r s o None e f = f
@@ -290,12 +316,14 @@ module _ (N : ℕ) where
   locals_law [] h cells r s o f = f
   locals_law (v ∷ values) h cells r s o f = locals_law values (suc h) _ r s o (local_law (suc h) v cells r s o (cell_at (suc h) cells) refl f)
 
-  pop_law : (m : Frames) (cells : List Cell) (f : Fits m) → F cells m.registers f.1.0 f.1.1 → IfThere (pop_from m cells) (λ top. Stays Bounded place 0 f.0 m top.1)
+  pop_law : (m : Frames) (cells : List Cell) (f : Fits m) → F cells m.registers f.1.0 f.1.1
+      → IfThere (pop_from m cells) (λ top. Stays Bounded place 0 f.0 m top.1)
   pop_law m (operand x ∷ cells) f g = keeps m _ f (fit_pop x cells m.registers f.1.0 f.1.1 g) refl
   pop_law m [] f g = tt
   pop_law m (_ ∷ cells) f g = tt
 
-  take_law : (n : ℕ) (m : Frames) (cells : List Cell) (items : List Item) (f : Fits m) → F cells m.registers f.1.0 f.1.1 → IfThere (take_top n m cells items) (λ tops. Stays Bounded place 0 f.0 m tops.1)
+  take_law : (n : ℕ) (m : Frames) (cells : List Cell) (items : List Item) (f : Fits m) → F cells m.registers f.1.0 f.1.1
+      → IfThere (take_top n m cells items) (λ tops. Stays Bounded place 0 f.0 m tops.1)
   take_law zero m cells items f g = keeps m _ f g refl
   take_law (suc n) m (operand x ∷ cells) items f g = take_law n m cells (x ∷ items) f (fit_pop x cells m.registers f.1.0 f.1.1 g)
   take_law (suc n) m [] items f g = tt
@@ -317,15 +345,18 @@ module _ (N : ℕ) where
   abbrev Drops : (m : Frames) → ℕ → List Cell → Type 0
   Drops m v xs = DropsWell Bounded place N v (drop_from m xs)
 
-  drop_label : (m : Frames) (v : ℕ) (label : Option ℕ) (ch : Bool) (r : Registers) (below : List Cell) (l s' o' : ℕ) → label_weight N label ch ≤ l → F below r s' o' → suc l + (s' + o') ≤ v → Drops m v (mark label ch r ∷ below)
+  drop_label : (m : Frames) (v : ℕ) (label : Option ℕ) (ch : Bool) (r : Registers) (below : List Cell) (l s' o' : ℕ) → label_weight N label ch ≤ l
+      → F below r s' o' → suc l + (s' + o') ≤ v → Drops m v (mark label ch r ∷ below)
   drop_label m v (Some q) false r below l s' o' w g le = record { fits = (s' + o', (s', o', g, omega arith)); weighs = omega arith }
   drop_label m v (Some q) true r below l s' o' w g le = (s' + o', (s', o', g, omega arith))
   drop_label m v None false r below l s' o' w g le = record { fits = (s' + o', (s', o', g, omega arith)); weighs = omega arith }
   drop_label m v None true r below l s' o' w g le = record { fits = (s' + o', (s', o', g, omega arith)); weighs = omega arith }
 
   drop_law : (m : Frames) (f : Fits m) → Outer N m.cells m.registers.mark m.registers.base f.1.1 → Drops m f.0 (cut m.registers.mark m.cells)
-  drop_law m f (at_mark label ch r below l s' o' c n w g e z) = let x = f.1.3 in subst (Drops m f.0) (sym c) (drop_label m f.0 label ch r below l s' o' w g (omega arith))
-  drop_law m f (at_limit k r below s' o' c n g e z) = let x = f.1.3 in subst (Drops m f.0) (sym c) (record { fits = (s' + o', (s', o', g, omega arith)); weighs = omega arith })
+  drop_law m f (at_mark label ch r below l s' o' c n w g e z) =
+      let x = f.1.3 in subst (Drops m f.0) (sym c) (drop_label m f.0 label ch r below l s' o' w g (omega arith))
+  drop_law m f (at_limit k r below s' o' c n g e z) =
+      let x = f.1.3 in subst (Drops m f.0) (sym c) (record { fits = (s' + o', (s', o', g, omega arith)); weighs = omega arith })
   drop_law m f (at_call p k lv r q below s' o' c n g e z) = subst (Drops m f.0) (sym c) tt
   drop_law m f (at_base p k below c n z) = subst (Drops m f.0) (sym c) tt
 
@@ -353,7 +384,8 @@ module _ (N : ℕ) where
           (
             suc s,
             o,
-            fit (newest_at (suc (length m.cells)) why m.registers m.place m.cells s o refl (copy_cut m.cells frame_cell m.cells) refl f.1.2 (inside_back why s o i))
+            fit (newest_at (suc (length m.cells)) why m.registers m.place m.cells s o refl (copy_cut m.cells frame_cell m.cells) refl f.1.2
+                (inside_back why s o i))
                 (outer_above m.cells _ m.registers.mark m.registers.base o (copy_above m.cells frame_cell m.cells) (outer_from f.1.2)),
             omega arith,
           ),
@@ -363,7 +395,8 @@ module _ (N : ℕ) where
       }
 
   -- all that stands is suspended, and some lower cells go on
-  onto_fits : (why : Why) (m : Frames) (f : Fits m) (h : ℕ) (x : Cell) (below : List Cell) (r : Registers) (q s' o' s2 : ℕ) → cut h m.cells ≡ x ∷ below → suc (length below) ≡ h → F below r s' o'
+  onto_fits : (why : Why) (m : Frames) (f : Fits m) (h : ℕ) (x : Cell) (below : List Cell) (r : Registers) (q s' o' s2 : ℕ) → cut h m.cells ≡ x ∷ below
+      → suc (length below) ≡ h → F below r s' o'
       → Back why (f.1.0 + f.1.1) (s2 + o') → F (suspended_onto why m below r q).cells (suspended_onto why m below r q).registers s2 o'
   onto_fits why m f h x below r q s' o' s2 c n g b =
       let frame_cell = suspension why m.registers m.place in let top = height m.cells h x below c n in
@@ -375,9 +408,17 @@ module _ (N : ℕ) where
 
   suspend_mark_law : (m : Frames) (f : Fits m) → Outer N m.cells m.registers.mark m.registers.base f.1.1 → Leaves m f.0 (cut m.registers.mark m.cells)
   suspend_mark_law m f (at_mark label ch r below l s' o' c n w g e z) = let x = f.1.3 in let s2 = suc (f.1.0 + (suc l + s')) in
-      subst (Leaves m f.0) (sym c) (record { fits = (s2 + o', (s2, o', onto_fits Alt m f m.registers.mark _ below r m.place s' o' s2 c n g (omega arith), omega arith)); weighs = omega arith; stands = refl })
+      subst (Leaves m f.0) (sym c) (record {
+        fits = (s2 + o', (s2, o', onto_fits Alt m f m.registers.mark _ below r m.place s' o' s2 c n g (omega arith), omega arith));
+        weighs = omega arith;
+        stands = refl;
+      })
   suspend_mark_law m f (at_limit k r below s' o' c n g e z) = let x = f.1.3 in let s2 = suc (f.1.0 + suc s') in
-      subst (Leaves m f.0) (sym c) (record { fits = (s2 + o', (s2, o', onto_fits Alt m f m.registers.mark _ below r m.place s' o' s2 c n g (omega arith), omega arith)); weighs = omega arith; stands = refl })
+      subst (Leaves m f.0) (sym c) (record {
+        fits = (s2 + o', (s2, o', onto_fits Alt m f m.registers.mark _ below r m.place s' o' s2 c n g (omega arith), omega arith));
+        weighs = omega arith;
+        stands = refl;
+      })
   suspend_mark_law m f (at_call p k lv r q below s' o' c n g e z) = subst (Leaves m f.0) (sym c) tt
   suspend_mark_law m f (at_base p k below c n z) = subst (Leaves m f.0) (sym c) tt
 
@@ -386,7 +427,8 @@ module _ (N : ℕ) where
 
   suspend_proc_law : (m : Frames) (f : Fits m) → AtFrame m.cells m.registers.base f.1.1 → Yields m f.0 (cut m.registers.base m.cells)
   suspend_proc_law m f (frame_call p k lv r q below s' o' c n g w) = let x = f.1.3 in
-      subst (Yields m f.0) (sym c) (record { fits = (o', (0, o', onto_fits Proc m f m.registers.base _ below r q s' o' 0 c n g tt, omega arith)); weighs = omega arith })
+      subst (Yields m f.0) (sym c)
+      (record { fits = (o', (0, o', onto_fits Proc m f m.registers.base _ below r q s' o' 0 c n g tt, omega arith)); weighs = omega arith })
   suspend_proc_law m f (frame_base p k below c n) = subst (Yields m f.0) (sym c) tt
 
   abbrev Returns : ℕ → List Cell → Type 0
@@ -416,7 +458,8 @@ module _ (N : ℕ) where
   resume_law : (m : Frames) (f : Fits m) (newest : Option ℕ) → Newest N m.cells newest f.1.0 f.1.1 → ResumesAt m f.0 newest
   resume_law m f newest (nothing e) = subst (ResumesAt m f.0) (sym e) tt
   resume_law m f newest (newest_at h why r q below s' o' e c n g b) =
-      let a : Resumes f.0 (cut h m.cells) = subst (Resumes f.0) (sym c) (back_law why f.0 below r q s' o' (f.1.0 + f.1.1) g b f.1.3) in subst (ResumesAt m f.0) (sym e) a
+      let a : Resumes f.0 (cut h m.cells) = subst (Resumes f.0) (sym c) (back_law why f.0 below r q s' o' (f.1.0 + f.1.1) g b f.1.3) in
+      subst (ResumesAt m f.0) (sym e) a
 
   -- opening
 
@@ -428,7 +471,8 @@ module _ (N : ℕ) where
           (
             0,
             suc l + (s + o),
-            fit (nothing refl) (at_mark label false m.registers m.cells l s o (cut_top (mark label false m.registers) m.cells) refl (omega arith) f.1.2 refl refl),
+            fit (nothing refl)
+                (at_mark label false m.registers m.cells l s o (cut_top (mark label false m.registers) m.cells) refl (omega arith) f.1.2 refl refl),
             omega arith,
           ),
         );
@@ -439,7 +483,15 @@ module _ (N : ℕ) where
   limit_law : (count : ℕ) (m : Frames) (f : Fits m) → Stays Bounded place 1 f.0 m (open_limit count m)
   limit_law count m f = let s = f.1.0 in let o = f.1.1 in let x = f.1.3 in
       record {
-        fits = (suc (s + o), (0, suc (s + o), fit (nothing refl) (at_limit count m.registers m.cells s o (cut_top (limit count m.registers) m.cells) refl f.1.2 refl refl), omega arith));
+        fits = (
+          suc (s + o),
+          (
+            0,
+            suc (s + o),
+            fit (nothing refl) (at_limit count m.registers m.cells s o (cut_top (limit count m.registers) m.cells) refl f.1.2 refl refl),
+            omega arith,
+          ),
+        );
         weighs = omega arith;
         stands = refl;
       }
@@ -452,13 +504,15 @@ module _ (N : ℕ) where
           0,
           total,
           fit_locals values (frame_cell ∷ m.cells) _ 0 total
-              (fit (nothing refl) (at_call p (length values) (suc (level m)) m.registers m.place m.cells s o (cut_top frame_cell m.cells) refl f.1.2 refl refl)),
+              (fit (nothing refl)
+              (at_call p (length values) (suc (level m)) m.registers m.place m.cells s o (cut_top frame_cell m.cells) refl f.1.2 refl refl)),
           omega arith,
         ),
       )
 
   begin_law : (p : ℕ) (values : List Value) (q : ℕ) (m : Frames) → Fits (begin p values q m)
-  begin_law p values q m = (0, (0, 0, fit_locals values (base p (length values) ∷ []) _ 0 0 (fit (nothing refl) (at_base p (length values) [] refl refl refl)), omega arith))
+  begin_law p values q m =
+      (0, (0, 0, fit_locals values (base p (length values) ∷ []) _ 0 0 (fit (nothing refl) (at_base p (length values) [] refl refl refl)), omega arith))
 
   pub flat_weighs : Weighs flat N
   flat_weighs = record {

@@ -56,7 +56,8 @@ below_blank c (S.operand x ∷ z) b = absurd b
 below_blank c (_ ∷ z) b = refl
 
 -- operands are copied onto cells
-pub copied : (F : Memory) (items : List Item) (z y : List NCell) → Bare z → S.copy_up (render F (map n_operand items ++ z)) (render F y) ≡ render F (map n_operand items ++ y)
+pub copied : (F : Memory) (items : List Item) (z y : List NCell) → Bare z
+    → S.copy_up (render F (map n_operand items ++ z)) (render F y) ≡ render F (map n_operand items ++ y)
 copied F [] z y b = copy_blank (render F z) (render F y) (blank F z b)
 copied F (x ∷ items) z y b = ap (λ l. S.operand x ∷ l) (copied F items z y b)
 
@@ -78,7 +79,8 @@ as_mark F (flagged l f q) r = of_kept (held F (flag_name f))
 
 pub locs_split : (a i n : ℕ) (z : List NCell) → locs a i n z ≡ locs a i n [] ++ z
 locs_split a i zero z = refl
-locs_split a i (suc n) z = locs_split a (suc i) n (n_local a i ∷ z) ∙ sym (append_assoc (locs a (suc i) n []) (n_local a i ∷ []) z) ∙ ap (λ l. l ++ z) (sym (locs_split a (suc i) n (n_local a i ∷ [])))
+locs_split a i (suc n) z = locs_split a (suc i) n (n_local a i ∷ z) ∙ sym (append_assoc (locs a (suc i) n []) (n_local a i ∷ []) z)
+    ∙ ap (λ l. l ++ z) (sym (locs_split a (suc i) n (n_local a i ∷ [])))
 
 pub locs_bare : (a i n : ℕ) (c : NCell) (z : List NCell) → Bare (c ∷ z) → Bare (locs a i n (c ∷ z))
 locs_bare a i zero c z b = b
@@ -106,8 +108,10 @@ module _ (repeats : ℕ → ℕ → Bool) (Opens : ℕ → ℕ → Option ℕ �
 
   -- the frame of the procedure
   pub data Found : Frame → List NCell → ℕ → Type 0 where
-    found_base : {p a b : ℕ} {cells : List NCell} (n : ℕ) (above : List NCell) → cells ≡ above ++ locs a 0 n (n_base p a n ∷ []) → b ≡ 1 → Found (at_base p a) cells b
-    found_call : {p a level q b : ℕ} {caller : Chain} {cells : List NCell} (n : ℕ) (r : Registers) (above below : List NCell) → cells ≡ above ++ locs a 0 n (n_call p a n level r q ∷ below) → b ≡ suc (length below)
+    found_base : {p a b : ℕ} {cells : List NCell} (n : ℕ) (above : List NCell) → cells ≡ above ++ locs a 0 n (n_base p a n ∷ []) → b ≡ 1
+        → Found (at_base p a) cells b
+    found_call : {p a level q b : ℕ} {caller : Chain} {cells : List NCell} (n : ℕ) (r : Registers) (above below : List NCell)
+        → cells ≡ above ++ locs a 0 n (n_call p a n level r q ∷ below) → b ≡ suc (length below)
         → IsFlat repeats Opens caller below r → Found (in_call p a level q caller) cells b
 
   raise_found : {t : Frame} {z y : List NCell} {b : ℕ} (xs : List NCell) → y ≡ xs ++ z → Found t z b → Found t y b
@@ -118,15 +122,18 @@ module _ (repeats : ℕ → ℕ → Bool) (Opens : ℕ → ℕ → Option ℕ �
   found_in (f_base n above f g k) = found_base n above f k
   found_in (f_call n r above below f g k i) = found_call n r above below f k i
   found_in (f_mark {label = label} {z = z} r above below f g k l (f_chain {items = items} {outer = o} zz e bare out su sc)) =
-      subst (λ b. Found (frame_of o) z b) (sym k) (raise_found (above ++ n_mark label r ∷ map n_operand items) (f ∙ ap (λ l. above ++ n_mark label r ∷ l) e ∙ sym (append_assoc above (n_mark label r ∷ map n_operand items) zz)) (found_in out))
+      subst (λ b. Found (frame_of o) z b) (sym k) (raise_found (above ++ n_mark label r ∷ map n_operand items)
+      (f ∙ ap (λ l. above ++ n_mark label r ∷ l) e ∙ sym (append_assoc above (n_mark label r ∷ map n_operand items) zz)) (found_in out))
   found_in (f_limit {n = n} {z = z} r above below f g k (f_chain {items = items} {outer = o} zz e bare out su sc)) =
-      subst (λ b. Found (frame_of o) z b) (sym k) (raise_found (above ++ n_limit n r ∷ map n_operand items) (f ∙ ap (λ l. above ++ n_limit n r ∷ l) e ∙ sym (append_assoc above (n_limit n r ∷ map n_operand items) zz)) (found_in out))
+      subst (λ b. Found (frame_of o) z b) (sym k) (raise_found (above ++ n_limit n r ∷ map n_operand items)
+      (f ∙ ap (λ l. above ++ n_limit n r ∷ l) e ∙ sym (append_assoc above (n_limit n r ∷ map n_operand items) zz)) (found_in out))
 
   pub found : {c : Chain} {cells : List NCell} {r : Registers} → IsFlat repeats Opens c cells r → Found (frame_of (outer_of c)) cells r.base
   found (f_chain {items = items} z e bare out su sc) = raise_found (map n_operand items) e (found_in out)
 
   -- the frame's cell
-  pub frame_at : (F : Memory) {b : ℕ} {cells : List NCell} (a n : ℕ) (c : NCell) (above below : List NCell) → cells ≡ above ++ locs a 0 n (c ∷ below) → b ≡ suc (length below) → S.cell_at b (render F cells) ≡ Some (shown F c)
+  pub frame_at : (F : Memory) {b : ℕ} {cells : List NCell} (a n : ℕ) (c : NCell) (above below : List NCell) → cells ≡ above ++ locs a 0 n (c ∷ below)
+      → b ≡ suc (length below) → S.cell_at b (render F cells) ≡ Some (shown F c)
   frame_at F a n c above below e g = r_get F (above ++ locs a 0 n []) c below _ (under above (locs a 0 n []) (c ∷ below) e (locs_split a 0 n (c ∷ below))) g
 
   pub same_proc : (F : Memory) {t : Frame} {cells : List NCell} {b : ℕ} → Found t cells b → L.proc_of t ≡ S.proc_of (S.cell_at b (render F cells))
@@ -142,27 +149,37 @@ module _ (repeats : ℕ → ℕ → Bool) (Opens : ℕ → ℕ → Option ℕ �
   same_base F (found_call {p} {a} {level} {q} n r above below f g k) = sym (ap S.is_base_cell (frame_at F a n (n_call p a n level r q) above below f g))
 
   -- what stands directly below a mark
-  pub below_chain : (F : Memory) (c : Cell) {k : Chain} {cells : List NCell} {r : Registers} → IsFlat repeats Opens k cells r → L.first_of_chain k ≡ S.below_in (c ∷ render F cells)
+  pub below_chain : (F : Memory) (c : Cell) {k : Chain} {cells : List NCell} {r : Registers} → IsFlat repeats Opens k cells r
+      → L.first_of_chain k ≡ S.below_in (c ∷ render F cells)
   below_chain F c (f_chain {items = []} z e bare out su sc) = sym (ap (λ l. S.below_in (c ∷ render F l)) e ∙ below_blank c (render F z) (blank F z bare))
   below_chain F c (f_chain {items = x ∷ items} z e bare out su sc) = sym (ap (λ l. S.below_in (c ∷ render F l)) e)
 
-  pub same_below : (F : Memory) {o : Outer} {cells z : List NCell} {h b : ℕ} (xs : List NCell) → cells ≡ xs ++ z → FlatOuter repeats Opens o z h b → L.below_outer o ≡ S.below_in (S.cut h (render F cells))
-  same_below F xs e (f_base {p} {a} n above f g k) = sym (ap S.below_in (r_cut F ((xs ++ above) ++ locs a 0 n []) (n_base p a n) [] _ (under (xs ++ above) (locs a 0 n []) _ (under xs above _ e f) (locs_split a 0 n _)) g))
-  same_below F xs e (f_call {p} {a} {level} {q} n r above below f g k i) = below_chain F (shown F (n_call p a n level r q)) i ∙ sym (ap S.below_in (r_cut F ((xs ++ above) ++ locs a 0 n []) (n_call p a n level r q) below _ (under (xs ++ above) (locs a 0 n []) _ (under xs above _ e f) (locs_split a 0 n _)) g))
-  same_below F xs e (f_mark {label = label} r above below f g k l i) = below_chain F (shown F (n_mark label r)) i ∙ sym (ap S.below_in (r_cut F (xs ++ above) (n_mark label r) below _ (under xs above _ e f) g))
-  same_below F xs e (f_limit {n = n} r above below f g k i) = below_chain F (shown F (n_limit n r)) i ∙ sym (ap S.below_in (r_cut F (xs ++ above) (n_limit n r) below _ (under xs above _ e f) g))
+  pub same_below : (F : Memory) {o : Outer} {cells z : List NCell} {h b : ℕ} (xs : List NCell) → cells ≡ xs ++ z → FlatOuter repeats Opens o z h b
+      → L.below_outer o ≡ S.below_in (S.cut h (render F cells))
+  same_below F xs e (f_base {p} {a} n above f g k) = sym (ap S.below_in
+      (r_cut F ((xs ++ above) ++ locs a 0 n []) (n_base p a n) [] _ (under (xs ++ above) (locs a 0 n []) _ (under xs above _ e f) (locs_split a 0 n _)) g))
+  same_below F xs e (f_call {p} {a} {level} {q} n r above below f g k i) = below_chain F (shown F (n_call p a n level r q)) i ∙ sym (ap S.below_in (r_cut F
+      ((xs ++ above) ++ locs a 0 n []) (n_call p a n level r q) below _ (under (xs ++ above) (locs a 0 n []) _ (under xs above _ e f) (locs_split a 0 n _)) g))
+  same_below F xs e (f_mark {label = label} r above below f g k l i) =
+      below_chain F (shown F (n_mark label r)) i ∙ sym (ap S.below_in (r_cut F (xs ++ above) (n_mark label r) below _ (under xs above _ e f) g))
+  same_below F xs e (f_limit {n = n} r above below f g k i) =
+      below_chain F (shown F (n_limit n r)) i ∙ sym (ap S.below_in (r_cut F (xs ++ above) (n_limit n r) below _ (under xs above _ e f) g))
 
   -- a suspension on cells that stand above those of a chain
-  pub suspended_on : {k inside : Chain} {below cells : List NCell} {r r' : Registers} (reason : Reason) (q h : ℕ) (xs : List NCell) → IsFlat repeats Opens k below r' → IsFlat repeats Opens inside cells r → cells ≡ xs ++ below → h ≡ suc (length cells)
+  pub suspended_on : {k inside : Chain} {below cells : List NCell} {r r' : Registers} (reason : Reason) (q h : ℕ) (xs : List NCell)
+      → IsFlat repeats Opens k below r' → IsFlat repeats Opens inside cells r → cells ≡ xs ++ below → h ≡ suc (length cells)
       → (F : Memory) (y : List NCell) → y ≡ n_suspension reason r q ∷ cells
-      → (new : List NCell) × IsFlat repeats Opens (L.suspend_in (L.suspension reason q inside) k) new (record r' { newest = Some h }) × (S.copy_up (render F below) (render F y) ≡ render F new)
+      → (new : List NCell) × IsFlat repeats Opens (L.suspend_in (L.suspension reason q inside) k) new (record r' { newest = Some h })
+      × (S.copy_up (render F below) (render F y) ≡ render F new)
       × ((w : World) (s : ℕ) → AllOk w s y → AllOk w s new)
   suspended_on {cells = cells} {r = r} reason q h xs (f_chain {items = items} z e bare out su sc) i f g F y d =
       let top = n_suspension reason r q in
-      let up : top ∷ cells ≡ (top ∷ xs ++ map n_operand items) ++ z = ap (λ l. top ∷ l) (f ∙ ap (λ l. xs ++ l) e ∙ sym (append_assoc xs (map n_operand items) z)) in (
+      let up : top ∷ cells
+      ≡ (top ∷ xs ++ map n_operand items) ++ z = ap (λ l. top ∷ l) (f ∙ ap (λ l. xs ++ l) e ∙ sym (append_assoc xs (map n_operand items) z)) in (
         map n_operand items ++ top ∷ cells,
         f_chain (top ∷ cells) refl tt (raise_outer (top ∷ xs ++ map n_operand items) up out) (f_susp g i) (raise_scans (top ∷ xs ++ map n_operand items) up sc),
-        ap (λ l. S.copy_up (render F l) (render F y)) e ∙ ap (λ l. S.copy_up (render F (map n_operand items ++ z)) (render F l)) d ∙ copied F items z (top ∷ cells) bare,
+        ap (λ l. S.copy_up (render F l) (render F y)) e ∙ ap (λ l. S.copy_up (render F (map n_operand items ++ z)) (render F l)) d
+            ∙ copied F items z (top ∷ cells) bare,
         λ w s o. ok_operands w s items (top ∷ cells) (subst (AllOk w s) d o),
       )
     where

@@ -86,8 +86,10 @@ module _ (repeats : ℕ → ℕ → Bool) (N : ℕ) where
   pop_over m (chain [] s scans o) f = tt
   pop_over m (chain (item ∷ items) s scans o) f = (f, omega arith, refl)
 
-  take_over : (m : Linked) (items : List Item) (s : Suspensions) (scans : List ℕ) (o : Outer) (parts : Option (List Item × List Item)) → Fit N (chain items s scans o)
-      → IfThere {A = List Item × Linked} (option_map (λ (parts : List Item × List Item). (parts.0, with_chain (chain parts.1 s scans o) m)) parts) (λ tops. Over 0 (chain items s scans o) m tops.1)
+  take_over : (m : Linked) (items : List Item) (s : Suspensions) (scans : List ℕ) (o : Outer) (parts : Option (List Item × List Item))
+      → Fit N (chain items s scans o)
+      → IfThere {A = List Item × Linked} (option_map (λ (parts : List Item × List Item). (parts.0, with_chain (chain parts.1 s scans o) m)) parts)
+      (λ tops. Over 0 (chain items s scans o) m tops.1)
   take_over m items s scans o None f = tt
   take_over m items s scans o (Some parts) f = (f, omega arith, refl)
 
@@ -111,7 +113,8 @@ module _ (repeats : ℕ → ℕ → Bool) (N : ℕ) where
   count_over m (base p a) f = tt
   count_over m (call p a l q c) f = tt
 
-  unmark_over : (m : Linked) (o : Outer) → FitOuter N o → IfThere (unmark_from m o) (λ outside. F outside.0 × (weight outside.0 ≤ outer_weight N o) × (outside.0.place ≡ m.place))
+  unmark_over : (m : Linked) (o : Outer) → FitOuter N o
+      → IfThere (unmark_from m o) (λ outside. F outside.0 × (weight outside.0 ≤ outer_weight N o) × (outside.0.place ≡ m.place))
   unmark_over m (mark label c) f = (f, omega arith, refl)
   unmark_over m (limit n c) f = (f, omega arith, refl)
   unmark_over m (base p a) f = tt
@@ -129,22 +132,26 @@ module _ (repeats : ℕ → ℕ → Bool) (N : ℕ) where
 
   -- marks
 
-  opened_over : (m : Linked) (c : Chain) (label : Label) → Fit N c → Over (suc (label_weight N label)) c m (with_chain (chain [] none (scans_of c) (mark label c)) m)
+  opened_over : (m : Linked) (c : Chain) (label : Label) → Fit N c
+      → Over (suc (label_weight N label)) c m (with_chain (chain [] none (scans_of c) (mark label c)) m)
   opened_over m c label f = ((tt, f), omega arith, refl)
 
   mark_stays : (label : Option ℕ) (m : Linked) → F m → St (suc (worth_of N label)) m (open_mark repeats label m)
   mark_stays label m f = either_way (St (suc (worth_of N label)) m) (repeats (proc_of (frame m)) (pred m.place)) _ _
       (record { fits = (tt, f); weighs = omega arith; stands = refl }) (record { fits = (tt, f); weighs = omega arith; stands = refl })
 
-  dropped_to_well : (m : Linked) (c : Chain) (l : Option ℕ) (o : Outer) → Fit N c → F m → suc (worth_of N l) + weight_of N c ≤ weight m → Dropping F weight place N m (dropped_to m c l)
+  dropped_to_well : (m : Linked) (c : Chain) (l : Option ℕ) (o : Outer) → Fit N c → F m → suc (worth_of N l) + weight_of N c ≤ weight m
+      → Dropping F weight place N m (dropped_to m c l)
   dropped_to_well m c (Some l) o f g le = record { fits = f; weighs = omega arith }
   dropped_to_well m c None o f g le = record { fits = f; weighs = omega arith }
 
-  dropped_by_well : (m : Linked) (c : Chain) (l : Option ℕ) (o : Option ℕ) → Fit N c → F m → suc (worth_of N l) + weight_of N c ≤ weight m → Dropping F weight place N m (dropped_by m c l o)
+  dropped_by_well : (m : Linked) (c : Chain) (l : Option ℕ) (o : Option ℕ) → Fit N c → F m → suc (worth_of N l) + weight_of N c ≤ weight m
+      → Dropping F weight place N m (dropped_by m c l o)
   dropped_by_well m c l (Some other) f g le = f
   dropped_by_well m c l None f g le = dropped_to_well m c l (mark (fixed l) c) f g le
 
-  repeated_well : (l : Option ℕ) (flag p : ℕ) (c : Chain) (m : Linked) (b : Bool) → Fit N c → F m → suc (worth_of N l) + weight_of N c ≤ weight m → Dropping F weight place N m (repeat_mark l flag p c m b)
+  repeated_well : (l : Option ℕ) (flag p : ℕ) (c : Chain) (m : Linked) (b : Bool) → Fit N c → F m → suc (worth_of N l) + weight_of N c ≤ weight m
+      → Dropping F weight place N m (repeat_mark l flag p c m b)
   repeated_well l flag p c m true f g le = (tt, f)
   repeated_well l flag p c m false f g le = dropped_by_well m c l (label_of flag m.relabels) f g le
 
@@ -187,7 +194,8 @@ module _ (repeats : ℕ → ℕ → Bool) (N : ℕ) where
       → Grows 1 (chain items s scans (limit n c)) (suspend_in (suspension (because Alt) p (chain items s scans (limit n c))) c)
   limit_grows p items s scans n (chain items' s' scans' o) f = (((f, omega arith), f.1.1), omega arith)
 
-  suspend_outer_over : (m : Linked) (c : Chain) → m.chain ≡ c → Fit N c → IfThere (suspend_outer (record m { chain = c }) (outer_of c)) (λ after. Over 1 c m after)
+  suspend_outer_over : (m : Linked) (c : Chain) → m.chain ≡ c → Fit N c
+      → IfThere (suspend_outer (record m { chain = c }) (outer_of c)) (λ after. Over 1 c m after)
   suspend_outer_over m (chain items s scans (mark label c)) e f = let g = alt_grows m.place items s scans label c f in (g.0, g.1, refl)
   suspend_outer_over m (chain items s scans (limit n c)) e f = let g = limit_grows m.place items s scans n c f in (g.0, g.1, refl)
   suspend_outer_over m (chain items s scans (base p a)) e f = tt
@@ -216,12 +224,14 @@ module _ (repeats : ℕ → ℕ → Bool) (N : ℕ) where
   leave_pays m (at_base p a) h = tt
   leave_pays m (in_call p a l q c) h = let x = h.1 in record { fits = h.0; weighs = omega arith }
 
-  proc_lighter : (p : ℕ) (inside c : Chain) → Fit N inside → Fit N c → Fit N (suspend_in (suspension (because Proc) p inside) c) × (weight_of N (suspend_in (suspension (because Proc) p inside) c) ≤ weight_of N c)
+  proc_lighter : (p : ℕ) (inside c : Chain) → Fit N inside → Fit N c
+      → Fit N (suspend_in (suspension (because Proc) p inside) c) × (weight_of N (suspend_in (suspension (because Proc) p inside) c) ≤ weight_of N c)
   proc_lighter p inside (chain items s scans o) f g = (((f, tt), g.1), omega arith)
 
   suspend_pays : (m : Linked) (fr : Frame) → F m → FramePays fr (weight m) → IfThere (suspend_frame m fr) (λ after. Paying F weight place N m after)
   suspend_pays m (at_base p a) f h = tt
-  suspend_pays m (in_call p a l q c) f h = let x = h.1 in let g = proc_lighter m.place m.chain c f h.0 in let y = g.1 in record { fits = g.0; weighs = omega arith }
+  suspend_pays m (in_call p a l q c) f h =
+      let x = h.1 in let g = proc_lighter m.place m.chain c f h.0 in let y = g.1 in record { fits = g.0; weighs = omega arith }
 
   -- what comes back
 
@@ -292,11 +302,14 @@ module _ (repeats : ℕ → ℕ → Bool) (N : ℕ) where
         (λ outside h. let x = h.1 in stays 0 m outside.0 f (record { fits = h.0; weighs = omega arith; stands = h.2 }));
     drop_mark = λ m f. drops m (drop_from m (outer_of m.chain)) f (dropped_well m (outer_of m.chain) (outer_fit m.chain f.1.0) f.1.0 (outer_less m.chain));
     suspend = λ why m i f. stays 1 m _ f (suspend_stays why m i f.1.0);
-    suspend_mark = λ m f. if_there (suspend_outer m (outer_of m.chain)) (suspend_outer_over m m.chain refl f.1.0) (λ after h. stays 1 m after f (to_stays 1 m after h));
+    suspend_mark = λ m f. if_there (suspend_outer m (outer_of m.chain)) (suspend_outer_over m m.chain refl f.1.0)
+        (λ after h. stays 1 m after f (to_stays 1 m after h));
     suspend_proc = λ m f. if_there (suspend_frame m (frame m)) (suspend_pays m (frame m) f.1.0 (frame_of_m m f.1.0)) (λ after h. pays m after f h);
     resume = λ m f. if_there (resume_from m m.chain) (back m m.chain f.1.0) (λ b h. comes_back m b.0 b.1 f (resumes m b.0 b.1 h));
-    swap_newest = λ pair m f. if_there (swap_at pair m (slice_get (scans_of m.chain) 0)) (swap_over pair m (slice_get (scans_of m.chain) 0) f.1.0) (λ swap h. stays 0 m swap.1 f h);
-    swap_oldest = λ pair m f. if_there (swap_at pair m (oldest None (scans_of m.chain))) (swap_over pair m (oldest None (scans_of m.chain)) f.1.0) (λ swap h. stays 0 m swap.1 f h);
+    swap_newest = λ pair m f. if_there (swap_at pair m (slice_get (scans_of m.chain) 0)) (swap_over pair m (slice_get (scans_of m.chain) 0) f.1.0)
+        (λ swap h. stays 0 m swap.1 f h);
+    swap_oldest = λ pair m f. if_there (swap_at pair m (oldest None (scans_of m.chain))) (swap_over pair m (oldest None (scans_of m.chain)) f.1.0)
+        (λ swap h. stays 0 m swap.1 f h);
     enter = λ proc values m f. exact (enter proc values m) (tt, f.1.0);
     leave = λ m f. if_there (leave_frame m (frame m)) (leave_pays m (frame m) (frame_of_m m f.1.0)) (λ caller h. pays m caller f h);
   }

@@ -33,7 +33,8 @@ module _ (repeats : ℕ → ℕ → Bool) (Opens : ℕ → ℕ → Option ℕ �
   WithT w s x y = With Next N w s x y
 
   -- cells that are shown so
-  pub now_as : (w : World) (s : ℕ) (c : Chain) (q : ℕ) (r : Registers) (shows : List Cell) (cells : List NCell) → shows ≡ render w.kept cells → IsFlat repeats Opens c cells r → AllOk w s cells
+  pub now_as : (w : World) (s : ℕ) (c : Chain) (q : ℕ) (r : Registers) (shows : List Cell) (cells : List NCell) → shows ≡ render w.kept cells
+      → IsFlat repeats Opens c cells r → AllOk w s cells
       → N w s (linked_with w.kept c q) (record { cells = shows; registers = r; place = q })
   now_as w s c q r shows cells e f o = subst (λ l. N w s (linked_with w.kept c q) (record { cells = l; registers = r; place = q })) (sym e) (now cells f o)
 
@@ -41,14 +42,19 @@ module _ (repeats : ℕ → ℕ → Bool) (Opens : ℕ → ℕ → Option ℕ �
 
   pub data View (cells : List NCell) (h b : ℕ) : Outer → Type 0 where
     v_base : {p a : ℕ} (n : ℕ) (above : List NCell) → cells ≡ above ++ n_base p a n ∷ [] → h ≡ 1 → View cells h b (L.base p a)
-    v_call : {p a level q : ℕ} {caller : Chain} (n : ℕ) (r : Registers) (above below : List NCell) → cells ≡ above ++ n_call p a n level r q ∷ below → h ≡ suc (length below) → IsFlat repeats Opens caller below r → View cells h b (L.call p a level q caller)
-    v_mark : {label : Label} {outside : Chain} (r : Registers) (above below : List NCell) → cells ≡ above ++ n_mark label r ∷ below → h ≡ suc (length below) → b ≡ r.base
+    v_call : {p a level q : ℕ} {caller : Chain} (n : ℕ) (r : Registers) (above below : List NCell) → cells ≡ above ++ n_call p a n level r q ∷ below
+        → h ≡ suc (length below) → IsFlat repeats Opens caller below r → View cells h b (L.call p a level q caller)
+    v_mark : {label : Label} {outside : Chain} (r : Registers) (above below : List NCell) → cells ≡ above ++ n_mark label r ∷ below → h ≡ suc (length below)
+        → b ≡ r.base
         → LabelOk repeats Opens (L.proc_of (frame_of (outer_of outside))) label → IsFlat repeats Opens outside below r → View cells h b (L.mark label outside)
-    v_limit : {n : ℕ} {outside : Chain} (r : Registers) (above below : List NCell) → cells ≡ above ++ n_limit n r ∷ below → h ≡ suc (length below) → b ≡ r.base → IsFlat repeats Opens outside below r → View cells h b (L.limit n outside)
+    v_limit : {n : ℕ} {outside : Chain} (r : Registers) (above below : List NCell) → cells ≡ above ++ n_limit n r ∷ below → h ≡ suc (length below) → b ≡ r.base
+        → IsFlat repeats Opens outside below r → View cells h b (L.limit n outside)
 
   pub view : {o : Outer} {cells z : List NCell} {h b : ℕ} (xs : List NCell) → cells ≡ xs ++ z → FlatOuter repeats Opens o z h b → View cells h b o
-  view xs e (f_base {p} {a} n above f g k) = v_base n ((xs ++ above) ++ locs a 0 n []) (under (xs ++ above) (locs a 0 n []) _ (under xs above _ e f) (locs_split a 0 n _)) g
-  view xs e (f_call {p} {a} n r above below f g k i) = v_call n r ((xs ++ above) ++ locs a 0 n []) below (under (xs ++ above) (locs a 0 n []) _ (under xs above _ e f) (locs_split a 0 n _)) g i
+  view xs e (f_base {p} {a} n above f g k) =
+      v_base n ((xs ++ above) ++ locs a 0 n []) (under (xs ++ above) (locs a 0 n []) _ (under xs above _ e f) (locs_split a 0 n _)) g
+  view xs e (f_call {p} {a} n r above below f g k i) =
+      v_call n r ((xs ++ above) ++ locs a 0 n []) below (under (xs ++ above) (locs a 0 n []) _ (under xs above _ e f) (locs_split a 0 n _)) g i
   view xs e (f_mark r above below f g k l i) = v_mark r (xs ++ above) below (under xs above _ e f) g k l i
   view xs e (f_limit r above below f g k i) = v_limit r (xs ++ above) below (under xs above _ e f) g k i
 
@@ -75,57 +81,78 @@ module _ (repeats : ℕ → ℕ → Bool) (Opens : ℕ → ℕ → Option ℕ �
   -- Operands
 
   pub on_push : (item : Item) (w : World) (s : ℕ) (m' : Linked) (m : Frames) → N w s m' m → T w s (L.push item m') (S.push item m)
-  on_push item w s m' m (now cells (f_chain {items = items} z e b out su sc) o) = (w, idle s w, now (n_operand item ∷ cells) (f_chain z (ap (λ l. n_operand item ∷ l) e) b out su sc) (tt, o))
+  on_push item w s m' m (now cells (f_chain {items = items} z e b out su sc) o) =
+      (w, idle s w, now (n_operand item ∷ cells) (f_chain z (ap (λ l. n_operand item ∷ l) e) b out su sc) (tt, o))
 
-  module _ (w : World) (s q : ℕ) (r : Registers) (su : Suspensions) (scans : List ℕ) (outer : Outer) (z : List NCell) (b : Bare z) (out : FlatOuter repeats Opens outer z r.mark r.base) (fs : FlatSusps repeats Opens su z r.newest) (sc : FlatScans scans z r.scan) where
-    pop_items : (m' : Linked) (m : Frames) → m'.place ≡ q → memory_of m' ≡ w.kept → m.registers ≡ r → m.place ≡ q → (items : List Item) → AllOk w s (map n_operand items ++ z)
-        → Both ⊥ (WithT w s) (L.pop_from (Li w (chain items su scans outer) q) (chain items su scans outer)) (S.pop_from (Fr w (map n_operand items ++ z) r q) (render w.kept (map n_operand items ++ z)))
-    pop_items m' m p1 p2 p3 p4 [] o = subst (λ x. Both ⊥ (WithT {A = Item} w s) None x) (sym (popped_blank (Fr w z r q) (render w.kept z) (blank w.kept z b))) tt
+  module _ (w : World) (s q : ℕ) (r : Registers) (su : Suspensions) (scans : List ℕ) (outer : Outer) (z : List NCell) (b : Bare z)
+      (out : FlatOuter repeats Opens outer z r.mark r.base) (fs : FlatSusps repeats Opens su z r.newest) (sc : FlatScans scans z r.scan) where
+    pop_items : (m' : Linked) (m : Frames) → m'.place ≡ q → memory_of m' ≡ w.kept → m.registers ≡ r → m.place ≡ q → (items : List Item)
+        → AllOk w s (map n_operand items ++ z)
+        → Both ⊥ (WithT w s) (L.pop_from (Li w (chain items su scans outer) q) (chain items su scans outer))
+        (S.pop_from (Fr w (map n_operand items ++ z) r q) (render w.kept (map n_operand items ++ z)))
+    pop_items m' m p1 p2 p3 p4 [] o =
+        subst (λ x. Both ⊥ (WithT {A = Item} w s) None x) (sym (popped_blank (Fr w z r q) (render w.kept z) (blank w.kept z b))) tt
     pop_items m' m p1 p2 p3 p4 (x ∷ items) o = (refl, (w, idle s w, now (map n_operand items ++ z) (f_chain z refl b out fs sc) o.1))
 
-    take_items : (m' : Linked) (m : Frames) → ((items : List Item) → AllOk w s (map n_operand items ++ z) → T w s (L.with_chain (chain items su scans outer) m') (record m { cells = render w.kept (map n_operand items ++ z) }))
+    take_items : (m' : Linked) (m : Frames) → ((items : List Item) → AllOk w s (map n_operand items ++ z)
+        → T w s (L.with_chain (chain items su scans outer) m') (record m { cells = render w.kept (map n_operand items ++ z) }))
         → (n : ℕ) (items found : List Item) → AllOk w s (map n_operand items ++ z)
-        → Both ⊥ (WithT {A = List Item} w s) (option_map (λ (parts : List Item × List Item). (parts.0, L.with_chain (chain parts.1 su scans outer) m')) (L.take_top n items found)) (S.take_top n m (render w.kept (map n_operand items ++ z)) found)
+        → Both ⊥ (WithT {A = List Item} w s) (option_map (λ (parts : List Item × List Item). (parts.0, L.with_chain (chain parts.1 su scans outer) m'))
+        (L.take_top n items found)) (S.take_top n m (render w.kept (map n_operand items ++ z)) found)
     take_items m' m f zero items found o = (refl, f items o)
-    take_items m' m f (suc n) [] found o = subst (λ x. Both ⊥ (WithT {A = List Item} w s) None x) (sym (taken_blank n m (render w.kept z) found (blank w.kept z b))) tt
+    take_items m' m f (suc n) [] found o =
+        subst (λ x. Both ⊥ (WithT {A = List Item} w s) None x) (sym (taken_blank n m (render w.kept z) found (blank w.kept z b))) tt
     take_items m' m f (suc n) (x ∷ items) found o = take_items m' m f n items (x ∷ found) o.1
 
   pub on_pop : (w : World) (s : ℕ) (m' : Linked) (m : Frames) → N w s m' m → Both ⊥ (WithT w s) (L.pop m') (S.pop m)
   on_pop w s m' m (now {q = q} {r = r} cells (f_chain {items = items} {s = su} {scans = scans} {outer = outer} z e b out fs sc) o) =
-      subst (λ l. Both ⊥ (WithT w s) (L.pop_from (Li w (chain items su scans outer) q) (chain items su scans outer)) (S.pop_from (Fr w l r q) (render w.kept l))) (sym e)
+      subst (λ l. Both ⊥ (WithT w s) (L.pop_from (Li w (chain items su scans outer) q) (chain items su scans outer))
+      (S.pop_from (Fr w l r q) (render w.kept l))) (sym e)
       (pop_items w s q r su scans outer z b out fs sc (Li w (chain items su scans outer) q) (Fr w cells r q) refl refl refl refl items (subst (AllOk w s) e o))
 
   pub on_take : (n : ℕ) (w : World) (s : ℕ) (m' : Linked) (m : Frames) → N w s m' m → Both ⊥ (WithT w s) (L.take_items n m') (S.take n m)
   on_take n w s m' m (now {q = q} {r = r} cells (f_chain {items = items} {s = su} {scans = scans} {outer = outer} z e b out fs sc) o) =
       let m2 = Fr w cells r q in let m1 = Li w (chain items su scans outer) q in
       subst (λ l. Both ⊥ (WithT {A = List Item} w s) (L.take_from n m1 (chain items su scans outer)) (S.take_top n m2 (render w.kept l) [])) (sym e)
-      (take_items w s q r su scans outer z b out fs sc m1 m2 (λ items o. (w, idle s w, now (map n_operand items ++ z) (f_chain z refl b out fs sc) o)) n items [] (subst (AllOk w s) e o))
+      (take_items w s q r su scans outer z b out fs sc m1 m2
+      (λ items o. (w, idle s w, now (map n_operand items ++ z) (f_chain z refl b out fs sc) o)) n items [] (subst (AllOk w s) e o))
 
   -- Marks
 
-  mark_if : (label : Option ℕ) (w : World) (s q : ℕ) (r : Registers) (c : Chain) (cells : List NCell) → IsFlat repeats Opens c cells r → FlatScans (L.scans_of c) cells r.scan → AllOk w s cells → Opens (L.proc_of (frame_of (outer_of c))) (pred q) label
+  mark_if : (label : Option ℕ) (w : World) (s q : ℕ) (r : Registers) (c : Chain) (cells : List NCell) → IsFlat repeats Opens c cells r
+      → FlatScans (L.scans_of c) cells r.scan → AllOk w s cells → Opens (L.proc_of (frame_of (outer_of c))) (pred q) label
       → (t : Bool) → repeats (L.proc_of (frame_of (outer_of c))) (pred q) ≡ t
-      → T w s (if t then record (L.push_mark (flagged label (length w.kept.flags) (pred q)) (Li w c q)) { flags = w.kept.flags ++ false ∷ [] } else L.push_mark (fixed label) (Li w c q)) (S.open_mark label (Fr w cells r q))
-  mark_if label w s q r c cells f sc o opens false e =
-      (w, idle s w, now (n_mark (fixed label) r ∷ cells) (f_chain {items = []} (n_mark (fixed label) r ∷ cells) refl tt (f_mark r [] cells refl (ap suc (length_map (shown w.kept) cells)) refl (pred q, e, opens) f) f_none (raise_scans (n_mark (fixed label) r ∷ []) refl sc)) (tt, o))
+      → T w s (if t then record (L.push_mark (flagged label (length w.kept.flags) (pred q)) (Li w c q)) { flags = w.kept.flags ++ false ∷ [] }
+      else L.push_mark (fixed label) (Li w c q)) (S.open_mark label (Fr w cells r q))
+  mark_if label w s q r c cells f sc o opens false e = (
+    w,
+    idle s w,
+    now (n_mark (fixed label) r ∷ cells) (f_chain {items = []} (n_mark (fixed label) r ∷ cells) refl tt (f_mark r [] cells refl
+        (ap suc (length_map (shown w.kept) cells)) refl (pred q, e, opens) f) f_none (raise_scans (n_mark (fixed label) r ∷ []) refl sc)) (tt, o),
+  )
   mark_if label w s q r c cells f sc o opens true e =
       let h = suc (length cells) in let w2 = made_flag w s h in let d = flag_made w s h in let top = n_mark (flagged label (length w.kept.flags) (pred q)) r in
       let owned = d.new in
       let moves : Moves (λ n. Unit {0}) s w w2 = made_moves d s in (
         w2,
         made_next d,
-        now_as w2 s (chain [] none (L.scans_of c) (L.mark (flagged label (length w.kept.flags) (pred q)) c)) q (record r { mark = suc (length (render w.kept cells)); newest = None }) (S.mark label false r ∷ render w.kept cells) (top ∷ cells)
-            (ap (λ l. S.mark label false r ∷ l) (sym (render_moves (λ n. Unit {0}) s w w2 moves cells (use_all cells) o)) ∙ ap (λ k. shown_label k label (pred q) r ∷ render w2.kept cells) (sym owned.holds))
-            (f_chain {items = []} (top ∷ cells) refl tt (f_mark r [] cells refl (ap suc (length_map (shown w.kept) cells)) refl opens f) f_none (raise_scans (top ∷ []) refl sc))
+        now_as w2 s (chain [] none (L.scans_of c) (L.mark (flagged label (length w.kept.flags) (pred q)) c)) q
+            (record r { mark = suc (length (render w.kept cells)); newest = None }) (S.mark label false r ∷ render w.kept cells) (top ∷ cells)
+            (ap (λ l. S.mark label false r ∷ l) (sym (render_moves (λ n. Unit {0}) s w w2 moves cells (use_all cells) o))
+            ∙ ap (λ k. shown_label k label (pred q) r ∷ render w2.kept cells) (sym owned.holds))
+            (f_chain {items = []} (top ∷ cells) refl tt (f_mark r [] cells refl (ap suc (length_map (shown w.kept) cells)) refl opens f) f_none
+            (raise_scans (top ∷ []) refl sc))
             ((Flag false, owned, tt), all_moves (λ n. Unit {0}) s w w2 moves cells (use_all cells) o),
       )
 
   pub scans_all : {c : Chain} {cells : List NCell} {r : Registers} → IsFlat repeats Opens c cells r → FlatScans (L.scans_of c) cells r.scan
   scans_all (f_chain {items = items} z e b out su sc) = raise_scans (map n_operand items) e sc
 
-  pub on_mark : (label : Option ℕ) (w : World) (s : ℕ) (m' : Linked) (m : Frames) → N w s m' m → Opens (S.proc m) (pred m.place) label → T w s (L.open_mark repeats label m') (S.open_mark label m)
+  pub on_mark : (label : Option ℕ) (w : World) (s : ℕ) (m' : Linked) (m : Frames) → N w s m' m → Opens (S.proc m) (pred m.place) label
+      → T w s (L.open_mark repeats label m') (S.open_mark label m)
   on_mark label w s m' m (now {c = c} {q = q} {r = r} cells f o) opens =
-      mark_if label w s q r c cells f (scans_all f) o (subst (λ p. Opens p (pred q) label) (sym (same_proc repeats Opens w.kept (found repeats Opens f))) opens) (repeats (L.proc_of (frame_of (outer_of c))) (pred q)) refl
+      mark_if label w s q r c cells f (scans_all f) o (subst (λ p. Opens p (pred q) label) (sym (same_proc repeats Opens w.kept (found repeats Opens f))) opens)
+      (repeats (L.proc_of (frame_of (outer_of c))) (pred q)) refl
 
   pub on_limit : (count : ℕ) (w : World) (s : ℕ) (m' : Linked) (m : Frames) → N w s m' m → T w s (L.open_limit count m') (S.open_limit count m)
   on_limit count w s m' m (now {c = c} {q = q} {r = r} cells f o) =
@@ -134,8 +161,11 @@ module _ (repeats : ℕ → ℕ → Bool) (Opens : ℕ → ℕ → Option ℕ �
       let moves : Moves (λ n. Unit {0}) s w w2 = made_moves d s in (
         w2,
         made_next d,
-        now_as w2 s (chain [] none (L.scans_of c) (L.limit (length w.kept.limits) c)) q (record r { mark = suc (length (render w.kept cells)); newest = None }) (S.limit count r ∷ render w.kept cells) (top ∷ cells)
-            (ap (λ l. S.limit count r ∷ l) (sym (render_moves (λ n. Unit {0}) s w w2 moves cells (use_all cells) o)) ∙ ap (λ k. S.limit (count_of k) r ∷ render w2.kept cells) (sym owned.holds))
-            (f_chain {items = []} (top ∷ cells) refl tt (f_limit r [] cells refl (ap suc (length_map (shown w.kept) cells)) refl f) f_none (raise_scans (top ∷ []) refl (scans_all f)))
+        now_as w2 s (chain [] none (L.scans_of c) (L.limit (length w.kept.limits) c)) q (record r { mark = suc (length (render w.kept cells)); newest = None })
+            (S.limit count r ∷ render w.kept cells) (top ∷ cells)
+            (ap (λ l. S.limit count r ∷ l) (sym (render_moves (λ n. Unit {0}) s w w2 moves cells (use_all cells) o))
+            ∙ ap (λ k. S.limit (count_of k) r ∷ render w2.kept cells) (sym owned.holds))
+            (f_chain {items = []} (top ∷ cells) refl tt (f_limit r [] cells refl (ap suc (length_map (shown w.kept) cells)) refl f) f_none
+            (raise_scans (top ∷ []) refl (scans_all f)))
             ((count, owned), all_moves (λ n. Unit {0}) s w w2 moves cells (use_all cells) o),
       )

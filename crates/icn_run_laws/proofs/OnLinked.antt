@@ -40,22 +40,27 @@ module _ (repeats : ℕ → ℕ → Bool) (Opens : ℕ → ℕ → Option ℕ �
   on_stays : (w w' : World) (s t : ℕ) (k' : Parked) (k : Frames) → Next s w w' → t ≢ s → Aw w t k' k → Aw w' t k' k
   on_stays w w' s t k' k next d (away {c} {q} {r} cells f o) =
       let moves : Moves (λ n. Unit {0}) t w w' = λ (n : Name) (h : ℕ) (k : Kept) (u : Unit {0}) (p : Owned w n t h k). next t n h k d p in
-      subst (λ l. Aw w' t (record { chain = c; place = q }) (record { cells = l; registers = r; place = q })) (render_moves (λ n. Unit {0}) t w w' moves cells (use_all cells) o)
+      subst (λ l. Aw w' t (record { chain = c; place = q }) (record { cells = l; registers = r; place = q }))
+      (render_moves (λ n. Unit {0}) t w w' moves cells (use_all cells) o)
       (away cells f (all_moves (λ n. Unit {0}) t w w' moves cells (use_all cells) o))
 
   on_kept : (w : World) (s : ℕ) (m' : Linked) (m : Frames) → Nw w s m' m → Aw w s (record { chain = m'.chain; place = m'.place }) m
   on_kept w s m' m (now cells f o) = away cells f o
 
-  on_taken_up : (w : World) (s : ℕ) (k' : Parked) (k : Frames) (m' : Linked) (m : Frames) → Aw w s k' k → Holds w m' → Nw w s (record m' { chain = k'.chain; place = k'.place }) k
+  on_taken_up : (w : World) (s : ℕ) (k' : Parked) (k : Frames) (m' : Linked) (m : Frames) → Aw w s k' k → Holds w m'
+      → Nw w s (record m' { chain = k'.chain; place = k'.place }) k
   on_taken_up w s k' k m' m (away {c} {q} {r} cells f o) e = subst (λ F. Nw w s (linked_with F c q) (Fr w cells r q)) (sym e) (now cells f o)
 
-  on_begin : (p : ℕ) (values : List Value) (q : ℕ) (w : World) (s : ℕ) (m' : Linked) (m : Frames) → Holds w m' → Tn w s (L.begin p values q m') (S.begin p values q m)
+  on_begin : (p : ℕ) (values : List Value) (q : ℕ) (w : World) (s : ℕ) (m' : Linked) (m : Frames) → Holds w m'
+      → Tn w s (L.begin p values q m') (S.begin p values q m)
   on_begin p values q w s m' m e =
-      let w2 = made_locals w s 1 values in let d = locals_made w s 1 values in let a = length w.kept.activations in let n = length values in let owned = d.new in let top = n_base p a n in
+      let w2 = made_locals w s 1 values in let d = locals_made w s 1 values in let a = length w.kept.activations in let n = length values in
+      let owned = d.new in let top = n_base p a n in
       subst (λ F. Tn w s (L.begin p values q (linked_with F m'.chain m'.place)) (S.begin p values q m)) (sym e) (
         w2,
         made_next d,
-        now_as repeats Opens w2 s (chain [] none [] (L.base p a)) q (record { base = 1; mark = 1; newest = None; scan = None }) (S.put_above values (S.base p n ∷ [])) (locs a 0 n (top ∷ []))
+        now_as repeats Opens w2 s (chain [] none [] (L.base p a)) q (record { base = 1; mark = 1; newest = None; scan = None })
+            (S.put_above values (S.base p n ∷ [])) (locs a 0 n (top ∷ []))
             (sym (shown_locals w2.kept a n values (top ∷ []) owned.holds refl))
             (f_chain {items = []} (locs a 0 n (top ∷ [])) refl (locs_bare a 0 n top [] tt) (f_base n [] refl refl refl) f_none f_no_scan)
             (locs_ok w2 s a 1 values owned 0 n (top ∷ []) refl (omega arith) ((values, owned, refl), tt)),
@@ -85,12 +90,14 @@ module _ (repeats : ℕ → ℕ → Bool) (Opens : ℕ → ℕ → Option ℕ �
 
   on_newest : (pair : Pair) (w : World) (s : ℕ) (m' : Linked) (m : Frames) → Nw w s m' m → Both ⊥ (Wt w s) (L.swap_newest pair m') (S.swap_newest pair m)
   on_newest pair w s m' m (now {q} {r} cells (f_chain {items} {s = su} {scans} {outer} z e b out fs sc) o) =
-      subst (λ x. Both ⊥ (Wt {A = Pair} w s) (L.swap_at pair (Li w (chain items su scans outer) q) x) (S.swap_newest pair (Fr w cells r q))) (sym (first_get scans))
+      subst (λ x. Both ⊥ (Wt {A = Pair} w s) (L.swap_at pair (Li w (chain items su scans outer) q) x) (S.swap_newest pair (Fr w cells r q)))
+      (sym (first_get scans))
       (swap_found repeats Opens w s q r items su scans outer cells (f_chain z e b out fs sc) o pair (first_at (raise_scans (map n_operand items) e sc)))
 
   on_oldest : (pair : Pair) (w : World) (s : ℕ) (m' : Linked) (m : Frames) → Nw w s m' m → Both ⊥ (Wt w s) (L.swap_oldest pair m') (S.swap_oldest pair m)
   on_oldest pair w s m' m (now {q} {r} cells (f_chain {items} {s = su} {scans} {outer} z e b out fs sc) o) =
-      swap_found repeats Opens w s q r items su scans outer cells (f_chain z e b out fs sc) o pair (oldest_at w s cells o no_scan r q (raise_scans (map n_operand items) e sc))
+      swap_found repeats Opens w s q r items su scans outer cells (f_chain z e b out fs sc) o pair
+      (oldest_at w s cells o no_scan r q (raise_scans (map n_operand items) e sc))
 
   on_enter : (p : ℕ) (values : List Value) (w : World) (s : ℕ) (m' : Linked) (m : Frames) → Nw w s m' m → Tn w s (L.enter p values m') (S.enter p values m)
   on_enter p values w s m' m (now {q} {r} cells (f_chain {items} {s = su} {scans} {outer} z e b out fs sc) o) =
@@ -101,7 +108,8 @@ module _ (repeats : ℕ → ℕ → Bool) (Opens : ℕ → ℕ → Option ℕ �
       let f : IsFlat repeats Opens (chain items su scans outer) cells r = f_chain z e b out fs sc in
       locals_found repeats Opens w s q r items su scans outer cells f o (found repeats Opens f)
 
-  on_set_locals : (values : List Value) (w : World) (s : ℕ) (m' : Linked) (m : Frames) → Nw w s m' m → length values ≡ length (S.locals m) → Tn w s (L.set_locals values m') (S.set_locals values m)
+  on_set_locals : (values : List Value) (w : World) (s : ℕ) (m' : Linked) (m : Frames) → Nw w s m' m → length values ≡ length (S.locals m)
+      → Tn w s (L.set_locals values m') (S.set_locals values m)
   on_set_locals values w s m' m (now {q} {r} cells (f_chain {items} {s = su} {scans} {outer} z e b out fs sc) o) len =
       let f : IsFlat repeats Opens (chain items su scans outer) cells r = f_chain z e b out fs sc in
       set_found repeats Opens w s q r items su scans outer cells f o values (found repeats Opens f)
@@ -151,7 +159,8 @@ module _ (repeats : ℕ → ℕ → Bool) (Opens : ℕ → ℕ → Option ℕ �
   -- open scans are another each
   pub now_apart : (w : linked_agrees.W) (s : ℕ) (m' : Linked) (m : Frames) → linked_agrees.Now w s m' m → ScansApart m'
   unfolding linked_agrees
-  now_apart w s m' m (now cells (f_chain {items} {s = su} {scans} {outer} z e b out fs sc) o) = scans_apart w s cells (raise_scans (map n_operand items) e sc) o outer
+  now_apart w s m' m (now cells (f_chain {items} {s = su} {scans} {outer} z e b out fs sc) o) =
+      scans_apart w s cells (raise_scans (map n_operand items) e sc) o outer
 
   abbrev pub nothing_held : Memory
   nothing_held = record { activations = []; flags = []; relabels = []; limits = []; saved = [] }
@@ -159,4 +168,15 @@ module _ (repeats : ℕ → ℕ → Bool) (Opens : ℕ → ℕ → Option ℕ �
   -- nothing is held yet
   pub at_start : (w : linked_agrees.W) × linked_agrees.Holds w L.empty
   unfolding linked_agrees
-  at_start = (record { kept = nothing_held; owners = record { activations = []; flags = []; limits = []; saved = [] }; same_activations = refl; same_flags = refl; same_limits = refl; same_saved = refl; unlabelled = λ n f. refl }, refl)
+  at_start = (
+    record {
+      kept = nothing_held;
+      owners = record { activations = []; flags = []; limits = []; saved = [] };
+      same_activations = refl;
+      same_flags = refl;
+      same_limits = refl;
+      same_saved = refl;
+      unlabelled = λ n f. refl;
+    },
+    refl,
+  )

@@ -40,13 +40,19 @@ record Stood (w : World) (s n size : ℕ) : Type 0 where
   owned : Owned w (saved_name n) s height (Saved pair)
   low : height ≤ size
 
-stood : (w : World) (s k : ℕ) (old new : List ℕ) {scans : List ℕ} {cells : List NCell} {h : Option ℕ} → scans ≡ new ++ k ∷ old → FlatScans scans cells h → AllOk w s cells → Stood w s k (length cells)
+stood : (w : World) (s k : ℕ) (old new : List ℕ) {scans : List ℕ} {cells : List NCell} {h : Option ℕ} → scans ≡ new ++ k ∷ old → FlatScans scans cells h
+    → AllOk w s cells → Stood w s k (length cells)
 stood w s k old [] q f_no_scan o = no_cons k old q
 stood w s k old [] q (f_scan {n = m} p r above below e g f) o =
     let x = (ok_sub w s above (n_suspension (scanning m) r p ∷ below) e o).0 in
     let i : m ≡ k = ap (head_of k) q in
     let l = ap length e in
-    record { height = suc (length below); pair = x.0; owned = subst (λ j. Owned w (saved_name j) s (suc (length below)) (Saved x.0)) i x.1; low = omega (arith, l, length-append above (n_suspension (scanning m) r p ∷ below)) }
+    record {
+      height = suc (length below);
+      pair = x.0;
+      owned = subst (λ j. Owned w (saved_name j) s (suc (length below)) (Saved x.0)) i x.1;
+      low = omega (arith, l, length-append above (n_suspension (scanning m) r p ∷ below));
+    }
 stood w s k old (n ∷ new) q f_no_scan o = no_cons n (new ++ k ∷ old) q
 stood w s k old (n ∷ new) q (f_scan {n = m} p r above below e g f) o =
     let x = ok_sub w s above (n_suspension (scanning m) r p ∷ below) e o in
@@ -61,18 +67,21 @@ differs w s n k size pair o y = by_test (n == k) refl
     by_test : (b : Bool) → (n == k) ≡ b → (n == k) ≡ false
     by_test true e =
         let i : k ≡ n = sym (eqb-true n k e) in
-        let same = one_height w (saved_name n) s s (suc size) y.height (Saved pair) (Saved y.pair) o (subst (λ j. Owned w (saved_name j) s y.height (Saved y.pair)) i y.owned) in
+        let same = one_height w (saved_name n) s s (suc size) y.height (Saved pair) (Saved y.pair) o
+        (subst (λ j. Owned w (saved_name j) s y.height (Saved y.pair)) i y.owned) in
         let low = y.low in
         absurd (omega arith)
     by_test false e = e
 
-apart_new : (w : World) (s k : ℕ) (old new : List ℕ) {scans : List ℕ} {cells : List NCell} {h : Option ℕ} → scans ≡ new ++ k ∷ old → FlatScans scans cells h → AllOk w s cells → Apart (Some k) new
+apart_new : (w : World) (s k : ℕ) (old new : List ℕ) {scans : List ℕ} {cells : List NCell} {h : Option ℕ} → scans ≡ new ++ k ∷ old → FlatScans scans cells h
+    → AllOk w s cells → Apart (Some k) new
 apart_new w s k old [] q f o = tt
 apart_new w s k old (n ∷ new) q f_no_scan o = no_cons n (new ++ k ∷ old) q
 apart_new w s k old (n ∷ new) q (f_scan {n = m} p r above below e g f) o =
     let x = ok_sub w s above (n_suspension (scanning m) r p ∷ below) e o in
     let i : m ≡ n = ap (head_of n) q in (
-      differs w s n k (length below) x.0.0 (subst (λ j. Owned w (saved_name j) s (suc (length below)) (Saved x.0.0)) i x.0.1) (stood w s k old new (ap tail_of q) f x.1),
+      differs w s n k (length below) x.0.0 (subst (λ j. Owned w (saved_name j) s (suc (length below)) (Saved x.0.0)) i x.0.1)
+          (stood w s k old new (ap tail_of q) f x.1),
       apart_new w s k old new (ap tail_of q) f x.1,
     )
 
@@ -80,11 +89,13 @@ apart_none : (new : List ℕ) → Apart None new
 apart_none [] = tt
 apart_none (n ∷ new) = (refl, apart_none new)
 
-apart_from : (w : World) (s : ℕ) (cells : List NCell) {scans : List ℕ} {h : Option ℕ} → FlatScans scans cells h → AllOk w s cells → (outside new : List ℕ) → scans ≡ new ++ outside → Apart (first_scan outside) new
+apart_from : (w : World) (s : ℕ) (cells : List NCell) {scans : List ℕ} {h : Option ℕ} → FlatScans scans cells h → AllOk w s cells → (outside new : List ℕ)
+    → scans ≡ new ++ outside → Apart (first_scan outside) new
 apart_from w s cells f o [] new e = apart_none new
 apart_from w s cells f o (k ∷ old) new e = apart_new w s k old new e f o
 
-pub scans_apart : (w : World) (s : ℕ) (cells : List NCell) {scans : List ℕ} {h : Option ℕ} → FlatScans scans cells h → AllOk w s cells → (outer : Outer) → ApartIn scans outer
+pub scans_apart : (w : World) (s : ℕ) (cells : List NCell) {scans : List ℕ} {h : Option ℕ} → FlatScans scans cells h → AllOk w s cells → (outer : Outer)
+    → ApartIn scans outer
 scans_apart w s cells f o (base p a) = tt
 scans_apart w s cells f o (call p a level q caller) = tt
 scans_apart w s cells f o (mark label outside) = λ new e. apart_from w s cells f o (scans_of outside) new e

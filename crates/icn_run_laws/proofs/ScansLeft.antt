@@ -25,11 +25,13 @@ same_self : (u : Option ℕ) → is_same u u ≡ true
 same_self None = refl
 same_self (Some n) = same_number n
 
-from_behind : (u : Option ℕ) (outer : List ℕ) → first_scan outer ≡ u → (n : ℕ) (scans : List ℕ) → Apart u scans → oldest_from u (n ∷ (scans ++ outer)) ≡ last_of (n ∷ scans)
+from_behind : (u : Option ℕ) (outer : List ℕ) → first_scan outer ≡ u → (n : ℕ) (scans : List ℕ) → Apart u scans
+    → oldest_from u (n ∷ (scans ++ outer)) ≡ last_of (n ∷ scans)
 from_behind u outer e n [] a = ap (λ b. if b then Some n else oldest_from u outer) (ap (λ x. is_same x u) e ∙ same_self u)
 from_behind u outer e n (m ∷ scans) a = ap (λ b. if b then Some n else oldest_from u (m ∷ (scans ++ outer))) a.0 ∙ from_behind u outer e m scans a.1
 
 -- the oldest of the newer ones
 pub oldest_behind : (outer scans : List ℕ) → Apart (first_scan outer) scans → oldest (first_scan outer) (scans ++ outer) ≡ last_of scans
 oldest_behind outer [] a = ap (λ b. if b then None else oldest_from (first_scan outer) outer) (same_self (first_scan outer))
-oldest_behind outer (n ∷ scans) a = ap (λ b. if b then None else oldest_from (first_scan outer) (n ∷ (scans ++ outer))) a.0 ∙ from_behind (first_scan outer) outer refl n scans a.1
+oldest_behind outer (n ∷ scans) a =
+    ap (λ b. if b then None else oldest_from (first_scan outer) (n ∷ (scans ++ outer))) a.0 ∙ from_behind (first_scan outer) outer refl n scans a.1

@@ -38,14 +38,16 @@ module _ (keep : RowsKeep) (repeats : ℕ → ℕ → Bool) (tables : Tables) (l
   no_locals : (m' : Linked) (m : Frames) → Blank m' m → locals m' ≡ flat_locals m
   no_locals m' m b = ap locals b.0 ∙ sym (ap flat_locals b.1)
 
-  set_none : (values : List Value) (m' : Linked) (m : Frames) → length values ≡ length (flat_locals m) → Blank m' m → Blank (set_locals values m') (flat_set_locals values m)
+  set_none : (values : List Value) (m' : Linked) (m : Frames) → length values ≡ length (flat_locals m) → Blank m' m
+      → Blank (set_locals values m') (flat_set_locals values m)
   set_none values m' m e b =
       let none : values ≡ [] = no_values values (e ∙ ap (λ m. length (flat_locals m)) b.1) in
       (ap (λ v. set_locals v m') none ∙ ap (set_locals []) b.0, ap (λ v. flat_set_locals v m) none ∙ ap (flat_set_locals []) b.1)
 
   -- whatever is said of the state behind one that lacks something
   pub starts_so : (Lost : Type 0) → Sm (linked repeats) flat P May Lost (linked_agrees repeats (Opens P)) keep (L.start repeats P launch) (F.start P launch)
-  starts_so Lost = same_start (linked repeats) flat P May Lost (linked_agrees repeats (Opens P)) keep (at_start repeats (Opens P)).0 Blank (λ m' m b. subst Holds (sym b.0) (at_start repeats (Opens P)).1) no_locals set_none launch no_chain empty (refl, refl)
+  starts_so Lost = same_start (linked repeats) flat P May Lost (linked_agrees repeats (Opens P)) keep (at_start repeats (Opens P)).0 Blank
+      (λ m' m b. subst Holds (sym b.0) (at_start repeats (Opens P)).1) no_locals set_none launch no_chain empty (refl, refl)
 
   abbrev Missing : Type 0
   Missing = MissingCell repeats tables launch
@@ -69,30 +71,44 @@ module _ (keep : RowsKeep) (repeats : ℕ → ℕ → Bool) (tables : Tables) (l
 
   pub to_flat : (seen : Observed) → L.Runs repeats tables launch seen → F.Runs tables launch seen
   to_flat seen run =
-      let a = forward (linked repeats) flat P May Missing (linked_agrees repeats (Opens P)) keep run.count (L.start repeats P launch) (F.start P launch) missing_cell starts in
-      record { count = a.0; is = ap observed (was_over (linked repeats) flat P May Missing (linked_agrees repeats (Opens P)) keep seen.ending seen.outside (F.steps P a.0 (F.start P launch)) (subst (λ s. Sames s (F.steps P a.0 (F.start P launch))) (over_seen _ seen run.is) a.1)) }
+      let a = forward (linked repeats) flat P May Missing (linked_agrees repeats (Opens P)) keep run.count (L.start repeats P launch)
+      (F.start P launch) missing_cell starts in
+      record {
+        count = a.0;
+        is = ap observed (was_over (linked repeats) flat P May Missing (linked_agrees repeats (Opens P)) keep seen.ending seen.outside
+            (F.steps P a.0 (F.start P launch)) (subst (λ s. Sames s (F.steps P a.0 (F.start P launch))) (over_seen _ seen run.is) a.1));
+      }
 
   to_linked_or : (seen : Observed) → F.Runs tables launch seen → L.Runs repeats tables launch seen ⊎ (LinkedStuck repeats tables launch × Missing)
-  to_linked_or seen run = by_end (is_over (linked repeats) flat P May Missing (linked_agrees repeats (Opens P)) keep seen.ending seen.outside (L.steps repeats P a.0 (L.start repeats P launch)) a.1)
+  to_linked_or seen run = by_end (is_over (linked repeats) flat P May Missing (linked_agrees repeats (Opens P)) keep seen.ending seen.outside
+      (L.steps repeats P a.0 (L.start repeats P launch)) a.1)
     where
       a : (k : ℕ) × Sames (L.steps repeats P k (L.start repeats P launch)) (over seen.ending seen.outside)
-      a = backward (linked repeats) flat P May Missing (linked_agrees repeats (Opens P)) keep (over seen.ending seen.outside) refl run.count (L.start repeats P launch) (F.start P launch) missing_cell starts (over_seen _ seen run.is)
+      a = backward (linked repeats) flat P May Missing (linked_agrees repeats (Opens P)) keep (over seen.ending seen.outside) refl run.count
+          (L.start repeats P launch) (F.start P launch) missing_cell starts (over_seen _ seen run.is)
 
-      by_end : ((L.steps repeats P a.0 (L.start repeats P launch)) ≡ over seen.ending seen.outside) ⊎ ((L.steps repeats P a.0 (L.start repeats P launch) ≡ stuck) × Missing)
+      by_end : ((L.steps repeats P a.0 (L.start repeats P launch)) ≡ over seen.ending seen.outside)
+          ⊎ ((L.steps repeats P a.0 (L.start repeats P launch) ≡ stuck) × Missing)
           → L.Runs repeats tables launch seen ⊎ (LinkedStuck repeats tables launch × Missing)
       by_end (inl e) = inl (record { count = a.0; is = ap observed e })
       by_end (inr x) = inr (record { count = a.0; is = x.0 }, x.1)
 
   pub stuck_linked : FlatStuck tables launch → LinkedStuck repeats tables launch
   stuck_linked run =
-      let a = backward (linked repeats) flat P May Missing (linked_agrees repeats (Opens P)) keep stuck refl run.count (L.start repeats P launch) (F.start P launch) missing_cell starts run.is in
-      record { count = a.0; is = is_stuck (linked repeats) flat P May Missing (linked_agrees repeats (Opens P)) keep (L.steps repeats P a.0 (L.start repeats P launch)) a.1 }
+      let a = backward (linked repeats) flat P May Missing (linked_agrees repeats (Opens P)) keep stuck refl run.count (L.start repeats P launch)
+      (F.start P launch) missing_cell starts run.is in
+      record {
+        count = a.0;
+        is = is_stuck (linked repeats) flat P May Missing (linked_agrees repeats (Opens P)) keep (L.steps repeats P a.0 (L.start repeats P launch)) a.1;
+      }
 
   stuck_flat_or : LinkedStuck repeats tables launch → FlatStuck tables launch ⊎ Missing
-  stuck_flat_or run = by_end (was_stuck (linked repeats) flat P May Missing (linked_agrees repeats (Opens P)) keep (F.steps P a.0 (F.start P launch)) (subst (λ s. Sames s (F.steps P a.0 (F.start P launch))) run.is a.1))
+  stuck_flat_or run = by_end (was_stuck (linked repeats) flat P May Missing (linked_agrees repeats (Opens P)) keep (F.steps P a.0 (F.start P launch))
+      (subst (λ s. Sames s (F.steps P a.0 (F.start P launch))) run.is a.1))
     where
       a : (k : ℕ) × Sames (L.steps repeats P run.count (L.start repeats P launch)) (F.steps P k (F.start P launch))
-      a = forward (linked repeats) flat P May Missing (linked_agrees repeats (Opens P)) keep run.count (L.start repeats P launch) (F.start P launch) missing_cell starts
+      a = forward (linked repeats) flat P May Missing (linked_agrees repeats (Opens P)) keep run.count (L.start repeats P launch)
+          (F.start P launch) missing_cell starts
 
       by_end : (F.steps P a.0 (F.start P launch) ≡ stuck) ⊎ Missing → FlatStuck tables launch ⊎ Missing
       by_end (inl e) = inl (record { count = a.0; is = e })
@@ -103,7 +119,12 @@ module _ (keep : RowsKeep) (repeats : ℕ → ℕ → Bool) (tables : Tables) (l
 
   -- where no cell is missing
   pub runs_agree : (Missing → ⊥) → RunsAgree repeats tables launch
-  runs_agree none_missing = record { to_linked = λ seen run. only seen (to_linked_or seen run); to_flat = to_flat; stuck_linked = stuck_linked; stuck_flat = λ run. only_stuck (stuck_flat_or run) }
+  runs_agree none_missing = record {
+    to_linked = λ seen run. only seen (to_linked_or seen run);
+    to_flat = to_flat;
+    stuck_linked = stuck_linked;
+    stuck_flat = λ run. only_stuck (stuck_flat_or run);
+  }
     where
       only : (seen : Observed) → L.Runs repeats tables launch seen ⊎ (LinkedStuck repeats tables launch × Missing) → L.Runs repeats tables launch seen
       only seen (inl x) = x
@@ -136,11 +157,13 @@ pub told : (repeats : ℕ → ℕ → Bool) (tables : Tables) (launch : Launch) 
 told repeats tables launch = runs_agree_at rows_keep repeats tables launch
 
 -- what a run on linked marks is seen as is all that the run on flat stacks is seen as
-pub told_once : (repeats : ℕ → ℕ → Bool) (tables : Tables) (launch : Launch) (seen other : Observed) → L.Runs repeats tables launch seen → F.Runs tables launch other → seen ≡ other
+pub told_once : (repeats : ℕ → ℕ → Bool) (tables : Tables) (launch : Launch) (seen other : Observed) → L.Runs repeats tables launch seen
+    → F.Runs tables launch other → seen ≡ other
 told_once repeats tables launch seen other run flat_run = flat_once tables launch seen other (to_flat rows_keep repeats tables launch seen run) flat_run
 
 -- where each end that is meant is the end of the run on linked marks, and one is meant, the run on flat stacks ends as is meant
-pub as_meant : (repeats : ℕ → ℕ → Bool) (tables : Tables) (launch : Launch) (Means : Observed → Type 0) → ((seen : Observed) → Means seen → L.Runs repeats tables launch seen)
+pub as_meant : (repeats : ℕ → ℕ → Bool) (tables : Tables) (launch : Launch) (Means : Observed → Type 0)
+    → ((seen : Observed) → Means seen → L.Runs repeats tables launch seen)
     → (one : Observed) → Means one → ((seen : Observed) → Means seen → F.Runs tables launch seen) × ((seen : Observed) → F.Runs tables launch seen → Means seen)
 as_meant repeats tables launch Means law one means = (
   (λ seen m. to_flat rows_keep repeats tables launch seen (law seen m)),

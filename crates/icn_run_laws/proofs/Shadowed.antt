@@ -29,7 +29,9 @@ module _ (repeats : ℕ → ℕ → Bool) (tables : Tables) where
   shadowed_start launch = record { shadow = F.start Q launch; same = starts_so rows_keep repeats tables launch (Unit {0}) }
 
   pub shadowed_step : (l : State Parked Linked) → Shadowed l → Shadowed (step (linked repeats) Q l)
-  shadowed_step l g = let s = same_step (linked repeats) flat Q (Lacks repeats (Opens Q)) (Unit {0}) (linked_agrees repeats (Opens Q)) rows_keep (λ x. tt) g.same in record { shadow = steps flat Q (suc s.0) g.shadow; same = s.1 }
+  shadowed_step l g =
+      let s = same_step (linked repeats) flat Q (Lacks repeats (Opens Q)) (Unit {0}) (linked_agrees repeats (Opens Q)) rows_keep (λ x. tt) g.same in
+      record { shadow = steps flat Q (suc s.0) g.shadow; same = s.1 }
 
   abbrev ApartAt : State Parked Linked → Type 0
   ApartAt (running m st) = ScansApart m

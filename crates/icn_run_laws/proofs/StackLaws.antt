@@ -31,7 +31,8 @@ copied items cells onto h = ap (λ l. copy_up l onto) h.is ∙ copied_items item
 
 get_behind : {A : Type 0} (above below : List A) (k : ℕ) → slice_get (above ++ below) (length above + k) ≡ slice_get below k
 get_behind [] below k = let e : 0 + k ≡ k = omega arith in ap (slice_get below) e
-get_behind (x ∷ above) below k = let e : suc (length above) + k ≡ suc (length above + k) = omega arith in ap (slice_get (x ∷ (above ++ below))) e ∙ get_behind above below k
+get_behind (x ∷ above) below k =
+    let e : suc (length above) + k ≡ suc (length above + k) = omega arith in ap (slice_get (x ∷ (above ++ below))) e ∙ get_behind above below k
 
 same_below : (above below : List Cell) → SameUpTo (length below) (above ++ below) below
 same_below above below height some low =
@@ -47,12 +48,14 @@ at_top above below cell =
     ap (slice_get (above ++ cell ∷ below)) e ∙ get_seam above cell below
 
 -- what is cut off stands above
-split : (n : ℕ) (cells : List Cell) (cell : Cell) (below : List Cell) → drop n cells ≡ cell ∷ below → (above : List Cell) × (cells ≡ above ++ (cell ∷ below)) × (length above ≡ n)
+split : (n : ℕ) (cells : List Cell) (cell : Cell) (below : List Cell) → drop n cells ≡ cell ∷ below
+    → (above : List Cell) × (cells ≡ above ++ (cell ∷ below)) × (length above ≡ n)
 split zero cells cell below e = ([], e, refl)
 split (suc n) [] cell below e = absurd (cc)
 split (suc n) (x ∷ cells) cell below e = let o = split n cells cell below e in (x ∷ o.0, ap (λ l. x ∷ l) o.1, ap suc o.2)
 
-start_at : (height : ℕ) (cells above below : List Cell) (cell : Cell) → cells ≡ above ++ (cell ∷ below) → length above ≡ length cells - height → height ≤ length cells → height ≡ suc (length below)
+start_at : (height : ℕ) (cells above below : List Cell) (cell : Cell) → cells ≡ above ++ (cell ∷ below) → length above ≡ length cells - height
+    → height ≤ length cells → height ≡ suc (length below)
 start_at height cells above below cell e l low = omega (arith, ap length e, length-append above (cell ∷ below), l, low)
 
 kept_below : (cells above below : List Cell) (cell : Cell) → cells ≡ above ++ (cell ∷ below) → SameUpTo (length below) cells below
@@ -64,7 +67,8 @@ kept_below cells above below cell e height some low =
 
 suspended_by : (why : Why) (before : Frames) (outside : Registers) (place : ℕ) (items : List Item) (result : Item) (after : Frames)
     → after.cells ≡ operand result ∷ (map operand items ++ suspension why before.registers before.place ∷ before.cells)
-    → after.registers ≡ record outside { newest = Some (suc (length before.cells)) } → after.place ≡ place → Suspended why before outside place items result after
+    → after.registers ≡ record outside { newest = Some (suc (length before.cells)) } → after.place ≡ place
+    → Suspended why before outside place items result after
 suspended_by why before outside place items result after e n at =
     let frame : Cell = suspension why before.registers before.place in
     let above : List Cell = operand result ∷ (map operand items ++ frame ∷ []) in
@@ -97,13 +101,17 @@ outside_by : (why : Why) (m after : Frames) (outside : List Cell) (registers : R
     → AreOnTop items outside → Suspended why m registers place items result (push result after)
 outside_by why m after outside registers place items result e h =
     suspended_by why m registers place items result (push result after)
-    (ap (λ (x : Frames). operand result ∷ x.cells) (sym e) ∙ ap (λ l. operand result ∷ l) (copied items outside (suspension why m.registers m.place ∷ m.cells) h))
+    (ap (λ (x : Frames). operand result ∷ x.cells) (sym e)
+    ∙ ap (λ l. operand result ∷ l) (copied items outside (suspension why m.registers m.place ∷ m.cells) h))
     (ap (λ (x : Frames). x.registers) (sym e)) (ap (λ (x : Frames). x.place) (sym e))
 
 mark_by : (m : Frames) (cell : Cell) (outside : List Cell) (registers : Registers) (items : List Item) (result : Item) (after : Frames)
-    → mark_suspended m (cell ∷ outside) ≡ Some after → IsMarkOn registers cell → AreOnTop items outside → Suspended Alt m registers m.place items result (push result after)
-mark_by m (mark l c r) outside registers items result after e is h = subst (λ (kept : Registers). Suspended Alt m kept m.place items result (push result after)) is (outside_by Alt m after outside r m.place items result (some_inj e) h)
-mark_by m (limit n r) outside registers items result after e is h = subst (λ (kept : Registers). Suspended Alt m kept m.place items result (push result after)) is (outside_by Alt m after outside r m.place items result (some_inj e) h)
+    → mark_suspended m (cell ∷ outside) ≡ Some after → IsMarkOn registers cell → AreOnTop items outside
+    → Suspended Alt m registers m.place items result (push result after)
+mark_by m (mark l c r) outside registers items result after e is h = subst (λ (kept : Registers). Suspended Alt m kept m.place items result (push result after))
+    is (outside_by Alt m after outside r m.place items result (some_inj e) h)
+mark_by m (limit n r) outside registers items result after e is h = subst (λ (kept : Registers). Suspended Alt m kept m.place items result (push result after))
+    is (outside_by Alt m after outside r m.place items result (some_inj e) h)
 mark_by m (base p n) outside registers items result after e is h = no_some after e
 mark_by m (call p n l r q) outside registers items result after e is h = no_some after e
 mark_by m (local v) outside registers items result after e is h = no_some after e
@@ -111,8 +119,10 @@ mark_by m (suspension w r q) outside registers items result after e is h = no_so
 mark_by m (operand x) outside registers items result after e is h = no_some after e
 
 proc_by : (m : Frames) (cell : Cell) (outside : List Cell) (registers : Registers) (place : ℕ) (items : List Item) (result : Item) (after : Frames)
-    → proc_suspended m (cell ∷ outside) ≡ Some after → IsCallFrom registers place cell → AreOnTop items outside → Suspended Proc m registers place items result (push result after)
-proc_by m (call p n l r q) outside registers place items result after e is h = subst (λ (kept : Registers). Suspended Proc m kept place items result (push result after)) is.0
+    → proc_suspended m (cell ∷ outside) ≡ Some after → IsCallFrom registers place cell → AreOnTop items outside
+    → Suspended Proc m registers place items result (push result after)
+proc_by m (call p n l r q) outside registers place items result after e is h =
+    subst (λ (kept : Registers). Suspended Proc m kept place items result (push result after)) is.0
     (subst (λ (back : ℕ). Suspended Proc m r back items result (push result after)) is.1 (outside_by Proc m after outside r q items result (some_inj e) h))
 proc_by m (base p n) outside registers place items result after e is h = no_some after e
 proc_by m (mark l c r) outside registers place items result after e is h = no_some after e
@@ -125,12 +135,14 @@ pub suspends : Suspends
 suspends = record {
   in_mark = suspends_in_mark;
   mark = λ m after cell outside registers items result e at is h. mark_by m cell outside registers items result after (ap (mark_suspended m) (sym at) ∙ e) is h;
-  proc = λ m after cell outside registers place items result e at is h. proc_by m cell outside registers place items result after (ap (proc_suspended m) (sym at) ∙ e) is h;
+  proc = λ m after cell outside registers place items result e at is h. proc_by m cell outside registers place items result after
+      (ap (proc_suspended m) (sym at) ∙ e) is h;
 }
 
 -- Resuming
 
-resumed_by : (m : Frames) (height : ℕ) (why : Why) (after : Frames) (cells : List Cell) → m.registers.newest ≡ Some height → cut height m.cells ≡ cells → resume_from cells ≡ Some (why, after) → Resumed m why after
+resumed_by : (m : Frames) (height : ℕ) (why : Why) (after : Frames) (cells : List Cell) → m.registers.newest ≡ Some height → cut height m.cells ≡ cells
+    → resume_from cells ≡ Some (why, after) → Resumed m why after
 resumed_by m height why after (suspension w r q ∷ below) n c e =
     let e' : (w, record { cells = below; registers = r; place = q }) ≡ (why, after) = some_inj e in
     let o = split (length m.cells - height) m.cells (suspension w r q) below c in
@@ -155,11 +167,13 @@ resumes m why after e = by m.registers.newest refl
   where
     by : (o : Option ℕ) → m.registers.newest ≡ o → Resumed m why after
     by None n = no_some (why, after) (ap (λ o. option_and_then (λ height. resume_from (cut height m.cells)) o) (sym n) ∙ e)
-    by (Some height) n = resumed_by m height why after (cut height m.cells) n refl (ap (λ o. option_and_then (λ height. resume_from (cut height m.cells)) o) (sym n) ∙ e)
+    by (Some height) n =
+        resumed_by m height why after (cut height m.cells) n refl (ap (λ o. option_and_then (λ height. resume_from (cut height m.cells)) o) (sym n) ∙ e)
 
 -- Dropping a mark
 
-unmarked_by : (m after : Frames) (cell : Cell) (registers : Registers) (below : List Cell) (pair : Option Pair) → IsMarkOn registers cell → cut m.registers.mark m.cells ≡ cell ∷ below
+unmarked_by : (m after : Frames) (cell : Cell) (registers : Registers) (below : List Cell) (pair : Option Pair) → IsMarkOn registers cell
+    → cut m.registers.mark m.cells ≡ cell ∷ below
     → record m { cells = below; registers = registers } ≡ after → pair_at m.cells (oldest registers.scan m) ≡ pair → Unmarked m after pair
 unmarked_by m after cell registers below pair is c e f =
     let o = split (length m.cells - m.registers.mark) m.cells cell below c in
@@ -174,9 +188,12 @@ unmarked_by m after cell registers below pair is c e f =
       saved = sym f;
     })
 
-unmarked_at : (m after : Frames) (pair : Option Pair) (cells : List Cell) → cut m.registers.mark m.cells ≡ cells → unmark_in m cells ≡ Some (after, pair) → Unmarked m after pair
-unmarked_at m after pair (mark l b r ∷ below) c e = unmarked_by m after (mark l b r) r below pair refl c (ap (λ (x : Frames × Option Pair). x.0) (some_inj e)) (ap (λ (x : Frames × Option Pair). x.1) (some_inj e))
-unmarked_at m after pair (limit k r ∷ below) c e = unmarked_by m after (limit k r) r below pair refl c (ap (λ (x : Frames × Option Pair). x.0) (some_inj e)) (ap (λ (x : Frames × Option Pair). x.1) (some_inj e))
+unmarked_at : (m after : Frames) (pair : Option Pair) (cells : List Cell) → cut m.registers.mark m.cells ≡ cells → unmark_in m cells ≡ Some (after, pair)
+    → Unmarked m after pair
+unmarked_at m after pair (mark l b r ∷ below) c e = unmarked_by m after (mark l b r) r below pair refl c (ap (λ (x : Frames × Option Pair). x.0) (some_inj e))
+    (ap (λ (x : Frames × Option Pair). x.1) (some_inj e))
+unmarked_at m after pair (limit k r ∷ below) c e = unmarked_by m after (limit k r) r below pair refl c (ap (λ (x : Frames × Option Pair). x.0) (some_inj e))
+    (ap (λ (x : Frames × Option Pair). x.1) (some_inj e))
 unmarked_at m after pair [] c e = no_some (after, pair) e
 unmarked_at m after pair (base p k ∷ below) c e = no_some (after, pair) e
 unmarked_at m after pair (call p k l r q ∷ below) c e = no_some (after, pair) e

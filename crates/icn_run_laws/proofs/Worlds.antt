@@ -49,7 +49,8 @@ shown_moves Q s h w w' m (n_mark (fixed l) r) u o = refl
 shown_moves Q s h w w' m (n_mark (flagged l f q) r) u o = let n = m (flag_name f) h o.0 u o.1 in ap (λ k. shown_label k l q r) (n.holds ∙ sym o.1.holds)
 shown_moves Q s h w w' m (n_limit n r) u o = let x = m (limit_name n) h (Count o.0) u o.1 in ap (λ k. c_limit (count_of k) r) (x.holds ∙ sym o.1.holds)
 shown_moves Q s h w w' m (n_suspension (because why) r q) u o = refl
-shown_moves Q s h w w' m (n_suspension (scanning n) r q) u o = let x = m (saved_name n) h (Saved o.0) u o.1 in ap (λ k. c_suspension (Scan (saved_in k)) r q) (x.holds ∙ sym o.1.holds)
+shown_moves Q s h w w' m (n_suspension (scanning n) r q) u o =
+    let x = m (saved_name n) h (Saved o.0) u o.1 in ap (λ k. c_suspension (Scan (saved_in k)) r q) (x.holds ∙ sym o.1.holds)
 shown_moves Q s h w w' m (n_operand item) u o = refl
 
 pub uses_all : (c : NCell) → Uses (λ n. Unit {0}) c
@@ -75,9 +76,11 @@ pub all_moves : (Q : Name → Type 0) (s : ℕ) (w w' : World) → Moves Q s w w
 all_moves Q s w w' m [] u o = tt
 all_moves Q s w w' m (c ∷ cs) u o = (ok_moves Q s (suc (length cs)) w w' m c u.0 o.0, all_moves Q s w w' m cs u.1 o.1)
 
-pub render_moves : (Q : Name → Type 0) (s : ℕ) (w w' : World) → Moves Q s w w' → (cs : List NCell) → UsesAll Q cs → AllOk w s cs → render w'.kept cs ≡ render w.kept cs
+pub render_moves : (Q : Name → Type 0) (s : ℕ) (w w' : World) → Moves Q s w w' → (cs : List NCell) → UsesAll Q cs → AllOk w s cs
+    → render w'.kept cs ≡ render w.kept cs
 render_moves Q s w w' m [] u o = refl
-render_moves Q s w w' m (c ∷ cs) u o = ap (λ x. x ∷ render w'.kept cs) (shown_moves Q s (suc (length cs)) w w' m c u.0 o.0) ∙ ap (λ l. shown w.kept c ∷ l) (render_moves Q s w w' m cs u.1 o.1)
+render_moves Q s w w' m (c ∷ cs) u o =
+    ap (λ x. x ∷ render w'.kept cs) (shown_moves Q s (suc (length cs)) w w' m c u.0 o.0) ∙ ap (λ l. shown w.kept c ∷ l) (render_moves Q s w w' m cs u.1 o.1)
 
 -- What changes
 
@@ -121,7 +124,8 @@ get_end : {A : Type 0} (xs : List A) → slice_get xs (length xs) ≡ None
 get_end [] = refl
 get_end (x ∷ xs) = get_end xs
 
-map_more : {A B : Type 0} (f : A → B) (xs : List A) (y : A) (n : ℕ) (v : B) → option_map f (slice_get xs n) ≡ Some v → option_map f (slice_get (xs ++ y ∷ []) n) ≡ Some v
+map_more : {A B : Type 0} (f : A → B) (xs : List A) (y : A) (n : ℕ) (v : B) → option_map f (slice_get xs n) ≡ Some v
+    → option_map f (slice_get (xs ++ y ∷ []) n) ≡ Some v
 map_more f [] y n v e = no_some v e
 map_more f (x ∷ xs) y zero v e = e
 map_more f (x ∷ xs) y (suc n) v e = map_more f xs y n v e
@@ -208,7 +212,8 @@ label_self : (n : ℕ) (rs : List (ℕ × ℕ)) → label_of n (forget_label n r
 label_self n [] = refl
 label_self n (entry ∷ rs) = by_test (label_self n rs) (entry.0 == n) refl
   where
-    by_test : label_of n (forget_label n rs) ≡ None → (b : Bool) → (entry.0 == n) ≡ b → label_of n (if b then forget_label n rs else (entry ∷ forget_label n rs)) ≡ None
+    by_test : label_of n (forget_label n rs) ≡ None → (b : Bool) → (entry.0 == n) ≡ b
+        → label_of n (if b then forget_label n rs else (entry ∷ forget_label n rs)) ≡ None
     by_test i true e = i
     by_test i false e = ap (λ b. if b then Some entry.1 else label_of n (forget_label n rs)) e ∙ i
 
@@ -216,7 +221,8 @@ label_other : (n m : ℕ) (rs : List (ℕ × ℕ)) → m ≢ n → label_of m (f
 label_other n m [] d = refl
 label_other n m (entry ∷ rs) d = by_test (label_other n m rs d) (entry.0 == n) refl
   where
-    by_test : label_of m (forget_label n rs) ≡ label_of m rs → (b : Bool) → (entry.0 == n) ≡ b → label_of m (if b then forget_label n rs else (entry ∷ forget_label n rs)) ≡ label_of m (entry ∷ rs)
+    by_test : label_of m (forget_label n rs) ≡ label_of m rs → (b : Bool) → (entry.0 == n) ≡ b
+        → label_of m (if b then forget_label n rs else (entry ∷ forget_label n rs)) ≡ label_of m (entry ∷ rs)
     by_test i true e = i ∙ sym (ap (λ b. if b then Some entry.1 else label_of m rs) (unlike entry.0 m (λ j. d (sym j ∙ eqb-true entry.0 n e))))
     by_test i false e = ap (λ l. if entry.0 == m then Some entry.1 else l) i
 
@@ -227,13 +233,25 @@ module _ (w : World) (s h : ℕ) where
   F = w.kept
 
   abbrev pub made_locals : List Value → World
-  made_locals vs = record w { kept = record F { activations = F.activations ++ vs ∷ [] }; owners = record w.owners { activations = w.owners.activations ++ (s, h) ∷ [] }; same_activations = longer w.owners.activations F.activations (s, h) vs w.same_activations }
+  made_locals vs = record w {
+    kept = record F { activations = F.activations ++ vs ∷ [] };
+    owners = record w.owners { activations = w.owners.activations ++ (s, h) ∷ [] };
+    same_activations = longer w.owners.activations F.activations (s, h) vs w.same_activations;
+  }
 
   abbrev pub made_limit : ℕ → World
-  made_limit count = record w { kept = record F { limits = F.limits ++ count ∷ [] }; owners = record w.owners { limits = w.owners.limits ++ (s, h) ∷ [] }; same_limits = longer w.owners.limits F.limits (s, h) count w.same_limits }
+  made_limit count = record w {
+    kept = record F { limits = F.limits ++ count ∷ [] };
+    owners = record w.owners { limits = w.owners.limits ++ (s, h) ∷ [] };
+    same_limits = longer w.owners.limits F.limits (s, h) count w.same_limits;
+  }
 
   abbrev pub made_saved : Pair → World
-  made_saved pair = record w { kept = record F { saved = F.saved ++ pair ∷ [] }; owners = record w.owners { saved = w.owners.saved ++ (s, h) ∷ [] }; same_saved = longer w.owners.saved F.saved (s, h) pair w.same_saved }
+  made_saved pair = record w {
+    kept = record F { saved = F.saved ++ pair ∷ [] };
+    owners = record w.owners { saved = w.owners.saved ++ (s, h) ∷ [] };
+    same_saved = longer w.owners.saved F.saved (s, h) pair w.same_saved;
+  }
 
   abbrev pub made_flag : World
   made_flag = record w {
@@ -247,16 +265,26 @@ module _ (w : World) (s h : ℕ) where
   new_owner owners xs e = ap (slice_get (owners ++ (s, h) ∷ [])) (sym e) ∙ get_seam owners (s, h) []
 
   pub locals_made : (vs : List Value) → Made w (made_locals vs) (activation_name (length F.activations)) s h (Locals vs)
-  locals_made vs = record { keeps = keeps; new = record { owner = new_owner w.owners.activations F.activations w.same_activations; holds = ap (option_map activation_kept) (get_seam F.activations vs []) } }
+  locals_made vs = record {
+    keeps = keeps;
+    new = record {
+      owner = new_owner w.owners.activations F.activations w.same_activations;
+      holds = ap (option_map activation_kept) (get_seam F.activations vs []);
+    };
+  }
     where
       keeps : (m : Name) (t b : ℕ) (v : Kept) → Owned w m t b v → Owned (made_locals vs) m t b v
-      keeps (activation_name n) t b v o = record { owner = get_more w.owners.activations (s, h) n (t, b) o.owner; holds = map_more activation_kept F.activations vs n v o.holds }
+      keeps (activation_name n) t b v o =
+          record { owner = get_more w.owners.activations (s, h) n (t, b) o.owner; holds = map_more activation_kept F.activations vs n v o.holds }
       keeps (flag_name n) t b v o = record { owner = o.owner; holds = o.holds }
       keeps (limit_name n) t b v o = record { owner = o.owner; holds = o.holds }
       keeps (saved_name n) t b v o = record { owner = o.owner; holds = o.holds }
 
   pub limit_made : (count : ℕ) → Made w (made_limit count) (limit_name (length F.limits)) s h (Count count)
-  limit_made count = record { keeps = keeps; new = record { owner = new_owner w.owners.limits F.limits w.same_limits; holds = ap (option_map limit_kept) (get_seam F.limits count []) } }
+  limit_made count = record {
+    keeps = keeps;
+    new = record { owner = new_owner w.owners.limits F.limits w.same_limits; holds = ap (option_map limit_kept) (get_seam F.limits count []) };
+  }
     where
       keeps : (m : Name) (t b : ℕ) (v : Kept) → Owned w m t b v → Owned (made_limit count) m t b v
       keeps (limit_name n) t b v o = record { owner = get_more w.owners.limits (s, h) n (t, b) o.owner; holds = map_more limit_kept F.limits count n v o.holds }
@@ -265,7 +293,10 @@ module _ (w : World) (s h : ℕ) where
       keeps (saved_name n) t b v o = record { owner = o.owner; holds = o.holds }
 
   pub saved_made : (pair : Pair) → Made w (made_saved pair) (saved_name (length F.saved)) s h (Saved pair)
-  saved_made pair = record { keeps = keeps; new = record { owner = new_owner w.owners.saved F.saved w.same_saved; holds = ap (option_map saved_kept) (get_seam F.saved pair []) } }
+  saved_made pair = record {
+    keeps = keeps;
+    new = record { owner = new_owner w.owners.saved F.saved w.same_saved; holds = ap (option_map saved_kept) (get_seam F.saved pair []) };
+  }
     where
       keeps : (m : Name) (t b : ℕ) (v : Kept) → Owned w m t b v → Owned (made_saved pair) m t b v
       keeps (saved_name n) t b v o = record { owner = get_more w.owners.saved (s, h) n (t, b) o.owner; holds = map_more saved_kept F.saved pair n v o.holds }
@@ -274,13 +305,20 @@ module _ (w : World) (s h : ℕ) where
       keeps (activation_name n) t b v o = record { owner = o.owner; holds = o.holds }
 
   pub flag_made : Made w made_flag (flag_name (length F.flags)) s h (Flag false)
-  flag_made = record { keeps = keeps; new = record { owner = new_owner w.owners.flags F.flags w.same_flags; holds = ap (option_map (flag_kept (label_of (length F.flags) F.relabels))) (get_seam F.flags false []) ∙ ap (λ l. Some (flag_kept l false)) none_new } }
+  flag_made = record {
+    keeps = keeps;
+    new = record {
+      owner = new_owner w.owners.flags F.flags w.same_flags;
+      holds = ap (option_map (flag_kept (label_of (length F.flags) F.relabels))) (get_seam F.flags false []) ∙ ap (λ l. Some (flag_kept l false)) none_new;
+    };
+  }
     where
       none_new : label_of (length F.flags) F.relabels ≡ None
       none_new = w.unlabelled (length F.flags) (λ e. no_some false (sym (get_end F.flags) ∙ e))
 
       keeps : (m : Name) (t b : ℕ) (v : Kept) → Owned w m t b v → Owned made_flag m t b v
-      keeps (flag_name n) t b v o = record { owner = get_more w.owners.flags (s, h) n (t, b) o.owner; holds = map_more (flag_kept (label_of n F.relabels)) F.flags false n v o.holds }
+      keeps (flag_name n) t b v o =
+          record { owner = get_more w.owners.flags (s, h) n (t, b) o.owner; holds = map_more (flag_kept (label_of n F.relabels)) F.flags false n v o.holds }
       keeps (saved_name n) t b v o = record { owner = o.owner; holds = o.holds }
       keeps (limit_name n) t b v o = record { owner = o.owner; holds = o.holds }
       keeps (activation_name n) t b v o = record { owner = o.owner; holds = o.holds }
@@ -288,37 +326,55 @@ module _ (w : World) (s h : ℕ) where
 -- Names that hold another thing
 
 abbrev pub put_locals : World → ℕ → List Value → World
-put_locals w n vs = record w { kept = record w.kept { activations = slice_set w.kept.activations n vs }; same_activations = w.same_activations ∙ sym (length-set w.kept.activations n vs) }
+put_locals w n vs = record w {
+  kept = record w.kept { activations = slice_set w.kept.activations n vs };
+  same_activations = w.same_activations ∙ sym (length-set w.kept.activations n vs);
+}
 
 abbrev pub put_count : World → ℕ → ℕ → World
-put_count w n count = record w { kept = record w.kept { limits = slice_set w.kept.limits n count }; same_limits = w.same_limits ∙ sym (length-set w.kept.limits n count) }
+put_count w n count =
+    record w { kept = record w.kept { limits = slice_set w.kept.limits n count }; same_limits = w.same_limits ∙ sym (length-set w.kept.limits n count) }
 
 abbrev pub put_saved : World → ℕ → Pair → World
-put_saved w n pair = record w { kept = record w.kept { saved = slice_set w.kept.saved n pair }; same_saved = w.same_saved ∙ sym (length-set w.kept.saved n pair) }
+put_saved w n pair =
+    record w { kept = record w.kept { saved = slice_set w.kept.saved n pair }; same_saved = w.same_saved ∙ sym (length-set w.kept.saved n pair) }
 
 pub locals_put : (w : World) (n : ℕ) (us vs : List Value) → Change w (put_locals w n vs) (activation_name n) (Locals us) (Locals vs)
-locals_put w n us vs = record { others = others; itself = λ s h o. record { owner = o.owner; holds = ap (option_map activation_kept) (get_set_same w.kept.activations n us vs (got_values w.kept n us o.holds)) } }
+locals_put w n us vs = record {
+  others = others;
+  itself = λ s h o.
+      record { owner = o.owner; holds = ap (option_map activation_kept) (get_set_same w.kept.activations n us vs (got_values w.kept n us o.holds)) };
+}
   where
     others : (m : Name) (t b : ℕ) (v : Kept) → m ≢ activation_name n → Owned w m t b v → Owned (put_locals w n vs) m t b v
-    others (activation_name m) t b v d o = record { owner = o.owner; holds = ap (option_map activation_kept) (get_set_other w.kept.activations m n vs (λ e. d (ap activation_name e))) ∙ o.holds }
+    others (activation_name m) t b v d o =
+        record { owner = o.owner; holds = ap (option_map activation_kept) (get_set_other w.kept.activations m n vs (λ e. d (ap activation_name e))) ∙ o.holds }
     others (flag_name m) t b v d o = record { owner = o.owner; holds = o.holds }
     others (limit_name m) t b v d o = record { owner = o.owner; holds = o.holds }
     others (saved_name m) t b v d o = record { owner = o.owner; holds = o.holds }
 
 pub count_put : (w : World) (n old count : ℕ) → Change w (put_count w n count) (limit_name n) (Count old) (Count count)
-count_put w n old count = record { others = others; itself = λ s h o. record { owner = o.owner; holds = ap (option_map limit_kept) (get_set_same w.kept.limits n old count (got_count w.kept n old o.holds)) } }
+count_put w n old count = record {
+  others = others;
+  itself = λ s h o. record { owner = o.owner; holds = ap (option_map limit_kept) (get_set_same w.kept.limits n old count (got_count w.kept n old o.holds)) };
+}
   where
     others : (m : Name) (t b : ℕ) (v : Kept) → m ≢ limit_name n → Owned w m t b v → Owned (put_count w n count) m t b v
-    others (limit_name m) t b v d o = record { owner = o.owner; holds = ap (option_map limit_kept) (get_set_other w.kept.limits m n count (λ e. d (ap limit_name e))) ∙ o.holds }
+    others (limit_name m) t b v d o =
+        record { owner = o.owner; holds = ap (option_map limit_kept) (get_set_other w.kept.limits m n count (λ e. d (ap limit_name e))) ∙ o.holds }
     others (flag_name m) t b v d o = record { owner = o.owner; holds = o.holds }
     others (activation_name m) t b v d o = record { owner = o.owner; holds = o.holds }
     others (saved_name m) t b v d o = record { owner = o.owner; holds = o.holds }
 
 pub saved_put : (w : World) (n : ℕ) (old pair : Pair) → Change w (put_saved w n pair) (saved_name n) (Saved old) (Saved pair)
-saved_put w n old pair = record { others = others; itself = λ s h o. record { owner = o.owner; holds = ap (option_map saved_kept) (get_set_same w.kept.saved n old pair (got_pair w.kept n old o.holds)) } }
+saved_put w n old pair = record {
+  others = others;
+  itself = λ s h o. record { owner = o.owner; holds = ap (option_map saved_kept) (get_set_same w.kept.saved n old pair (got_pair w.kept n old o.holds)) };
+}
   where
     others : (m : Name) (t b : ℕ) (v : Kept) → m ≢ saved_name n → Owned w m t b v → Owned (put_saved w n pair) m t b v
-    others (saved_name m) t b v d o = record { owner = o.owner; holds = ap (option_map saved_kept) (get_set_other w.kept.saved m n pair (λ e. d (ap saved_name e))) ∙ o.holds }
+    others (saved_name m) t b v d o =
+        record { owner = o.owner; holds = ap (option_map saved_kept) (get_set_other w.kept.saved m n pair (λ e. d (ap saved_name e))) ∙ o.holds }
     others (flag_name m) t b v d o = record { owner = o.owner; holds = o.holds }
     others (activation_name m) t b v d o = record { owner = o.owner; holds = o.holds }
     others (limit_name m) t b v d o = record { owner = o.owner; holds = o.holds }
@@ -330,18 +386,30 @@ module _ (w : World) (n : ℕ) (up : Bool) (labels : List (ℕ × ℕ)) (others_
   none_labelled m f = by_test (m == n) refl
     where
       by_test : (b : Bool) → (m == n) ≡ b → label_of m labels ≡ None
-      by_test true e = let i = eqb-true m n e in subst (λ m. (slice_get (slice_set w.kept.flags n up) m ≡ Some false → ⊥) → label_of m labels ≡ None) (sym i) own f
+      by_test true e =
+          let i = eqb-true m n e in subst (λ m. (slice_get (slice_set w.kept.flags n up) m ≡ Some false → ⊥) → label_of m labels ≡ None) (sym i) own f
       by_test false e = let d : m ≢ n = eqb-false m n e in others_stay m d ∙ w.unlabelled m (λ g. f (get_set_other w.kept.flags m n up d ∙ g))
 
   abbrev pub put_flag : World
-  put_flag = record w { kept = record w.kept { flags = slice_set w.kept.flags n up; relabels = labels }; same_flags = w.same_flags ∙ sym (length-set w.kept.flags n up); unlabelled = none_labelled }
+  put_flag = record w {
+    kept = record w.kept { flags = slice_set w.kept.flags n up; relabels = labels };
+    same_flags = w.same_flags ∙ sym (length-set w.kept.flags n up);
+    unlabelled = none_labelled;
+  }
 
   pub flag_put : (old k : Kept) (b : Bool) → slice_get w.kept.flags n ≡ Some b → flag_kept (label_of n labels) up ≡ k → Change w put_flag (flag_name n) old k
-  flag_put old k b g e = record { others = others; itself = λ s h o. record { owner = o.owner; holds = ap (option_map (flag_kept (label_of n labels))) (get_set_same w.kept.flags n b up g) ∙ ap Some e } }
+  flag_put old k b g e = record {
+    others = others;
+    itself = λ s h o. record { owner = o.owner; holds = ap (option_map (flag_kept (label_of n labels))) (get_set_same w.kept.flags n b up g) ∙ ap Some e };
+  }
     where
       others : (m : Name) (t b : ℕ) (v : Kept) → m ≢ flag_name n → Owned w m t b v → Owned put_flag m t b v
       others (flag_name m) t b v d o = let d2 : m ≢ n = λ i. d (ap flag_name i) in
-          record { owner = o.owner; holds = ap (option_map (flag_kept (label_of m labels))) (get_set_other w.kept.flags m n up d2) ∙ ap (λ l. option_map (flag_kept l) (slice_get w.kept.flags m)) (others_stay m d2) ∙ o.holds }
+          record {
+            owner = o.owner;
+            holds = ap (option_map (flag_kept (label_of m labels))) (get_set_other w.kept.flags m n up d2)
+                ∙ ap (λ l. option_map (flag_kept l) (slice_get w.kept.flags m)) (others_stay m d2) ∙ o.holds;
+          }
       others (saved_name m) t b v d o = record { owner = o.owner; holds = o.holds }
       others (activation_name m) t b v d o = record { owner = o.owner; holds = o.holds }
       others (limit_name m) t b v d o = record { owner = o.owner; holds = o.holds }
@@ -355,7 +423,8 @@ own_up w n = label_self n w.kept.relabels
 
 -- it gets another label
 pub label_set : (w : World) (n label m : ℕ) → m ≢ n → label_of m ((n, label) ∷ forget_label n w.kept.relabels) ≡ label_of m w.kept.relabels
-label_set w n label m d = ap (λ b. if b then Some label else label_of m (forget_label n w.kept.relabels)) (unlike n m (λ e. d (sym e))) ∙ label_other n m w.kept.relabels d
+label_set w n label m d =
+    ap (λ b. if b then Some label else label_of m (forget_label n w.kept.relabels)) (unlike n m (λ e. d (sym e))) ∙ label_other n m w.kept.relabels d
 
 pub own_set : (w : World) (n label : ℕ) → label_of n ((n, label) ∷ forget_label n w.kept.relabels) ≡ Some label
 own_set w n label = ap (λ b. if b then Some label else label_of n (forget_label n w.kept.relabels)) (alike n)
@@ -365,15 +434,20 @@ IsLocals (Locals values) = Unit {0}
 IsLocals k = ⊥
 
 -- the cells at other heights have other numbers, where the cell that changes is not of locals
-pub uses_other : (w : World) (n : Name) (s h b : ℕ) (old : Kept) → Owned w n s h old → (IsLocals old → ⊥) → (c : NCell) → b ≢ h → Ok w s b c → Uses (λ m. m ≢ n) c
-uses_other w n s h b old o nl (n_base p a k) d x = λ e. nl (subst IsLocals (sym (one_kept w n s s h b old (Locals x.0) o (subst (λ m. Owned w m s b (Locals x.0)) e x.1))) tt)
-uses_other w n s h b old o nl (n_call p a k level r q) d x = λ e. nl (subst IsLocals (sym (one_kept w n s s h b old (Locals x.0) o (subst (λ m. Owned w m s b (Locals x.0)) e x.1))) tt)
-uses_other w n s h b old o nl (n_local a i) d x = λ e. nl (subst IsLocals (sym (one_kept w n s s h x.1 old (Locals x.0) o (subst (λ m. Owned w m s x.1 (Locals x.0)) e x.2))) tt)
+pub uses_other : (w : World) (n : Name) (s h b : ℕ) (old : Kept) → Owned w n s h old → (IsLocals old → ⊥) → (c : NCell) → b ≢ h → Ok w s b c
+    → Uses (λ m. m ≢ n) c
+uses_other w n s h b old o nl (n_base p a k) d x =
+    λ e. nl (subst IsLocals (sym (one_kept w n s s h b old (Locals x.0) o (subst (λ m. Owned w m s b (Locals x.0)) e x.1))) tt)
+uses_other w n s h b old o nl (n_call p a k level r q) d x =
+    λ e. nl (subst IsLocals (sym (one_kept w n s s h b old (Locals x.0) o (subst (λ m. Owned w m s b (Locals x.0)) e x.1))) tt)
+uses_other w n s h b old o nl (n_local a i) d x =
+    λ e. nl (subst IsLocals (sym (one_kept w n s s h x.1 old (Locals x.0) o (subst (λ m. Owned w m s x.1 (Locals x.0)) e x.2))) tt)
 uses_other w n s h b old o nl (n_mark (fixed l) r) d x = tt
 uses_other w n s h b old o nl (n_mark (flagged l f q) r) d x = λ e. d (sym (one_height w n s s h b old x.0 o (subst (λ m. Owned w m s b x.0) e x.1)))
 uses_other w n s h b old o nl (n_limit m r) d x = λ e. d (sym (one_height w n s s h b old (Count x.0) o (subst (λ m. Owned w m s b (Count x.0)) e x.1)))
 uses_other w n s h b old o nl (n_suspension (because why) r q) d x = tt
-uses_other w n s h b old o nl (n_suspension (scanning m) r q) d x = λ e. d (sym (one_height w n s s h b old (Saved x.0) o (subst (λ m. Owned w m s b (Saved x.0)) e x.1)))
+uses_other w n s h b old o nl (n_suspension (scanning m) r q) d x =
+    λ e. d (sym (one_height w n s s h b old (Saved x.0) o (subst (λ m. Owned w m s b (Saved x.0)) e x.1)))
 uses_other w n s h b old o nl (n_operand item) d x = tt
 
 -- all cells but one
@@ -381,22 +455,26 @@ pub ok_part : (w : World) (s : ℕ) (above : List NCell) (below : List NCell) �
 ok_part w s [] below o = o
 ok_part w s (c ∷ above) below o = ok_part w s above below o.1
 
-pub uses_below : (w : World) (n : Name) (s h : ℕ) (old : Kept) → Owned w n s h old → (IsLocals old → ⊥) → (cs : List NCell) → length cs < h → AllOk w s cs → UsesAll (λ m. m ≢ n) cs
+pub uses_below : (w : World) (n : Name) (s h : ℕ) (old : Kept) → Owned w n s h old → (IsLocals old → ⊥) → (cs : List NCell) → length cs < h → AllOk w s cs
+    → UsesAll (λ m. m ≢ n) cs
 uses_below w n s h old o nl [] lt x = tt
-uses_below w n s h old o nl (c ∷ cs) lt x = (uses_other w n s h (suc (length cs)) old o nl c (λ e. omega arith) x.0, uses_below w n s h old o nl cs (omega arith) x.1)
+uses_below w n s h old o nl (c ∷ cs) lt x =
+    (uses_other w n s h (suc (length cs)) old o nl c (λ e. omega arith) x.0, uses_below w n s h old o nl cs (omega arith) x.1)
 
 -- a cell in the midst changes
 module _ {w w' : World} {n : Name} (s h : ℕ) {old k : Kept} (d : Change w w' n old k) (o : Owned w n s h old) (nl : IsLocals old → ⊥) where
   pub put_shown : (c : NCell) (x : Cell) → shown w'.kept c ≡ x → (above below : List NCell) → h ≡ suc (length below)
       → AllOk w s (above ++ c ∷ below) → render w'.kept (above ++ c ∷ below) ≡ render w.kept above ++ x ∷ render w.kept below
   put_shown c x e [] below g y =
-      ap (λ z. z ∷ render w'.kept below) e ∙ ap (λ l. x ∷ l) (render_moves (λ m. m ≢ n) s w w' (change_moves d s) below (uses_below w n s h old o nl below (omega arith) y.1) y.1)
+      ap (λ z. z ∷ render w'.kept below) e
+      ∙ ap (λ l. x ∷ l) (render_moves (λ m. m ≢ n) s w w' (change_moves d s) below (uses_below w n s h old o nl below (omega arith) y.1) y.1)
   put_shown c x e (z ∷ above) below g y =
       ap (λ z. z ∷ render w'.kept (above ++ c ∷ below)) (shown_moves (λ m. m ≢ n) s (suc (length (above ++ c ∷ below))) w w' (change_moves d s) z
       (uses_other w n s h (suc (length (above ++ c ∷ below))) old o nl z (λ e. omega (arith, length-append above (c ∷ below))) y.0) y.0)
       ∙ ap (λ l. shown w.kept z ∷ l) (put_shown c x e above below g y.1)
 
-  pub put_ok : (c : NCell) → Ok w' s h c → (above below : List NCell) → h ≡ suc (length below) → AllOk w s (above ++ c ∷ below) → AllOk w' s (above ++ c ∷ below)
+  pub put_ok : (c : NCell) → Ok w' s h c → (above below : List NCell) → h ≡ suc (length below) → AllOk w s (above ++ c ∷ below)
+      → AllOk w' s (above ++ c ∷ below)
   put_ok c y [] below g x =
       (subst (λ h. Ok w' s h c) g y, all_moves (λ m. m ≢ n) s w w' (change_moves d s) below (uses_below w n s h old o nl below (omega arith) x.1) x.1)
   put_ok c y (z ∷ above) below g x = (

@@ -123,7 +123,8 @@ module _ (ns : Names) where
   locals_down (suc n) (suspension w r p ∷ cells) vs h g = g
 
   pub locals : (m : Frames) → M m → Each V (S.locals m)
-  locals m h = let count = S.locals_of (S.frame m) in locals_down count (S.cut (m.registers.base + count) m.cells) [] (cells_cut (m.registers.base + count) m.cells h) tt
+  locals m h =
+      let count = S.locals_of (S.frame m) in locals_down count (S.cut (m.registers.base + count) m.cells) [] (cells_cut (m.registers.base + count) m.cells h) tt
 
   set_local : (n : ℕ) (v : Value) (cells : List Cell) (o : Option Cell) → Cs cells → V v → Cs (S.set_local n v cells o)
   set_local n v cells None h g = h
@@ -137,7 +138,8 @@ module _ (ns : Names) where
 
   set_from : (n : ℕ) (vs : List Value) (cells : List Cell) → Each V vs → Cs cells → Cs (S.set_from n vs cells)
   set_from n [] cells h g = g
-  set_from n (v ∷ vs) cells h g = set_from (suc n) vs (S.set_local (suc n) v cells (S.cell_at (suc n) cells)) h.1 (set_local (suc n) v cells (S.cell_at (suc n) cells) g h.0)
+  set_from n (v ∷ vs) cells h g =
+      set_from (suc n) vs (S.set_local (suc n) v cells (S.cell_at (suc n) cells)) h.1 (set_local (suc n) v cells (S.cell_at (suc n) cells) g h.0)
 
   pub set_locals : (vs : List Value) (m : Frames) → Each V vs → M m → M (S.set_locals vs m)
   set_locals vs m h g = set_from m.registers.base vs m.cells h g
@@ -293,7 +295,8 @@ module _ (ns : Names) where
   pub suspend : (why : Why) (m : Frames) → WhyNamed ns why → M m → M (S.suspend why m)
   suspend why m g h = copy_up m.cells (suspension why m.registers m.place ∷ m.cells) h (g, h)
 
-  suspended_onto : (why : Why) (m : Frames) (cells : List Cell) (r : Registers) (p : ℕ) → WhyNamed ns why → M m → Cs cells → M (S.suspended_onto why m cells r p)
+  suspended_onto : (why : Why) (m : Frames) (cells : List Cell) (r : Registers) (p : ℕ) → WhyNamed ns why → M m → Cs cells
+      → M (S.suspended_onto why m cells r p)
   suspended_onto why m cells r p g h k = copy_up cells (suspension why m.registers m.place ∷ m.cells) k (g, h)
 
   mark_suspended : (m : Frames) (cells : List Cell) → M m → Cs cells → Maybe M (S.mark_suspended m cells)

@@ -109,8 +109,10 @@ module _ (rows : RowsKeepNames) (P : Tables) where
   globals_named : (globals : List GlobalEntry) → list_all is_one globals ≡ true → Each V (map (S.global_value P) globals)
   globals_named [] are = tt
   globals_named (global ∷ globals) are =
-      let now = both (is_one global) (list_all is_one globals) are in
-      (start_named global.start (both (nat_lt global.name (length P.strings)) (is_start (length P.records) (length P.procs) global.start) now.0).1, globals_named globals now.1)
+      let now = both (is_one global) (list_all is_one globals) are in (
+        start_named global.start (both (nat_lt global.name (length P.strings)) (is_start (length P.records) (length P.procs) global.start) now.0).1,
+        globals_named globals now.1,
+      )
 
   store_named : (launch : Launch) → Each V (S.first_globals P) → N.K rows P (S.first_store P launch)
   store_named launch globals = record {
@@ -122,21 +124,27 @@ module _ (rows : RowsKeepNames) (P : Tables) where
     coexps = (record { status = tt; values = all_of V [] tt }, tt);
   }
 
-  begun : (t : Bool) (n : ℕ) (entry : Procedure) (vs : List Value) (m : Frames) (st : Store Frames) → Each V vs → M m → N.K rows P st → N.G rows P (S.begun_if flat t n entry vs m st)
+  begun : (t : Bool) (n : ℕ) (entry : Procedure) (vs : List Value) (m : Frames) (st : Store Frames) → Each V vs → M m → N.K rows P st
+      → N.G rows P (S.begun_if flat t n entry vs m st)
   begun false n entry vs m st a h k = tt
   begun true n entry vs m st a h k =
-      N.collected rows P entry.collects entry.parameters vs m st (λ parameters m st. running (flats.begin n (parameters ++ replicate entry.locals Null) 0 m) st) a h k
-      (λ vs m st a h k. (C.begin (N.ns rows P) n (vs ++ replicate entry.locals Null) 0 m (each_append V vs (replicate entry.locals Null) a (N.nulls rows P entry.locals)), k))
+      N.collected rows P entry.collects entry.parameters vs m st
+      (λ parameters m st. running (flats.begin n (parameters ++ replicate entry.locals Null) 0 m) st) a h k
+      (λ vs m st a h k.
+      (C.begin (N.ns rows P) n (vs ++ replicate entry.locals Null) 0 m (each_append V vs (replicate entry.locals Null) a (N.nulls rows P entry.locals)), k))
 
   started : (words : List (List ℕ)) (m : Frames) (st : Store Frames) (o : Option ℕ) → M m → N.K rows P st → N.G rows P (S.start_of flat P words m st o)
   started words m st None h k = tt
   started words m st (Some main) h k =
-      N.any rows P (slice_get P.procs main) (λ entry. S.with_made flat (words_row words (S.here flat m st)) m st (λ list m st. S.begun_if flat (nat_le 1 st.world.heap.bounds.levels) main entry (list ∷ []) m st))
-      (λ entry. N.made rows P (words_row words (S.here flat m st)) m st (λ list m st. S.begun_if flat (nat_le 1 st.world.heap.bounds.levels) main entry (list ∷ []) m st)
+      N.any rows P (slice_get P.procs main) (λ entry. S.with_made flat (words_row words (S.here flat m st)) m st
+      (λ list m st. S.begun_if flat (nat_le 1 st.world.heap.bounds.levels) main entry (list ∷ []) m st))
+      (λ entry.
+      N.made rows P (words_row words (S.here flat m st)) m st (λ list m st. S.begun_if flat (nat_le 1 st.world.heap.bounds.levels) main entry (list ∷ []) m st)
       (rows.words (N.ns rows P) words (S.here flat m st) (N.here rows P m st h k)) h k
       (λ v m s n h k. begun (nat_le 1 s.world.heap.bounds.levels) main entry (v ∷ []) m s (n, tt) h k))
 
-globals_kept : (tables : Tables) → keeps_rules tables ≡ true → list_all (is_global (length tables.strings) (length tables.records) (length tables.procs)) tables.globals ≡ true
+globals_kept : (tables : Tables) → keeps_rules tables ≡ true
+    → list_all (is_global (length tables.strings) (length tables.records) (length tables.procs)) tables.globals ≡ true
 unfolding keeps_rules
 globals_kept tables is =
     let a = both _ (list_all (is_proc tables) tables.procs) is in
@@ -146,25 +154,31 @@ globals_kept tables is =
 
 pub starts_named : RowsKeepNames → StartsNamed
 starts_named rows = λ P launch is.
-    N.state_out rows P _ (started rows P launch.words empty (S.first_store P launch) (S.main_of P) tt (store_named rows P launch (globals_named rows P P.globals (globals_kept P is))))
+    N.state_out rows P _ (started rows P launch.words empty (S.first_store P launch) (S.main_of P) tt
+    (store_named rows P launch (globals_named rows P P.globals (globals_kept P is))))
 
 -- Sizes
 
 module _ (rows : RowsKeepSizes) (P : Tables) where
-  begins : (t : Bool) (n : ℕ) (entry : Procedure) (vs : List Value) (m : Frames) (st : Store Frames) → Z.K rows P st → Z.G rows P (S.begun_if flat t n entry vs m st)
+  begins : (t : Bool) (n : ℕ) (entry : Procedure) (vs : List Value) (m : Frames) (st : Store Frames) → Z.K rows P st
+      → Z.G rows P (S.begun_if flat t n entry vs m st)
   begins false n entry vs m st k = tt
   begins true n entry vs m st k =
-      Z.collected rows P entry.collects entry.parameters vs m st (λ parameters m st. running (flats.begin n (parameters ++ replicate entry.locals Null) 0 m) st) k (λ vs m st k. k)
+      Z.collected rows P entry.collects entry.parameters vs m st
+      (λ parameters m st. running (flats.begin n (parameters ++ replicate entry.locals Null) 0 m) st) k (λ vs m st k. k)
 
   starts : (words : List (List ℕ)) (m : Frames) (st : Store Frames) (o : Option ℕ) → Z.K rows P st → Z.G rows P (S.start_of flat P words m st o)
   starts words m st None k = tt
   starts words m st (Some main) k =
-      Z.found rows P (slice_get P.procs main) (λ entry. S.with_made flat (words_row words (S.here flat m st)) m st (λ list m st. S.begun_if flat (nat_le 1 st.world.heap.bounds.levels) main entry (list ∷ []) m st))
-      (λ entry. Z.made rows P (words_row words (S.here flat m st)) m st (λ list m st. S.begun_if flat (nat_le 1 st.world.heap.bounds.levels) main entry (list ∷ []) m st)
+      Z.found rows P (slice_get P.procs main) (λ entry. S.with_made flat (words_row words (S.here flat m st)) m st
+      (λ list m st. S.begun_if flat (nat_le 1 st.world.heap.bounds.levels) main entry (list ∷ []) m st))
+      (λ entry.
+      Z.made rows P (words_row words (S.here flat m st)) m st (λ list m st. S.begun_if flat (nat_le 1 st.world.heap.bounds.levels) main entry (list ∷ []) m st)
       ((rows.words (field_count P) words (S.here flat m st)).fit k) k (λ v m s k. begins (nat_le 1 s.world.heap.bounds.levels) main entry (v ∷ []) m s k))
 
 no_record : {A B : Type 0} (x : A) → None ≡ Some x → B
 no_record x is = let none : ⊥ = cc in absurd none
 
 pub starts_sized : RowsKeepSizes → StartsFit
-starts_sized rows = λ P launch. starts rows P launch.words empty (S.first_store P launch) (S.main_of P) (record { fit = λ id structure is. no_record structure is })
+starts_sized rows =
+    λ P launch. starts rows P launch.words empty (S.first_store P launch) (S.main_of P) (record { fit = λ id structure is. no_record structure is })

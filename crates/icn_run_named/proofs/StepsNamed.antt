@@ -79,7 +79,8 @@ module _ (rows : RowsKeepNames) (P : Tables) where
   turn : (st : Store Frames) (go : Store Frames → State Frames Frames) → K st → ((s : Store Frames) → K s → G (go s)) → G (S.turn P st go)
   turn st go k f = turn_if (nat_lt st.turns st.world.heap.bounds.turns) st go k f
 
-  valued : (o : Outcome) (m : Frames) (st : Store Frames) (go : Value → State Frames Frames) → OutcomeNamed ns o → M m → K st → ((v : Value) → V v → G (go v)) → G (S.with_given o m st go)
+  valued : (o : Outcome) (m : Frames) (st : Store Frames) (go : Value → State Frames Frames) → OutcomeNamed ns o → M m → K st → ((v : Value) → V v → G (go v))
+      → G (S.with_given o m st go)
   valued (Gives (Val v) s) m st go n h k f = f v n.0.named
   valued (Gives (Var x) s) m st go n h k f = (h, k)
   valued (Error e v s) m st go n h k f = tt
@@ -87,7 +88,8 @@ module _ (rows : RowsKeepNames) (P : Tables) where
   valued (Suspends x r s) m st go n h k f = (h, k)
   valued (Ends e s) m st go n h k f = (h, k)
 
-  pub made : (o : Outcome) (m : Frames) (st : Store Frames) (go : Value → Frames → Store Frames → State Frames Frames) → OutcomeNamed ns o → M m → K st → ((v : Value) (m : Frames) (s : Store Frames) → V v → M m → K s → G (go v m s)) → G (S.with_made flat o m st go)
+  pub made : (o : Outcome) (m : Frames) (st : Store Frames) (go : Value → Frames → Store Frames → State Frames Frames) → OutcomeNamed ns o → M m → K st
+      → ((v : Value) (m : Frames) (s : Store Frames) → V v → M m → K s → G (go v m s)) → G (S.with_made flat o m st go)
   made (Gives (Val v) s) m st go n h k f = let at = placed m st s n.1 h k in f v (flats.set_locals s.locals m) (S.with_at s st) n.0.named at.0 at.1
   made (Gives (Var x) s) m st go n h k f = (h, k)
   made (Error e v s) m st go n h k f = tt
@@ -119,14 +121,18 @@ module _ (rows : RowsKeepNames) (P : Tables) where
   value_named : (x : Item) (at : Setting) → X x → SettingNamed ns at → OutcomeNamed ns (value_row x at)
   value_named x at h s = rows.values ns (x ∷ []) gives_first at s (all_of X (x ∷ []) (h, tt)) (λ vs n. (record { named = first_named vs (each_of V vs n) }, s))
 
-  value : (x : Item) (m : Frames) (st : Store Frames) (go : Value → State Frames Frames) → X x → M m → K st → ((v : Value) → V v → G (go v)) → G (S.with_value flat x m st go)
+  value : (x : Item) (m : Frames) (st : Store Frames) (go : Value → State Frames Frames) → X x → M m → K st → ((v : Value) → V v → G (go v))
+      → G (S.with_value flat x m st go)
   value x m st go n h k f = valued (value_row x (S.here flat m st)) m st go (value_named x (S.here flat m st) n (here m st h k)) h k f
 
-  values : (xs : List Item) (m : Frames) (st : Store Frames) (go : List Value → State Frames Frames) → Each X xs → M m → K st → ((vs : List Value) → Each V vs → G (go vs)) → G (S.with_values flat xs m st go)
+  values : (xs : List Item) (m : Frames) (st : Store Frames) (go : List Value → State Frames Frames) → Each X xs → M m → K st
+      → ((vs : List Value) → Each V vs → G (go vs)) → G (S.with_values flat xs m st go)
   values [] m st go n h k f = f [] tt
-  values (x ∷ xs) m st go n h k f = value x m st (λ v. S.with_values flat xs m st (λ vs. go (v ∷ vs))) n.0 h k (λ v a. values xs m st (λ vs. go (v ∷ vs)) n.1 h k (λ vs b. f (v ∷ vs) (a, b)))
+  values (x ∷ xs) m st go n h k f =
+      value x m st (λ v. S.with_values flat xs m st (λ vs. go (v ∷ vs))) n.0 h k (λ v a. values xs m st (λ vs. go (v ∷ vs)) n.1 h k (λ vs b. f (v ∷ vs) (a, b)))
 
-  list_made : (vs : List Value) (m : Frames) (st : Store Frames) (go : Value → Frames → Store Frames → State Frames Frames) → Each V vs → M m → K st → ((v : Value) (m : Frames) (s : Store Frames) → V v → M m → K s → G (go v m s)) → G (S.list_made flat vs m st go)
+  list_made : (vs : List Value) (m : Frames) (st : Store Frames) (go : Value → Frames → Store Frames → State Frames Frames) → Each V vs → M m → K st
+      → ((v : Value) (m : Frames) (s : Store Frames) → V v → M m → K s → G (go v m s)) → G (S.list_made flat vs m st go)
   list_made vs m st go n h k f = made (list_row vs (S.here flat m st)) m st go (rows.lists ns vs (S.here flat m st) (here m st h k) (all_of V vs n)) h k f
 
   plain : (v : Value) → V v → X (Val v)
@@ -140,11 +146,13 @@ module _ (rows : RowsKeepNames) (P : Tables) where
   with_pair : (pair : Pair) (st : Store Frames) → K st → K (S.with_pair pair st)
   with_pair pair st k = record { world = record { heap = k.world.heap; globals = k.world.globals; statics = k.world.statics }; coexps = k.coexps }
 
-  exchanged : (o : Option (Pair × Frames)) (go : Frames → Store Frames → State Frames Frames) (st : Store Frames) → Maybe (C.Swapped ns) o → K st → ((m : Frames) (s : Store Frames) → M m → K s → G (go m s)) → G (S.with_exchange o go st)
+  exchanged : (o : Option (Pair × Frames)) (go : Frames → Store Frames → State Frames Frames) (st : Store Frames) → Maybe (C.Swapped ns) o → K st
+      → ((m : Frames) (s : Store Frames) → M m → K s → G (go m s)) → G (S.with_exchange o go st)
   exchanged (Some x) go st h k f = f x.1 (S.with_pair x.0 st) h (with_pair x.0 st k)
   exchanged None go st h k f = tt
 
-  maybe_exchanged : (o : Option (Pair × Frames)) (m : Frames) (st : Store Frames) (go : Frames → Store Frames → State Frames Frames) → Maybe (C.Swapped ns) o → M m → K st → ((m : Frames) (s : Store Frames) → M m → K s → G (go m s)) → G (S.maybe_exchanged o m st go)
+  maybe_exchanged : (o : Option (Pair × Frames)) (m : Frames) (st : Store Frames) (go : Frames → Store Frames → State Frames Frames) → Maybe (C.Swapped ns) o
+      → M m → K st → ((m : Frames) (s : Store Frames) → M m → K s → G (go m s)) → G (S.maybe_exchanged o m st go)
   maybe_exchanged (Some x) m st go n h k f = f x.1 (S.with_pair x.0 st) n (with_pair x.0 st k)
   maybe_exchanged None m st go n h k f = f m st h k
 
@@ -159,8 +167,10 @@ module _ (rows : RowsKeepNames) (P : Tables) where
   all_left : (m : Frames) (st : Store Frames) → K st → K (S.all_left flat m st)
   all_left m st k = swapped_back (flats.swap_oldest (S.pair_now st) m) st k
 
-  unmarked : (m : Frames) (st : Store Frames) (go : Frames → Store Frames → State Frames Frames) → M m → K st → ((m : Frames) (s : Store Frames) → M m → K s → G (go m s)) → G (S.unmark_then flat m st go)
-  unmarked m st go h k f = found (C.Left ns) (flats.unmark m) (S.on_pair (λ outside pair. go outside (S.scans_left pair st))) (C.unmark ns m h) (λ x n. f x.0 (S.scans_left x.1 st) n (left x.1 st k))
+  unmarked : (m : Frames) (st : Store Frames) (go : Frames → Store Frames → State Frames Frames) → M m → K st
+      → ((m : Frames) (s : Store Frames) → M m → K s → G (go m s)) → G (S.unmark_then flat m st go)
+  unmarked m st go h k f = found (C.Left ns) (flats.unmark m) (S.on_pair (λ outside pair. go outside (S.scans_left pair st))) (C.unmark ns m h)
+      (λ x n. f x.0 (S.scans_left x.1 st) n (left x.1 st k))
 
   -- Co-expressions
 
@@ -174,10 +184,16 @@ module _ (rows : RowsKeepNames) (P : Tables) where
   coexp_at n st k = each_index (CoexpNamed ns) st.coexps n none k.coexps none_named
 
   with_status : (n : ℕ) (s : Status Frames) (st : Store Frames) → StatusNamed ns s → K st → K (S.with_status n s st)
-  with_status n s st h k = let at = coexp_at n st k in record { world = k.world; coexps = each_set (CoexpNamed ns) st.coexps n (record (S.coexp_at n st) { status = s }) k.coexps (record { status = h; values = at.values }) }
+  with_status n s st h k = let at = coexp_at n st k in record {
+    world = k.world;
+    coexps = each_set (CoexpNamed ns) st.coexps n (record (S.coexp_at n st) { status = s }) k.coexps (record { status = h; values = at.values });
+  }
 
   with_activator : (n a : ℕ) (st : Store Frames) → K st → K (S.with_activator n a st)
-  with_activator n a st k = let at = coexp_at n st k in record { world = k.world; coexps = each_set (CoexpNamed ns) st.coexps n (record (S.coexp_at n st) { activator = a }) k.coexps (record { status = at.status; values = at.values }) }
+  with_activator n a st k = let at = coexp_at n st k in record {
+    world = k.world;
+    coexps = each_set (CoexpNamed ns) st.coexps n (record (S.coexp_at n st) { activator = a }) k.coexps (record { status = at.status; values = at.values });
+  }
 
   active : (n : ℕ) (st : Store Frames) → K st → K (record st { active = n })
   active n st k = record { world = k.world; coexps = k.coexps }
@@ -218,7 +234,11 @@ module _ (rows : RowsKeepNames) (P : Tables) where
 
   counted : (n : ℕ) (st : Store Frames) → K st → K (S.counted_result n st)
   counted n st k = record {
-    world = record { heap = record { lists = k.world.heap.lists; sets = k.world.heap.sets; tables = k.world.heap.tables; records = k.world.heap.records }; globals = k.world.globals; statics = k.world.statics };
+    world = record {
+      heap = record { lists = k.world.heap.lists; sets = k.world.heap.sets; tables = k.world.heap.tables; records = k.world.heap.records };
+      globals = k.world.globals;
+      statics = k.world.statics;
+    };
     coexps = k.coexps;
   }
 
@@ -228,8 +248,16 @@ module _ (rows : RowsKeepNames) (P : Tables) where
       (counted st.active (S.with_status st.active (Waiting m) st) (with_status st.active (Waiting m) st (C.stack_out ns m h) k))
 
   coexp_made : (vs : List Value) (proc place : ℕ) (m : Frames) (st : Store Frames) → Each V vs → M m → K st → G (S.coexp_made flat vs proc place m st)
-  coexp_made vs proc place m st a h k = made (coexpression_row (length vs) (S.here flat m st)) m st (λ value m st. S.push_item flat (Val value) m (S.with_new vs proc place st)) (rows.coexpressions ns (length vs) (S.here flat m st) (here m st h k)) h k
-      (λ v m s n h k. ((plain v n, h), record { world = k.world; coexps = each_append (CoexpNamed ns) s.coexps (record { status = Fresh; activator = zero; values = vs; proc = proc; place = place } ∷ []) k.coexps (record { status = tt; values = all_of V vs a }, tt) }))
+  coexp_made vs proc place m st a h k = made (coexpression_row (length vs) (S.here flat m st)) m st
+      (λ value m st. S.push_item flat (Val value) m (S.with_new vs proc place st)) (rows.coexpressions ns (length vs) (S.here flat m st) (here m st h k)) h k
+      (λ v m s n h k. (
+        (plain v n, h),
+        record {
+          world = k.world;
+          coexps = each_append (CoexpNamed ns) s.coexps (record { status = Fresh; activator = zero; values = vs; proc = proc; place = place } ∷ []) k.coexps
+              (record { status = tt; values = all_of V vs a }, tt);
+        },
+      ))
 
   refreshed_from : (o : Option (Coexp Frames)) (m : Frames) (st : Store Frames) → Maybe (CoexpNamed ns) o → M m → K st → G (S.refreshed_from flat o m st)
   refreshed_from (Some co) m st n h k = coexp_made co.values co.proc co.place m st (each_of V co.values n.values) h k
@@ -283,22 +311,30 @@ module _ (rows : RowsKeepNames) (P : Tables) where
   filled : (n : ℕ) (vs : List Value) → Each V vs → Each V (S.fill_nulls n vs)
   filled n vs h = each_take V n (vs ++ replicate n Null) (each_append V vs (replicate n Null) h (nulls n))
 
-  pub collected : (t : Bool) (n : ℕ) (vs : List Value) (m : Frames) (st : Store Frames) (go : List Value → Frames → Store Frames → State Frames Frames) → Each V vs → M m → K st → ((vs : List Value) (m : Frames) (s : Store Frames) → Each V vs → M m → K s → G (go vs m s)) → G (S.collect_rest flat t n vs m st go)
+  pub collected : (t : Bool) (n : ℕ) (vs : List Value) (m : Frames) (st : Store Frames) (go : List Value → Frames → Store Frames → State Frames Frames)
+      → Each V vs → M m → K st → ((vs : List Value) (m : Frames) (s : Store Frames) → Each V vs → M m → K s → G (go vs m s))
+      → G (S.collect_rest flat t n vs m st go)
   collected false n vs m st go a h k f = f (S.fill_nulls n vs) m st (filled n vs a) h k
-  collected true n vs m st go a h k f = list_made (drop (n - 1) vs) m st (λ rest m st. go (S.fill_nulls (n - 1) vs ++ rest ∷ []) m st) (each_drop V (n - 1) vs a) h k
+  collected true n vs m st go a h k f =
+      list_made (drop (n - 1) vs) m st (λ rest m st. go (S.fill_nulls (n - 1) vs ++ rest ∷ []) m st) (each_drop V (n - 1) vs a) h k
       (λ rest m st b h k. f (S.fill_nulls (n - 1) vs ++ rest ∷ []) m st (each_append V (S.fill_nulls (n - 1) vs) (rest ∷ []) (filled (n - 1) vs a) (b, tt)) h k)
 
   entered : (n : ℕ) (entry : Procedure) (vs : List Value) (m : Frames) (st : Store Frames) → Each V vs → M m → K st → G (S.enter_procedure flat n entry vs m st)
-  entered n entry vs m st a h k = (C.enter ns n (vs ++ replicate entry.locals Null) m (each_append V vs (replicate entry.locals Null) a (nulls entry.locals)) h, k)
+  entered n entry vs m st a h k =
+      (C.enter ns n (vs ++ replicate entry.locals Null) m (each_append V vs (replicate entry.locals Null) a (nulls entry.locals)) h, k)
 
-  called_if : (t : Bool) (n : ℕ) (entry : Procedure) (vs : List Value) (m : Frames) (st : Store Frames) → Each V vs → M m → K st → G (S.called_if flat t n entry vs m st)
-  called_if true n entry vs m st a h k = collected entry.collects entry.parameters vs m st (λ parameters m st. S.enter_procedure flat n entry parameters m st) a h k (λ vs m st a h k. entered n entry vs m st a h k)
+  called_if : (t : Bool) (n : ℕ) (entry : Procedure) (vs : List Value) (m : Frames) (st : Store Frames) → Each V vs → M m → K st
+      → G (S.called_if flat t n entry vs m st)
+  called_if true n entry vs m st a h k = collected entry.collects entry.parameters vs m st
+      (λ parameters m st. S.enter_procedure flat n entry parameters m st) a h k (λ vs m st a h k. entered n entry vs m st a h k)
   called_if false n entry vs m st a h k = tt
 
-  constructed : (n : ℕ) (entry : RecordType) (vs : List Value) (m : Frames) (st : Store Frames) → n < length ns.records → Each V vs → M m → K st → G (S.construct_record flat n entry vs m st)
+  constructed : (n : ℕ) (entry : RecordType) (vs : List Value) (m : Frames) (st : Store Frames) → n < length ns.records → Each V vs → M m → K st
+      → G (S.construct_record flat n entry vs m st)
   constructed n entry vs m st l a h k =
       let fs = S.fill_nulls (length entry.fields) vs in
-      made (record_row n fs (S.here flat m st)) m st (λ value m st. S.push_item flat (Val value) m st) (rows.records ns n fs (S.here flat m st) (here m st h k) l (all_of V fs (filled (length entry.fields) vs a))) h k (λ v m s n h k. ((plain v n, h), k))
+      made (record_row n fs (S.here flat m st)) m st (λ value m st. S.push_item flat (Val value) m st)
+      (rows.records ns n fs (S.here flat m st) (here m st h k) l (all_of V fs (filled (length entry.fields) vs a))) h k (λ v m s n h k. ((plain v n, h), k))
 
   pushed_or_fails : (o : Option Item) (m : Frames) (st : Store Frames) → Maybe X o → M m → K st → G (S.pushed_or_fails flat o m st)
   pushed_or_fails (Some x) m st n h k = ((n, h), k)
@@ -341,15 +377,19 @@ module _ (rows : RowsKeepNames) (P : Tables) where
       mapped [] = refl
       mapped (e ∷ es) = ap (λ (n : ℕ). suc n) (mapped es)
 
-  callee_called : (c : Callee) (n : ℕ) (xs : List Item) (m : Frames) (st : Store Frames) → Within (length P.records) c → ((func : Func) → c ≡ IsFunc func → OutcomeNamed ns (apply st.names (Function func) xs (S.here flat m st)))
+  callee_called : (c : Callee) (n : ℕ) (xs : List Item) (m : Frames) (st : Store Frames) → Within (length P.records) c
+      → ((func : Func) → c ≡ IsFunc func → OutcomeNamed ns (apply st.names (Function func) xs (S.here flat m st)))
       → Each X xs → M m → K st → G (S.callee_called flat c n xs m st)
-  callee_called (IsProc entry) n xs m st w f a h k = values xs m st (λ arguments. S.call_procedure flat n entry arguments m st) a h k (λ vs b. called_if (nat_le (suc (flats.level m)) st.world.heap.bounds.levels) n entry vs m st b h k)
+  callee_called (IsProc entry) n xs m st w f a h k = values xs m st (λ arguments. S.call_procedure flat n entry arguments m st) a h k
+      (λ vs b. called_if (nat_le (suc (flats.level m)) st.world.heap.bounds.levels) n entry vs m st b h k)
   callee_called (IsRecord kind entry) n xs m st w f a h k =
-      values xs m st (λ arguments. S.construct_record flat kind entry arguments m st) a h k (λ vs b. constructed kind entry vs m st (subst (λ (j : ℕ). kind < j) (sym named_records) w) b h k)
+      values xs m st (λ arguments. S.construct_record flat kind entry arguments m st) a h k
+      (λ vs b. constructed kind entry vs m st (subst (λ (j : ℕ). kind < j) (sym named_records) w) b h k)
   callee_called (IsFunc func) n xs m st w f a h k = outcome (apply st.names (Function func) xs (S.here flat m st)) m st (f func refl) h k
   callee_called IsNothing n xs m st w f a h k = tt
 
-  invoked : (f : Value) (xs : List Item) (m : Frames) (st : Store Frames) → FunctionNamed P f xs m st → Each X xs → M m → K st → G (S.invoke_value flat P f xs m st)
+  invoked : (f : Value) (xs : List Item) (m : Frames) (st : Store Frames) → FunctionNamed P f xs m st → Each X xs → M m → K st
+      → G (S.invoke_value flat P f xs m st)
   invoked (ProcedureValue n) xs m st f a h k = callee_called (S.callee_of P n) n xs m st (callees n P.procs P.records) (λ func e. f n func refl e) a h k
   invoked Null xs m st f a h k = integer_called Null (number_of Null) xs m st a h k
   invoked (Integer n) xs m st f a h k = integer_called (Integer n) (number_of (Integer n)) xs m st a h k
@@ -379,7 +419,8 @@ module _ (rows : RowsKeepNames) (P : Tables) where
   field_of field (ATable n) m st h k = tt
   field_of field (ACoexp n) m st h k = tt
 
-  result : (x : Item) (m : Frames) (st : Store Frames) (go : Item → State Frames Frames) → X x → M m → K st → ((x : Item) → X x → G (go x)) → G (S.with_result flat x m st go)
+  result : (x : Item) (m : Frames) (st : Store Frames) (go : Item → State Frames Frames) → X x → M m → K st → ((x : Item) → X x → G (go x))
+      → G (S.with_result flat x m st go)
   result (Val v) m st go n h k f = f (Val v) n
   result (Var (Whole (Local j))) m st go n h k f = value (Var (Whole (Local j))) m st (λ v. go (Val v)) n h k (λ v a. f (Val v) (plain v a))
   result (Var (Part (Local j) place size)) m st go n h k f = value (Var (Part (Local j) place size)) m st (λ v. go (Val v)) n h k (λ v a. f (Val v) (plain v a))
@@ -400,7 +441,8 @@ module _ (rows : RowsKeepNames) (P : Tables) where
   finished true st = tt
   finished false st = tt
 
-  returned : (o : Option Frames) (go : Frames → Store Frames → State Frames Frames) (st : Store Frames) → Maybe M o → K st → ((m : Frames) (s : Store Frames) → M m → K s → G (go m s)) → G (S.return_to o go st)
+  returned : (o : Option Frames) (go : Frames → Store Frames → State Frames Frames) (st : Store Frames) → Maybe M o → K st
+      → ((m : Frames) (s : Store Frames) → M m → K s → G (go m s)) → G (S.return_to o go st)
   returned (Some m) go st h k f = f m st h k
   returned None go st h k f = finished (S.is_main st.active) st
 
@@ -424,13 +466,15 @@ module _ (rows : RowsKeepNames) (P : Tables) where
 
   resumed : (why : Why) (m : Frames) (st : Store Frames) → WhyNamed ns why → M m → K st → G (S.resume_by flat P why m st)
   resumed Alt m st w h k = (h, k)
-  resumed (Operating r) m st w h k = turn st (λ st. S.outcome flat (again r (S.here flat m st)) m st) k (λ st k. outcome (again r (S.here flat m st)) m st (rows.resumed ns r (S.here flat m st) (here m st h k) w) h k)
+  resumed (Operating r) m st w h k = turn st (λ st. S.outcome flat (again r (S.here flat m st)) m st) k
+      (λ st k. outcome (again r (S.here flat m st)) m st (rows.resumed ns r (S.here flat m st) (here m st h k) w) h k)
   resumed (Scan pair) m st w h k = (h, with_pair pair st k)
   resumed Escan m st w h k = exchanged (flats.swap_newest (S.pair_now st) m) failing st (C.swap_newest ns (S.pair_now st) m h) k (λ m s h k. (h, k))
   resumed Proc m st w h k = turn st (λ st. S.maybe_exchanged (flats.swap_oldest (S.pair_now st) m) m st running) k
       (λ st k. maybe_exchanged (flats.swap_oldest (S.pair_now st) m) m st running (C.swap_oldest ns (S.pair_now st) m h) h k (λ m s h k. (h, k)))
 
-  back_or_dropped : (m : Frames) (st : Store Frames) (o : Option (Why × Frames)) → Maybe (C.Two ns (WhyNamed ns)) o → M m → K st → G (S.resumed_or_dropped flat P m st o)
+  back_or_dropped : (m : Frames) (st : Store Frames) (o : Option (Why × Frames)) → Maybe (C.Two ns (WhyNamed ns)) o → M m → K st
+      → G (S.resumed_or_dropped flat P m st o)
   back_or_dropped m st None n h k = dropped m st (flats.drop_mark m) (C.drop_mark ns m h) h k
   back_or_dropped m st (Some x) n h k = resumed x.0 x.1 st n.0 n.1 k
 
@@ -442,7 +486,8 @@ module _ (rows : RowsKeepNames) (P : Tables) where
   popped : (m : Frames) (go : Item → Frames → State Frames Frames) → M m → ((x : Item) (m : Frames) → X x → M m → G (go x m)) → G (S.with_popped flat m go)
   popped m go h f = found (C.Two ns X) (flats.pop m) (S.on_pair go) (C.pop ns m h) (λ x n. f x.0 x.1 n.0 n.1)
 
-  taken : (n : ℕ) (m : Frames) (go : List Item → Frames → State Frames Frames) → M m → ((xs : List Item) (m : Frames) → Each X xs → M m → G (go xs m)) → G (S.with_taken flat n m go)
+  taken : (n : ℕ) (m : Frames) (go : List Item → Frames → State Frames Frames) → M m → ((xs : List Item) (m : Frames) → Each X xs → M m → G (go xs m))
+      → G (S.with_taken flat n m go)
   taken n m go h f = found (C.Two ns (Each X)) (flats.take n m) (S.on_pair go) (C.take_items ns n m h) (λ x n. f x.0 x.1 n.0 n.1)
 
   limited : (v : Value) (o : Option ℤ) (m : Frames) (st : Store Frames) → M m → K st → G (S.limit_results flat v o m st)
@@ -479,8 +524,10 @@ module _ (rows : RowsKeepNames) (P : Tables) where
       (λ v b. value y m st (λ other. S.activation flat v other m st) a.1.0 h k (λ to c. activation v to m st b h k))
   activation_of (x ∷ y ∷ z ∷ xs) m st a h k = tt
 
-  operates : (op : Op) (xs : List Item) (m : Frames) (st : Store Frames) → Each X xs → M m → K st → G (S.outcome flat (apply st.names (Operation op) xs (S.here flat m st)) m st)
-  operates op xs m st a h k = outcome (apply st.names (Operation op) xs (S.here flat m st)) m st (rows.operations ns op xs (S.here flat m st) (here m st h k) (all_of X xs a)) h k
+  operates : (op : Op) (xs : List Item) (m : Frames) (st : Store Frames) → Each X xs → M m → K st
+      → G (S.outcome flat (apply st.names (Operation op) xs (S.here flat m st)) m st)
+  operates op xs m st a h k =
+      outcome (apply st.names (Operation op) xs (S.here flat m st)) m st (rows.operations ns op xs (S.here flat m st) (here m st h k) (all_of X xs a)) h k
 
   field_applied : (field : ℕ) (xs : List Item) (m : Frames) (st : Store Frames) → Each X xs → M m → K st → G (S.field_applied flat P field xs m st)
   field_applied field (x ∷ xs) m st a h k = value x m st (λ value. S.field_of flat P field value m st) a.0 h k (λ v b. field_of field v m st h k)
@@ -558,53 +605,74 @@ module _ (rows : RowsKeepNames) (P : Tables) where
   instruction I.Pnull m st d h k = ((plain Null tt, h), k)
   instruction (I.Int n) m st d h k = any (slice_get P.integers n) (λ n. S.push_item flat (Val (Integer n)) m st) (λ x. ((plain (Integer x) tt, h), k))
   instruction (I.Str n) m st d h k = any (slice_get P.strings n) (λ bytes. S.push_item flat (Val (Text bytes)) m st) (λ x. ((plain (Text x) tt, h), k))
-  instruction (I.Cset n) m st d h k = any (slice_get P.csets n) (λ set. S.push_item flat (Val (Chars (S.members_of set))) m st) (λ x. ((plain (Chars (S.members_of x)) tt, h), k))
+  instruction (I.Cset n) m st d h k =
+      any (slice_get P.csets n) (λ set. S.push_item flat (Val (Chars (S.members_of set))) m st) (λ x. ((plain (Chars (S.members_of x)) tt, h), k))
   instruction (I.Local n) m st d h k = ((record { named = tt }, h), k)
   instruction (I.Static n) m st d h k = ((record { named = tt }, h), k)
   instruction (I.Global n) m st d h k = ((record { named = tt }, h), k)
   instruction (I.Keywd word) m st d h k = pushed_or_fails (keyword_item (S.standing_of flat m st) word) m st (keyword (S.standing_of flat m st) word) h k
   instruction I.Pop m st d h k = popped m (λ item m. running m st) h (λ x m a h. (h, k))
   instruction I.Dup m st d h k = popped m (λ item below. S.push_item flat item m st) h (λ x b a g. ((a, h), k))
-  instruction (I.Op op) m st d h k = taken (arity op) m (λ items m. S.turn P st (S.operate flat op items m)) h (λ xs m a h. turn st (S.operate flat op xs m) k (λ st k. operated op xs m st a h k))
-  instruction (I.Llist n) m st d h k = taken n m (λ items m. S.turn P st (λ st. S.with_values flat items m st (λ values. S.list_made flat values m st (λ list m st. S.push_item flat (Val list) m st)))) h
+  instruction (I.Op op) m st d h k = taken (arity op) m (λ items m. S.turn P st (S.operate flat op items m)) h
+      (λ xs m a h. turn st (S.operate flat op xs m) k (λ st k. operated op xs m st a h k))
+  instruction (I.Llist n) m st d h k = taken n m
+      (λ items m. S.turn P st (λ st. S.with_values flat items m st (λ values. S.list_made flat values m st (λ list m st. S.push_item flat (Val list) m st)))) h
       (λ xs m a h. turn st (λ st. S.with_values flat xs m st (λ values. S.list_made flat values m st (λ list m st. S.push_item flat (Val list) m st))) k
-      (λ st k. values xs m st (λ values. S.list_made flat values m st (λ list m st. S.push_item flat (Val list) m st)) a h k (λ vs b. list_made vs m st (λ list m st. S.push_item flat (Val list) m st) b h k (λ v m s c h k. ((plain v c, h), k)))))
-  instruction (I.Field n) m st d h k = taken 1 m (λ items m. S.turn P st (S.field_applied flat P n items m)) h (λ xs m a h. turn st (S.field_applied flat P n xs m) k (λ st k. field_applied n xs m st a h k))
+      (λ st k. values xs m st (λ values. S.list_made flat values m st (λ list m st. S.push_item flat (Val list) m st)) a h k
+      (λ vs b. list_made vs m st (λ list m st. S.push_item flat (Val list) m st) b h k (λ v m s c h k. ((plain v c, h), k)))))
+  instruction (I.Field n) m st d h k = taken 1 m (λ items m. S.turn P st (S.field_applied flat P n items m)) h
+      (λ xs m a h. turn st (S.field_applied flat P n xs m) k (λ st k. field_applied n xs m st a h k))
   instruction (I.Invoke n) m st d h k = absurd (d tt)
   instruction I.Appl m st d h k = absurd (d tt)
   instruction (I.Mark l) m st d h k = ((tt, h), k)
   instruction I.Mark0 m st d h k = ((tt, h), k)
   instruction I.Unmark m st d h k = unmarked m st running h k (λ m s h k. (h, k))
   instruction I.Eret m st d h k = popped m (λ item m. S.with_value flat item m st (λ value. S.unmark_then flat m st (S.push_item flat (Val value)))) h
-      (λ x m a h. value x m st (λ value. S.unmark_then flat m st (S.push_item flat (Val value))) a h k (λ v b. unmarked m st (S.push_item flat (Val v)) h k (λ m s h k. ((plain v b, h), k))))
-  instruction I.Esusp m st d h k = popped m (λ item m. S.with_found (flats.suspend_mark m) (λ m. S.push_item flat item m st)) h (λ x m a h. found M (flats.suspend_mark m) (λ m. S.push_item flat x m st) (C.suspend_mark ns m h) (λ m h. ((a, h), k)))
+      (λ x m a h. value x m st (λ value. S.unmark_then flat m st (S.push_item flat (Val value))) a h k
+      (λ v b. unmarked m st (S.push_item flat (Val v)) h k (λ m s h k. ((plain v b, h), k))))
+  instruction I.Esusp m st d h k = popped m (λ item m. S.with_found (flats.suspend_mark m) (λ m. S.push_item flat item m st)) h
+      (λ x m a h. found M (flats.suspend_mark m) (λ m. S.push_item flat x m st) (C.suspend_mark ns m h) (λ m h. ((a, h), k)))
   instruction I.Limit m st d h k = popped m (λ item m. S.with_value flat item m st (λ value. S.limit_results flat value (integer_of value) m st)) h
       (λ x m a h. value x m st (λ value. S.limit_results flat value (integer_of value) m st) a h k (λ v b. limited v (integer_of v) m st h k))
   instruction I.Lsusp m st d h k = popped m (λ item m. S.with_found (flats.count_down m) (S.on_pair (λ count m. S.limited_result flat item count m st))) h
-      (λ x m a h. found (C.Two ns (C.Counted ns)) (flats.count_down m) (S.on_pair (λ count m. S.limited_result flat x count m st)) (C.count_down ns m h) (λ y n. limited_result x y.0 y.1 st a n.1 k))
+      (λ x m a h. found (C.Two ns (C.Counted ns)) (flats.count_down m) (S.on_pair (λ count m. S.limited_result flat x count m st)) (C.count_down ns m h)
+      (λ y n. limited_result x y.0 y.1 st a n.1 k))
   instruction I.Efail m st d h k = (h, k)
   instruction (I.Chfail l) m st d h k = found M (flats.relabel l m) (λ m. running m st) (C.relabel ns l m h) (λ m h. (h, k))
   instruction (I.Goto l) m st d h k = (h, k)
   instruction (I.Loop l) m st d h k = turn st (running (flats.go l m)) k (λ s k. (h, k))
-  instruction I.Bscan m st d h k = popped m (λ item m. S.with_value flat item m st (λ value. S.with_made flat (text_row value (S.here flat m st)) m st (S.scan_opened flat))) h
+  instruction I.Bscan m st d h k =
+      popped m (λ item m. S.with_value flat item m st (λ value. S.with_made flat (text_row value (S.here flat m st)) m st (S.scan_opened flat))) h
       (λ x m a h. value x m st (λ value. S.with_made flat (text_row value (S.here flat m st)) m st (S.scan_opened flat)) a h k
-      (λ v b. made (text_row v (S.here flat m st)) m st (S.scan_opened flat) (rows.texts ns v (S.here flat m st) (here m st h k) b) h k (λ v m s c h k. scan_opened v m s h k)))
-  instruction I.Escan m st d h k = popped m (λ item m. S.with_exchange (flats.swap_newest (S.pair_now st) m) (λ m. S.push_item flat item (flats.suspend Escan m)) st) h
-      (λ x m a h. exchanged (flats.swap_newest (S.pair_now st) m) (λ m. S.push_item flat x (flats.suspend Escan m)) st (C.swap_newest ns (S.pair_now st) m h) k (λ m s h k. ((a, C.suspend ns Escan m tt h), k)))
+      (λ v b. made (text_row v (S.here flat m st)) m st (S.scan_opened flat) (rows.texts ns v (S.here flat m st) (here m st h k) b) h k
+      (λ v m s c h k. scan_opened v m s h k)))
+  instruction I.Escan m st d h k =
+      popped m (λ item m. S.with_exchange (flats.swap_newest (S.pair_now st) m) (λ m. S.push_item flat item (flats.suspend Escan m)) st) h
+      (λ x m a h. exchanged (flats.swap_newest (S.pair_now st) m) (λ m. S.push_item flat x (flats.suspend Escan m)) st (C.swap_newest ns (S.pair_now st) m h) k
+      (λ m s h k. ((a, C.suspend ns Escan m tt h), k)))
   instruction I.Ccase m st d h k = found X (flats.below m) (λ item. S.push_item flat item m st) (C.below ns m h) (λ x a. ((a, h), k))
   instruction (I.Init l) m st d h k = initial (slice_index_or st.begun (flats.proc m) true) l m st h k
-  instruction I.Psusp m st d h k = popped m (λ item below. S.with_result flat item m st (λ result. S.maybe_exchanged (flats.swap_oldest (S.pair_now st) m) m st (λ m. S.return_to (flats.suspend_proc m) (S.push_item flat result)))) h
-      (λ x below a g. result x m st (λ result. S.maybe_exchanged (flats.swap_oldest (S.pair_now st) m) m st (λ m. S.return_to (flats.suspend_proc m) (S.push_item flat result))) a h k
-      (λ x b. maybe_exchanged (flats.swap_oldest (S.pair_now st) m) m st (λ m. S.return_to (flats.suspend_proc m) (S.push_item flat x)) (C.swap_oldest ns (S.pair_now st) m h) h k
+  instruction I.Psusp m st d h k = popped m (λ item below. S.with_result flat item m st
+      (λ result. S.maybe_exchanged (flats.swap_oldest (S.pair_now st) m) m st (λ m. S.return_to (flats.suspend_proc m) (S.push_item flat result)))) h
+      (λ x below a g. result x m st
+      (λ result. S.maybe_exchanged (flats.swap_oldest (S.pair_now st) m) m st (λ m. S.return_to (flats.suspend_proc m) (S.push_item flat result))) a h k
+      (λ x b. maybe_exchanged (flats.swap_oldest (S.pair_now st) m) m st (λ m. S.return_to (flats.suspend_proc m) (S.push_item flat x))
+      (C.swap_oldest ns (S.pair_now st) m h) h k
       (λ m s h k. returned (flats.suspend_proc m) (S.push_item flat x) s (C.suspend_proc ns m h) k (λ m s h k. ((b, h), k)))))
-  instruction I.Pret m st d h k = popped m (λ item m. S.with_result flat item m st (λ result. S.return_to (flats.leave m) (S.push_item flat result) (S.all_left flat m st))) h
-      (λ x m a h. result x m st (λ result. S.return_to (flats.leave m) (S.push_item flat result) (S.all_left flat m st)) a h k (λ x b. returned (flats.leave m) (S.push_item flat x) (S.all_left flat m st) (C.leave ns m h) (all_left m st k) (λ m s h k. ((b, h), k))))
+  instruction I.Pret m st d h k =
+      popped m (λ item m. S.with_result flat item m st (λ result. S.return_to (flats.leave m) (S.push_item flat result) (S.all_left flat m st))) h
+      (λ x m a h. result x m st (λ result. S.return_to (flats.leave m) (S.push_item flat result) (S.all_left flat m st)) a h k
+      (λ x b. returned (flats.leave m) (S.push_item flat x) (S.all_left flat m st) (C.leave ns m h) (all_left m st k) (λ m s h k. ((b, h), k))))
   instruction I.Pfail m st d h k = either (S.is_create_body flat m st) stuck (S.proc_fails flat m st) tt (proc_fails m st h k)
-  instruction (I.Create l) m st d h k = turn st (S.coexp_made flat (flats.locals m) (flats.proc m) m.place (flats.go l m)) k (λ st k. coexp_made (flats.locals m) (flats.proc m) m.place (flats.go l m) st (C.locals ns m h) h k)
-  instruction I.Coact m st d h k = taken 2 m (λ items m. S.turn P st (S.activation_of flat items m)) h (λ xs m a h. turn st (S.activation_of flat xs m) k (λ st k. activation_of xs m st a h k))
-  instruction I.Coret m st d h k = either (S.is_create_body flat m st) (S.with_popped flat m (λ item m. S.turn P st (λ st. S.with_value flat item m st (λ value. S.result_given flat value m st)))) stuck
+  instruction (I.Create l) m st d h k = turn st (S.coexp_made flat (flats.locals m) (flats.proc m) m.place (flats.go l m)) k
+      (λ st k. coexp_made (flats.locals m) (flats.proc m) m.place (flats.go l m) st (C.locals ns m h) h k)
+  instruction I.Coact m st d h k = taken 2 m (λ items m. S.turn P st (S.activation_of flat items m)) h
+      (λ xs m a h. turn st (S.activation_of flat xs m) k (λ st k. activation_of xs m st a h k))
+  instruction I.Coret m st d h k = either (S.is_create_body flat m st)
+      (S.with_popped flat m (λ item m. S.turn P st (λ st. S.with_value flat item m st (λ value. S.result_given flat value m st)))) stuck
       (popped m (λ item m. S.turn P st (λ st. S.with_value flat item m st (λ value. S.result_given flat value m st))) h
-      (λ x m a h. turn st (λ st. S.with_value flat x m st (λ value. S.result_given flat value m st)) k (λ st k. value x m st (λ value. S.result_given flat value m st) a h k (λ v b. result_given v m st b h k)))) tt
+      (λ x m a h. turn st (λ st. S.with_value flat x m st (λ value. S.result_given flat value m st)) k
+      (λ st k. value x m st (λ value. S.result_given flat value m st) a h k (λ v b. result_given v m st b h k)))) tt
   instruction I.Cofail m st d h k = either (S.is_create_body flat m st) (S.exhaust_active flat P m st) stuck (exhausted m st k) tt
 
   -- The law
@@ -635,7 +703,9 @@ steps_named rows = record {
   failing = λ P m st h k. state_out rows P _ (fails rows P m st (C.stack_in (S.all_names P) m h) (store_in rows P st k));
   hops = λ P m st k. state_out rows P _ (hop rows P m st (store_in rows P st k));
   outcomes = λ P o m st n h k. state_out rows P _ (outcome rows P o m st n (C.stack_in (S.all_names P) m h) (store_in rows P st k));
-  values = λ P xs m st go a h k f. state_out rows P _ (values rows P xs m st go (each_of (ItemNamed (S.all_names P)) xs a) (C.stack_in (S.all_names P) m h) (store_in rows P st k)
+  values = λ P xs m st go a h k f.
+      state_out rows P _ (values rows P xs m st go (each_of (ItemNamed (S.all_names P)) xs a) (C.stack_in (S.all_names P) m h) (store_in rows P st k)
       (λ vs b. state_in rows P (go vs) (f vs (all_of (ValueNamed (S.all_names P)) vs b))));
-  called = λ P f xs m st n a h k. state_out rows P _ (invoked rows P f xs m st n (each_of (ItemNamed (S.all_names P)) xs a) (C.stack_in (S.all_names P) m h) (store_in rows P st k));
+  called = λ P f xs m st n a h k.
+      state_out rows P _ (invoked rows P f xs m st n (each_of (ItemNamed (S.all_names P)) xs a) (C.stack_in (S.all_names P) m h) (store_in rows P st k));
 }

@@ -78,9 +78,11 @@ module _ (rows : RowsKeepSizes) (P : Tables) where
   value : (x : Item) (m : Frames) (st : Store Frames) (go : Value → State Frames Frames) → K st → ((v : Value) → G (go v)) → G (S.with_value flat x m st go)
   value x m st go k f = valued (value_row x (S.here flat m st)) m st go k f
 
-  values : (xs : List Item) (m : Frames) (st : Store Frames) (go : List Value → State Frames Frames) → K st → ((vs : List Value) → G (go vs)) → G (S.with_values flat xs m st go)
+  values : (xs : List Item) (m : Frames) (st : Store Frames) (go : List Value → State Frames Frames) → K st → ((vs : List Value) → G (go vs))
+      → G (S.with_values flat xs m st go)
   values [] m st go k f = f []
-  values (x ∷ xs) m st go k f = value x m st (λ v. S.with_values flat xs m st (λ vs. go (v ∷ vs))) k (λ v. values xs m st (λ vs. go (v ∷ vs)) k (λ vs. f (v ∷ vs)))
+  values (x ∷ xs) m st go k f =
+      value x m st (λ v. S.with_values flat xs m st (λ vs. go (v ∷ vs))) k (λ v. values xs m st (λ vs. go (v ∷ vs)) k (λ vs. f (v ∷ vs)))
 
   list_made : (vs : List Value) (m : Frames) (st : Store Frames) (go : Value → Frames → Store Frames → State Frames Frames) → K st
       → ((v : Value) (m : Frames) (s : Store Frames) → K s → G (go v m s)) → G (S.list_made flat vs m st go)
@@ -88,7 +90,8 @@ module _ (rows : RowsKeepSizes) (P : Tables) where
 
   -- Scans
 
-  exchanged : (o : Option (Pair × Frames)) (go : Frames → Store Frames → State Frames Frames) (st : Store Frames) → K st → ((m : Frames) (s : Store Frames) → K s → G (go m s)) → G (S.with_exchange o go st)
+  exchanged : (o : Option (Pair × Frames)) (go : Frames → Store Frames → State Frames Frames) (st : Store Frames) → K st
+      → ((m : Frames) (s : Store Frames) → K s → G (go m s)) → G (S.with_exchange o go st)
   exchanged (Some x) go st k f = f x.1 (S.with_pair x.0 st) k
   exchanged None go st k f = tt
 
@@ -108,8 +111,10 @@ module _ (rows : RowsKeepSizes) (P : Tables) where
   all_left : (m : Frames) (st : Store Frames) → K st → K (S.all_left flat m st)
   all_left m st k = swapped_back (flats.swap_oldest (S.pair_now st) m) st k
 
-  unmarked : (m : Frames) (st : Store Frames) (go : Frames → Store Frames → State Frames Frames) → K st → ((m : Frames) (s : Store Frames) → K s → G (go m s)) → G (S.unmark_then flat m st go)
-  unmarked m st go k f = found (flats.unmark m) (S.on_pair (λ outside pair. go outside (S.scans_left pair st))) (λ x. f x.0 (S.scans_left x.1 st) (left x.1 st k))
+  unmarked : (m : Frames) (st : Store Frames) (go : Frames → Store Frames → State Frames Frames) → K st → ((m : Frames) (s : Store Frames) → K s → G (go m s))
+      → G (S.unmark_then flat m st go)
+  unmarked m st go k f =
+      found (flats.unmark m) (S.on_pair (λ outside pair. go outside (S.scans_left pair st))) (λ x. f x.0 (S.scans_left x.1 st) (left x.1 st k))
 
   -- Co-expressions
 
@@ -143,7 +148,8 @@ module _ (rows : RowsKeepSizes) (P : Tables) where
       passed (S.activator_of st.active st) v m (S.counted_result st.active (S.with_status st.active (Waiting m) st)) (record { fit = k.fit })
 
   coexp_made : (vs : List Value) (proc place : ℕ) (m : Frames) (st : Store Frames) → K st → G (S.coexp_made flat vs proc place m st)
-  coexp_made vs proc place m st k = made (coexpression_row (length vs) (S.here flat m st)) m st (λ value m st. S.push_item flat (Val value) m (S.with_new vs proc place st))
+  coexp_made vs proc place m st k =
+      made (coexpression_row (length vs) (S.here flat m st)) m st (λ value m st. S.push_item flat (Val value) m (S.with_new vs proc place st))
       ((rows.coexpressions (field_count P) (length vs) (S.here flat m st)).fit k) k (λ v m s k. k)
 
   refreshed_from : (o : Option (Coexp Frames)) (m : Frames) (st : Store Frames) → K st → G (S.refreshed_from flat o m st)
@@ -191,10 +197,12 @@ module _ (rows : RowsKeepSizes) (P : Tables) where
   pub collected : (t : Bool) (n : ℕ) (vs : List Value) (m : Frames) (st : Store Frames) (go : List Value → Frames → Store Frames → State Frames Frames) → K st
       → ((vs : List Value) (m : Frames) (s : Store Frames) → K s → G (go vs m s)) → G (S.collect_rest flat t n vs m st go)
   collected false n vs m st go k f = f (S.fill_nulls n vs) m st k
-  collected true n vs m st go k f = list_made (drop (n - 1) vs) m st (λ rest m st. go (S.fill_nulls (n - 1) vs ++ rest ∷ []) m st) k (λ rest m st k. f (S.fill_nulls (n - 1) vs ++ rest ∷ []) m st k)
+  collected true n vs m st go k f = list_made (drop (n - 1) vs) m st (λ rest m st. go (S.fill_nulls (n - 1) vs ++ rest ∷ []) m st) k
+      (λ rest m st k. f (S.fill_nulls (n - 1) vs ++ rest ∷ []) m st k)
 
   called_if : (t : Bool) (n : ℕ) (entry : Procedure) (vs : List Value) (m : Frames) (st : Store Frames) → K st → G (S.called_if flat t n entry vs m st)
-  called_if true n entry vs m st k = collected entry.collects entry.parameters vs m st (λ parameters m st. S.enter_procedure flat n entry parameters m st) k (λ vs m st k. k)
+  called_if true n entry vs m st k =
+      collected entry.collects entry.parameters vs m st (λ parameters m st. S.enter_procedure flat n entry parameters m st) k (λ vs m st k. k)
   called_if false n entry vs m st k = tt
 
   filled_length : (n : ℕ) (vs : List Value) → length (S.fill_nulls n vs) ≡ n
@@ -221,11 +229,14 @@ module _ (rows : RowsKeepSizes) (P : Tables) where
   callees zero (p ∷ ps) = tt
   callees (suc n) (p ∷ ps) = callees n ps
 
-  constructed : (n : ℕ) (entry : RecordType) (vs : List Value) (m : Frames) (st : Store Frames) → slice_get P.records n ≡ Some entry → K st → G (S.construct_record flat n entry vs m st)
+  constructed : (n : ℕ) (entry : RecordType) (vs : List Value) (m : Frames) (st : Store Frames) → slice_get P.records n ≡ Some entry → K st
+      → G (S.construct_record flat n entry vs m st)
   constructed n entry vs m st e k =
       let fs = S.fill_nulls (length entry.fields) vs in
-      let long : length fs ≡ field_count P n = filled_length (length entry.fields) vs ∙ sym (ap (λ (o : Option RecordType). option_map_or (λ (entry : RecordType). length entry.fields) o 0) e) in
-      made (record_row n fs (S.here flat m st)) m st (λ value m st. S.push_item flat (Val value) m st) ((rows.records (field_count P) n fs (S.here flat m st) long).fit k) k (λ v m s k. k)
+      let long : length fs ≡ field_count P n = filled_length (length entry.fields) vs
+      ∙ sym (ap (λ (o : Option RecordType). option_map_or (λ (entry : RecordType). length entry.fields) o 0) e) in
+      made (record_row n fs (S.here flat m st)) m st (λ value m st. S.push_item flat (Val value) m st)
+      ((rows.records (field_count P) n fs (S.here flat m st) long).fit k) k (λ v m s k. k)
 
   pushed_or_fails : (o : Option Item) (m : Frames) (st : Store Frames) → K st → G (S.pushed_or_fails flat o m st)
   pushed_or_fails (Some x) m st k = k
@@ -235,10 +246,13 @@ module _ (rows : RowsKeepSizes) (P : Tables) where
   integer_called f (Some n) xs m st k = pushed_or_fails (S.choose_item n xs) m st k
   integer_called f None xs m st k = tt
 
-  callee_called : (c : Callee) (n : ℕ) (xs : List Item) (m : Frames) (st : Store Frames) → Within c → ((func : Func) → c ≡ IsFunc func → OutcomeFits P (apply st.names (Function func) xs (S.here flat m st)))
+  callee_called : (c : Callee) (n : ℕ) (xs : List Item) (m : Frames) (st : Store Frames) → Within c
+      → ((func : Func) → c ≡ IsFunc func → OutcomeFits P (apply st.names (Function func) xs (S.here flat m st)))
       → K st → G (S.callee_called flat c n xs m st)
-  callee_called (IsProc entry) n xs m st w f k = values xs m st (λ arguments. S.call_procedure flat n entry arguments m st) k (λ vs. called_if (nat_le (suc (flats.level m)) st.world.heap.bounds.levels) n entry vs m st k)
-  callee_called (IsRecord kind entry) n xs m st w f k = values xs m st (λ arguments. S.construct_record flat kind entry arguments m st) k (λ vs. constructed kind entry vs m st w k)
+  callee_called (IsProc entry) n xs m st w f k = values xs m st (λ arguments. S.call_procedure flat n entry arguments m st) k
+      (λ vs. called_if (nat_le (suc (flats.level m)) st.world.heap.bounds.levels) n entry vs m st k)
+  callee_called (IsRecord kind entry) n xs m st w f k =
+      values xs m st (λ arguments. S.construct_record flat kind entry arguments m st) k (λ vs. constructed kind entry vs m st w k)
   callee_called (IsFunc func) n xs m st w f k = outcome (apply st.names (Function func) xs (S.here flat m st)) m st (f func refl)
   callee_called IsNothing n xs m st w f k = tt
 
@@ -293,7 +307,8 @@ module _ (rows : RowsKeepSizes) (P : Tables) where
   finished true st = tt
   finished false st = tt
 
-  returned : (o : Option Frames) (go : Frames → Store Frames → State Frames Frames) (st : Store Frames) → K st → ((m : Frames) (s : Store Frames) → K s → G (go m s)) → G (S.return_to o go st)
+  returned : (o : Option Frames) (go : Frames → Store Frames → State Frames Frames) (st : Store Frames) → K st
+      → ((m : Frames) (s : Store Frames) → K s → G (go m s)) → G (S.return_to o go st)
   returned (Some m) go st k f = f m st k
   returned None go st k f = finished (S.is_main st.active) st
 
@@ -435,11 +450,15 @@ module _ (rows : RowsKeepSizes) (P : Tables) where
   instruction (I.Keywd word) m st d k = pushed_or_fails (keyword_item (S.standing_of flat m st) word) m st k
   instruction I.Pop m st d k = popped m (λ item m. running m st) (λ x m. k)
   instruction I.Dup m st d k = popped m (λ item below. S.push_item flat item m st) (λ x b. k)
-  instruction (I.Op op) m st d k = taken (arity op) m (λ items m. S.turn P st (S.operate flat op items m)) (λ xs m. turn st (S.operate flat op xs m) k (λ st k. operated op xs m st k))
-  instruction (I.Llist n) m st d k = taken n m (λ items m. S.turn P st (λ st. S.with_values flat items m st (λ values. S.list_made flat values m st (λ list m st. S.push_item flat (Val list) m st))))
+  instruction (I.Op op) m st d k =
+      taken (arity op) m (λ items m. S.turn P st (S.operate flat op items m)) (λ xs m. turn st (S.operate flat op xs m) k (λ st k. operated op xs m st k))
+  instruction (I.Llist n) m st d k = taken n m
+      (λ items m. S.turn P st (λ st. S.with_values flat items m st (λ values. S.list_made flat values m st (λ list m st. S.push_item flat (Val list) m st))))
       (λ xs m. turn st (λ st. S.with_values flat xs m st (λ values. S.list_made flat values m st (λ list m st. S.push_item flat (Val list) m st))) k
-      (λ st k. values xs m st (λ values. S.list_made flat values m st (λ list m st. S.push_item flat (Val list) m st)) k (λ vs. list_made vs m st (λ list m st. S.push_item flat (Val list) m st) k (λ v m s k. k))))
-  instruction (I.Field n) m st d k = taken 1 m (λ items m. S.turn P st (S.field_applied flat P n items m)) (λ xs m. turn st (S.field_applied flat P n xs m) k (λ st k. field_applied n xs m st k))
+      (λ st k. values xs m st (λ values. S.list_made flat values m st (λ list m st. S.push_item flat (Val list) m st)) k
+      (λ vs. list_made vs m st (λ list m st. S.push_item flat (Val list) m st) k (λ v m s k. k))))
+  instruction (I.Field n) m st d k = taken 1 m (λ items m. S.turn P st (S.field_applied flat P n items m))
+      (λ xs m. turn st (S.field_applied flat P n xs m) k (λ st k. field_applied n xs m st k))
   instruction (I.Invoke n) m st d k = absurd (d tt)
   instruction I.Appl m st d k = absurd (d tt)
   instruction (I.Mark l) m st d k = k
@@ -447,7 +466,8 @@ module _ (rows : RowsKeepSizes) (P : Tables) where
   instruction I.Unmark m st d k = unmarked m st running k (λ m s k. k)
   instruction I.Eret m st d k = popped m (λ item m. S.with_value flat item m st (λ value. S.unmark_then flat m st (S.push_item flat (Val value))))
       (λ x m. value x m st (λ value. S.unmark_then flat m st (S.push_item flat (Val value))) k (λ v. unmarked m st (S.push_item flat (Val v)) k (λ m s k. k)))
-  instruction I.Esusp m st d k = popped m (λ item m. S.with_found (flats.suspend_mark m) (λ m. S.push_item flat item m st)) (λ x m. found (flats.suspend_mark m) (λ m. S.push_item flat x m st) (λ m. k))
+  instruction I.Esusp m st d k = popped m (λ item m. S.with_found (flats.suspend_mark m) (λ m. S.push_item flat item m st))
+      (λ x m. found (flats.suspend_mark m) (λ m. S.push_item flat x m st) (λ m. k))
   instruction I.Limit m st d k = popped m (λ item m. S.with_value flat item m st (λ value. S.limit_results flat value (integer_of value) m st))
       (λ x m. value x m st (λ value. S.limit_results flat value (integer_of value) m st) k (λ v. limited v (integer_of v) m st k))
   instruction I.Lsusp m st d k = popped m (λ item m. S.with_found (flats.count_down m) (S.on_pair (λ count m. S.limited_result flat item count m st)))
@@ -456,25 +476,36 @@ module _ (rows : RowsKeepSizes) (P : Tables) where
   instruction (I.Chfail l) m st d k = found (flats.relabel l m) (λ m. running m st) (λ m. k)
   instruction (I.Goto l) m st d k = k
   instruction (I.Loop l) m st d k = turn st (running (flats.go l m)) k (λ s k. k)
-  instruction I.Bscan m st d k = popped m (λ item m. S.with_value flat item m st (λ value. S.with_made flat (text_row value (S.here flat m st)) m st (S.scan_opened flat)))
+  instruction I.Bscan m st d k =
+      popped m (λ item m. S.with_value flat item m st (λ value. S.with_made flat (text_row value (S.here flat m st)) m st (S.scan_opened flat)))
       (λ x m. value x m st (λ value. S.with_made flat (text_row value (S.here flat m st)) m st (S.scan_opened flat)) k
-      (λ v. made (text_row v (S.here flat m st)) m st (S.scan_opened flat) ((rows.texts (field_count P) v (S.here flat m st)).fit k) k (λ v m s k. scan_opened v m s k)))
-  instruction I.Escan m st d k = popped m (λ item m. S.with_exchange (flats.swap_newest (S.pair_now st) m) (λ m. S.push_item flat item (flats.suspend Escan m)) st)
+      (λ v. made (text_row v (S.here flat m st)) m st (S.scan_opened flat) ((rows.texts (field_count P) v (S.here flat m st)).fit k) k
+      (λ v m s k. scan_opened v m s k)))
+  instruction I.Escan m st d k =
+      popped m (λ item m. S.with_exchange (flats.swap_newest (S.pair_now st) m) (λ m. S.push_item flat item (flats.suspend Escan m)) st)
       (λ x m. exchanged (flats.swap_newest (S.pair_now st) m) (λ m. S.push_item flat x (flats.suspend Escan m)) st k (λ m s k. k))
   instruction I.Ccase m st d k = found (flats.below m) (λ item. S.push_item flat item m st) (λ x. k)
   instruction (I.Init l) m st d k = initial (slice_index_or st.begun (flats.proc m) true) l m st k
-  instruction I.Psusp m st d k = popped m (λ item below. S.with_result flat item m st (λ result. S.maybe_exchanged (flats.swap_oldest (S.pair_now st) m) m st (λ m. S.return_to (flats.suspend_proc m) (S.push_item flat result))))
-      (λ x below. result x m st (λ result. S.maybe_exchanged (flats.swap_oldest (S.pair_now st) m) m st (λ m. S.return_to (flats.suspend_proc m) (S.push_item flat result))) k
+  instruction I.Psusp m st d k = popped m (λ item below. S.with_result flat item m st
+      (λ result. S.maybe_exchanged (flats.swap_oldest (S.pair_now st) m) m st (λ m. S.return_to (flats.suspend_proc m) (S.push_item flat result))))
+      (λ x below. result x m st
+      (λ result. S.maybe_exchanged (flats.swap_oldest (S.pair_now st) m) m st (λ m. S.return_to (flats.suspend_proc m) (S.push_item flat result))) k
       (λ x. maybe_exchanged (flats.swap_oldest (S.pair_now st) m) m st (λ m. S.return_to (flats.suspend_proc m) (S.push_item flat x)) k
       (λ m s k. returned (flats.suspend_proc m) (S.push_item flat x) s k (λ m s k. k))))
-  instruction I.Pret m st d k = popped m (λ item m. S.with_result flat item m st (λ result. S.return_to (flats.leave m) (S.push_item flat result) (S.all_left flat m st)))
-      (λ x m. result x m st (λ result. S.return_to (flats.leave m) (S.push_item flat result) (S.all_left flat m st)) k (λ x. returned (flats.leave m) (S.push_item flat x) (S.all_left flat m st) (all_left m st k) (λ m s k. k)))
+  instruction I.Pret m st d k =
+      popped m (λ item m. S.with_result flat item m st (λ result. S.return_to (flats.leave m) (S.push_item flat result) (S.all_left flat m st)))
+      (λ x m. result x m st (λ result. S.return_to (flats.leave m) (S.push_item flat result) (S.all_left flat m st)) k
+      (λ x. returned (flats.leave m) (S.push_item flat x) (S.all_left flat m st) (all_left m st k) (λ m s k. k)))
   instruction I.Pfail m st d k = either (S.is_create_body flat m st) stuck (S.proc_fails flat m st) tt (proc_fails m st k)
-  instruction (I.Create l) m st d k = turn st (S.coexp_made flat (flats.locals m) (flats.proc m) m.place (flats.go l m)) k (λ st k. coexp_made (flats.locals m) (flats.proc m) m.place (flats.go l m) st k)
-  instruction I.Coact m st d k = taken 2 m (λ items m. S.turn P st (S.activation_of flat items m)) (λ xs m. turn st (S.activation_of flat xs m) k (λ st k. activation_of xs m st k))
-  instruction I.Coret m st d k = either (S.is_create_body flat m st) (S.with_popped flat m (λ item m. S.turn P st (λ st. S.with_value flat item m st (λ value. S.result_given flat value m st)))) stuck
+  instruction (I.Create l) m st d k = turn st (S.coexp_made flat (flats.locals m) (flats.proc m) m.place (flats.go l m)) k
+      (λ st k. coexp_made (flats.locals m) (flats.proc m) m.place (flats.go l m) st k)
+  instruction I.Coact m st d k =
+      taken 2 m (λ items m. S.turn P st (S.activation_of flat items m)) (λ xs m. turn st (S.activation_of flat xs m) k (λ st k. activation_of xs m st k))
+  instruction I.Coret m st d k = either (S.is_create_body flat m st)
+      (S.with_popped flat m (λ item m. S.turn P st (λ st. S.with_value flat item m st (λ value. S.result_given flat value m st)))) stuck
       (popped m (λ item m. S.turn P st (λ st. S.with_value flat item m st (λ value. S.result_given flat value m st)))
-      (λ x m. turn st (λ st. S.with_value flat x m st (λ value. S.result_given flat value m st)) k (λ st k. value x m st (λ value. S.result_given flat value m st) k (λ v. result_given v m st k)))) tt
+      (λ x m. turn st (λ st. S.with_value flat x m st (λ value. S.result_given flat value m st)) k
+      (λ st k. value x m st (λ value. S.result_given flat value m st) k (λ v. result_given v m st k)))) tt
   instruction I.Cofail m st d k = either (S.is_create_body flat m st) (S.exhaust_active flat P m st) stuck (exhausted m st k) tt
 
 pub steps_sized : RowsKeepSizes → StepsKeepSizes

@@ -60,7 +60,8 @@ module _ (tables : Tables) where
   lacks_nothing s never = never []
 
   -- a step over any outside leads to such a state
-  pub never_behind : (outside : Outside) (s : State Frames Frames) → IsNeverStuckOver tables s → IsNeverStuckOver tables (step flat tables (over_outside outside s))
+  pub never_behind : (outside : Outside) (s : State Frames Frames) → IsNeverStuckOver tables s
+      → IsNeverStuckOver tables (step flat tables (over_outside outside s))
   never_behind outside s never = λ outsides. never (outside ∷ outsides)
 
   -- a step over its own outside too
@@ -82,7 +83,8 @@ module _ (tables : Tables) where
   -- over another outside the state is such a one
   pub never_elsewhere : (outside : Outside) (s : State Frames Frames) → IsNeverStuckOver tables s → IsNeverStuckOver tables (over_outside outside s)
   never_elsewhere outside s never [] = λ e. never [] (over_stuck outside s e)
-  never_elsewhere outside s never (now ∷ later) = subst (λ x. run_over tables later (step flat tables x) ≢ stuck) (sym (over_twice outside now s)) (never (now ∷ later))
+  never_elsewhere outside s never (now ∷ later) =
+      subst (λ x. run_over tables later (step flat tables x) ≢ stuck) (sym (over_twice outside now s)) (never (now ∷ later))
 
 -- That it is so
 
@@ -99,7 +101,8 @@ module _ (tables : Tables) (have : HaveShapes tables) (ok : TablesOk tables) (ke
   safe_over outside stuck h = h
 
   -- states that are the same are so over another outside
-  pub same_outside : (outside : Outside) (l : State Parked Linked) (f : State Frames Frames) → Sames tables have ok keep l f → Sames tables have ok keep (over_outside outside l) (over_outside outside f)
+  pub same_outside : (outside : Outside) (l : State Parked Linked) (f : State Frames Frames) → Sames tables have ok keep l f
+      → Sames tables have ok keep (over_outside outside l) (over_outside outside f)
   same_outside outside l f (same_running st ks' h) = same_running (record st { outside = outside }) ks' h
   same_outside outside l f (same_failing st ks' h) = same_failing (record st { outside = outside }) ks' h
   same_outside outside l f (same_hopping st ks' h) = same_hopping (record st { outside = outside }) ks' h
@@ -111,13 +114,19 @@ module _ (tables : Tables) (have : HaveShapes tables) (ok : TablesOk tables) (ke
   near_over outside f x = record { state = over_outside outside x.state; safe = safe_over outside x.state x.safe; same = same_outside outside x.state f x.same }
 
   -- a mark is opened, whatever the outside
-  pub opens_mark : (label : Option ℕ) (m : Frames) (st : Store Frames) → instruction_at flat tables m ≡ Some (mark_of label) → step flat tables (running m st) ≡ running (flat.mark label (flat.go (suc (flat.place m)) m)) st
+  pub opens_mark : (label : Option ℕ) (m : Frames) (st : Store Frames) → instruction_at flat tables m ≡ Some (mark_of label)
+      → step flat tables (running m st) ≡ running (flat.mark label (flat.go (suc (flat.place m)) m)) st
   opens_mark None m st e = ap (λ o. with_found o (λ instr. instruction flat tables instr (flat.go (suc (flat.place m)) m) st)) e
   opens_mark (Some label) m st e = ap (λ o. with_found o (λ instr. instruction flat tables instr (flat.go (suc (flat.place m)) m) st)) e
 
-  pub due_over : (outside : Outside) (f : State Frames Frames) → IsDue tables have ok keep f → Near tables have ok keep (step flat tables f) → Follows tables have ok keep (over_outside outside f)
+  pub due_over : (outside : Outside) (f : State Frames Frames) → IsDue tables have ok keep f → Near tables have ok keep (step flat tables f)
+      → Follows tables have ok keep (over_outside outside f)
   due_over outside (running m st) due near =
-      inr (due, subst (Near tables have ok keep) (ap (over_outside outside) (opens_mark due.0 m st due.1) ∙ sym (opens_mark due.0 m (record st { outside = outside }) due.1)) (near_over outside (step flat tables (running m st)) near))
+      inr (
+        due,
+        subst (Near tables have ok keep) (ap (over_outside outside) (opens_mark due.0 m st due.1)
+            ∙ sym (opens_mark due.0 m (record st { outside = outside }) due.1)) (near_over outside (step flat tables (running m st)) near),
+      )
   due_over outside (failing m st) due near = absurd due
   due_over outside (hopping m st) due near = absurd due
   due_over outside (over ending left) due near = absurd due
@@ -127,16 +136,23 @@ module _ (tables : Tables) (have : HaveShapes tables) (ok : TablesOk tables) (ke
   follows_over outside f (inl x) = inl (near_over outside f x)
   follows_over outside f (inr x) = due_over outside f x.0 x.1
 
-  pub follows_run : (outsides : List Outside) (f : State Frames Frames) → Follows tables have ok keep f → Follows tables have ok keep (run_over tables outsides f)
+  pub follows_run : (outsides : List Outside) (f : State Frames Frames) → Follows tables have ok keep f
+      → Follows tables have ok keep (run_over tables outsides f)
   follows_run [] f h = h
-  follows_run (outside ∷ later) f h = follows_run later (step flat tables (over_outside outside f)) (follows_next tables have ok keep (over_outside outside f) (follows_over outside f h))
+  follows_run (outside ∷ later) f h =
+      follows_run later (step flat tables (over_outside outside f)) (follows_next tables have ok keep (over_outside outside f) (follows_over outside f h))
 
   not_stuck : (f : State Frames Frames) → Follows tables have ok keep f → f ≢ stuck
   not_stuck f (inl x) e =
-      subst SafeState (is_stuck (linked repeats_anywhere) flat tables (Lacks repeats_anywhere (Opens tables)) (Unit {0}) (linked_agrees repeats_anywhere (Opens tables)) rows_keep x.state
+      subst SafeState (is_stuck (linked repeats_anywhere) flat tables (Lacks repeats_anywhere (Opens tables)) (Unit {0})
+      (linked_agrees repeats_anywhere (Opens tables)) rows_keep x.state
       (subst (λ s. Sames tables have ok keep x.state s) e x.same)) x.safe
   not_stuck f (inr x) e = subst (IsDue tables have ok keep) e x.0
 
   pub never_over : (launch : Launch) → IsNeverStuckOver tables (Flat.start tables launch)
   never_over launch outsides = not_stuck (run_over tables outsides (Flat.start tables launch)) (follows_run outsides (Flat.start tables launch)
-      (inl (record { state = Marks.start repeats_anywhere tables launch; safe = start_safe tables (shapes_of tables have) (given tables have ok keep) keep ok launch; same = starts_so rows_keep repeats_anywhere tables launch (Unit {0}) })))
+      (inl (record {
+        state = Marks.start repeats_anywhere tables launch;
+        safe = start_safe tables (shapes_of tables have) (given tables have ok keep) keep ok launch;
+        same = starts_so rows_keep repeats_anywhere tables launch (Unit {0});
+      })))

@@ -15,7 +15,8 @@ is_same (suc m) (suc n) = by (is_same m n)
     by (inr d) = inr (λ e. d (omega arith))
 
 -- what stands in a list with one more
-pub got_more : {A : Type 0} (xs : List A) (y : A) (n : ℕ) (v : A) → slice_get (xs ++ y ∷ []) n ≡ Some v → ((n ≡ length xs) × (y ≡ v)) ⊎ (slice_get xs n ≡ Some v)
+pub got_more : {A : Type 0} (xs : List A) (y : A) (n : ℕ) (v : A) → slice_get (xs ++ y ∷ []) n ≡ Some v
+    → ((n ≡ length xs) × (y ≡ v)) ⊎ (slice_get xs n ≡ Some v)
 got_more [] y zero v e = inl (refl, some_inj e)
 got_more [] y (suc n) v e = no_some v e
 got_more (x ∷ xs) y zero v e = inr e
@@ -26,7 +27,8 @@ got_more (x ∷ xs) y (suc n) v e = by (got_more xs y n v e)
     by (inr z) = inr z
 
 -- and in one where an entry is another
-pub got_set : {A : Type 0} (xs : List A) (m : ℕ) (y : A) (n : ℕ) (v : A) → slice_get (slice_set xs m y) n ≡ Some v → ((n ≡ m) × (y ≡ v)) ⊎ ((n ≢ m) × (slice_get xs n ≡ Some v))
+pub got_set : {A : Type 0} (xs : List A) (m : ℕ) (y : A) (n : ℕ) (v : A) → slice_get (slice_set xs m y) n ≡ Some v
+    → ((n ≡ m) × (y ≡ v)) ⊎ ((n ≢ m) × (slice_get xs n ≡ Some v))
 got_set [] m y n v e = no_some v e
 got_set (x ∷ xs) zero y zero v e = inl (refl, some_inj e)
 got_set (x ∷ xs) zero y (suc n) v e = inr ((λ z. omega arith), e)

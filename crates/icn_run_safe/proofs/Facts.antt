@@ -37,7 +37,8 @@ more_steps C tables zero s = refl
 more_steps C tables (suc n) s = more_steps C tables n (step C tables s)
 
 -- where there is nothing it would be stuck
-goes_on : {K M : Type 0} (C : Calls K M) (tables : Tables) (m : M) (st : Store K) (o : Option Instr) → instruction_at C tables m ≡ o → with_found o (λ instr. instruction C tables instr (C.go (suc (C.place m)) m) st) ≢ stuck → GoesOn C tables m st
+goes_on : {K M : Type 0} (C : Calls K M) (tables : Tables) (m : M) (st : Store K) (o : Option Instr) → instruction_at C tables m ≡ o
+    → with_found o (λ instr. instruction C tables instr (C.go (suc (C.place m)) m) st) ≢ stuck → GoesOn C tables m st
 goes_on C tables m st None e d = absurd (d refl)
 goes_on C tables m st (Some instr) e d = record { instr = instr; stands = e; lacks_nothing = d }
 
@@ -54,7 +55,8 @@ module _ (tables : Tables) (have : HaveShapes tables) (ok : TablesOk tables) (ke
   scan_count : (w : Known) (s p : ℕ) (S : PlainShape) (c : Chain) → ChainOk tables sh w s p S c → S.inner.scans ≤ length (scans_of c)
   scan_count w s p S (chain items q scans o) h = h.2
 
-  outer_count : (w : Known) (s p : ℕ) (cr : Bool) (kind : LevelKind) (ls : List Level) (o : Outer) → OuterOk tables sh w s p cr kind ls o → mark_count o ≡ length ls
+  outer_count : (w : Known) (s p : ℕ) (cr : Bool) (kind : LevelKind) (ls : List Level) (o : Outer) → OuterOk tables sh w s p cr kind ls o
+      → mark_count o ≡ length ls
   outer_count w s p cr kind ls (base proc a) h = sym (ap length h.3)
   outer_count w s p cr kind ls (call proc a level place caller) h = sym (ap length h.3)
   outer_count w s p cr kind ls (mark label (chain items q scans o)) h = ap suc (outer_count w s p cr h.0.kind h.1 o h.5.4) ∙ sym (ap length h.2)
@@ -81,7 +83,8 @@ module _ (tables : Tables) (have : HaveShapes tables) (ok : TablesOk tables) (ke
   -- Flat stacks follow linked ones
 
   abbrev pub Sames : State Parked Linked → State Frames Frames → Type 0
-  Sames l f = Sm (linked repeats_anywhere) flat tables (Lacks repeats_anywhere (Opens tables)) (Unit {0}) (linked_agrees repeats_anywhere (Opens tables)) rows_keep l f
+  Sames l f =
+      Sm (linked repeats_anywhere) flat tables (Lacks repeats_anywhere (Opens tables)) (Unit {0}) (linked_agrees repeats_anywhere (Opens tables)) rows_keep l f
 
   pub record Near (f : State Frames Frames) : Type 0 where
     pub state : State Parked Linked
@@ -89,7 +92,8 @@ module _ (tables : Tables) (have : HaveShapes tables) (ok : TablesOk tables) (ke
     pub same : Sames state f
 
   abbrev pub IsDue : State Frames Frames → Type 0
-  IsDue f = IsAtMark (linked repeats_anywhere) flat tables (Lacks repeats_anywhere (Opens tables)) (Unit {0}) (linked_agrees repeats_anywhere (Opens tables)) rows_keep f
+  IsDue f = IsAtMark (linked repeats_anywhere) flat tables (Lacks repeats_anywhere (Opens tables)) (Unit {0})
+      (linked_agrees repeats_anywhere (Opens tables)) rows_keep f
 
   -- it follows one, or its next step, which opens a mark, leads to one that does
   abbrev pub Follows : State Frames Frames → Type 0
@@ -97,7 +101,8 @@ module _ (tables : Tables) (have : HaveShapes tables) (ok : TablesOk tables) (ke
 
   pub follows_next : (f : State Frames Frames) → Follows f → Follows (step flat tables f)
   follows_next f (inr x) = inl x.1
-  follows_next f (inl x) = by (one_step (linked repeats_anywhere) flat tables (Lacks repeats_anywhere (Opens tables)) (Unit {0}) (linked_agrees repeats_anywhere (Opens tables)) rows_keep (λ lacks. tt) x.same)
+  follows_next f (inl x) = by (one_step (linked repeats_anywhere) flat tables (Lacks repeats_anywhere (Opens tables)) (Unit {0})
+      (linked_agrees repeats_anywhere (Opens tables)) rows_keep (λ lacks. tt) x.same)
     where
       next : State Parked Linked
       next = step marks tables x.state
@@ -105,7 +110,8 @@ module _ (tables : Tables) (have : HaveShapes tables) (ok : TablesOk tables) (ke
       safe : Safe tables sh next
       safe = step_ok tables sh given keep ok x.state x.safe
 
-      by : Reaches (linked repeats_anywhere) flat tables (Lacks repeats_anywhere (Opens tables)) (Unit {0}) (linked_agrees repeats_anywhere (Opens tables)) rows_keep (made_turns f) next (step flat tables f) → Follows (step flat tables f)
+      by : Reaches (linked repeats_anywhere) flat tables (Lacks repeats_anywhere (Opens tables)) (Unit {0})
+          (linked_agrees repeats_anywhere (Opens tables)) rows_keep (made_turns f) next (step flat tables f) → Follows (step flat tables f)
       by (inl y) = inl (record { state = next; safe = safe; same = y })
       by (inr y) = inr (y.0, record { state = next; safe = safe; same = y.1.0 })
 
@@ -172,8 +178,13 @@ module _ (tables : Tables) (have : HaveShapes tables) (ok : TablesOk tables) (ke
   stands_at : (launch : Launch) (n : ℕ) (m : Frames) (st : Store Frames) → Flat.steps tables n (Flat.start tables launch) ≡ running m st → Stands tables sh m st
   stands_at launch n m st e = record {
     goes_on = goes_on flat tables m st (instruction_at flat tables m) refl (λ z.
-        (never_stuck tables have ok keep).flat launch (record { count = suc n; is = more_steps flat tables n (Flat.start tables launch) ∙ ap (step flat tables) e ∙ z }));
-    shaped = by (running m st) (subst Follows e (follows_all n (Flat.start tables launch) (inl (record { state = Marks.start repeats_anywhere tables launch; safe = start_safe tables sh given keep ok launch; same = starts_so rows_keep repeats_anywhere tables launch (Unit {0}) })))) refl;
+        (never_stuck tables have ok keep).flat launch
+        (record { count = suc n; is = more_steps flat tables n (Flat.start tables launch) ∙ ap (step flat tables) e ∙ z }));
+    shaped = by (running m st) (subst Follows e (follows_all n (Flat.start tables launch) (inl (record {
+      state = Marks.start repeats_anywhere tables launch;
+      safe = start_safe tables sh given keep ok launch;
+      same = starts_so rows_keep repeats_anywhere tables launch (Unit {0});
+    })))) refl;
   }
     where
       by : (f : State Frames Frames) → Follows f → f ≡ running m st → IsFlatShapedAt tables sh m st ⊎ IsMarkDue tables m

@@ -59,7 +59,10 @@ pub list_more : (n n' : ℕ) → n ≤ n' → (x : Numbered Value) → ListWithi
 list_more n n' l x h = values_more n n' l x.items h
 
 pub table_more : (n n' : ℕ) → n ≤ n' → (x : Table) → TableWithin n x → TableWithin n' x
-table_more n n' l x h = (value_more n n' l x.default h.0, each_map (PairWithin n) (PairWithin n') (λ pair z. (value_more n n' l pair.0 z.0, value_more n n' l pair.1 z.1)) x.pairs h.1)
+table_more n n' l x h = (
+  value_more n n' l x.default h.0,
+  each_map (PairWithin n) (PairWithin n') (λ pair z. (value_more n n' l pair.0 z.0, value_more n n' l pair.1 z.1)) x.pairs h.1,
+)
 
 pub record_more : (n n' : ℕ) → n ≤ n' → (x : Record) → RecordWithin n x → RecordWithin n' x
 record_more n n' l x h = values_more n n' l x.fields h
@@ -104,17 +107,25 @@ module _ (tables : Tables) (sh : ℕ → ℕ → Option PlainShape) where
     grow_susps w w' g s none h = tt
     grow_susps w w' g s (suspension reason place inside) h = (h.0, h.1, grow_reason w w' g h.0 h.1 place reason h.2, grow_chain w w' g s h.0 h.1 inside h.3)
 
-    pub grow_outer : (w w' : Known) → Grow w w' → (s p : ℕ) (cr : Bool) (kind : LevelKind) (ls : List Level) (o : Outer) → OuterOk tables sh w s p cr kind ls o → OuterOk tables sh w' s p cr kind ls o
+    pub grow_outer : (w w' : Known) → Grow w w' → (s p : ℕ) (cr : Bool) (kind : LevelKind) (ls : List Level) (o : Outer) → OuterOk tables sh w s p cr kind ls o
+        → OuterOk tables sh w' s p cr kind ls o
     grow_outer w w' g s p cr kind ls (base proc a) h = (h.0, h.1, h.2, h.3, g.activations a p h.4)
     grow_outer w w' g s p cr kind ls (call proc a level place caller) h =
         (h.0, h.1, h.2, h.3, g.activations a p h.4, (h.5.0, h.5.1, h.5.2, grow_chain w w' g s h.5.0 h.5.1 caller h.5.3))
-    grow_outer w w' g s p cr kind ls (mark label outside) h =
-        (h.0, h.1, h.2, h.3, grow_label w w' g p (level_shape tables sh cr h.0 h.1) label h.4, grow_chain w w' g s p (level_shape tables sh cr h.0 h.1) outside h.5)
+    grow_outer w w' g s p cr kind ls (mark label outside) h = (
+      h.0,
+      h.1,
+      h.2,
+      h.3,
+      grow_label w w' g p (level_shape tables sh cr h.0 h.1) label h.4,
+      grow_chain w w' g s p (level_shape tables sh cr h.0 h.1) outside h.5,
+    )
     grow_outer w w' g s p cr kind ls (limit n outside) h =
         (h.0, h.1, h.2, h.3, grow_chain w w' g s p (level_shape tables sh cr h.0 h.1) outside h.4)
 
   -- the frame of the procedure
-  pub frame_ok : (w : Known) (s p : ℕ) (cr : Bool) (kind : LevelKind) (ls : List Level) (o : Outer) → OuterOk tables sh w s p cr kind ls o → FrameOk tables sh w s p cr (frame_of o)
+  pub frame_ok : (w : Known) (s p : ℕ) (cr : Bool) (kind : LevelKind) (ls : List Level) (o : Outer) → OuterOk tables sh w s p cr kind ls o
+      → FrameOk tables sh w s p cr (frame_of o)
   frame_ok w s p cr kind ls (base proc a) h = (h.0, h.1, h.4)
   frame_ok w s p cr kind ls (call proc a level place caller) h = (h.0, h.1, h.4, h.5)
   frame_ok w s p cr kind ls (mark label (chain items q scans o)) h = frame_ok w s p cr h.0.kind h.1 o h.5.4

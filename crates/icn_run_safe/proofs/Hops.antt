@@ -42,20 +42,30 @@ module _ (P : Program) (sh : ℕ → ℕ → Option PlainShape) (given : Shaped 
     pub store : StoreOk P sh w (λ i. ⊥) st
 
   hop_ready : (w : Known) (m : Linked) (st : Store Parked) (n : ℕ) → Idle w m st → HasBegun st n → Good (hopping m (record st { active = n }))
-  hop_ready w m st n h e =
-      (w, h.memory, record { world = h.store.world; coexps = record { count = h.store.coexps.count; each = h.store.coexps.each; waits = h.store.coexps.waits; there = e; first = h.store.coexps.first } })
+  hop_ready w m st n h e = (
+    w,
+    h.memory,
+    record {
+      world = h.store.world;
+      coexps = record { count = h.store.coexps.count; each = h.store.coexps.each; waits = h.store.coexps.waits; there = e; first = h.store.coexps.first };
+    },
+  )
 
   -- the one that is there is the one that is read
   read_coexp : (st : Store Parked) (n : ℕ) (c : Coexp Parked) → slice_get st.coexps n ≡ Some c → coexp_at n st ≡ c
   read_coexp st n c e = index_there st.coexps n c _ e
 
-  store_active : (w : Known) (st : Store Parked) (n : ℕ) (c : Coexp Parked) → StoreOk P sh w (λ i. ⊥) st → slice_get st.coexps n ≡ Some c → StoreOk P sh w (λ i. i ≡ n) (make_active n st)
-  store_active w st n c h e = subst (λ (x : Coexp Parked). StoreOk P sh w (λ i. i ≡ n) (with_coexp n (record x { status = Active }) (record st { active = n }))) (sym (read_coexp st n c e)) (set_active P sh w st n c h e (h.coexps.each n c e).activator)
+  store_active : (w : Known) (st : Store Parked) (n : ℕ) (c : Coexp Parked) → StoreOk P sh w (λ i. ⊥) st → slice_get st.coexps n ≡ Some c
+      → StoreOk P sh w (λ i. i ≡ n) (make_active n st)
+  store_active w st n c h e = subst (λ (x : Coexp Parked). StoreOk P sh w (λ i. i ≡ n) (with_coexp n (record x { status = Active }) (record st { active = n })))
+      (sym (read_coexp st n c e)) (set_active P sh w st n c h e (h.coexps.each n c e).activator)
 
-  taken_ready : (w : Known) (m : Linked) (st : Store Parked) (n : ℕ) (c : Coexp Parked) (k : Parked) → Idle w m st → slice_get st.coexps n ≡ Some c → (h : ParkedOk P sh w n k) → Set w h.proc h.shape (M.taken_up k m) (make_active n st)
+  taken_ready : (w : Known) (m : Linked) (st : Store Parked) (n : ℕ) (c : Coexp Parked) (k : Parked) → Idle w m st → slice_get st.coexps n ≡ Some c
+      → (h : ParkedOk P sh w n k) → Set w h.proc h.shape (M.taken_up k m) (make_active n st)
   taken_ready w m st n c k i e h = record { now = record { has = h.has; memory = i.memory }; store = store_active w st n c i.store e }
 
-  fail_ok : (n : ℕ) (w : Known) (m : Linked) (st : Store Parked) (c : Coexp Parked) → Idle w m st → slice_get st.coexps n ≡ Some c → HasBegun st n → (s : Status Parked) → StatusOk P sh w n s → (IsFresh P sh s → ⊥) → Good (fail_by M s n m st)
+  fail_ok : (n : ℕ) (w : Known) (m : Linked) (st : Store Parked) (c : Coexp Parked) → Idle w m st → slice_get st.coexps n ≡ Some c → HasBegun st n
+      → (s : Status Parked) → StatusOk P sh w n s → (IsFresh P sh s → ⊥) → Good (fail_by M s n m st)
   fail_ok n w m st c i e ent Fresh h f = absurd (f tt)
   fail_ok n w m st c i e ent Active h f = absurd h
   fail_ok n w m st c i e ent (Waiting k) h f = ok_fails P sh given keep w h.proc h.shape (M.taken_up k m) (make_active n st) (taken_ready w m st n c k i e h)
@@ -64,16 +74,19 @@ module _ (P : Program) (sh : ℕ → ℕ → Option PlainShape) (given : Shaped 
   -- what is done by the status of one is done by what is read of it
   passed_failure_ok : (n : ℕ) (w : Known) (m : Linked) (st : Store Parked) → Idle w m st → HasBegun st n → Good (passed_failure M n m st)
   passed_failure_ok n w m st i ent =
-      subst (λ (x : Coexp Parked). Good (fail_by M x.status n m st)) (sym (read_coexp st n ent.coexp ent.stands)) (fail_ok n w m st ent.coexp i ent.stands ent ent.coexp.status (i.store.coexps.waits n ent.coexp ent.stands (λ z. z)) ent.begun)
+      subst (λ (x : Coexp Parked). Good (fail_by M x.status n m st)) (sym (read_coexp st n ent.coexp ent.stands))
+      (fail_ok n w m st ent.coexp i ent.stands ent ent.coexp.status (i.store.coexps.waits n ent.coexp ent.stands (λ z. z)) ent.begun)
 
   -- the activator of one that is there has begun
   activator_begun : (w : Known) (May : ℕ → Type 0) (st : Store Parked) (n : ℕ) → StoreOk P sh w May st → HasBegun st n → HasBegun st (activator_of n st)
-  activator_begun w May st n h ent = subst (λ (x : Coexp Parked). HasBegun st x.activator) (sym (read_coexp st n ent.coexp ent.stands)) (h.coexps.each n ent.coexp ent.stands).activator
+  activator_begun w May st n h ent =
+      subst (λ (x : Coexp Parked). HasBegun st x.activator) (sym (read_coexp st n ent.coexp ent.stands)) (h.coexps.each n ent.coexp ent.stands).activator
 
   to_activator_ok : (w : Known) (m : Linked) (st : Store Parked) → Idle w m st → Good (passed_failure M (activator_of st.active st) m st)
   to_activator_ok w m st i = passed_failure_ok (activator_of st.active st) w m st i (activator_begun w (λ i. ⊥) st st.active i.store i.store.coexps.there)
 
-  give_ok : (n : ℕ) (value : Value) (w : Known) (m : Linked) (st : Store Parked) (c : Coexp Parked) → Idle w m st → slice_get st.coexps n ≡ Some c → ValueWithin w.coexps value → (s : Status Parked) → s ≡ c.status → StatusOk P sh w n s → Good (give_by M s n value m st)
+  give_ok : (n : ℕ) (value : Value) (w : Known) (m : Linked) (st : Store Parked) (c : Coexp Parked) → Idle w m st → slice_get st.coexps n ≡ Some c
+      → ValueWithin w.coexps value → (s : Status Parked) → s ≡ c.status → StatusOk P sh w n s → Good (give_by M s n value m st)
   give_ok n value w m st c i e g Fresh q h =
       let o = i.store.coexps.each n c e in
       subst (λ (x : Coexp Parked). Good (running (C.begin x.proc x.values x.place m) (make_active n st))) (sym (read_coexp st n c e))
@@ -83,31 +96,41 @@ module _ (P : Program) (sh : ℕ → ℕ → Option PlainShape) (given : Shaped 
         store = grow_store P sh w (with_activation w c.proc) (λ i. i ≡ n) (make_active n st) refl (grow_activation w c.proc) (store_active w st n c i.store e);
       }) (o.origin h))
   give_ok n value w m st c i e g Active q h = absurd h
-  give_ok n value w m st c i e g (Waiting k) q h = ok_push P sh given keep (Val value) w h.proc h.shape (M.taken_up k m) (make_active n st) (taken_ready w m st n c k i e h) g h.goes
+  give_ok n value w m st c i e g (Waiting k) q h =
+      ok_push P sh given keep (Val value) w h.proc h.shape (M.taken_up k m) (make_active n st) (taken_ready w m st n c k i e h) g h.goes
   give_ok n value w m st c i e g Exhausted q h = hop_ready w m st n i (record { coexp = c; stands = e; begun = subst (λ x. IsFresh P sh x → ⊥) q (λ z. z) })
 
-  passed_value_ok : (n : ℕ) (value : Value) (w : Known) (m : Linked) (st : Store Parked) (c : Coexp Parked) → Idle w m st → slice_get st.coexps n ≡ Some c → ValueWithin w.coexps value → Good (passed_value M n value m st)
+  passed_value_ok : (n : ℕ) (value : Value) (w : Known) (m : Linked) (st : Store Parked) (c : Coexp Parked) → Idle w m st → slice_get st.coexps n ≡ Some c
+      → ValueWithin w.coexps value → Good (passed_value M n value m st)
   passed_value_ok n value w m st c i e g =
-      subst (λ (x : Coexp Parked). Good (give_by M x.status n value m st)) (sym (read_coexp st n c e)) (give_ok n value w m st c i e g c.status refl (i.store.coexps.waits n c e (λ z. z)))
+      subst (λ (x : Coexp Parked). Good (give_by M x.status n value m st)) (sym (read_coexp st n c e))
+      (give_ok n value w m st c i e g c.status refl (i.store.coexps.waits n c e (λ z. z)))
 
   -- the active one gets a status
-  status_ok : (s : Status Parked) (w : Known) (p : ℕ) (S : PlainShape) (m : Linked) (st : Store Parked) → Set w p S m st → (IsFresh P sh s → ⊥) → StatusOk P sh w st.active s → Idle w m (with_status st.active s st)
+  status_ok : (s : Status Parked) (w : Known) (p : ℕ) (S : PlainShape) (m : Linked) (st : Store Parked) → Set w p S m st → (IsFresh P sh s → ⊥)
+      → StatusOk P sh w st.active s → Idle w m (with_status st.active s st)
   status_ok s w p S m st h f ok = let a = h.store.coexps.there in record {
     memory = h.now.memory;
-    store = subst (λ (x : Coexp Parked). StoreOk P sh w (λ i. ⊥) (with_coexp st.active (record x { status = s }) st)) (sym (read_coexp st st.active a.coexp a.stands)) (set_status P sh w st a.coexp s h.store a.stands f ok);
+    store = subst (λ (x : Coexp Parked). StoreOk P sh w (λ i. ⊥) (with_coexp st.active (record x { status = s }) st))
+        (sym (read_coexp st st.active a.coexp a.stands)) (set_status P sh w st a.coexp s h.store a.stands f ok);
   }
 
-  begun_then : (s : Status Parked) (w : Known) (p : ℕ) (S : PlainShape) (m : Linked) (st : Store Parked) → Set w p S m st → (IsFresh P sh s → ⊥) → (n : ℕ) → HasBegun st n → HasBegun (with_status st.active s st) n
+  begun_then : (s : Status Parked) (w : Known) (p : ℕ) (S : PlainShape) (m : Linked) (st : Store Parked) → Set w p S m st → (IsFresh P sh s → ⊥) → (n : ℕ)
+      → HasBegun st n → HasBegun (with_status st.active s st) n
   begun_then s w p S m st h f n ent = let a = h.store.coexps.there in
-      subst (λ (x : Coexp Parked). Entered P sh (slice_set st.coexps st.active (record x { status = s })) n) (sym (read_coexp st st.active a.coexp a.stands)) (entered_set P sh st.coexps st.active a.coexp (record a.coexp { status = s }) n a.stands (λ q. absurd (f q)) ent)
+      subst (λ (x : Coexp Parked). Entered P sh (slice_set st.coexps st.active (record x { status = s })) n) (sym (read_coexp st st.active a.coexp a.stands))
+      (entered_set P sh st.coexps st.active a.coexp (record a.coexp { status = s }) n a.stands (λ q. absurd (f q)) ent)
 
   pub exhausted_ok : (w : Known) (p : ℕ) (S : PlainShape) (m : Linked) (st : Store Parked) → Set w p S m st → Good (exhaust_active M P m st)
-  exhausted_ok w p S m st h = ok_turn P sh given keep w p S m st (λ st. passed_failure M (activator_of st.active st) m (with_status st.active Exhausted st)) h (λ st' r.
+  exhausted_ok w p S m st h =
+      ok_turn P sh given keep w p S m st (λ st. passed_failure M (activator_of st.active st) m (with_status st.active Exhausted st)) h (λ st' r.
       let i = status_ok Exhausted w p S m st' r (λ z. z) tt in
       let a = st'.active in
-      passed_failure_ok (activator_of a st') w m (with_status a Exhausted st') i (begun_then Exhausted w p S m st' r (λ z. z) (activator_of a st') (activator_begun w (λ i. i ≡ a) st' a r.store r.store.coexps.there)))
+      passed_failure_ok (activator_of a st') w m (with_status a Exhausted st') i
+      (begun_then Exhausted w p S m st' r (λ z. z) (activator_of a st') (activator_begun w (λ i. i ≡ a) st' a r.store r.store.coexps.there)))
 
-  parked_ok : (w : Known) (p : ℕ) (S : PlainShape) (m : Linked) (st : Store Parked) → Set w p S m st → sh p m.place ≡ Some (with_more 1 S) → ParkedOk P sh w st.active (M.kept m)
+  parked_ok : (w : Known) (p : ℕ) (S : PlainShape) (m : Linked) (st : Store Parked) → Set w p S m st → sh p m.place ≡ Some (with_more 1 S)
+      → ParkedOk P sh w st.active (M.kept m)
   parked_ok w p S m st h e = record { proc = p; shape = S; has = h.now.has; goes = e }
 
   counted_idle : (n : ℕ) (w : Known) (m : Linked) (st : Store Parked) → Idle w m st → Idle w m (counted_result n st)
@@ -115,7 +138,13 @@ module _ (P : Program) (sh : ℕ → ℕ → Option PlainShape) (given : Shaped 
     memory = i.memory;
     store = record {
       world = record {
-        heap = record { lists = heap.lists; sets = heap.sets; tables = heap.tables; records = heap.records; count = set_length st.world.heap.coexps n _ ∙ heap.count };
+        heap = record {
+          lists = heap.lists;
+          sets = heap.sets;
+          tables = heap.tables;
+          records = heap.records;
+          count = set_length st.world.heap.coexps n _ ∙ heap.count;
+        };
         globals = i.store.world.globals;
         statics = i.store.world.statics;
       };
@@ -123,21 +152,26 @@ module _ (P : Program) (sh : ℕ → ℕ → Option PlainShape) (given : Shaped 
     };
   }
 
-  pub result_ok : (value : Value) (w : Known) (p : ℕ) (S : PlainShape) (m : Linked) (st : Store Parked) → Set w p S m st → ValueWithin w.coexps value → sh p m.place ≡ Some (with_more 1 S) → Good (result_given M value m st)
+  pub result_ok : (value : Value) (w : Known) (p : ℕ) (S : PlainShape) (m : Linked) (st : Store Parked) → Set w p S m st → ValueWithin w.coexps value
+      → sh p m.place ≡ Some (with_more 1 S) → Good (result_given M value m st)
   result_ok value w p S m st h g e =
       let n = activator_of st.active st in
       let s : Status Parked = Waiting (M.kept m) in
       let ent = begun_then s w p S m st h (λ z. z) n (activator_begun w (λ i. i ≡ st.active) st st.active h.store h.store.coexps.there) in
-      passed_value_ok n value w m (counted_result st.active (with_status st.active s st)) ent.coexp (counted_idle st.active w m (with_status st.active s st) (status_ok s w p S m st h (λ z. z) (parked_ok w p S m st h e))) ent.stands g
+      passed_value_ok n value w m (counted_result st.active (with_status st.active s st)) ent.coexp
+      (counted_idle st.active w m (with_status st.active s st) (status_ok s w p S m st h (λ z. z) (parked_ok w p S m st h e))) ent.stands g
 
   -- another one is entered
-  activator_set : (w : Known) (m : Linked) (st : Store Parked) (n a : ℕ) (c : Coexp Parked) → Idle w m st → slice_get st.coexps n ≡ Some c → HasBegun st a → Idle w m (with_activator n a st)
+  activator_set : (w : Known) (m : Linked) (st : Store Parked) (n a : ℕ) (c : Coexp Parked) → Idle w m st → slice_get st.coexps n ≡ Some c → HasBegun st a
+      → Idle w m (with_activator n a st)
   activator_set w m st n a c i e act = record {
     memory = i.memory;
-    store = subst (λ (x : Coexp Parked). StoreOk P sh w (λ i. ⊥) (with_coexp n (record x { activator = a }) st)) (sym (read_coexp st n c e)) (set_activator P sh w st n a c i.store e act);
+    store = subst (λ (x : Coexp Parked). StoreOk P sh w (λ i. ⊥) (with_coexp n (record x { activator = a }) st)) (sym (read_coexp st n c e))
+        (set_activator P sh w st n a c i.store e act);
   }
 
-  entered_ok : (value : Value) (n : ℕ) (w : Known) (p : ℕ) (S : PlainShape) (m : Linked) (st : Store Parked) → Set w p S m st → ValueWithin w.coexps value → n < w.coexps → sh p m.place ≡ Some (with_more 1 S) → Good (entered_by M n value m st)
+  entered_ok : (value : Value) (n : ℕ) (w : Known) (p : ℕ) (S : PlainShape) (m : Linked) (st : Store Parked) → Set w p S m st → ValueWithin w.coexps value
+      → n < w.coexps → sh p m.place ≡ Some (with_more 1 S) → Good (entered_by M n value m st)
   entered_ok value n w p S m st h g l e =
       let s : Status Parked = Waiting (M.kept m) in
       let st1 : Store Parked = with_status st.active s st in
@@ -150,7 +184,8 @@ module _ (P : Program) (sh : ℕ → ℕ → Option PlainShape) (given : Shaped 
       passed_value_ok n value w m (with_activator n st.active st1) o'.0 i2 o'.1 g
 
   -- a value is passed by the status of what is entered
-  if_entered : (b : Bool) (s : Status Parked) (n : ℕ) (value : Value) (w : Known) (p : ℕ) (S : PlainShape) (m : Linked) (st : Store Parked) → Set w p S m st → ValueWithin w.coexps value → n < w.coexps → sh p m.place ≡ Some (with_more 1 S) → Good (entered_if M b s n value m st)
+  if_entered : (b : Bool) (s : Status Parked) (n : ℕ) (value : Value) (w : Known) (p : ℕ) (S : PlainShape) (m : Linked) (st : Store Parked) → Set w p S m st
+      → ValueWithin w.coexps value → n < w.coexps → sh p m.place ≡ Some (with_more 1 S) → Good (entered_if M b s n value m st)
   if_entered b Exhausted n value w p S m st h g l e = ok_fails P sh given keep w p S m st h
   if_entered true Fresh n value w p S m st h g l e = ok_push P sh given keep (Val value) w p S m st h g e
   if_entered true Active n value w p S m st h g l e = ok_push P sh given keep (Val value) w p S m st h g e
@@ -159,7 +194,8 @@ module _ (P : Program) (sh : ℕ → ℕ → Option PlainShape) (given : Shaped 
   if_entered false Active n value w p S m st h g l e = entered_ok value n w p S m st h g l e
   if_entered false (Waiting k) n value w p S m st h g l e = entered_ok value n w p S m st h g l e
 
-  pub activation_ok : (value other : Value) (w : Known) (p : ℕ) (S : PlainShape) (m : Linked) (st : Store Parked) → Set w p S m st → ValueWithin w.coexps value → ValueWithin w.coexps other → sh p m.place ≡ Some (with_more 1 S) → Good (activation M value other m st)
+  pub activation_ok : (value other : Value) (w : Known) (p : ℕ) (S : PlainShape) (m : Linked) (st : Store Parked) → Set w p S m st → ValueWithin w.coexps value
+      → ValueWithin w.coexps other → sh p m.place ≡ Some (with_more 1 S) → Good (activation M value other m st)
   activation_ok value (ACoexp n) w p S m st h g l e = if_entered (n == st.active) (status_of n st) n value w p S m st h g l e
   activation_ok value Null w p S m st h g l e = tt
   activation_ok value (Integer x) w p S m st h g l e = tt
@@ -173,14 +209,18 @@ module _ (P : Program) (sh : ℕ → ℕ → Option PlainShape) (given : Shaped 
   activation_ok value (ATable x) w p S m st h g l e = tt
 
   -- a new one is made
-  created_ok : (o : Outcome) (values : List Value) (proc place : ℕ) (w : Known) (p : ℕ) (S : PlainShape) (m : Linked) (st : Store Parked) → Set w p S m st → CreatedWithin w.coexps (here M m st) o → LocalsOk P sh w proc values → sh proc place ≡ Some (start_shape true) → sh p m.place ≡ Some (with_more 1 S)
+  created_ok : (o : Outcome) (values : List Value) (proc place : ℕ) (w : Known) (p : ℕ) (S : PlainShape) (m : Linked) (st : Store Parked) → Set w p S m st
+      → CreatedWithin w.coexps (here M m st) o → LocalsOk P sh w proc values → sh proc place ≡ Some (start_shape true) → sh p m.place ≡ Some (with_more 1 S)
       → Good (with_made M o m st (λ value m st. push_item M (Val value) m (with_new values proc place st)))
   created_ok (Gives (Val v) seen) values proc place w p S m st h c g origin e =
       let locals = locals_ok P sh w st.active p S m h.now in
       let now = set_locals_ok P sh seen.locals w st.active p S m h.now (subst (LocalsOk P sh w p) (sym c.2) locals) in
       ok_push P sh given keep (Val v) (one_more w) p S (C.set_locals seen.locals m) (with_new values proc place (with_at seen st))
       (record {
-        now = record { has = grow_chain P sh w (one_more w) (grow_one w) st.active p S m.chain now.has; memory = memory_one P sh w _ m.flags m.relabels now.memory };
+        now = record {
+          has = grow_chain P sh w (one_more w) (grow_one w) st.active p S m.chain now.has;
+          memory = memory_one P sh w _ m.flags m.relabels now.memory;
+        };
         store = record { world = c.1; coexps = more_coexps P sh w st values proc place h.store.coexps g origin };
       })
       (subst (ValueWithin (suc w.coexps)) (sym c.0) (omega arith)) e
@@ -190,12 +230,15 @@ module _ (P : Program) (sh : ℕ → ℕ → Option PlainShape) (given : Shaped 
   created_ok (Suspends item r seen) values proc place w p S m st h c g origin e = absurd c
   created_ok (Ends j seen) values proc place w p S m st h c g origin e = absurd c
 
-  pub coexp_made_ok : (values : List Value) (proc place : ℕ) (w : Known) (p : ℕ) (S : PlainShape) (m : Linked) (st : Store Parked) → Set w p S m st → LocalsOk P sh w proc values → sh proc place ≡ Some (start_shape true) → sh p m.place ≡ Some (with_more 1 S)
+  pub coexp_made_ok : (values : List Value) (proc place : ℕ) (w : Known) (p : ℕ) (S : PlainShape) (m : Linked) (st : Store Parked) → Set w p S m st
+      → LocalsOk P sh w proc values → sh proc place ≡ Some (start_shape true) → sh p m.place ≡ Some (with_more 1 S)
       → Good (coexp_made M values proc place m st)
   coexp_made_ok values proc place w p S m st h g origin e =
-      created_ok (coexpression_row (length values) (here M m st)) values proc place w p S m st h (keep.created w.coexps (length values) (here M m st) (here_within P sh given keep w p S m st h)) g origin e
+      created_ok (coexpression_row (length values) (here M m st)) values proc place w p S m st h
+      (keep.created w.coexps (length values) (here M m st) (here_within P sh given keep w p S m st h)) g origin e
 
-  pub refreshed_ok : (v : Value) (w : Known) (p : ℕ) (S : PlainShape) (m : Linked) (st : Store Parked) → Set w p S m st → ValueWithin w.coexps v → sh p m.place ≡ Some (with_more 1 S) → Good (refresh M v m st)
+  pub refreshed_ok : (v : Value) (w : Known) (p : ℕ) (S : PlainShape) (m : Linked) (st : Store Parked) → Set w p S m st → ValueWithin w.coexps v
+      → sh p m.place ≡ Some (with_more 1 S) → Good (refresh M v m st)
   refreshed_ok (ACoexp zero) w p S m st h g e = tt
   refreshed_ok (ACoexp (suc n)) w p S m st h g e =
       let count = h.store.coexps.count in
@@ -216,29 +259,38 @@ module _ (P : Program) (sh : ℕ → ℕ → Option PlainShape) (given : Shaped 
 
   pub hop_ok : (w : Known) (m : Linked) (st : Store Parked) → Idle w m st → Good (hop M P m st)
   hop_ok w m st i = ok_turned P sh given keep st (λ st. passed_failure M (activator_of st.active st) m st)
-      (to_activator_ok w m (record st { turns = suc st.turns }) (record { memory = i.memory; store = record { world = i.store.world; coexps = i.store.coexps } }))
+      (to_activator_ok w m (record st { turns = suc st.turns })
+      (record { memory = i.memory; store = record { world = i.store.world; coexps = i.store.coexps } }))
 
   -- Scans exchanged
 
-  pub ok_maybe : (o : Option (Pair × Linked)) (w : Known) (p : ℕ) (S : PlainShape) (m : Linked) (st : Store Parked) (next : Linked → Store Parked → St P sh given keep) → Set w p S m st → IfThere (Swapped P sh w st.active p S m) o
+  pub ok_maybe : (o : Option (Pair × Linked)) (w : Known) (p : ℕ) (S : PlainShape) (m : Linked) (st : Store Parked)
+      (next : Linked → Store Parked → St P sh given keep) → Set w p S m st → IfThere (Swapped P sh w st.active p S m) o
       → ((m' : Linked) (st' : Store Parked) → Set w p S m' st' → m'.place ≡ m.place → Good (next m' st')) → Good (maybe_exchanged o m st next)
   ok_maybe None w p S m st next h g f = f m st h refl
-  ok_maybe (Some swap) w p S m st next h g f = f swap.1 (with_pair swap.0 st) (ready_pair P sh given keep w p S swap.1 st swap.0 (record { now = g.now; store = h.store })) g.place
+  ok_maybe (Some swap) w p S m st next h g f =
+      f swap.1 (with_pair swap.0 st) (ready_pair P sh given keep w p S swap.1 st swap.0 (record { now = g.now; store = h.store })) g.place
 
-  pub ok_exchanged : (w : Known) (p : ℕ) (S : PlainShape) (m : Linked) (st : Store Parked) (next : Linked → Store Parked → St P sh given keep) → Set w p S m st → 0 < S.inner.scans
-      → ((m' : Linked) (st' : Store Parked) → Set w p S m' st' → m'.place ≡ m.place → Good (next m' st')) → Good (with_exchange (C.swap_newest (pair_now st) m) next st)
+  pub ok_exchanged : (w : Known) (p : ℕ) (S : PlainShape) (m : Linked) (st : Store Parked) (next : Linked → Store Parked → St P sh given keep) → Set w p S m st
+      → 0 < S.inner.scans
+      → ((m' : Linked) (st' : Store Parked) → Set w p S m' st' → m'.place ≡ m.place → Good (next m' st'))
+      → Good (with_exchange (C.swap_newest (pair_now st) m) next st)
   ok_exchanged w p S m st next h l f = let o = swap_newest_ok P sh (pair_now st) w st.active p S m h.now l in
-      subst (λ x. Good (with_exchange x next st)) (sym o.1) (f o.0.1 (with_pair o.0.0 st) (ready_pair P sh given keep w p S o.0.1 st o.0.0 (record { now = o.2.now; store = h.store })) o.2.place)
+      subst (λ x. Good (with_exchange x next st)) (sym o.1)
+      (f o.0.1 (with_pair o.0.0 st) (ready_pair P sh given keep w p S o.0.1 st o.0.0 (record { now = o.2.now; store = h.store })) o.2.place)
 
   -- Back to the caller
 
-  pub ok_returned : (o : Option Linked) (w : Known) (cr : Bool) (st : Store Parked) (next : Linked → Store Parked → St P sh given keep) → StoreOk P sh w (λ i. i ≡ st.active) st → Left P sh w st.active cr o → cr ≡ false
+  pub ok_returned : (o : Option Linked) (w : Known) (cr : Bool) (st : Store Parked) (next : Linked → Store Parked → St P sh given keep)
+      → StoreOk P sh w (λ i. i ≡ st.active) st → Left P sh w st.active cr o → cr ≡ false
       → ((m : Linked) (p : ℕ) (S : PlainShape) → Set w p S m st → sh p m.place ≡ Some (with_more 1 S) → Good (next m st)) → Good (return_to o next st)
-  ok_returned None w cr st next h g e f = ok_if P sh given keep (is_main st.active) _ _ (λ q. tt) (λ q. let z : is_main st.active ≡ true = is_first st.active (sym e ∙ g) in not_true (sym q ∙ z))
+  ok_returned None w cr st next h g e f =
+      ok_if P sh given keep (is_main st.active) _ _ (λ q. tt) (λ q. let z : is_main st.active ≡ true = is_first st.active (sym e ∙ g) in not_true (sym q ∙ z))
   ok_returned (Some m) w cr st next h g e f = f m g.proc g.shape (record { now = g.now; store = h }) g.goes
 
   -- all scans are left
-  pub ok_all : (w : Known) (p : ℕ) (S : PlainShape) (m : Linked) (st : Store Parked) (next : Store Parked → St P sh given keep) → Set w p S m st → ((st' : Store Parked) → Set w p S m st' → Good (next st')) → Good (next (all_left M m st))
+  pub ok_all : (w : Known) (p : ℕ) (S : PlainShape) (m : Linked) (st : Store Parked) (next : Store Parked → St P sh given keep) → Set w p S m st
+      → ((st' : Store Parked) → Set w p S m st' → Good (next st')) → Good (next (all_left M m st))
   ok_all w p S m st next h f = by (C.swap_oldest (pair_now st) m)
     where
       by : (o : Option (Pair × Linked)) → Good (next (swapped_back o st))
@@ -246,31 +298,38 @@ module _ (P : Program) (sh : ℕ → ℕ → Option PlainShape) (given : Shaped 
       by (Some swap) = f (with_pair swap.0 st) (ready_pair P sh given keep w p S m st swap.0 h)
 
   pub proc_fails_ok : (w : Known) (p : ℕ) (S : PlainShape) (m : Linked) (st : Store Parked) → Set w p S m st → S.in_create ≡ false → Good (proc_fails M m st)
-  proc_fails_ok w p S m st h e = ok_all w p S m st (λ st. return_to (C.leave m) failing st) h (λ st' r. ok_returned (C.leave m) w S.in_create st' failing r.store (leave_ok P sh w st'.active p S m r.now) e
+  proc_fails_ok w p S m st h e = ok_all w p S m st (λ st. return_to (C.leave m) failing st) h
+      (λ st' r. ok_returned (C.leave m) w S.in_create st' failing r.store (leave_ok P sh w st'.active p S m r.now) e
       (λ m' p' S' r' e'. ok_fails P sh given keep w p' S' m' st' r'))
 
   -- Failing
 
   without_mark_ok : (w : Known) (p : ℕ) (S : PlainShape) (m : Linked) (st : Store Parked) → Set w p S m st → Good (without_mark M P m st)
-  without_mark_ok w p S m st h = ok_if P sh given keep (is_create_body M m st) _ _ (λ e. exhausted_ok w p S m st h) (λ e. proc_fails_ok w p S m st h (sym (here_create P sh w st.active p S m h.now) ∙ e))
+  without_mark_ok w p S m st h = ok_if P sh given keep (is_create_body M m st) _ _ (λ e. exhausted_ok w p S m st h)
+      (λ e. proc_fails_ok w p S m st h (sym (here_create P sh w st.active p S m h.now) ∙ e))
 
-  dropped_ok : (w : Known) (p : ℕ) (S : PlainShape) (m : Linked) (st : Store Parked) (d : MarkDrop Linked) → Set w p S m st → DroppedOk P sh w st.active d → Good (mark_dropped M P m st d)
+  dropped_ok : (w : Known) (p : ℕ) (S : PlainShape) (m : Linked) (st : Store Parked) (d : MarkDrop Linked) → Set w p S m st → DroppedOk P sh w st.active d
+      → Good (mark_dropped M P m st d)
   dropped_ok w p S m st NoMark h g = without_mark_ok w p S m st h
   dropped_ok w p S m st (Goes after) h g = ok_runs P sh given keep w g.proc g.shape after st (record { now = g.now; store = h.store }) g.goes
-  dropped_ok w p S m st (Repeats after) h g = ok_turn P sh given keep w g.proc g.shape after st (running after) (record { now = g.now; store = h.store }) (λ st' r. ok_runs P sh given keep w g.proc g.shape after st' r g.goes)
+  dropped_ok w p S m st (Repeats after) h g = ok_turn P sh given keep w g.proc g.shape after st (running after) (record { now = g.now; store = h.store })
+      (λ st' r. ok_runs P sh given keep w g.proc g.shape after st' r g.goes)
   dropped_ok w p S m st (WithoutLabel after) h g = ok_fails P sh given keep w g.0 g.1 after st (record { now = g.2; store = h.store })
 
-  resumed_ok : (why : Why) (w : Known) (p : ℕ) (S : PlainShape) (m : Linked) (st : Store Parked) → Set w p S m st → WhyOk P sh w p S m.place why → Good (resume_by M P why m st)
+  resumed_ok : (why : Why) (w : Known) (p : ℕ) (S : PlainShape) (m : Linked) (st : Store Parked) → Set w p S m st → WhyOk P sh w p S m.place why
+      → Good (resume_by M P why m st)
   resumed_ok Alt w p S m st h g = ok_fails P sh given keep w p S m st h
   resumed_ok (Operation r) w p S m st h g = ok_turn P sh given keep w p S m st (λ st. outcome M (again r (here M m st)) m st) h (λ st' q.
-      ok_outcome P sh given keep (again r (here M m st')) w p S m st' q (keep.resumed w.coexps r (here M m st') (here_within P sh given keep w p S m st' q) g.0) (rows_keep.resumed r (here M m st')) g.1)
+      ok_outcome P sh given keep (again r (here M m st')) w p S m st' q (keep.resumed w.coexps r (here M m st') (here_within P sh given keep w p S m st' q) g.0)
+      (rows_keep.resumed r (here M m st')) g.1)
   resumed_ok (Scan pair) w p S m st h g = ok_fails P sh given keep w p S m (with_pair pair st) (ready_pair P sh given keep w p S m st pair h)
   resumed_ok Escan w p S m st h g = ok_exchanged w p S m st failing h g (λ m' st' r e. ok_fails P sh given keep w p S m' st' r)
   resumed_ok Proc w p S m st h g = ok_turn P sh given keep w p S m st (λ st. maybe_exchanged (C.swap_oldest (pair_now st) m) m st running) h (λ st' q.
       ok_maybe (C.swap_oldest (pair_now st') m) w p S m st' running q (swap_oldest_ok P sh (pair_now st') w st'.active p S m q.now)
       (λ m' st'' r e. ok_runs P sh given keep w p S m' st'' r (ap (sh p) e ∙ g)))
 
-  back_ok : (o : Option (Why × Linked)) (w : Known) (p : ℕ) (S : PlainShape) (m : Linked) (st : Store Parked) → Set w p S m st → IfThere (Back P sh w st.active) o → Good (resumed_or_dropped M P m st o)
+  back_ok : (o : Option (Why × Linked)) (w : Known) (p : ℕ) (S : PlainShape) (m : Linked) (st : Store Parked) → Set w p S m st
+      → IfThere (Back P sh w st.active) o → Good (resumed_or_dropped M P m st o)
   back_ok None w p S m st h g = dropped_ok w p S m st (C.drop_mark m) h (drop_ok P sh w st.active p S m h.now)
   back_ok (Some back) w p S m st h g = resumed_ok back.0 w g.proc g.shape back.1 st (record { now = g.now; store = h.store }) g.why
 

@@ -36,7 +36,8 @@ starts_by : (o : Option Procedure) (f : Shapes o) (x : Procedure) → o ≡ Some
 starts_by None f x e = no_some x e
 starts_by (Some proc) f x e = (f proc refl).1.start
 
-fine_by : (o : Option Procedure) (f : Shapes o) (place : ℕ) (S : PlainShape) → shapes_by o f place ≡ Some S → IsFine (option_map_or (λ (entry : Procedure). entry.instrs) o []) (shapes_by o f) place S
+fine_by : (o : Option Procedure) (f : Shapes o) (place : ℕ) (S : PlainShape) → shapes_by o f place ≡ Some S
+    → IsFine (option_map_or (λ (entry : Procedure). entry.instrs) o []) (shapes_by o f) place S
 fine_by None f place S e = no_some S e
 fine_by (Some proc) f place S e = (f proc refl).1.each place S e
 
@@ -61,7 +62,8 @@ module _ (P : Program) (sh : ℕ → ℕ → Option PlainShape) (given : Shaped 
       let next : Linked = M.go (suc (M.place m)) m in
       ok_found P sh given keep (instruction_at M P m) (λ instr. instruction M P instr next st) fine.instr
       (ap (λ x. slice_get (instrs_of P x) m.place) (here_proc P sh h.0 st.active h.1 h.2 m h.3) ∙ fine.stands)
-      (instruction_ok P sh given keep h.0 h.1 h.2 next m.place st (record { now = record { has = h.3.has; memory = h.3.memory }; store = h.5 }) refl fine.instr fine.fit fine.on fine.onward fine.backward (tables_ok.instrs h.1 m.place fine.instr fine.stands))
+      (instruction_ok P sh given keep h.0 h.1 h.2 next m.place st (record { now = record { has = h.3.has; memory = h.3.memory }; store = h.5 }) refl fine.instr
+      fine.fit fine.on fine.onward fine.backward (tables_ok.instrs h.1 m.place fine.instr fine.stands))
   step_ok (failing m st) h = fails_ok P sh given keep h.0 h.1 h.2 m st (record { now = h.3; store = h.4 })
   step_ok (hopping m st) h = hop_ok P sh given keep h.0 m st (record { memory = h.1; store = h.2 })
   step_ok (over ending outside) h = tt
@@ -82,36 +84,56 @@ module _ (P : Program) (sh : ℕ → ℕ → Option PlainShape) (given : Shaped 
     store : StoreOk P sh none_known (λ i. i ≡ st.active) st
     main : st.active ≡ 0
 
-  memory_none : (m : Linked) → MemoryOf P sh none_known m → (n : ℕ) (values : List Value) → MemoryOk P sh none_known (slice_set m.activations n values) m.flags m.relabels
-  memory_none m h n values = record { same_activations = h.same_activations ∙ sym (set_length m.activations n values); same_flags = h.same_flags; locals = λ a p z. no_some p z; labels = h.labels }
+  memory_none : (m : Linked) → MemoryOf P sh none_known m → (n : ℕ) (values : List Value)
+      → MemoryOk P sh none_known (slice_set m.activations n values) m.flags m.relabels
+  memory_none m h n values = record {
+    same_activations = h.same_activations ∙ sym (set_length m.activations n values);
+    same_flags = h.same_flags;
+    locals = λ a p z. no_some p z;
+    labels = h.labels;
+  }
 
   here_starts : (m : Linked) (st : Store Parked) → Starts m st → SettingWithin 1 (here M m st)
-  here_starts m st h = record { world = h.store.world; locals = subst (Each (ValueWithin 1)) (sym (none_there m.activations _ [] (sym h.memory.same_activations))) tt }
+  here_starts m st h =
+      record { world = h.store.world; locals = subst (Each (ValueWithin 1)) (sym (none_there m.activations _ [] (sym h.memory.same_activations))) tt }
 
-  made_starts : (o : Outcome) (m : Linked) (st : Store Parked) (next : Value → Linked → Store Parked → St P sh given keep) → IsMade o → OutcomeWithin 1 o → Starts m st → ((v : Value) (a : Linked) (st' : Store Parked) → ValueWithin 1 v → Starts a st' → Good (next v a st')) → Good (with_made M o m st next)
-  made_starts (Gives (Val v) seen) m st next i g h f = f v (C.set_locals seen.locals m) (with_at seen st) g.0 (record { memory = memory_none m h.memory _ seen.locals; store = record { world = g.1.world; coexps = h.store.coexps }; main = h.main })
+  made_starts : (o : Outcome) (m : Linked) (st : Store Parked) (next : Value → Linked → Store Parked → St P sh given keep) → IsMade o → OutcomeWithin 1 o
+      → Starts m st → ((v : Value) (a : Linked) (st' : Store Parked) → ValueWithin 1 v → Starts a st' → Good (next v a st')) → Good (with_made M o m st next)
+  made_starts (Gives (Val v) seen) m st next i g h f = f v (C.set_locals seen.locals m) (with_at seen st) g.0
+      (record { memory = memory_none m h.memory _ seen.locals; store = record { world = g.1.world; coexps = h.store.coexps }; main = h.main })
   made_starts (Gives (Var v) seen) m st next i g h f = absurd i
   made_starts (Error k v seen) m st next i g h f = tt
   made_starts (Fails seen) m st next i g h f = absurd i
   made_starts (Suspends item r seen) m st next i g h f = absurd i
   made_starts (Ends k seen) m st next i g h f = absurd i
 
-  collected_starts : (b : Bool) (entry : Procedure) → (b ≡ true → 0 < entry.parameters) → (vs : List Value) (m : Linked) (st : Store Parked) (next : List Value → Linked → Store Parked → St P sh given keep) → Each (ValueWithin 1) vs → Starts m st
-      → ((ps : List Value) (a : Linked) (st' : Store Parked) → Parameters P sh given keep none_known entry ps → Starts a st' → Good (next ps a st')) → Good (collect_rest M b entry.parameters vs m st next)
-  collected_starts false entry some vs m st next g h f = f (fill_nulls entry.parameters vs) m st (record { within = filled_within entry.parameters 1 vs g; count = filled_length entry.parameters vs }) h
+  collected_starts : (b : Bool) (entry : Procedure) → (b ≡ true → 0 < entry.parameters)
+      → (vs : List Value) (m : Linked) (st : Store Parked) (next : List Value → Linked → Store Parked → St P sh given keep) → Each (ValueWithin 1) vs
+      → Starts m st
+      → ((ps : List Value) (a : Linked) (st' : Store Parked) → Parameters P sh given keep none_known entry ps → Starts a st' → Good (next ps a st'))
+      → Good (collect_rest M b entry.parameters vs m st next)
+  collected_starts false entry some vs m st next g h f =
+      f (fill_nulls entry.parameters vs) m st (record { within = filled_within entry.parameters 1 vs g; count = filled_length entry.parameters vs }) h
   collected_starts true entry some vs m st next g h f =
       let k = entry.parameters - 1 in
       let rest = drop k vs in
-      made_starts (list_row rest (here M m st)) m st (λ rest m st. next (fill_nulls k vs ++ rest ∷ []) m st) (rows_keep.list_made rest (here M m st)) (keep.listed 1 rest (here M m st) (here_starts m st h) (each_drop (ValueWithin 1) k vs g)) h
-      (λ v a st' gv h'. f (fill_nulls k vs ++ v ∷ []) a st' (record { within = each_append (ValueWithin 1) (fill_nulls k vs) (v ∷ []) (filled_within k 1 vs g) (gv, tt); count = joined_length entry.parameters vs v (some refl) }) h')
+      made_starts (list_row rest (here M m st)) m st (λ rest m st. next (fill_nulls k vs ++ rest ∷ []) m st) (rows_keep.list_made rest (here M m st))
+      (keep.listed 1 rest (here M m st) (here_starts m st h) (each_drop (ValueWithin 1) k vs g)) h
+      (λ v a st' gv h'. f (fill_nulls k vs ++ v ∷ []) a st' (record {
+        within = each_append (ValueWithin 1) (fill_nulls k vs) (v ∷ []) (filled_within k 1 vs g) (gv, tt);
+        count = joined_length entry.parameters vs v (some refl);
+      }) h')
 
-  begun_ok : (b : Bool) (main : ℕ) (entry : Procedure) → slice_get P.procs main ≡ Some entry → main < length P.procs → (v : Value) (m : Linked) (st : Store Parked) → ValueWithin 1 v → Starts m st → Good (begun_if M b main entry (v ∷ []) m st)
+  begun_ok : (b : Bool) (main : ℕ) (entry : Procedure) → slice_get P.procs main ≡ Some entry → main < length P.procs
+      → (v : Value) (m : Linked) (st : Store Parked) → ValueWithin 1 v → Starts m st → Good (begun_if M b main entry (v ∷ []) m st)
   begun_ok false main entry e l v m st g h = tt
-  begun_ok true main entry e l v m st g h = collected_starts entry.collects entry (given.collects main entry e) (v ∷ []) m st (λ parameters m st. running (M.begin main (parameters ++ replicate entry.locals Null) 0 m) st) (g, tt) h (λ ps a st' gp h'.
+  begun_ok true main entry e l v m st g h = collected_starts entry.collects entry (given.collects main entry e) (v ∷ []) m st
+      (λ parameters m st. running (M.begin main (parameters ++ replicate entry.locals Null) 0 m) st) (g, tt) h (λ ps a st' gp h'.
       let values = ps ++ replicate entry.locals Null in
       ok_runs P sh given keep (with_activation none_known main) main (start_shape false) (M.begin main values 0 a) st'
       (record {
-        now = begin_ok P sh main values 0 false none_known st'.active a h'.memory (parameters_locals P sh given keep main entry e none_known ps gp) (ap (λ n. not (is_main n)) (sym h'.main));
+        now = begin_ok P sh main values 0 false none_known st'.active a h'.memory (parameters_locals P sh given keep main entry e none_known ps gp)
+            (ap (λ n. not (is_main n)) (sym h'.main));
         store = grow_store P sh none_known (with_activation none_known main) (λ i. i ≡ st'.active) st' refl (grow_activation none_known main) h'.store;
       })
       (given.starts main l))
@@ -121,8 +143,10 @@ module _ (P : Program) (sh : ℕ → ℕ → Option PlainShape) (given : Shaped 
   start_ok words m st (Some main) e h =
       let l = tables_ok.main main e in
       let o = stands P.procs main l in
-      ok_found P sh given keep (slice_get P.procs main) (λ (entry : Procedure). with_made M (words_row words (here M m st)) m st (λ list m st. begun_if M (nat_le 1 st.world.heap.bounds.levels) main entry (list ∷ []) m st)) o.0 o.1
-      (made_starts (words_row words (here M m st)) m st (λ list m st. begun_if M (nat_le 1 st.world.heap.bounds.levels) main o.0 (list ∷ []) m st) (rows_keep.words_made words (here M m st)) (keep.worded 1 words (here M m st) (here_starts m st h)) h
+      ok_found P sh given keep (slice_get P.procs main) (λ (entry : Procedure).
+      with_made M (words_row words (here M m st)) m st (λ list m st. begun_if M (nat_le 1 st.world.heap.bounds.levels) main entry (list ∷ []) m st)) o.0 o.1
+      (made_starts (words_row words (here M m st)) m st (λ list m st. begun_if M (nat_le 1 st.world.heap.bounds.levels) main o.0 (list ∷ []) m st)
+      (rows_keep.words_made words (here M m st)) (keep.worded 1 words (here M m st) (here_starts m st h)) h
       (λ v a st' g h'. begun_ok (nat_le 1 st'.world.heap.bounds.levels) main o.0 o.1 l v a st' g h'))
 
   abbrev main_coexp : Coexp Parked
@@ -132,7 +156,8 @@ module _ (P : Program) (sh : ℕ → ℕ → Option PlainShape) (given : Shaped 
   main_entered = record { coexp = main_coexp; stands = refl; begun = λ z. z }
 
   main_each : (i : ℕ) (c : Coexp Parked) → slice_get (main_coexp ∷ []) i ≡ Some c → CoexpOk P sh none_known (main_coexp ∷ []) i c
-  main_each zero c e = subst (λ x. CoexpOk P sh none_known (main_coexp ∷ []) 0 x) (some_inj e) (record { values = λ d. absurd (d refl); origin = λ d. absurd (d refl); activator = main_entered })
+  main_each zero c e = subst (λ x. CoexpOk P sh none_known (main_coexp ∷ []) 0 x) (some_inj e)
+      (record { values = λ d. absurd (d refl); origin = λ d. absurd (d refl); activator = main_entered })
   main_each (suc i) c e = no_some c e
 
   main_waits : (i : ℕ) (c : Coexp Parked) → slice_get (main_coexp ∷ []) i ≡ Some c → (i ≡ 0 → ⊥) → StatusOk P sh none_known i c.status
@@ -143,7 +168,11 @@ module _ (P : Program) (sh : ℕ → ℕ → Option PlainShape) (given : Shaped 
   first_ok launch = record {
     memory = record { same_activations = refl; same_flags = refl; locals = λ a p z. no_some p z; labels = tt };
     store = record {
-      world = record { heap = record { lists = tt; sets = tt; tables = tt; records = tt; count = refl }; globals = tables_ok.globals; statics = each_replicate (ValueWithin 1) (static_count P) Null tt };
+      world = record {
+        heap = record { lists = tt; sets = tt; tables = tt; records = tt; count = refl };
+        globals = tables_ok.globals;
+        statics = each_replicate (ValueWithin 1) (static_count P) Null tt;
+      };
       coexps = record { count = refl; each = main_each; waits = main_waits; there = main_entered; first = main_entered };
     };
     main = refl;
@@ -163,7 +192,8 @@ never_stuck tables have ok keep = record {
 }
   where
     linked_never : (launch : Launch) → LinkedStuck repeats_anywhere tables launch → ⊥
-    linked_never launch run = subst (λ s. Safe tables (shapes_of tables have) s) run.is (runs_ok tables (shapes_of tables have) (shaped tables have ok) keep ok launch run.count)
+    linked_never launch run =
+        subst (λ s. Safe tables (shapes_of tables have) s) run.is (runs_ok tables (shapes_of tables have) (shaped tables have ok) keep ok launch run.count)
 
     flat_never : (launch : Launch) → FlatStuck tables launch → ⊥
     flat_never launch run = linked_never launch ((everywhere tables launch).stuck_linked run)

@@ -35,13 +35,15 @@ abbrev pub most : List Procedure → ℕ
 most [] = 0
 most (proc ∷ procs) = length proc.instrs + most procs
 
-pub proc_within : (procs : List Procedure) (n : ℕ) (place : ℕ) (instr : Instr) → slice_get (option_map_or (λ (entry : Procedure). entry.instrs) (slice_get procs n) []) place ≡ Some instr → place < most procs
+pub proc_within : (procs : List Procedure) (n : ℕ) (place : ℕ) (instr : Instr)
+    → slice_get (option_map_or (λ (entry : Procedure). entry.instrs) (slice_get procs n) []) place ≡ Some instr → place < most procs
 proc_within [] n place instr e = no_some instr e
 proc_within (proc ∷ procs) zero place instr e = let l = within proc.instrs place instr e in omega (arith, l)
 proc_within (proc ∷ procs) (suc n) place instr e = let l = proc_within procs n place instr e in omega (arith, l)
 
 -- the labels that lead forward
-pub goes_forward : (instr : Instr) (S : PlainShape) (place : ℕ) (Q : ℕ × PlainShape → Type 0) → IfSome (forward instr S) (λ to. (place < to.0) × Q to) → IsForward place instr
+pub goes_forward : (instr : Instr) (S : PlainShape) (place : ℕ) (Q : ℕ × PlainShape → Type 0) → IfSome (forward instr S) (λ to. (place < to.0) × Q to)
+    → IsForward place instr
 goes_forward (Instrs.Mark label) S place Q h = h.0
 goes_forward (Instrs.Goto label) S place Q h = h.0
 goes_forward (Instrs.Init label) S place Q h = h.0
@@ -63,18 +65,21 @@ module _ (tables : Tables) (have : HaveShapes tables) (ok : TablesOk tables) (ke
   given = shaped tables have ok
 
   -- the instruction at a reached place is that whose labels were looked at
-  forward_at : (m : Linked) (st : Store Parked) → Safe tables sh (running m st) → (instr : Instr) → instruction_at M tables m ≡ Some instr → IsForward m.place instr
+  forward_at : (m : Linked) (st : Store Parked) → Safe tables sh (running m st) → (instr : Instr) → instruction_at M tables m ≡ Some instr
+      → IsForward m.place instr
   forward_at m st h instr e =
       let fine : IsFine (instrs_of tables h.1) (shapes_of tables have h.1) m.place h.2 = given.fine h.1 m.place h.2 h.4 in
-      let same : instr ≡ fine.instr = some_inj (sym e ∙ ap (λ x. slice_get (instrs_of tables x) m.place) (here_proc tables sh h.0 st.active h.1 h.2 m h.3) ∙ fine.stands) in
+      let same : instr
+      ≡ fine.instr = some_inj (sym e ∙ ap (λ x. slice_get (instrs_of tables x) m.place) (here_proc tables sh h.0 st.active h.1 h.2 m h.3) ∙ fine.stands) in
       subst (IsForward m.place) (sym same) (goes_forward fine.instr h.2 m.place (λ to. shapes_of tables have h.1 to.0 ≡ Some to.1) fine.onward)
 
   marks_end : (launch : Launch) → EndsFrom M tables (Marks.start repeats_anywhere tables launch)
-  marks_end launch = ends_by M (most tables.procs) (linked_weighs repeats_anywhere (most tables.procs)) tables launch.bounds.turns (λ s. Safe tables sh s) (record {
-    on = λ s kept. step_ok tables sh given keep ok s kept;
-    within = λ m st kept instr e. proc_within tables.procs (M.proc m) m.place instr e;
-    forward = forward_at;
-  }) empty launch refl (start_safe tables sh given keep ok launch)
+  marks_end launch =
+      ends_by M (most tables.procs) (linked_weighs repeats_anywhere (most tables.procs)) tables launch.bounds.turns (λ s. Safe tables sh s) (record {
+        on = λ s kept. step_ok tables sh given keep ok s kept;
+        within = λ m st kept instr e. proc_within tables.procs (M.proc m) m.place instr e;
+        forward = forward_at;
+      }) empty launch refl (start_safe tables sh given keep ok launch)
 
   never : (launch : Launch) (n : ℕ) → Marks.steps repeats_anywhere tables n (Marks.start repeats_anywhere tables launch) ≡ stuck → ⊥
   never launch n e = subst (λ s. Safe tables sh s) e (runs_ok tables sh given keep ok launch n)
@@ -88,7 +93,9 @@ module _ (tables : Tables) (have : HaveShapes tables) (ok : TablesOk tables) (ke
   stacks_seen : (launch : Launch) → (seen : Observed) × Flat.Runs tables launch seen
   stacks_seen launch = let o = marks_seen launch in (o.0, (everywhere tables launch).to_flat o.0 o.1)
 
-  told_ends : (repeats : ℕ → ℕ → Bool) (launch : Launch) (seen : Observed) → Marks.Runs repeats tables launch seen ⊎ (LinkedStuck repeats tables launch × MissingCell repeats tables launch) → EndsFrom (linked repeats) tables (Marks.start repeats tables launch)
+  told_ends : (repeats : ℕ → ℕ → Bool) (launch : Launch) (seen : Observed)
+      → Marks.Runs repeats tables launch seen ⊎ (LinkedStuck repeats tables launch × MissingCell repeats tables launch)
+      → EndsFrom (linked repeats) tables (Marks.start repeats tables launch)
   told_ends repeats launch seen (inl run) = record { count = run.count; is_end = subst IsEnd (sym (over_seen _ seen run.is)) tt }
   told_ends repeats launch seen (inr lost) = record { count = lost.0.count; is_end = subst IsEnd (sym lost.0.is) tt }
 

@@ -217,7 +217,8 @@ module _ (n : ℕ) where
 
   -- Pairs
 
-  each_stored : (ps : List (Value × Value)) (k v : Value) → ValueWithin n k → ValueWithin n v → Each (PairWithin n) ps → Each (PairWithin n) (stored same ps k v)
+  each_stored : (ps : List (Value × Value)) (k v : Value) → ValueWithin n k → ValueWithin n v → Each (PairWithin n) ps
+      → Each (PairWithin n) (stored same ps k v)
   each_stored [] k v g q h = ((g, q), tt)
   each_stored (p ∷ ps) k v g q h = by (same k p.0) (each_stored ps k v g q h.1)
     where
@@ -257,7 +258,8 @@ module _ (n : ℕ) where
   pub default_at : (xs : List Table) (k : ℕ) → Tables n xs → V n (unwrap_or (slice_get xs k) (record { default = Null; pairs = [] })).default
   default_at xs k h = record { is = (each_tables xs k h.is).0 }
 
-  each_records : (xs : List Record) (k : ℕ) → Each (RecordWithin n) xs → Each (ValueWithin n) (unwrap_or (slice_get xs k) (record { kind = 0; fields = [] })).fields
+  each_records : (xs : List Record) (k : ℕ) → Each (RecordWithin n) xs
+      → Each (ValueWithin n) (unwrap_or (slice_get xs k) (record { kind = 0; fields = [] })).fields
   each_records [] k h = tt
   each_records (x ∷ xs) zero h = h.0
   each_records (x ∷ xs) (suc k) h = each_records xs k h.1
@@ -317,5 +319,11 @@ module _ (n : ℕ) where
   pub of_locals : (a : Setting) → S n a → Vs n a.locals
   of_locals a h = record { is = h.is.locals }
 
-  pub setting : (a : Setting) → Lists n a.world.heap.lists → Sets n a.world.heap.sets → Tables n a.world.heap.tables → Records n a.world.heap.records → Count n a.world.heap.coexps → Vs n a.world.globals → Vs n a.world.statics → Vs n a.locals → S n a
-  setting a l s t r c g u v = record { is = record { world = record { heap = record { lists = l.is; sets = s.is; tables = t.is; records = r.is; count = c.is }; globals = g.is; statics = u.is }; locals = v.is } }
+  pub setting : (a : Setting) → Lists n a.world.heap.lists → Sets n a.world.heap.sets → Tables n a.world.heap.tables → Records n a.world.heap.records
+      → Count n a.world.heap.coexps → Vs n a.world.globals → Vs n a.world.statics → Vs n a.locals → S n a
+  setting a l s t r c g u v = record {
+    is = record {
+      world = record { heap = record { lists = l.is; sets = s.is; tables = t.is; records = r.is; count = c.is }; globals = g.is; statics = u.is };
+      locals = v.is;
+    };
+  }

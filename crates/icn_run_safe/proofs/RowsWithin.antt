@@ -103,7 +103,8 @@ module _ (n : ℕ) where
   w_check true k v next a f = f
   w_check false k v next a f = record { is = tt }
 
-  w_present : {A : Type 0} (o : Option A) (k : ℕ) (v : Option Value) (next : A → Row) (a : Setting) → ((x : A) → o ≡ Some x → O n (next x a)) → O n (present o k v next a)
+  w_present : {A : Type 0} (o : Option A) (k : ℕ) (v : Option Value) (next : A → Row) (a : Setting) → ((x : A) → o ≡ Some x → O n (next x a))
+      → O n (present o k v next a)
   w_present (Some x) k v next a f = f x refl
   w_present None k v next a f = record { is = tt }
 
@@ -125,13 +126,73 @@ module _ (n : ℕ) where
 
 ruleset ends = (o_error, o_ends, o_gives, o_suspends, o_fails)
 
-ruleset residuals = (r_text, r_bytes, r_items, r_members, r_values, r_keys, r_fields, r_lines, r_assign, r_exchange, r_position, r_counting, r_sequence, r_balanced, r_found, r_among)
+ruleset residuals = (
+  r_text,
+  r_bytes,
+  r_items,
+  r_members,
+  r_values,
+  r_keys,
+  r_fields,
+  r_lines,
+  r_assign,
+  r_exchange,
+  r_position,
+  r_counting,
+  r_sequence,
+  r_balanced,
+  r_found,
+  r_among,
+)
 
-ruleset values = (v_null, v_integer, v_text, v_chars, v_file, v_record, v_list, v_set, v_table, v_at, v_got, v_key, x_element, x_field, x_key, x_part, i_val, i_var)
+ruleset values =
+    (v_null, v_integer, v_text, v_chars, v_file, v_record, v_list, v_set, v_table, v_at, v_got, v_key, x_element, x_field, x_key, x_part, i_val, i_var)
 
-ruleset lists = (vs_nil, vs_cons, vs_append, vs_set, vs_take, vs_drop, vs_replicate, vs_filter, vs_after, vs_with, vs_or_null, vs_member, vs_members, vs_left, vs_right, vs_sorted, ps_sorted, vs_pairs, items_at, members_at, pairs_at, default_at, fields_at)
+ruleset lists = (
+  vs_nil,
+  vs_cons,
+  vs_append,
+  vs_set,
+  vs_take,
+  vs_drop,
+  vs_replicate,
+  vs_filter,
+  vs_after,
+  vs_with,
+  vs_or_null,
+  vs_member,
+  vs_members,
+  vs_left,
+  vs_right,
+  vs_sorted,
+  ps_sorted,
+  vs_pairs,
+  items_at,
+  members_at,
+  pairs_at,
+  default_at,
+  fields_at,
+)
 
-ruleset settings = (setting, lists_set, lists_more, sets_set, sets_more, tables_set, tables_more, records_set, records_more, of_lists, of_sets, of_tables, of_records, of_count, of_globals, of_statics, of_locals)
+ruleset settings = (
+  setting,
+  lists_set,
+  lists_more,
+  sets_set,
+  sets_more,
+  tables_set,
+  tables_more,
+  records_set,
+  records_more,
+  of_lists,
+  of_sets,
+  of_tables,
+  of_records,
+  of_count,
+  of_globals,
+  of_statics,
+  of_locals,
+)
 
 ruleset words = (ends, residuals, values, lists, settings, w_check, w_present, w_computed, w_passing, w_found, w_natural)
 
@@ -150,7 +211,8 @@ module _ (n : ℕ) where
   same_v : (v w : Value) → V n v → Some v ≡ Some w → V n w
   same_v v w h e = let z : v ≡ w = some_inj e in rw (← z) h
 
-  looked : (test : Value → Bool) (ps : List (Value × Value)) (d : Value) → Each (PairWithin n) ps → ValueWithin n d → ValueWithin n (unwrap_or (lookup test ps) d)
+  looked : (test : Value → Bool) (ps : List (Value × Value)) (d : Value) → Each (PairWithin n) ps → ValueWithin n d
+      → ValueWithin n (unwrap_or (lookup test ps) d)
   looked test [] d h g = g
   looked test (p ∷ ps) d h g = by (test p.0) (looked test ps d h.1 g)
     where
@@ -166,7 +228,10 @@ module _ (n : ℕ) where
   root_v a (Field id k) v h e = same_v _ v (v_at n (record_at a.world.heap id).fields k (fields_at n a.world.heap.records id (of_records n a h))) e
   root_v a (Key id key) v h e =
       let t = table_at a.world.heap id in
-      same_v _ v (record { is = looked (same key) t.pairs t.default (pairs_at n a.world.heap.tables id (of_tables n a h)).is (default_at n a.world.heap.tables id (of_tables n a h)).is }) e
+      same_v _ v (record {
+        is = looked (same key) t.pairs t.default (pairs_at n a.world.heap.tables id (of_tables n a h)).is
+            (default_at n a.world.heap.tables id (of_tables n a h)).is;
+      }) e
   root_v a (Keyword Subject) v h e = same_v _ v (v_text n a.world.subject) e
   root_v a (Keyword Position) v h e = same_v _ v (v_integer n (pos a.world.position)) e
   root_v a (Keyword Random) v h e = same_v _ v (v_integer n (pos a.world.random)) e
@@ -182,9 +247,11 @@ module _ (n : ℕ) where
   w_value (Val v) next a h i f = f v (record { is = i.is })
   w_value (Var x) next a h i f = w_reads x next a h f
 
-  w_values : (xs : List Item) (next : List Value → Row) (a : Setting) → S n a → Each (ItemWithin n) xs → ((vs : List Value) → Vs n vs → O n (next vs a)) → O n (the_values xs next a)
+  w_values : (xs : List Item) (next : List Value → Row) (a : Setting) → S n a → Each (ItemWithin n) xs → ((vs : List Value) → Vs n vs → O n (next vs a))
+      → O n (the_values xs next a)
   w_values [] next a h i f = f [] (vs_nil n)
-  w_values (x ∷ xs) next a h i f = w_value x (λ v. the_values xs (λ vs. next (v ∷ vs))) a h (record { is = i.0 }) (λ v g. w_values xs (λ vs. next (v ∷ vs)) a h i.1 (λ vs q. f (v ∷ vs) (vs_cons n v vs g q)))
+  w_values (x ∷ xs) next a h i f = w_value x (λ v. the_values xs (λ vs. next (v ∷ vs))) a h (record { is = i.0 })
+      (λ v g. w_values xs (λ vs. next (v ∷ vs)) a h i.1 (λ vs q. f (v ∷ vs) (vs_cons n v vs g q)))
 
   w_variable : (x : Item) (next : Variable → Row) (a : Setting) → I n x → ((y : Variable) → X n y → O n (next y a)) → O n (the_variable x next a)
   w_variable (Val v) next a i f = record { is = tt }
@@ -192,23 +259,29 @@ module _ (n : ℕ) where
 
   -- Assigning
 
-  w_stores : (id : ℕ) (key value : Value) (next : Row) (a : Setting) → S n a → V n key → V n value → ((s : Setting) → S n s → O n (next s)) → O n (stores id key value next a)
+  w_stores : (id : ℕ) (key value : Value) (next : Row) (a : Setting) → S n a → V n key → V n value → ((s : Setting) → S n s → O n (next s))
+      → O n (stores id key value next a)
   w_stores id key value next a h g q f = search (words, w_unless, ps_stored, f) depth 12
 
-  w_keyword : (refused : Row) (word : KeywordVariable) (value : Value) (next : Row) (a : Setting) → S n a → ((s : Setting) → S n s → O n (refused s)) → ((s : Setting) → S n s → O n (next s)) → O n (assigns_keyword refused word value next a)
+  w_keyword : (refused : Row) (word : KeywordVariable) (value : Value) (next : Row) (a : Setting) → S n a → ((s : Setting) → S n s → O n (refused s))
+      → ((s : Setting) → S n s → O n (next s)) → O n (assigns_keyword refused word value next a)
   w_keyword refused Subject value next a h r f = search (words, w_made, f)
   w_keyword refused Position value next a h r f = by_number (integer_of value) refl
     where
-      by_place : (k : ℤ) → integer_of value ≡ Some k → (o : Option ℕ) → place_of k (length a.world.subject) ≡ o → O n (assigns_keyword refused Position value next a)
+      by_place : (k : ℤ) → integer_of value ≡ Some k → (o : Option ℕ) → place_of k (length a.world.subject) ≡ o
+          → O n (assigns_keyword refused Position value next a)
       by_place k e None g = rw e (rw g (r a h))
-      by_place k e (Some place) g = rw e (rw g (f (having_position place a) (record { is = record { world = record { heap = h.is.world.heap; globals = h.is.world.globals; statics = h.is.world.statics }; locals = h.is.locals } })))
+      by_place k e (Some place) g = rw e (rw g (f (having_position place a) (record {
+        is = record { world = record { heap = h.is.world.heap; globals = h.is.world.globals; statics = h.is.world.statics }; locals = h.is.locals };
+      })))
 
       by_number : (o : Option ℤ) → integer_of value ≡ o → O n (assigns_keyword refused Position value next a)
       by_number None e = rw e (record { is = tt })
       by_number (Some k) e = by_place k e (place_of k (length a.world.subject)) refl
   w_keyword refused Random value next a h r f = search (words, f)
 
-  w_assigns_root : (refused : Row) (root : Root) (value : Value) (next : Row) (a : Setting) → S n a → X n (Whole root) → V n value → ((s : Setting) → S n s → O n (refused s)) → ((s : Setting) → S n s → O n (next s)) → O n (assigns_root refused root value next a)
+  w_assigns_root : (refused : Row) (root : Root) (value : Value) (next : Row) (a : Setting) → S n a → X n (Whole root) → V n value
+      → ((s : Setting) → S n s → O n (refused s)) → ((s : Setting) → S n s → O n (next s)) → O n (assigns_root refused root value next a)
   w_assigns_root refused (Global place) value next a h x g r f = search (words, f)
   w_assigns_root refused (Static place) value next a h x g r f = search (words, f)
   w_assigns_root refused (Local place) value next a h x g r f = search (words, f)
@@ -217,31 +290,37 @@ module _ (n : ℕ) where
   w_assigns_root refused (Key table key) value next a h x g r f = w_stores table key value next a h (record { is = x.is }) g f
   w_assigns_root refused (Keyword word) value next a h x g r f = w_keyword refused word value next a h r f
 
-  w_assigns : (refused : Row) (x : Variable) (value : Value) (next : Variable → Row) (a : Setting) → S n a → X n x → V n value → ((s : Setting) → S n s → O n (refused s)) → ((y : Variable) (s : Setting) → X n y → S n s → O n (next y s)) → O n (assigns_or refused x value next a)
+  w_assigns : (refused : Row) (x : Variable) (value : Value) (next : Variable → Row) (a : Setting) → S n a → X n x → V n value
+      → ((s : Setting) → S n s → O n (refused s)) → ((y : Variable) (s : Setting) → X n y → S n s → O n (next y s)) → O n (assigns_or refused x value next a)
   w_assigns refused (Whole root) value next a h x g r f = w_assigns_root refused root value (next (Whole root)) a h x g r (λ s z. f (Whole root) s x z)
   w_assigns refused (Part root place size) value next a h x g r f =
       let whole : X n (Whole root) = record { is = x.is } in
       let part : (c d : ℕ) → X n (Part root c d) = λ c d. record { is = x.is } in
       search (words, w_made, w_root, w_assigns_root, part, r, f) depth 14
 
-  w_moved : (old new : ℕ) (x : Variable) (next : Variable → Row) (a : Setting) → X n x → ((y : Variable) → X n y → O n (next y a)) → O n (move_part old new x next a)
+  w_moved : (old new : ℕ) (x : Variable) (next : Variable → Row) (a : Setting) → X n x → ((y : Variable) → X n y → O n (next y a))
+      → O n (move_part old new x next a)
   w_moved old new (Whole root) next a x f = f (Whole root) x
   w_moved old new (Part root place size) next a x f = let part : (c d : ℕ) → X n (Part root c d) = λ c d. record { is = x.is } in search (words, part, f)
 
-  w_moved_left : (m : Mover) (old new : ℕ) (x : Variable) (next : Variable → Row) (a : Setting) → X n x → ((y : Variable) → X n y → O n (next y a)) → O n (moved_by_left m old new x next a)
+  w_moved_left : (m : Mover) (old new : ℕ) (x : Variable) (next : Variable → Row) (a : Setting) → X n x → ((y : Variable) → X n y → O n (next y a))
+      → O n (moved_by_left m old new x next a)
   w_moved_left Neither old new x next a h f = f x h
   w_moved_left Left old new x next a h f = w_moved old new x next a h f
   w_moved_left Right old new x next a h f = f x h
 
-  w_moved_right : (m : Mover) (old new : ℕ) (x : Variable) (next : Variable → Row) (a : Setting) → X n x → ((y : Variable) → X n y → O n (next y a)) → O n (moved_by_right m old new x next a)
+  w_moved_right : (m : Mover) (old new : ℕ) (x : Variable) (next : Variable → Row) (a : Setting) → X n x → ((y : Variable) → X n y → O n (next y a))
+      → O n (moved_by_right m old new x next a)
   w_moved_right Neither old new x next a h f = f x h
   w_moved_right Left old new x next a h f = f x h
   w_moved_right Right old new x next a h f = w_moved old new x next a h f
 
-  w_both : (refused : Row) (m : Mover) (x y : Variable) (v w : Value) (next : Variable × Variable → Row) (a : Setting) → S n a → X n x → X n y → V n v → V n w → ((s : Setting) → S n s → O n (refused s))
+  w_both : (refused : Row) (m : Mover) (x y : Variable) (v w : Value) (next : Variable × Variable → Row) (a : Setting) → S n a → X n x → X n y → V n v → V n w
+      → ((s : Setting) → S n s → O n (refused s))
       → ((p : Variable × Variable) (s : Setting) → X n p.0 → X n p.1 → S n s → O n (next p s)) → O n (assigns_both refused m x y v w next a)
   w_both refused m x y v w next a h gx gy gv gw r f =
-      w_assigns refused x v _ a h gx gv r (λ now s q z. w_moved_left m _ _ y _ s gy (λ y' q'. w_assigns refused y' w _ s z q' gw r (λ now' s' u z'. w_moved_right m _ _ now _ s' q (λ x' u'. f (x', now') s' u' u z'))))
+      w_assigns refused x v _ a h gx gv r (λ now s q z. w_moved_left m _ _ y _ s gy
+      (λ y' q'. w_assigns refused y' w _ s z q' gw r (λ now' s' u z'. w_moved_right m _ _ now _ s' q (λ x' u'. f (x', now') s' u' u z'))))
 
 ruleset changes = (words, w_made, w_unless, w_reads, w_value, w_variable, w_stores, ps_stored)
 
@@ -252,7 +331,8 @@ module _ (n : ℕ) where
   w_count last step None a h = record { is = h.is }
   w_count last step (Some k) a h = search words
 
-  w_sets : (f : List Value → List Value → List Value) (g : Bool → Bool → Bool) (v w : Value) (o : Option (ℕ × ℕ)) (a : Setting) → S n a → ((xs ys : List Value) → Vs n xs → Vs n ys → Vs n (f xs ys)) → O n (sets_or_csets f g v w o a)
+  w_sets : (f : List Value → List Value → List Value) (g : Bool → Bool → Bool) (v w : Value) (o : Option (ℕ × ℕ)) (a : Setting) → S n a
+      → ((xs ys : List Value) → Vs n xs → Vs n ys → Vs n (f xs ys)) → O n (sets_or_csets f g v w o a)
   w_sets f g v w (Some ids) a h q = search (words, q) depth 12
   w_sets f g v w None a h q = search words
 
@@ -265,7 +345,8 @@ module _ (n : ℕ) where
   i_part (Val u) v text c d h = record { is = tt }
   i_part (Var x) v text c d h = i_part_of x (held_text v) text c d (record { is = h.is })
 
-  w_text_of : (x : Variable) (o : Option (List ℕ)) (v : Value) (text : List ℕ) (a : Setting) → S n a → X n x → O n (text_elements (option_map (λ t. x) o) v text a)
+  w_text_of : (x : Variable) (o : Option (List ℕ)) (v : Value) (text : List ℕ) (a : Setting) → S n a → X n x
+      → O n (text_elements (option_map (λ t. x) o) v text a)
   w_text_of x None v text a h g = search (words, w_made) depth 12
   w_text_of x (Some t) v text a h g = search (words, w_reads) depth 12
 
@@ -335,7 +416,8 @@ module _ (n : ℕ) where
   w_new_set v (Some id) a h = search words depth 12
   w_new_set v None a h = search words depth 12
 
-  w_inserts : (c : Keeper) (x y : Value) (next : Row) (a : Setting) → S n a → V n x → V n y → ((s : Setting) → S n s → O n (next s)) → O n (inserts c x y next a)
+  w_inserts : (c : Keeper) (x y : Value) (next : Row) (a : Setting) → S n a → V n x → V n y → ((s : Setting) → S n s → O n (next s))
+      → O n (inserts c x y next a)
   w_inserts (SetKeeper id) x y next a h q u f = search (words, w_unless, f) depth 12
   w_inserts (TableKeeper id) x y next a h q u f = w_stores n id x y next a h q u f
 
@@ -354,7 +436,8 @@ module _ (n : ℕ) where
   s_without a (SetKeeper id) x h = search (words) depth 12
   s_without a (TableKeeper id) x h = search (words, ps_removed) depth 12
 
-  w_pairs : (ps : List (Value × Value)) (next : List Value → Row) (a : Setting) → S n a → Ps n ps → ((vs : List Value) (s : Setting) → Vs n vs → S n s → O n (next vs s)) → O n (pair_lists ps next a)
+  w_pairs : (ps : List (Value × Value)) (next : List Value → Row) (a : Setting) → S n a → Ps n ps
+      → ((vs : List Value) (s : Setting) → Vs n vs → S n s → O n (next vs s)) → O n (pair_lists ps next a)
   w_pairs [] next a h g f = f [] a (vs_nil n) h
   w_pairs (p ∷ ps) next a h g f =
       let first : V n p.0 = record { is = g.is.0.0 } in
@@ -367,7 +450,8 @@ module _ (n : ℕ) where
   w_pieces (v ∷ vs) next a f = search (w_check, w_present, w_pieces vs, f)
 
 module _ (n : ℕ) where
-  w_table_sorted : (names : Names) (heap : Heap) (ps : List (Value × Value)) (k : ℤ) (v : Value) (a : Setting) → S n a → Ps n ps → O n (table_sorted names heap ps k v a)
+  w_table_sorted : (names : Names) (heap : Heap) (ps : List (Value × Value)) (k : ℤ) (v : Value) (a : Setting) → S n a → Ps n ps
+      → O n (table_sorted names heap ps k v a)
   w_table_sorted names heap ps (pos (suc zero)) v a h g = search (words, w_pairs) depth 12
   w_table_sorted names heap ps (pos (suc (suc zero))) v a h g = search (words, w_pairs) depth 12
   w_table_sorted names heap ps (pos (suc (suc (suc zero)))) v a h g = search words depth 12
@@ -384,7 +468,24 @@ module _ (n : ℕ) where
   w_sorted names v k w (Activated id) a h = search words depth 12
   w_sorted names v k w Single a h = search words depth 12
 
-ruleset rows = (changes, w_assigns, w_both, w_count, w_sets, i_part, w_elements, w_random_by, w_subscript, w_section, w_copy, w_new_set, w_inserts, s_without, w_sorted, w_pieces)
+ruleset rows = (
+  changes,
+  w_assigns,
+  w_both,
+  w_count,
+  w_sets,
+  i_part,
+  w_elements,
+  w_random_by,
+  w_subscript,
+  w_section,
+  w_copy,
+  w_new_set,
+  w_inserts,
+  s_without,
+  w_sorted,
+  w_pieces,
+)
 
 module _ (n : ℕ) where
   w_operation : (op : Op) (x y z : Item) (a : Setting) → S n a → I n x → I n y → I n z → O n (operation_on op x y z a)
@@ -539,7 +640,8 @@ module _ (n : ℕ) where
   record Created (before : Setting) (o : Outcome) : Type 0 where
     is : CreatedWithin n before o
 
-  created_check : (before : Setting) (t : Bool) (k : ℕ) (v : Option Value) (next : Row) (a : Setting) → Created before (next a) → Created before (check t k v next a)
+  created_check : (before : Setting) (t : Bool) (k : ℕ) (v : Option Value) (next : Row) (a : Setting) → Created before (next a)
+      → Created before (check t k v next a)
   created_check before true k v next a f = f
   created_check before false k v next a f = record { is = tt }
 
@@ -549,7 +651,8 @@ module _ (n : ℕ) where
       l : n ≤ suc n
       l = omega arith
 
-      world : WorldWithin (suc n) (record a.world { heap = record a.world.heap { coexps = a.world.heap.coexps ++ zero ∷ []; cells = a.world.heap.cells + (1 + locals) } })
+      world : WorldWithin (suc n)
+          (record a.world { heap = record a.world.heap { coexps = a.world.heap.coexps ++ zero ∷ []; cells = a.world.heap.cells + (1 + locals) } })
       world = record {
         heap = record {
           lists = each_map (ListWithin n) (ListWithin (suc n)) (list_more n (suc n) l) a.world.heap.lists h.is.world.heap.lists;
@@ -563,14 +666,19 @@ module _ (n : ℕ) where
       }
 
       after : Setting
-      after = record a { world = record a.world { heap = record a.world.heap { coexps = a.world.heap.coexps ++ zero ∷ []; cells = a.world.heap.cells + (1 + locals) } } }
+      after = record a {
+        world = record a.world { heap = record a.world.heap { coexps = a.world.heap.coexps ++ zero ∷ []; cells = a.world.heap.cells + (1 + locals) } };
+      }
 
       made : CreatedWithin n a (Gives (Val (ACoexp (length a.world.heap.coexps))) after)
       made = (ap ACoexp h.is.world.heap.count, world, refl)
 
-applied_within : (n : ℕ) (names : Names) (what : Applied) (items : List Item) (at : Setting) → SettingWithin n at → Each (ItemWithin n) items → OutcomeWithin n (apply names what items at)
-applied_within n names (Operation op) items at h g = (w_operation n op (operand items 0) (operand items 1) (operand items 2) at (record { is = h }) (i_operand n items 0 g) (i_operand n items 1 g) (i_operand n items 2 g)).is
-applied_within n names (Function f) items at h g = (w_values n items (function_of names f) at (record { is = h }) g (λ vs q. w_function n names f vs at (record { is = h }) q)).is
+applied_within : (n : ℕ) (names : Names) (what : Applied) (items : List Item) (at : Setting) → SettingWithin n at → Each (ItemWithin n) items
+    → OutcomeWithin n (apply names what items at)
+applied_within n names (Operation op) items at h g = (w_operation n op (operand items 0) (operand items 1) (operand items 2) at (record { is = h })
+    (i_operand n items 0 g) (i_operand n items 1 g) (i_operand n items 2 g)).is
+applied_within n names (Function f) items at h g =
+    (w_values n items (function_of names f) at (record { is = h }) g (λ vs q. w_function n names f vs at (record { is = h }) q)).is
 
 -- rows stay within the co-expressions that are there
 pub rows_stay_within : RowsStayWithin

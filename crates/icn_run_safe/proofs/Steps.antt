@@ -67,7 +67,8 @@ pub filled_length : (n : ℕ) (vs : List Value) → length (fill_nulls n vs) ≡
 filled_length n vs = taken_length n (vs ++ replicate n Null) (omega (arith, length-append vs (replicate n Null), replicate_length n Null))
 
 pub filled_within : (k n : ℕ) (vs : List Value) → Each (ValueWithin n) vs → Each (ValueWithin n) (fill_nulls k vs)
-filled_within k n vs h = each_take (ValueWithin n) k (vs ++ replicate k Null) (each_append (ValueWithin n) vs (replicate k Null) h (each_replicate (ValueWithin n) k Null tt))
+filled_within k n vs h =
+    each_take (ValueWithin n) k (vs ++ replicate k Null) (each_append (ValueWithin n) vs (replicate k Null) h (each_replicate (ValueWithin n) k Null tt))
 
 -- all but the last, and a list of those behind
 pub joined_length : (n : ℕ) (vs : List Value) (v : Value) → 0 < n → length (fill_nulls (n - 1) vs ++ v ∷ []) ≡ n
@@ -78,7 +79,8 @@ items_at n [] k h = tt
 items_at n (x ∷ xs) zero h = h.0
 items_at n (x ∷ xs) (suc k) h = items_at n xs k h.1
 
-fields_at : (n : ℕ) (xs : List Record) (k : ℕ) → Each (RecordWithin n) xs → Each (ValueWithin n) (unwrap_or (slice_get xs k) (record { kind = 0; fields = [] })).fields
+fields_at : (n : ℕ) (xs : List Record) (k : ℕ) → Each (RecordWithin n) xs
+    → Each (ValueWithin n) (unwrap_or (slice_get xs k) (record { kind = 0; fields = [] })).fields
 fields_at n [] k h = tt
 fields_at n (x ∷ xs) zero h = h.0
 fields_at n (x ∷ xs) (suc k) h = fields_at n xs k h.1
@@ -128,10 +130,12 @@ module _ (P : Program) (sh : ℕ → ℕ → Option PlainShape) (given : Shaped 
   pub ok_runs : (w : Known) (p : ℕ) (S : PlainShape) (m : Linked) (st : Store Parked) → Ready w p S m st → sh p m.place ≡ Some S → Ok (running m st)
   ok_runs w p S m st h e = (w, p, S, h.now, e, h.store)
 
-  pub ok_push : (item : Item) (w : Known) (p : ℕ) (S : PlainShape) (m : Linked) (st : Store Parked) → Ready w p S m st → ItemWithin w.coexps item → sh p m.place ≡ Some (with_more 1 S) → Ok (push_item M item m st)
+  pub ok_push : (item : Item) (w : Known) (p : ℕ) (S : PlainShape) (m : Linked) (st : Store Parked) → Ready w p S m st → ItemWithin w.coexps item
+      → sh p m.place ≡ Some (with_more 1 S) → Ok (push_item M item m st)
   ok_push item w p S m st h g e = (w, p, with_more 1 S, push_ok P sh item w st.active p S m h.now g, e, h.store)
 
-  pub ready_world : (w : Known) (p : ℕ) (S : PlainShape) (m : Linked) (st : Store Parked) (world : World) → Ready w p S m st → WorldWithin w.coexps world → Ready w p S m (with_world world st)
+  pub ready_world : (w : Known) (p : ℕ) (S : PlainShape) (m : Linked) (st : Store Parked) (world : World) → Ready w p S m st → WorldWithin w.coexps world
+      → Ready w p S m (with_world world st)
   ready_world w p S m st world h g = record { now = h.now; store = record { world = g; coexps = h.store.coexps } }
 
   pub here_within : (w : Known) (p : ℕ) (S : PlainShape) (m : Linked) (st : Store Parked) → Ready w p S m st → SettingWithin w.coexps (here M m st)
@@ -139,7 +143,8 @@ module _ (P : Program) (sh : ℕ → ℕ → Option PlainShape) (given : Shaped 
 
   -- Rows
 
-  valued_ok : (n : ℕ) (o : Outcome) (w : Known) (p : ℕ) (S : PlainShape) (m : Linked) (st : Store Parked) (next : Value → St) → Ready w p S m st → OutcomeWithin n o → ((v : Value) → ValueWithin n v → Ok (next v)) → Ok (with_given o m st next)
+  valued_ok : (n : ℕ) (o : Outcome) (w : Known) (p : ℕ) (S : PlainShape) (m : Linked) (st : Store Parked) (next : Value → St) → Ready w p S m st
+      → OutcomeWithin n o → ((v : Value) → ValueWithin n v → Ok (next v)) → Ok (with_given o m st next)
   valued_ok n (Gives (Val v) seen) w p S m st next h g f = f v g.0
   valued_ok n (Gives (Var v) seen) w p S m st next h g f = ok_fails w p S m st h
   valued_ok n (Error k v seen) w p S m st next h g f = tt
@@ -147,34 +152,43 @@ module _ (P : Program) (sh : ℕ → ℕ → Option PlainShape) (given : Shaped 
   valued_ok n (Suspends item r seen) w p S m st next h g f = ok_fails w p S m st h
   valued_ok n (Ends k seen) w p S m st next h g f = ok_fails w p S m st h
 
-  pub ok_value : (item : Item) (w : Known) (p : ℕ) (S : PlainShape) (m : Linked) (st : Store Parked) (next : Value → St) → Ready w p S m st → ItemWithin w.coexps item → ((v : Value) → ValueWithin w.coexps v → Ok (next v)) → Ok (with_value M item m st next)
+  pub ok_value : (item : Item) (w : Known) (p : ℕ) (S : PlainShape) (m : Linked) (st : Store Parked) (next : Value → St) → Ready w p S m st
+      → ItemWithin w.coexps item → ((v : Value) → ValueWithin w.coexps v → Ok (next v)) → Ok (with_value M item m st next)
   ok_value item w p S m st next h g f =
-      valued_ok w.coexps (value_row item (here M m st)) w p S m st next h (keep.applied w.coexps st.names (Operation Ops.Dereference) (item ∷ []) (here M m st) (here_within w p S m st h) (g, tt)) f
+      valued_ok w.coexps (value_row item (here M m st)) w p S m st next h
+      (keep.applied w.coexps st.names (Operation Ops.Dereference) (item ∷ []) (here M m st) (here_within w p S m st h) (g, tt)) f
 
-  pub ok_values : (items : List Item) (w : Known) (p : ℕ) (S : PlainShape) (m : Linked) (st : Store Parked) (next : List Value → St) → Ready w p S m st → Each (ItemWithin w.coexps) items
+  pub ok_values : (items : List Item) (w : Known) (p : ℕ) (S : PlainShape) (m : Linked) (st : Store Parked) (next : List Value → St) → Ready w p S m st
+      → Each (ItemWithin w.coexps) items
       → ((vs : List Value) → Each (ValueWithin w.coexps) vs → Ok (next vs)) → Ok (with_values M items m st next)
   ok_values [] w p S m st next h g f = f [] tt
   ok_values (item ∷ items) w p S m st next h g f = ok_value item w p S m st (λ value. with_values M items m st (λ values. next (value ∷ values))) h g.0
       (λ v gv. ok_values items w p S m st (λ values. next (v ∷ values)) h g.1 (λ vs gvs. f (v ∷ vs) (gv, gvs)))
 
-  ready_seen : (w : Known) (p : ℕ) (S : PlainShape) (m : Linked) (st : Store Parked) (seen : Setting) → Ready w p S m st → SettingWithin w.coexps seen → Keeps (here M m st) seen → Ready w p S (C.set_locals seen.locals m) (with_at seen st)
+  ready_seen : (w : Known) (p : ℕ) (S : PlainShape) (m : Linked) (st : Store Parked) (seen : Setting) → Ready w p S m st → SettingWithin w.coexps seen
+      → Keeps (here M m st) seen → Ready w p S (C.set_locals seen.locals m) (with_at seen st)
   ready_seen w p S m st seen h g k = record {
-    now = set_locals_ok P sh seen.locals w st.active p S m h.now (record { within = g.locals; count = k.locals ∙ (locals_ok P sh w st.active p S m h.now).count });
+    now = set_locals_ok P sh seen.locals w st.active p S m h.now
+        (record { within = g.locals; count = k.locals ∙ (locals_ok P sh w st.active p S m h.now).count });
     store = record { world = g.world; coexps = h.store.coexps };
   }
 
-  pub ok_outcome : (o : Outcome) (w : Known) (p : ℕ) (S : PlainShape) (m : Linked) (st : Store Parked) → Ready w p S m st → OutcomeWithin w.coexps o → KeepsIn (here M m st) o → sh p m.place ≡ Some (with_more 1 S) → Ok (outcome M o m st)
+  pub ok_outcome : (o : Outcome) (w : Known) (p : ℕ) (S : PlainShape) (m : Linked) (st : Store Parked) → Ready w p S m st → OutcomeWithin w.coexps o
+      → KeepsIn (here M m st) o → sh p m.place ≡ Some (with_more 1 S) → Ok (outcome M o m st)
   ok_outcome (Fails seen) w p S m st h g k e = ok_fails w p S (C.set_locals seen.locals m) (with_at seen st) (ready_seen w p S m st seen h g k)
   ok_outcome (Gives item seen) w p S m st h g k e = ok_push item w p S (C.set_locals seen.locals m) (with_at seen st) (ready_seen w p S m st seen h g.1 k) g.0 e
   ok_outcome (Suspends item r seen) w p S m st h g k e =
       let x = ready_seen w p S m st seen h g.2 k in
-      ok_push item w p S (C.suspend (Cs.Op r) (C.set_locals seen.locals m)) (with_at seen st) (record { now = suspend_op P sh r w st.active p S (C.set_locals seen.locals m) x.now g.1 e; store = x.store }) g.0 e
+      ok_push item w p S (C.suspend (Cs.Op r) (C.set_locals seen.locals m)) (with_at seen st)
+      (record { now = suspend_op P sh r w st.active p S (C.set_locals seen.locals m) x.now g.1 e; store = x.store }) g.0 e
   ok_outcome (Error j v seen) w p S m st h g k e = tt
   ok_outcome (Ends j seen) w p S m st h g k e = tt
 
   -- what a row makes, after which the same shape stands
-  pub ok_made : (o : Outcome) (w : Known) (p : ℕ) (S : PlainShape) (m : Linked) (st : Store Parked) (next : Value → Linked → Store Parked → St) → Ready w p S m st → OutcomeWithin w.coexps o → KeepsIn (here M m st) o
-      → ((v : Value) (a : Linked) (st' : Store Parked) → ValueWithin w.coexps v → Ready w p S a st' → a.place ≡ m.place → Ok (next v a st')) → Ok (with_made M o m st next)
+  pub ok_made : (o : Outcome) (w : Known) (p : ℕ) (S : PlainShape) (m : Linked) (st : Store Parked) (next : Value → Linked → Store Parked → St)
+      → Ready w p S m st → OutcomeWithin w.coexps o → KeepsIn (here M m st) o
+      → ((v : Value) (a : Linked) (st' : Store Parked) → ValueWithin w.coexps v → Ready w p S a st' → a.place ≡ m.place → Ok (next v a st'))
+      → Ok (with_made M o m st next)
   ok_made (Gives (Val v) seen) w p S m st next h g k f = f v (C.set_locals seen.locals m) (with_at seen st) g.0 (ready_seen w p S m st seen h g.1 k) refl
   ok_made (Gives (Var v) seen) w p S m st next h g k f = ok_fails w p S m st h
   ok_made (Error j v seen) w p S m st next h g k f = tt
@@ -189,13 +203,18 @@ module _ (P : Program) (sh : ℕ → ℕ → Option PlainShape) (given : Shaped 
   pub ok_turned : (st : Store Parked) (event : Store Parked → St) → Ok (event (record st { turns = suc st.turns })) → Ok (turn P st event)
   ok_turned st event h = turn_ok (nat_lt st.turns st.world.heap.bounds.turns) st event h
 
-  pub ok_turn : (w : Known) (p : ℕ) (S : PlainShape) (m : Linked) (st : Store Parked) (event : Store Parked → St) → Ready w p S m st → ((st' : Store Parked) → Ready w p S m st' → Ok (event st')) → Ok (turn P st event)
-  ok_turn w p S m st event h f = ok_turned st event (f (record st { turns = suc st.turns }) (record { now = h.now; store = record { world = h.store.world; coexps = h.store.coexps } }))
+  pub ok_turn : (w : Known) (p : ℕ) (S : PlainShape) (m : Linked) (st : Store Parked) (event : Store Parked → St) → Ready w p S m st
+      → ((st' : Store Parked) → Ready w p S m st' → Ok (event st')) → Ok (turn P st event)
+  ok_turn w p S m st event h f =
+      ok_turned st event (f (record st { turns = suc st.turns }) (record { now = h.now; store = record { world = h.store.world; coexps = h.store.coexps } }))
 
-  pub ok_list : (values : List Value) (w : Known) (p : ℕ) (S : PlainShape) (m : Linked) (st : Store Parked) (next : Value → Linked → Store Parked → St) → Ready w p S m st → Each (ValueWithin w.coexps) values
-      → ((v : Value) (a : Linked) (st' : Store Parked) → ValueWithin w.coexps v → Ready w p S a st' → a.place ≡ m.place → Ok (next v a st')) → Ok (list_made M values m st next)
+  pub ok_list : (values : List Value) (w : Known) (p : ℕ) (S : PlainShape) (m : Linked) (st : Store Parked) (next : Value → Linked → Store Parked → St)
+      → Ready w p S m st → Each (ValueWithin w.coexps) values
+      → ((v : Value) (a : Linked) (st' : Store Parked) → ValueWithin w.coexps v → Ready w p S a st' → a.place ≡ m.place → Ok (next v a st'))
+      → Ok (list_made M values m st next)
   ok_list values w p S m st next h g f =
-      ok_made (list_row values (here M m st)) w p S m st next h (keep.listed w.coexps values (here M m st) (here_within w p S m st h) g) (rows_keep.listed values (here M m st)) f
+      ok_made (list_row values (here M m st)) w p S m st next h (keep.listed w.coexps values (here M m st) (here_within w p S m st h) g)
+      (rows_keep.listed values (here M m st)) f
 
   -- Calls
 
@@ -204,10 +223,14 @@ module _ (P : Program) (sh : ℕ → ℕ → Option PlainShape) (given : Shaped 
     pub within : Each (ValueWithin w.coexps) values
     pub count : length values ≡ entry.parameters
 
-  collected_ok : (b : Bool) (entry : Procedure) → (b ≡ true → 0 < entry.parameters) → (vs : List Value) (w : Known) (p : ℕ) (S : PlainShape) (m : Linked) (st : Store Parked) (next : List Value → Linked → Store Parked → St) → Ready w p S m st → Each (ValueWithin w.coexps) vs
-      → ((ps : List Value) (a : Linked) (st' : Store Parked) → Parameters w entry ps → Ready w p S a st' → a.place ≡ m.place → Ok (next ps a st')) → Ok (collect_rest M b entry.parameters vs m st next)
+  collected_ok : (b : Bool) (entry : Procedure) → (b ≡ true → 0 < entry.parameters)
+      → (vs : List Value) (w : Known) (p : ℕ) (S : PlainShape) (m : Linked) (st : Store Parked) (next : List Value → Linked → Store Parked → St)
+      → Ready w p S m st → Each (ValueWithin w.coexps) vs
+      → ((ps : List Value) (a : Linked) (st' : Store Parked) → Parameters w entry ps → Ready w p S a st' → a.place ≡ m.place → Ok (next ps a st'))
+      → Ok (collect_rest M b entry.parameters vs m st next)
   collected_ok false entry some vs w p S m st next h g f =
-      f (fill_nulls entry.parameters vs) m st (record { within = filled_within entry.parameters w.coexps vs g; count = filled_length entry.parameters vs }) h refl
+      f (fill_nulls entry.parameters vs) m st
+      (record { within = filled_within entry.parameters w.coexps vs g; count = filled_length entry.parameters vs }) h refl
   collected_ok true entry some vs w p S m st next h g f =
       let k = entry.parameters - 1 in
       ok_list (drop k vs) w p S m st (λ rest m st. next (fill_nulls k vs ++ rest ∷ []) m st) h (each_drop (ValueWithin w.coexps) k vs g) (λ rest a st' gr h' e.
@@ -216,12 +239,16 @@ module _ (P : Program) (sh : ℕ → ℕ → Option PlainShape) (given : Shaped 
         count = joined_length entry.parameters vs rest (some refl);
       }) h' e)
 
-  pub ok_parameters : (n : ℕ) (entry : Procedure) → slice_get P.procs n ≡ Some entry → (vs : List Value) (w : Known) (p : ℕ) (S : PlainShape) (m : Linked) (st : Store Parked) (next : List Value → Linked → Store Parked → St) → Ready w p S m st → Each (ValueWithin w.coexps) vs
-      → ((ps : List Value) (a : Linked) (st' : Store Parked) → Parameters w entry ps → Ready w p S a st' → a.place ≡ m.place → Ok (next ps a st')) → Ok (with_parameters M entry vs m st next)
+  pub ok_parameters : (n : ℕ) (entry : Procedure) → slice_get P.procs n ≡ Some entry
+      → (vs : List Value) (w : Known) (p : ℕ) (S : PlainShape) (m : Linked) (st : Store Parked) (next : List Value → Linked → Store Parked → St)
+      → Ready w p S m st → Each (ValueWithin w.coexps) vs
+      → ((ps : List Value) (a : Linked) (st' : Store Parked) → Parameters w entry ps → Ready w p S a st' → a.place ≡ m.place → Ok (next ps a st'))
+      → Ok (with_parameters M entry vs m st next)
   ok_parameters n entry e vs w p S m st next h g f = collected_ok entry.collects entry (given.collects n entry e) vs w p S m st next h g f
 
   -- with nulls behind them they are the locals
-  pub parameters_locals : (n : ℕ) (entry : Procedure) → slice_get P.procs n ≡ Some entry → (w : Known) (ps : List Value) → Parameters w entry ps → Locals w n (ps ++ replicate entry.locals Null)
+  pub parameters_locals : (n : ℕ) (entry : Procedure) → slice_get P.procs n ≡ Some entry → (w : Known) (ps : List Value) → Parameters w entry ps
+      → Locals w n (ps ++ replicate entry.locals Null)
   parameters_locals n entry e w ps h =
       let count = h.count in
       record {
@@ -229,39 +256,56 @@ module _ (P : Program) (sh : ℕ → ℕ → Option PlainShape) (given : Shaped 
         count = omega (arith, length-append ps (replicate entry.locals Null), replicate_length entry.locals Null, count, count_of P n entry e);
       }
 
-  ready_enter : (n : ℕ) (values : List Value) (w : Known) (p : ℕ) (S : PlainShape) (m : Linked) (st : Store Parked) → Ready w p S m st → Locals w n values → sh p m.place ≡ Some (with_more 1 S) → Ready (with_activation w n) n (start_shape false) (C.enter n values m) st
+  ready_enter : (n : ℕ) (values : List Value) (w : Known) (p : ℕ) (S : PlainShape) (m : Linked) (st : Store Parked) → Ready w p S m st → Locals w n values
+      → sh p m.place ≡ Some (with_more 1 S) → Ready (with_activation w n) n (start_shape false) (C.enter n values m) st
   ready_enter n values w p S m st h g e =
-      record { now = enter_ok P sh n values w st.active p S m h.now g e; store = grow_store P sh w (with_activation w n) (λ i. i ≡ st.active) st refl (grow_activation w n) h.store }
+      record {
+        now = enter_ok P sh n values w st.active p S m h.now g e;
+        store = grow_store P sh w (with_activation w n) (λ i. i ≡ st.active) st refl (grow_activation w n) h.store;
+      }
 
-  called_ok : (b : Bool) (n : ℕ) (entry : Procedure) → slice_get P.procs n ≡ Some entry → (vs : List Value) (w : Known) (p : ℕ) (S : PlainShape) (m : Linked) (st : Store Parked) → Ready w p S m st → Each (ValueWithin w.coexps) vs → sh p m.place ≡ Some (with_more 1 S)
+  called_ok : (b : Bool) (n : ℕ) (entry : Procedure) → slice_get P.procs n ≡ Some entry
+      → (vs : List Value) (w : Known) (p : ℕ) (S : PlainShape) (m : Linked) (st : Store Parked) → Ready w p S m st → Each (ValueWithin w.coexps) vs
+      → sh p m.place ≡ Some (with_more 1 S)
       → Ok (called_if M b n entry vs m st)
   called_ok false n entry e vs w p S m st h g o = tt
-  called_ok true n entry e vs w p S m st h g o = ok_parameters n entry e vs w p S m st (λ parameters m st. enter_procedure M n entry parameters m st) h g (λ ps a st' gp h' q.
+  called_ok true n entry e vs w p S m st h g o =
+      ok_parameters n entry e vs w p S m st (λ parameters m st. enter_procedure M n entry parameters m st) h g (λ ps a st' gp h' q.
       ok_runs (with_activation w n) n (start_shape false) (C.enter n (ps ++ replicate entry.locals Null) a) st'
-      (ready_enter n (ps ++ replicate entry.locals Null) w p S a st' h' (parameters_locals n entry e w ps gp) (ap (sh p) q ∙ o)) (given.starts n (within P.procs n entry e)))
+      (ready_enter n (ps ++ replicate entry.locals Null) w p S a st' h' (parameters_locals n entry e w ps gp) (ap (sh p) q ∙ o))
+      (given.starts n (within P.procs n entry e)))
 
-  constructed_ok : (kind : ℕ) (entry : RecordType) (vs : List Value) (w : Known) (p : ℕ) (S : PlainShape) (m : Linked) (st : Store Parked) → Ready w p S m st → Each (ValueWithin w.coexps) vs → sh p m.place ≡ Some (with_more 1 S) → Ok (construct_record M kind entry vs m st)
+  constructed_ok : (kind : ℕ) (entry : RecordType) (vs : List Value) (w : Known) (p : ℕ) (S : PlainShape) (m : Linked) (st : Store Parked) → Ready w p S m st
+      → Each (ValueWithin w.coexps) vs → sh p m.place ≡ Some (with_more 1 S) → Ok (construct_record M kind entry vs m st)
   constructed_ok kind entry vs w p S m st h g e =
       let fields = fill_nulls (length entry.fields) vs in
       ok_made (record_row kind fields (here M m st)) w p S m st (λ value m st. push_item M (Val value) m st) h
-      (keep.recorded w.coexps kind fields (here M m st) (here_within w p S m st h) (filled_within (length entry.fields) w.coexps vs g)) (rows_keep.recorded kind fields (here M m st))
+      (keep.recorded w.coexps kind fields (here M m st) (here_within w p S m st h) (filled_within (length entry.fields) w.coexps vs g))
+      (rows_keep.recorded kind fields (here M m st))
       (λ v a st' gv h' q. ok_push (Val v) w p S a st' h' gv (ap (sh p) q ∙ e))
 
-  callee_ok : (c : Callee) (n : ℕ) → CalleeIn P.procs n c → (items : List Item) (w : Known) (p : ℕ) (S : PlainShape) (m : Linked) (st : Store Parked) → Ready w p S m st → Each (ItemWithin w.coexps) items → sh p m.place ≡ Some (with_more 1 S) → Ok (callee_called M c n items m st)
-  callee_ok (IsProc entry) n i items w p S m st h g e = ok_values items w p S m st (λ arguments. call_procedure M n entry arguments m st) h g (λ vs gv. called_ok (nat_le (suc (M.level m)) st.world.heap.bounds.levels) n entry i vs w p S m st h gv e)
-  callee_ok (IsRecord kind entry) n i items w p S m st h g e = ok_values items w p S m st (λ arguments. construct_record M kind entry arguments m st) h g (λ vs gv. constructed_ok kind entry vs w p S m st h gv e)
-  callee_ok (IsFunc func) n i items w p S m st h g e = ok_outcome (apply st.names (Function func) items (here M m st)) w p S m st h (keep.applied w.coexps st.names (Function func) items (here M m st) (here_within w p S m st h) g) (rows_keep.applied st.names (Function func) items (here M m st)) e
+  callee_ok : (c : Callee) (n : ℕ) → CalleeIn P.procs n c → (items : List Item) (w : Known) (p : ℕ) (S : PlainShape) (m : Linked) (st : Store Parked)
+      → Ready w p S m st → Each (ItemWithin w.coexps) items → sh p m.place ≡ Some (with_more 1 S) → Ok (callee_called M c n items m st)
+  callee_ok (IsProc entry) n i items w p S m st h g e = ok_values items w p S m st (λ arguments. call_procedure M n entry arguments m st) h g
+      (λ vs gv. called_ok (nat_le (suc (M.level m)) st.world.heap.bounds.levels) n entry i vs w p S m st h gv e)
+  callee_ok (IsRecord kind entry) n i items w p S m st h g e =
+      ok_values items w p S m st (λ arguments. construct_record M kind entry arguments m st) h g (λ vs gv. constructed_ok kind entry vs w p S m st h gv e)
+  callee_ok (IsFunc func) n i items w p S m st h g e = ok_outcome (apply st.names (Function func) items (here M m st)) w p S m st h (keep.applied w.coexps
+      st.names (Function func) items (here M m st) (here_within w p S m st h) g) (rows_keep.applied st.names (Function func) items (here M m st)) e
   callee_ok IsNothing n i items w p S m st h g e = tt
 
-  pub ok_one : (o : Option Item) (w : Known) (p : ℕ) (S : PlainShape) (m : Linked) (st : Store Parked) → Ready w p S m st → IfThere (ItemWithin w.coexps) o → sh p m.place ≡ Some (with_more 1 S) → Ok (pushed_or_fails M o m st)
+  pub ok_one : (o : Option Item) (w : Known) (p : ℕ) (S : PlainShape) (m : Linked) (st : Store Parked) → Ready w p S m st → IfThere (ItemWithin w.coexps) o
+      → sh p m.place ≡ Some (with_more 1 S) → Ok (pushed_or_fails M o m st)
   ok_one (Some item) w p S m st h g e = ok_push item w p S m st h g e
   ok_one None w p S m st h g e = ok_fails w p S m st h
 
-  integer_ok : (callee : Value) (o : Option ℤ) (items : List Item) (w : Known) (p : ℕ) (S : PlainShape) (m : Linked) (st : Store Parked) → Ready w p S m st → Each (ItemWithin w.coexps) items → sh p m.place ≡ Some (with_more 1 S) → Ok (integer_called M callee o items m st)
+  integer_ok : (callee : Value) (o : Option ℤ) (items : List Item) (w : Known) (p : ℕ) (S : PlainShape) (m : Linked) (st : Store Parked) → Ready w p S m st
+      → Each (ItemWithin w.coexps) items → sh p m.place ≡ Some (with_more 1 S) → Ok (integer_called M callee o items m st)
   integer_ok callee (Some n) items w p S m st h g e = ok_one (choose_item n items) w p S m st h (argument_within w.coexps (place_of n (length items)) items g) e
   integer_ok callee None items w p S m st h g e = tt
 
-  pub ok_invoked : (callee : Value) (items : List Item) (w : Known) (p : ℕ) (S : PlainShape) (m : Linked) (st : Store Parked) → Ready w p S m st → Each (ItemWithin w.coexps) items → sh p m.place ≡ Some (with_more 1 S) → Ok (invoke_value M P callee items m st)
+  pub ok_invoked : (callee : Value) (items : List Item) (w : Known) (p : ℕ) (S : PlainShape) (m : Linked) (st : Store Parked) → Ready w p S m st
+      → Each (ItemWithin w.coexps) items → sh p m.place ≡ Some (with_more 1 S) → Ok (invoke_value M P callee items m st)
   ok_invoked (ProcedureValue n) items w p S m st h g e = callee_ok (callee_of P n) n (callee_in P.procs P.records n) items w p S m st h g e
   ok_invoked Null items w p S m st h g e = tt
   ok_invoked (Integer x) items w p S m st h g e = integer_ok (Integer x) (number_of (Integer x)) items w p S m st h g e
@@ -274,7 +318,8 @@ module _ (P : Program) (sh : ℕ → ℕ → Option PlainShape) (given : Shaped 
   ok_invoked (ATable x) items w p S m st h g e = tt
   ok_invoked (ACoexp x) items w p S m st h g e = tt
 
-  pub ok_elements : (callee from : Value) (w : Known) (p : ℕ) (S : PlainShape) (m : Linked) (st : Store Parked) → Ready w p S m st → sh p m.place ≡ Some (with_more 1 S) → Ok (elements_called M P callee from m st)
+  pub ok_elements : (callee from : Value) (w : Known) (p : ℕ) (S : PlainShape) (m : Linked) (st : Store Parked) → Ready w p S m st
+      → sh p m.place ≡ Some (with_more 1 S) → Ok (elements_called M P callee from m st)
   ok_elements callee (AList n) w p S m st h e =
       let vs = (list_at st.world.heap n).items in
       ok_invoked callee (map plain vs) w p S m st h (plain_within w.coexps vs (items_at w.coexps st.world.heap.lists n h.store.world.heap.lists)) e
@@ -291,22 +336,28 @@ module _ (P : Program) (sh : ℕ → ℕ → Option PlainShape) (given : Shaped 
   ok_elements callee (ATable x) w p S m st h e = tt
   ok_elements callee (ACoexp x) w p S m st h e = tt
 
-  pub ok_applied : (items : List Item) (w : Known) (p : ℕ) (S : PlainShape) (m : Linked) (st : Store Parked) → Ready w p S m st → length items ≡ 2 → Each (ItemWithin w.coexps) items → sh p m.place ≡ Some (with_more 1 S) → Ok (applied_to_elements M P items m st)
+  pub ok_applied : (items : List Item) (w : Known) (p : ℕ) (S : PlainShape) (m : Linked) (st : Store Parked) → Ready w p S m st → length items ≡ 2
+      → Each (ItemWithin w.coexps) items → sh p m.place ≡ Some (with_more 1 S) → Ok (applied_to_elements M P items m st)
   ok_applied [] w p S m st h l g e = absurd (omega (arith, l))
   ok_applied (x ∷ []) w p S m st h l g e = absurd (omega (arith, l))
-  ok_applied (callee ∷ from ∷ []) w p S m st h l g e = ok_value callee w p S m st (λ callee. with_value M from m st (λ from. elements_called M P callee from m st)) h g.0 (λ v gv.
+  ok_applied (callee ∷ from ∷ []) w p S m st h l g e =
+      ok_value callee w p S m st (λ callee. with_value M from m st (λ from. elements_called M P callee from m st)) h g.0 (λ v gv.
       ok_value from w p S m st (λ from. elements_called M P v from m st) h g.1.0 (λ u gu. ok_elements v u w p S m st h e))
   ok_applied (x ∷ y ∷ z ∷ items) w p S m st h l g e = absurd (omega (arith, l))
 
-  pub ok_invoked_with : (items : List Item) (k : ℕ) (w : Known) (p : ℕ) (S : PlainShape) (m : Linked) (st : Store Parked) → Ready w p S m st → length items ≡ suc k → Each (ItemWithin w.coexps) items → sh p m.place ≡ Some (with_more 1 S) → Ok (invoked_with M P items m st)
+  pub ok_invoked_with : (items : List Item) (k : ℕ) (w : Known) (p : ℕ) (S : PlainShape) (m : Linked) (st : Store Parked) → Ready w p S m st
+      → length items ≡ suc k → Each (ItemWithin w.coexps) items → sh p m.place ≡ Some (with_more 1 S) → Ok (invoked_with M P items m st)
   ok_invoked_with [] k w p S m st h l g e = absurd (omega (arith, l))
-  ok_invoked_with (callee ∷ items) k w p S m st h l g e = ok_value callee w p S m st (λ value. invoke_value M P value items m st) h g.0 (λ v z. ok_invoked v items w p S m st h g.1 e)
+  ok_invoked_with (callee ∷ items) k w p S m st h l g e =
+      ok_value callee w p S m st (λ value. invoke_value M P value items m st) h g.0 (λ v z. ok_invoked v items w p S m st h g.1 e)
 
-  field_ok : (n : ℕ) (o : Option ℕ) (w : Known) (p : ℕ) (S : PlainShape) (m : Linked) (st : Store Parked) → Ready w p S m st → sh p m.place ≡ Some (with_more 1 S) → Ok (field_taken M o n m st)
+  field_ok : (n : ℕ) (o : Option ℕ) (w : Known) (p : ℕ) (S : PlainShape) (m : Linked) (st : Store Parked) → Ready w p S m st
+      → sh p m.place ≡ Some (with_more 1 S) → Ok (field_taken M o n m st)
   field_ok n None w p S m st h e = tt
   field_ok n (Some place) w p S m st h e = ok_push (Var (Whole (R.Field n place))) w p S m st h tt e
 
-  pub ok_field : (k : ℕ) (v : Value) (w : Known) (p : ℕ) (S : PlainShape) (m : Linked) (st : Store Parked) → Ready w p S m st → sh p m.place ≡ Some (with_more 1 S) → Ok (field_of M P k v m st)
+  pub ok_field : (k : ℕ) (v : Value) (w : Known) (p : ℕ) (S : PlainShape) (m : Linked) (st : Store Parked) → Ready w p S m st
+      → sh p m.place ≡ Some (with_more 1 S) → Ok (field_of M P k v m st)
   ok_field k (ARecord x) w p S m st h e = field_ok x (field_place P k (record_at st.world.heap x).kind) w p S m st h e
   ok_field k Null w p S m st h e = tt
   ok_field k (Integer x) w p S m st h e = tt
@@ -321,29 +372,38 @@ module _ (P : Program) (sh : ℕ → ℕ → Option PlainShape) (given : Shaped 
 
   -- Operands and marks
 
-  pub ready_at : (w : Known) (p : ℕ) (S : PlainShape) (m : Linked) (st : Store Parked) (S' : PlainShape) (m' : Linked) → Ready w p S m st → Now P sh w st.active p S' m' → Ready w p S' m' st
+  pub ready_at : (w : Known) (p : ℕ) (S : PlainShape) (m : Linked) (st : Store Parked) (S' : PlainShape) (m' : Linked) → Ready w p S m st
+      → Now P sh w st.active p S' m' → Ready w p S' m' st
   ready_at w p S m st S' m' h n = record { now = n; store = h.store }
 
   pub ok_popped : (w : Known) (p : ℕ) (S : PlainShape) (m : Linked) (st : Store Parked) (next : Item → Linked → St) → Ready w p S m st → 0 < S.inner.operands
-      → ((item : Item) (c : Chain) → ItemWithin w.coexps item → Ready w p (with_fewer 1 S) (with_chain c m) st → Ok (next item (with_chain c m))) → Ok (with_popped M m next)
+      → ((item : Item) (c : Chain) → ItemWithin w.coexps item → Ready w p (with_fewer 1 S) (with_chain c m) st → Ok (next item (with_chain c m)))
+      → Ok (with_popped M m next)
   ok_popped w p S m st next h l f = let o = pop_ok P sh w st.active p S m h.now l in
       ok_found (C.pop m) (on_pair next) (o.0, with_chain o.1 m) o.2 (f o.0 o.1 o.3 (ready_at w p S m st (with_fewer 1 S) (with_chain o.1 m) h o.4))
 
-  pub ok_taken : (n : ℕ) (w : Known) (p : ℕ) (S : PlainShape) (m : Linked) (st : Store Parked) (next : List Item → Linked → St) → Ready w p S m st → n ≤ S.inner.operands
-      → ((items : List Item) (c : Chain) → length items ≡ n → Each (ItemWithin w.coexps) items → Ready w p (with_fewer n S) (with_chain c m) st → Ok (next items (with_chain c m))) → Ok (with_taken M n m next)
+  pub ok_taken : (n : ℕ) (w : Known) (p : ℕ) (S : PlainShape) (m : Linked) (st : Store Parked) (next : List Item → Linked → St) → Ready w p S m st
+      → n ≤ S.inner.operands
+      → ((items : List Item) (c : Chain) → length items ≡ n → Each (ItemWithin w.coexps) items → Ready w p (with_fewer n S) (with_chain c m) st
+      → Ok (next items (with_chain c m))) → Ok (with_taken M n m next)
   ok_taken n w p S m st next h l f = let o = take_ok P sh n w st.active p S m h.now l in
       ok_found (C.take_items n m) (on_pair next) (o.0, with_chain o.1 m) o.2 (f o.0 o.1 o.3 o.4 (ready_at w p S m st (with_fewer n S) (with_chain o.1 m) h o.5))
 
   pub ready_pair : (w : Known) (p : ℕ) (S : PlainShape) (m : Linked) (st : Store Parked) (pair : Pair) → Ready w p S m st → Ready w p S m (with_pair pair st)
-  ready_pair w p S m st pair h = ready_world w p S m st (record st.world { subject = pair.subject; position = pair.position }) h (record { heap = h.store.world.heap; globals = h.store.world.globals; statics = h.store.world.statics })
+  ready_pair w p S m st pair h = ready_world w p S m st (record st.world { subject = pair.subject; position = pair.position }) h
+      (record { heap = h.store.world.heap; globals = h.store.world.globals; statics = h.store.world.statics })
 
-  left_ok : (w : Known) (p : ℕ) (S : PlainShape) (m : Linked) (st : Store Parked) (o : Option Pair) (next : Store Parked → St) → Ready w p S m st → ((st' : Store Parked) → Ready w p S m st' → Ok (next st')) → Ok (next (scans_left o st))
+  left_ok : (w : Known) (p : ℕ) (S : PlainShape) (m : Linked) (st : Store Parked) (o : Option Pair) (next : Store Parked → St) → Ready w p S m st
+      → ((st' : Store Parked) → Ready w p S m st' → Ok (next st')) → Ok (next (scans_left o st))
   left_ok w p S m st None next h f = f st h
   left_ok w p S m st (Some pair) next h f = f (with_pair pair st) (ready_pair w p S m st pair h)
 
-  pub ok_unmarked : (w : Known) (p : ℕ) (S : PlainShape) (m : Linked) (st : Store Parked) (next : Linked → Store Parked → St) → Ready w p S m st → is_some (slice_get S.outer 0) ≡ true
-      → ((c : Chain) (S' : PlainShape) (st' : Store Parked) → before_mark S ≡ Some S' → Ready w p S' (with_chain c m) st' → Ok (next (with_chain c m) st')) → Ok (unmark_then M m st next)
+  pub ok_unmarked : (w : Known) (p : ℕ) (S : PlainShape) (m : Linked) (st : Store Parked) (next : Linked → Store Parked → St) → Ready w p S m st
+      → is_some (slice_get S.outer 0) ≡ true
+      → ((c : Chain) (S' : PlainShape) (st' : Store Parked) → before_mark S ≡ Some S' → Ready w p S' (with_chain c m) st' → Ok (next (with_chain c m) st'))
+      → Ok (unmark_then M m st next)
   ok_unmarked w p S m st next h l f = let o = outside_ok P sh w st.active p S m h.now l in
       let pair : Option Pair = C.pair_at m (C.oldest (C.first_scan (C.scans_of o.chain)) (C.scans_of m.chain)) in
       ok_found (C.unmark m) (on_pair (λ outside pair. next outside (scans_left pair st))) (with_chain o.chain m, pair) o.unmark
-      (left_ok w p o.shape (with_chain o.chain m) st pair (next (with_chain o.chain m)) (ready_at w p S m st o.shape (with_chain o.chain m) h (record { has = o.has; memory = h.now.memory })) (λ st' r. f o.chain o.shape st' o.before r))
+      (left_ok w p o.shape (with_chain o.chain m) st pair (next (with_chain o.chain m))
+      (ready_at w p S m st o.shape (with_chain o.chain m) h (record { has = o.has; memory = h.now.memory })) (λ st' r. f o.chain o.shape st' o.before r))

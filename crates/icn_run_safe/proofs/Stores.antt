@@ -33,7 +33,8 @@ module _ (tables : Tables) (sh : ℕ → ℕ → Option PlainShape) where
   grow_coexp : (w w' : Known) → Grow w w' → (ks : List (Coexp Parked)) (i : ℕ) (c : Coexp Parked) → CoexpOk tables sh w ks i c → CoexpOk tables sh w' ks i c
   grow_coexp w w' g ks i c h = record { values = λ d. grow_locals tables sh w w' g c.proc c.values (h.values d); origin = h.origin; activator = h.activator }
 
-  pub grow_store : (w w' : Known) (May : ℕ → Type 0) (st : Store Parked) → w'.coexps ≡ w.coexps → Grow w w' → StoreOk tables sh w May st → StoreOk tables sh w' May st
+  pub grow_store : (w w' : Known) (May : ℕ → Type 0) (st : Store Parked) → w'.coexps ≡ w.coexps → Grow w w' → StoreOk tables sh w May st
+      → StoreOk tables sh w' May st
   grow_store w w' May st e g h = record {
     world = subst (λ n. WorldWithin n st.world) (sym e) h.world;
     coexps = record {
@@ -47,20 +48,28 @@ module _ (tables : Tables) (sh : ℕ → ℕ → Option PlainShape) where
 
   -- one co-expression is another, and has begun
 
-  pub entered_set : (ks : List (Coexp Parked)) (n : ℕ) (c c' : Coexp Parked) (x : ℕ) → slice_get ks n ≡ Some c → (IsFresh tables sh c'.status → IsFresh tables sh c.status) → Entered tables sh ks x → Entered tables sh (slice_set ks n c') x
+  pub entered_set : (ks : List (Coexp Parked)) (n : ℕ) (c c' : Coexp Parked) (x : ℕ) → slice_get ks n ≡ Some c
+      → (IsFresh tables sh c'.status → IsFresh tables sh c.status) → Entered tables sh ks x → Entered tables sh (slice_set ks n c') x
   entered_set ks n c c' x e f h = by (is_same x n)
     where
       by : (x ≡ n) ⊎ (x ≢ n) → Entered tables sh (slice_set ks n c') x
       by (inl z) =
           let same : h.coexp ≡ c = some_inj (sym h.stands ∙ ap (slice_get ks) z ∙ e) in
-          record { coexp = c'; stands = ap (slice_get (slice_set ks n c')) z ∙ get_set_same ks n c c' e; begun = λ q. h.begun (subst (λ (y : Coexp Parked). IsFresh tables sh y.status) (sym same) (f q)) }
+          record {
+            coexp = c';
+            stands = ap (slice_get (slice_set ks n c')) z ∙ get_set_same ks n c c' e;
+            begun = λ q. h.begun (subst (λ (y : Coexp Parked). IsFresh tables sh y.status) (sym same) (f q));
+          }
       by (inr d) = record { coexp = h.coexp; stands = get_set_other ks x n c' d ∙ h.stands; begun = h.begun }
 
-  pub entered_at : (ks : List (Coexp Parked)) (n : ℕ) (c c' : Coexp Parked) → slice_get ks n ≡ Some c → (IsFresh tables sh c'.status → ⊥) → Entered tables sh (slice_set ks n c') n
+  pub entered_at : (ks : List (Coexp Parked)) (n : ℕ) (c c' : Coexp Parked) → slice_get ks n ≡ Some c → (IsFresh tables sh c'.status → ⊥)
+      → Entered tables sh (slice_set ks n c') n
   entered_at ks n c c' e f = record { coexp = c'; stands = get_set_same ks n c c' e; begun = f }
 
-  pub set_coexps : (w : Known) (May May' : ℕ → Type 0) (a a' : ℕ) (ks : List (Coexp Parked)) (n : ℕ) (c c' : Coexp Parked) → CoexpsOk tables sh w May a ks → slice_get ks n ≡ Some c → (IsFresh tables sh c'.status → IsFresh tables sh c.status) → (n ≢ 0 → LocalsOk tables sh w c'.proc c'.values)
-      → (n ≢ 0 → sh c'.proc c'.place ≡ Some (start_shape true)) → Entered tables sh ks c'.activator → ((May' n → ⊥) → StatusOk tables sh w n c'.status) → ((i : ℕ) → i ≢ n → (May' i → ⊥) → May i → ⊥) → Entered tables sh (slice_set ks n c') a'
+  pub set_coexps : (w : Known) (May May' : ℕ → Type 0) (a a' : ℕ) (ks : List (Coexp Parked)) (n : ℕ) (c c' : Coexp Parked) → CoexpsOk tables sh w May a ks
+      → slice_get ks n ≡ Some c → (IsFresh tables sh c'.status → IsFresh tables sh c.status) → (n ≢ 0 → LocalsOk tables sh w c'.proc c'.values)
+      → (n ≢ 0 → sh c'.proc c'.place ≡ Some (start_shape true)) → Entered tables sh ks c'.activator → ((May' n → ⊥) → StatusOk tables sh w n c'.status)
+      → ((i : ℕ) → i ≢ n → (May' i → ⊥) → May i → ⊥) → Entered tables sh (slice_set ks n c') a'
       → CoexpsOk tables sh w May' a' (slice_set ks n c')
   set_coexps w May May' a a' ks n c c' h e f values origin act status may there = record {
     count = set_length ks n c' ∙ h.count;
@@ -72,35 +81,43 @@ module _ (tables : Tables) (sh : ℕ → ℕ → Option PlainShape) where
     where
       by : (i : ℕ) (d : Coexp Parked) → ((i ≡ n) × (c' ≡ d)) ⊎ ((i ≢ n) × (slice_get ks i ≡ Some d)) → CoexpOk tables sh w (slice_set ks n c') i d
       by i d (inl z) =
-          subst (λ y. CoexpOk tables sh w (slice_set ks n c') i y) z.1 (record { values = λ q. values (λ y. q (z.0 ∙ y)); origin = λ q. origin (λ y. q (z.0 ∙ y)); activator = entered_set ks n c c' c'.activator e f act })
+          subst (λ y. CoexpOk tables sh w (slice_set ks n c') i y) z.1
+          (record { values = λ q. values (λ y. q (z.0 ∙ y)); origin = λ q. origin (λ y. q (z.0 ∙ y)); activator = entered_set ks n c c' c'.activator e f act })
       by i d (inr z) = let o = h.each i d z.1 in record { values = o.values; origin = o.origin; activator = entered_set ks n c c' d.activator e f o.activator }
 
       by_wait : (i : ℕ) (d : Coexp Parked) → (May' i → ⊥) → ((i ≡ n) × (c' ≡ d)) ⊎ ((i ≢ n) × (slice_get ks i ≡ Some d)) → StatusOk tables sh w i d.status
-      by_wait i d q (inl z) = subst (λ y. StatusOk tables sh w i y.status) z.1 (subst (λ j. StatusOk tables sh w j c'.status) (sym z.0) (status (λ y. q (subst May' (sym z.0) y))))
+      by_wait i d q (inl z) =
+          subst (λ y. StatusOk tables sh w i y.status) z.1 (subst (λ j. StatusOk tables sh w j c'.status) (sym z.0) (status (λ y. q (subst May' (sym z.0) y))))
       by_wait i d q (inr z) = h.waits i d z.1 (may i z.0 q)
 
   -- the active one gets a status, and waits
-  pub set_status : (w : Known) (st : Store Parked) (c : Coexp Parked) (s : Status Parked) → StoreOk tables sh w (λ i. i ≡ st.active) st → slice_get st.coexps st.active ≡ Some c → (IsFresh tables sh s → ⊥) → StatusOk tables sh w st.active s
+  pub set_status : (w : Known) (st : Store Parked) (c : Coexp Parked) (s : Status Parked) → StoreOk tables sh w (λ i. i ≡ st.active) st
+      → slice_get st.coexps st.active ≡ Some c → (IsFresh tables sh s → ⊥) → StatusOk tables sh w st.active s
       → StoreOk tables sh w (λ i. ⊥) (with_coexp st.active (record c { status = s }) st)
   set_status w st c s h e f ok = let o = h.coexps.each st.active c e in record {
     world = h.world;
-    coexps = set_coexps w (λ i. i ≡ st.active) (λ i. ⊥) st.active st.active st.coexps st.active c (record c { status = s }) h.coexps e (λ q. absurd (f q)) o.values o.origin o.activator (λ q. ok) (λ i d q z. d z) (entered_at st.coexps st.active c (record c { status = s }) e f);
+    coexps = set_coexps w (λ i. i ≡ st.active) (λ i. ⊥) st.active st.active st.coexps st.active c (record c { status = s }) h.coexps e
+        (λ q. absurd (f q)) o.values o.origin o.activator (λ q. ok) (λ i d q z. d z) (entered_at st.coexps st.active c (record c { status = s }) e f);
   }
 
   -- another activator, where none is active
-  pub set_activator : (w : Known) (st : Store Parked) (n a : ℕ) (c : Coexp Parked) → StoreOk tables sh w (λ i. ⊥) st → slice_get st.coexps n ≡ Some c → Entered tables sh st.coexps a
+  pub set_activator : (w : Known) (st : Store Parked) (n a : ℕ) (c : Coexp Parked) → StoreOk tables sh w (λ i. ⊥) st → slice_get st.coexps n ≡ Some c
+      → Entered tables sh st.coexps a
       → StoreOk tables sh w (λ i. ⊥) (with_coexp n (record c { activator = a }) st)
   set_activator w st n a c h e act = let o = h.coexps.each n c e in record {
     world = h.world;
-    coexps = set_coexps w (λ i. ⊥) (λ i. ⊥) st.active st.active st.coexps n c (record c { activator = a }) h.coexps e (λ q. q) o.values o.origin act (λ q. h.coexps.waits n c e (λ z. z)) (λ i d q z. z) (entered_set st.coexps n c (record c { activator = a }) st.active e (λ q. q) h.coexps.there);
+    coexps = set_coexps w (λ i. ⊥) (λ i. ⊥) st.active st.active st.coexps n c (record c { activator = a }) h.coexps e (λ q. q) o.values o.origin act
+        (λ q. h.coexps.waits n c e (λ z. z)) (λ i d q z. z) (entered_set st.coexps n c (record c { activator = a }) st.active e (λ q. q) h.coexps.there);
   }
 
   -- none is active, and one becomes so
-  pub set_active : (w : Known) (st : Store Parked) (n : ℕ) (c : Coexp Parked) → StoreOk tables sh w (λ i. ⊥) st → slice_get st.coexps n ≡ Some c → Entered tables sh st.coexps c.activator
+  pub set_active : (w : Known) (st : Store Parked) (n : ℕ) (c : Coexp Parked) → StoreOk tables sh w (λ i. ⊥) st → slice_get st.coexps n ≡ Some c
+      → Entered tables sh st.coexps c.activator
       → StoreOk tables sh w (λ i. i ≡ n) (with_coexp n (record c { status = Active }) (record st { active = n }))
   set_active w st n c h e act = let o = h.coexps.each n c e in record {
     world = h.world;
-    coexps = set_coexps w (λ i. ⊥) (λ i. i ≡ n) st.active n st.coexps n c (record c { status = Active }) h.coexps e (λ z. absurd z) o.values o.origin act (λ q. absurd (q refl)) (λ i d q z. z) (entered_at st.coexps n c (record c { status = Active }) e (λ z. z));
+    coexps = set_coexps w (λ i. ⊥) (λ i. i ≡ n) st.active n st.coexps n c (record c { status = Active }) h.coexps e (λ z. absurd z) o.values o.origin act
+        (λ q. absurd (q refl)) (λ i d q z. z) (entered_at st.coexps n c (record c { status = Active }) e (λ z. z));
   }
 
   -- one more co-expression
@@ -108,7 +125,8 @@ module _ (tables : Tables) (sh : ℕ → ℕ → Option PlainShape) where
   entered_more : (ks : List (Coexp Parked)) (c : Coexp Parked) (x : ℕ) → Entered tables sh ks x → Entered tables sh (ks ++ c ∷ []) x
   entered_more ks c x h = record { coexp = h.coexp; stands = get_more ks c x h.coexp h.stands; begun = h.begun }
 
-  pub memory_one : (w : Known) (acts : List (List Value)) (flags : List Bool) (relabels : List (ℕ × ℕ)) → MemoryOk tables sh w acts flags relabels → MemoryOk tables sh (one_more w) acts flags relabels
+  pub memory_one : (w : Known) (acts : List (List Value)) (flags : List Bool) (relabels : List (ℕ × ℕ)) → MemoryOk tables sh w acts flags relabels
+      → MemoryOk tables sh (one_more w) acts flags relabels
   memory_one w acts flags relabels h = record {
     same_activations = h.same_activations;
     same_flags = h.same_flags;
@@ -116,8 +134,10 @@ module _ (tables : Tables) (sh : ℕ → ℕ → Option PlainShape) where
     labels = grow_relabels tables sh w (one_more w) (grow_one w) relabels h.labels;
   }
 
-  pub more_coexps : (w : Known) (st : Store Parked) (values : List Value) (proc place : ℕ) → CoexpsOk tables sh w (λ i. i ≡ st.active) st.active st.coexps → LocalsOk tables sh w proc values → sh proc place ≡ Some (start_shape true)
-      → CoexpsOk tables sh (one_more w) (λ i. i ≡ st.active) st.active (st.coexps ++ record { status = Fresh; activator = 0; values = values; proc = proc; place = place } ∷ [])
+  pub more_coexps : (w : Known) (st : Store Parked) (values : List Value) (proc place : ℕ) → CoexpsOk tables sh w (λ i. i ≡ st.active) st.active st.coexps
+      → LocalsOk tables sh w proc values → sh proc place ≡ Some (start_shape true)
+      → CoexpsOk tables sh (one_more w) (λ i. i ≡ st.active) st.active
+      (st.coexps ++ record { status = Fresh; activator = 0; values = values; proc = proc; place = place } ∷ [])
   more_coexps w st values proc place h vs e = record {
     count = more_length st.coexps new ∙ ap suc h.count;
     each = λ i c z. by i c (got_more st.coexps new i c z);
@@ -129,12 +149,23 @@ module _ (tables : Tables) (sh : ℕ → ℕ → Option PlainShape) where
       new : Coexp Parked
       new = record { status = Fresh; activator = 0; values = values; proc = proc; place = place }
 
-      by : (i : ℕ) (c : Coexp Parked) → ((i ≡ length st.coexps) × (new ≡ c)) ⊎ (slice_get st.coexps i ≡ Some c) → CoexpOk tables sh (one_more w) (st.coexps ++ new ∷ []) i c
+      by : (i : ℕ) (c : Coexp Parked) → ((i ≡ length st.coexps) × (new ≡ c)) ⊎ (slice_get st.coexps i ≡ Some c)
+          → CoexpOk tables sh (one_more w) (st.coexps ++ new ∷ []) i c
       by i c (inl z) =
-          subst (λ y. CoexpOk tables sh (one_more w) (st.coexps ++ new ∷ []) i y) z.1 (record { values = λ q. grow_locals tables sh w (one_more w) (grow_one w) proc values vs; origin = λ q. e; activator = entered_more st.coexps new 0 h.first })
+          subst (λ y. CoexpOk tables sh (one_more w) (st.coexps ++ new ∷ []) i y) z.1 (record {
+            values = λ q. grow_locals tables sh w (one_more w) (grow_one w) proc values vs;
+            origin = λ q. e;
+            activator = entered_more st.coexps new 0 h.first;
+          })
       by i c (inr z) = let o = h.each i c z in
-          record { values = λ d. grow_locals tables sh w (one_more w) (grow_one w) c.proc c.values (o.values d); origin = o.origin; activator = entered_more st.coexps new c.activator o.activator }
+          record {
+            values = λ d. grow_locals tables sh w (one_more w) (grow_one w) c.proc c.values (o.values d);
+            origin = o.origin;
+            activator = entered_more st.coexps new c.activator o.activator;
+          }
 
-      by_wait : (i : ℕ) (c : Coexp Parked) → ((i ≡ st.active) → ⊥) → ((i ≡ length st.coexps) × (new ≡ c)) ⊎ (slice_get st.coexps i ≡ Some c) → StatusOk tables sh (one_more w) i c.status
-      by_wait i c q (inl z) = let l = within st.coexps 0 h.first.coexp h.first.stands in let a = z.0 in subst (λ y. StatusOk tables sh (one_more w) i y.status) z.1 (λ y. omega (arith, l, a, y))
+      by_wait : (i : ℕ) (c : Coexp Parked) → ((i ≡ st.active) → ⊥) → ((i ≡ length st.coexps) × (new ≡ c)) ⊎ (slice_get st.coexps i ≡ Some c)
+          → StatusOk tables sh (one_more w) i c.status
+      by_wait i c q (inl z) = let l = within st.coexps 0 h.first.coexp h.first.stands in let a = z.0 in
+          subst (λ y. StatusOk tables sh (one_more w) i y.status) z.1 (λ y. omega (arith, l, a, y))
       by_wait i c q (inr z) = grow_status w (one_more w) (grow_one w) i c.status (h.waits i c z q)

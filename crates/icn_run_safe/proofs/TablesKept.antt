@@ -30,9 +30,11 @@ in_range tables proc (Instrs.Str k) h = ltb-true k (length tables.strings) h
 in_range tables proc (Instrs.Cset k) h = ltb-true k (length tables.csets) h
 in_range tables proc _ h = tt
 
-instrs_by : (tables : Tables) (o : Option Procedure) → ((proc : Procedure) → o ≡ Some proc → is_proc tables proc ≡ true) → (place : ℕ) (instr : Instr) → slice_get (option_map_or (λ (entry : Procedure). entry.instrs) o []) place ≡ Some instr → InRange tables instr
+instrs_by : (tables : Tables) (o : Option Procedure) → ((proc : Procedure) → o ≡ Some proc → is_proc tables proc ≡ true) → (place : ℕ) (instr : Instr)
+    → slice_get (option_map_or (λ (entry : Procedure). entry.instrs) o []) place ≡ Some instr → InRange tables instr
 instrs_by tables None f place instr e = no_some instr e
-instrs_by tables (Some proc) f place instr e = in_range tables proc instr (all_get (is_instr tables proc) proc.instrs place instr (both (is_head (length tables.strings) proc) (list_all (is_instr tables proc) proc.instrs) (f proc refl)).1 e)
+instrs_by tables (Some proc) f place instr e = in_range tables proc instr (all_get (is_instr tables proc) proc.instrs place instr
+    (both (is_head (length tables.strings) proc) (list_all (is_instr tables proc) proc.instrs) (f proc refl)).1 e)
 
 -- a last parameter that collects is there
 some_parameter : (a b : Bool) → (not a || b) ≡ true → a ≡ true → b ≡ true
@@ -58,21 +60,27 @@ globals_within : (tables : Tables) (globals : List GlobalEntry) → Each (ValueW
 globals_within tables [] = tt
 globals_within tables (g ∷ globals) = (start_within tables g.start, globals_within tables globals)
 
-main_by : (tables : Tables) (start : Start) (n : ℕ) → is_start (length tables.records) (length tables.procs) start ≡ true → procedure_at start ≡ Some n → n < length tables.procs
+main_by : (tables : Tables) (start : Start) (n : ℕ) → is_start (length tables.records) (length tables.procs) start ≡ true → procedure_at start ≡ Some n
+    → n < length tables.procs
 main_by tables Starts.Null n h e = no_some n e
 main_by tables (Starts.Procedure place) n h e = subst (λ x. x < length tables.procs) (some_inj e) (ltb-true place (length tables.procs) h)
 main_by tables (Starts.Record place) n h e = no_some n e
 main_by tables (Starts.Function func) n h e = no_some n e
 
-main_in : (tables : Tables) (test : GlobalEntry → Bool) (globals : List GlobalEntry) (n : ℕ) → list_all (is_global (length tables.strings) (length tables.records) (length tables.procs)) globals ≡ true
+main_in : (tables : Tables) (test : GlobalEntry → Bool) (globals : List GlobalEntry) (n : ℕ)
+    → list_all (is_global (length tables.strings) (length tables.records) (length tables.procs)) globals ≡ true
     → option_and_then (λ (global : GlobalEntry). procedure_at global.start) (find test globals) ≡ Some n → n < length tables.procs
 main_in tables test [] n h e = no_some n e
 main_in tables test (g ∷ globals) n h e =
-    let d = both (is_global (length tables.strings) (length tables.records) (length tables.procs) g) (list_all (is_global (length tables.strings) (length tables.records) (length tables.procs)) globals) h in
-    by (test g) e (both (nat_lt g.name (length tables.strings)) (is_start (length tables.records) (length tables.procs) g.start) d.0).1 (main_in tables test globals n d.1)
+    let d = both (is_global (length tables.strings) (length tables.records) (length tables.procs) g)
+    (list_all (is_global (length tables.strings) (length tables.records) (length tables.procs)) globals) h in
+    by (test g) e (both (nat_lt g.name (length tables.strings)) (is_start (length tables.records) (length tables.procs) g.start) d.0).1
+    (main_in tables test globals n d.1)
   where
-    by : (b : Bool) → option_and_then (λ (global : GlobalEntry). procedure_at global.start) (cond b (Some g) (find test globals)) ≡ Some n → is_start (length tables.records) (length tables.procs) g.start ≡ true
-        → (option_and_then (λ (global : GlobalEntry). procedure_at global.start) (find test globals) ≡ Some n → n < length tables.procs) → n < length tables.procs
+    by : (b : Bool) → option_and_then (λ (global : GlobalEntry). procedure_at global.start) (cond b (Some g) (find test globals)) ≡ Some n
+        → is_start (length tables.records) (length tables.procs) g.start ≡ true
+        → (option_and_then (λ (global : GlobalEntry). procedure_at global.start) (find test globals) ≡ Some n → n < length tables.procs)
+        → n < length tables.procs
     by true e s more = main_by tables g.start n s e
     by false e s more = more e
 

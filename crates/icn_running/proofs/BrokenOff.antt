@@ -38,7 +38,8 @@ gains_front : (before between after : SinkState) (was all more : List ℕ)
     → Puts before between [] was → after ≡ between → all ≡ was ++ more → Gains before.held after.held (take (length was) all)
 gains_front before between after was all more p same e = record {
   appends =
-      subst (Appends before.held after.held) (front was all p.text more p.is e) (subst (λ (s : SinkState). Appends before.held s.held p.text) (sym same) p.gains.appends);
+      subst (Appends before.held after.held) (front was all p.text more p.is e)
+      (subst (λ (s : SinkState). Appends before.held s.held p.text) (sym same) p.gains.appends);
 }
 
 gains_part : (before after : SinkState) (now all more : List ℕ)
@@ -205,7 +206,8 @@ module _ (tables : Tables) where
 
       from_idle : after ≡ between → Breaks input seen (streams_of before) (streams_of after)
       from_idle e =
-          let g : Follows before after (outside_of input) (outside_at (at n)) = subst (λ (h : CallStreams). Follows before h (outside_of input) (outside_at (at n))) (sym e) f in
+          let g : Follows before after (outside_of input) (outside_at (at n)) =
+          subst (λ (h : CallStreams). Follows before h (outside_of input) (outside_at (at n))) (sym e) f in
           breaks_at before after (outside_at (at n)) (outside_at (at n)) (since_start n) (until_end n) (until_end n) g.left (puts_whole g.output)
           (puts_whole g.errors)
 

@@ -95,7 +95,8 @@ record After {K : Type 0} (tables : Tables) (m n : Machine K) : Type 0 where
   now : Outside
   is : run_over tables (first ∷ later) (state_seen tables (outside_of []) m) ≡ state_seen tables now n
 
-after : {K : Type 0} (tables : Tables) (m : Machine K) (b : CallStreams) (n : Machine K) (c : CallStreams) → Advances tables m Stages.Runs b n c (Ok Stages.Runs)
+after : {K : Type 0} (tables : Tables) (m : Machine K) (b : CallStreams) (n : Machine K) (c : CallStreams)
+    → Advances tables m Stages.Runs b n c (Ok Stages.Runs)
     → After tables m n
 after tables m b n c advances =
     let l = advances.meant (outside_of []) (state_seen tables (outside_of []) m) refl in
@@ -108,7 +109,8 @@ lasts_on tables m b n c lasts limits advances outside =
     let bound = m.limits.turns in
     let here = falls_behind tables bound (a.first ∷ a.later) (state_seen tables (outside_of []) m) (lasts (outside_of [])) in
     let there = subst (AlwaysFalls tables bound) a.is here in
-    subst (λ (l : Limits). AlwaysFalls tables l.turns (state_seen tables outside n)) (sym limits) (falls_elsewhere tables bound outside (state_seen tables a.now n) there)
+    subst (λ (l : Limits). AlwaysFalls tables l.turns (state_seen tables outside n)) (sym limits)
+    (falls_elsewhere tables bound outside (state_seen tables a.now n) there)
 
 falls_on : {K : Type 0} (tables : Tables) (m n : Machine K) (now : Outside)
     → Fell tables m.limits.turns (state_seen tables (outside_of []) m) (state_seen tables now n)

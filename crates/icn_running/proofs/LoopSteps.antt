@@ -33,7 +33,8 @@ on_true Steppeds.Finished e = cc
 on_true Steppeds.AtBound e = cc
 
 -- an error ends the loop
-pub run_err : {K : Type 0} (tables : Tables) (m : Machine K) (a : CallStreams) (n : Machine K) (stepped : Stepped) (b : CallStreams) (k : Machine K) (c : CallStreams) (halt : Halt) (result : Result Stepped Halt)
+pub run_err : {K : Type 0} (tables : Tables) (m : Machine K) (a : CallStreams) (n : Machine K) (stepped : Stepped) (b : CallStreams) (k : Machine K)
+    (c : CallStreams) (halt : Halt) (result : Result Stepped Halt)
     → stepped ≡ Steppeds.On
     → GoesOn tables m Stages.Runs a n b (Ok (stage_of stepped)) → GoesOn tables n Stages.Runs b k c (Err halt) → IsErrAnd result (λ h. h ≡ halt)
     → GoesOn tables m Stages.Runs a k c (stage_result result)
@@ -41,7 +42,8 @@ run_err tables m a n stepped b k c halt (Err h) on p q r =
     loop_err tables m Stages.Runs a n (stage_of stepped) Stages.Runs b k c halt (Err h) (ap stage_of on) refl p q r
 run_err tables m a n stepped b k c halt (Ok s) on p q r = absurd r
 
-pub run_ok : {K : Type 0} (tables : Tables) (m : Machine K) (a : CallStreams) (n : Machine K) (stepped next : Stepped) (b : CallStreams) (k : Machine K) (c : CallStreams)
+pub run_ok : {K : Type 0} (tables : Tables) (m : Machine K) (a : CallStreams) (n : Machine K) (stepped next : Stepped) (b : CallStreams) (k : Machine K)
+    (c : CallStreams)
     → stepped ≡ Steppeds.On
     → GoesOn tables m Stages.Runs a n b (Ok (stage_of stepped)) → GoesOn tables n Stages.Runs b k c (Ok (stage_of next))
     → GoesOn tables m Stages.Runs a k c (Ok (stage_of next))
@@ -115,7 +117,8 @@ run_over tables m a n b Steppeds.On off (stays e h r) = absurd (cc off)
 run_over tables m a n b Steppeds.Finished off (stays e h r) = absurd (cc r)
 run_over tables m a n b Steppeds.AtBound off (stays e h r) = absurd (cc r)
 
-pub stopped_err : {K : Type 0} (tables : Tables) (m : Machine K) (a : CallStreams) (n : Machine K) (b : CallStreams) (halt : Halt) (result : Result Stepped Halt)
+pub stopped_err : {K : Type 0} (tables : Tables) (m : Machine K) (a : CallStreams) (n : Machine K) (b : CallStreams) (halt : Halt)
+    (result : Result Stepped Halt)
     → GoesOn tables m Stages.Runs a n b (stage_result result) → IsErrAnd result (λ h. h ≡ halt)
     → Advances tables m Stages.Runs a n b (stage_result result)
 stopped_err tables m a n b halt result (advances steps) r = steps

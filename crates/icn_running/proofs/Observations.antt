@@ -72,7 +72,8 @@ module _ {K : Type 0} (tables : Tables) (launch : Launch) (n : Machine K) (befor
 
   -- a run-time error ended it
   pub erred : (number : ℕ) (offending : Option Val) → Leads tables (start tables launch) launch.outside before n between (Err (Halts.Error number offending))
-      → ComesToEnd tables launch before between (Errored number) (error_report (all_names tables) (heap_of n.world.heap) number (option_map (value_in (extent n)) offending))
+      → ComesToEnd tables launch before between (Errored number)
+      (error_report (all_names tables) (heap_of n.world.heap) number (option_map (value_in (extent n)) offending))
   erred number offending leads = record {
     count = suc leads.count;
     now = leads.last.now;
@@ -102,7 +103,8 @@ follows_report between errors now report told gains = record {
 }
 
 pub run_reported : (tables : Tables) (words : List (List ℕ)) (bounds : Bounds) (input : List ℕ) (before between : CallStreams) (errors : SinkState)
-    (ending : Ending) (report : List ℕ) → ComesToEnd tables (launch_of words bounds input) before between ending report → Gains between.errors.held errors.held report
+    (ending : Ending) (report : List ℕ) → ComesToEnd tables (launch_of words bounds input) before between ending report
+    → Gains between.errors.held errors.held report
     → RunsTo tables (launch_of words bounds input) ending before (then_errors between errors)
 run_reported tables words bounds input before between errors ending report comes gains = (
   record { ending = ending; outside = with_errors report comes.now },

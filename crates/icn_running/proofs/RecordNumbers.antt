@@ -22,7 +22,8 @@ at names heap id place t is =
 
 pub one_more : (names : Names) (heap : Heap) (id place : ℕ) → place < (extent_of heap).records
     → bytes_eq (record_name names (heap_of heap) place) (record_name names (heap_of heap) id) ≡ true
-    → count_by (is_namesake names heap id) (take (place + 1) (heap_of heap).records) ≡ count_by (is_namesake names heap id) (take place (heap_of heap).records) + 1
+    → count_by (is_namesake names heap id) (take (place + 1) (heap_of heap).records)
+    ≡ count_by (is_namesake names heap id) (take place (heap_of heap).records) + 1
 one_more names heap id place below is =
     count_by_more_yes (is_namesake names heap id) (heap_of heap).records place (record { kind = 0; fields = [] }) (omega (arith, record_count heap))
     (at names heap id place true is)

@@ -10,10 +10,12 @@ use Rattle.icn_defs.specs.Rows.{found}
 use Rattle.icn_defs.specs.Scanning.{plain_place, tabs_to}
 use Rattle.icn_scanfn.specs.Moves.{moves_by, tabs_by}
 
-pub tab_found : (n : ℤ) (place size : ℕ) (setting : Setting) → Some place ≡ place_of n size → size ≡ length setting.world.subject → tabs_by n setting ≡ tabs_to place setting
+pub tab_found : (n : ℤ) (place size : ℕ) (setting : Setting) → Some place ≡ place_of n size → size ≡ length setting.world.subject
+    → tabs_by n setting ≡ tabs_to place setting
 tab_found n place size setting is same = ap (λ p. found p tabs_to setting) (ap (place_of n) (sym same) ∙ sym is)
 
-pub move_found : (n : ℤ) (place size : ℕ) (setting : Setting) → Some place ≡ plain_place (pos setting.world.position +ℤ n) size → size ≡ length setting.world.subject → moves_by n setting ≡ tabs_to place setting
+pub move_found : (n : ℤ) (place size : ℕ) (setting : Setting) → Some place ≡ plain_place (pos setting.world.position +ℤ n) size
+    → size ≡ length setting.world.subject → moves_by n setting ≡ tabs_to place setting
 move_found n place size setting is same = ap (λ p. found p tabs_to setting) (ap (plain_place (pos setting.world.position +ℤ n)) (sym same) ∙ sym is)
 
 -- an integer of 64 bits is what it was before it was held

@@ -23,7 +23,8 @@ module _ (test : ℕ → Bool) (P : ℕ → Type 0) (start : ℕ) where
       ∙ (ap (λ m. find test (range_with_len m n)) next
       ∙ none_found (i + 1) n (λ k less. told k (omega arith)) (λ k low high. none k (omega arith) (omega arith)))
 
-  one_found : (i n k : ℕ) → ((m : ℕ) → m < i + n → test (start + m) ≡ true → P m) → test (start + k) ≡ true → NoneBefore P i (i + n) k → find test (range_with_len (start + i) n) ≡ Some (start + k)
+  one_found : (i n k : ℕ) → ((m : ℕ) → m < i + n → test (start + m) ≡ true → P m) → test (start + k) ≡ true → NoneBefore P i (i + n) k
+      → find test (range_with_len (start + i) n) ≡ Some (start + k)
   one_found i zero k told is first = absurd (omega (arith, first.low, first.high))
   one_found i (suc n) k told is first =
       elim (cases_lt i k) [
@@ -32,7 +33,8 @@ module _ (test : ℕ → Bool) (P : ℕ → Type 0) (start : ℕ) where
             let next : start + i + 1 ≡ start + (i + 1) = omega arith in
             ap (λ b. cond b (Some (start + i)) (find test (range_with_len (start + i + 1) n))) here
             ∙ (ap (λ m. find test (range_with_len m n)) next
-            ∙ one_found (i + 1) n k (λ m less. told m (omega arith)) is (record { low = omega arith; high = omega (arith, first.high); before = λ m low high. first.before m (omega arith) high })))
+            ∙ one_found (i + 1) n k (λ m less. told m (omega arith)) is
+            (record { low = omega arith; high = omega (arith, first.high); before = λ m low high. first.before m (omega arith) high })))
         | inr here ↦ (
             let same : i ≡ k = omega (arith, first.low) in
             let passes : test (start + i) ≡ true = ap (λ m. test (start + m)) same ∙ is in
@@ -71,20 +73,24 @@ module _ (wanted text : List ℕ) (place last : ℕ) (low : 1 ≤ place) (order 
       let parts = and_parts _ _ stand in
       let ends : place + k + length wanted ≤ last = leb-true (place + k + length wanted) last parts.0 in
       let fits : k + length wanted ≤ last - place = omega arith in
-      OccursAt-from_part searched wanted k (omega (arith, searched_length)) (same_part k fits ∙ sym ((bytes_eq-Decides wanted (between text (place + k) (place + k + length wanted))).0 parts.1))
+      OccursAt-from_part searched wanted k (omega (arith, searched_length))
+      (same_part k fits ∙ sym ((bytes_eq-Decides wanted (between text (place + k) (place + k + length wanted))).0 parts.1))
 
-  from_start : find (λ place. stands wanted text place last) (range_with_len (place + 0) (length searched + 1)) ≡ find (λ place. stands wanted text place last) (range_with_len place (last + 1 - place))
+  from_start : find (λ place. stands wanted text place last) (range_with_len (place + 0) (length searched + 1))
+      ≡ find (λ place. stands wanted text place last) (range_with_len place (last + 1 - place))
   from_start =
       let count : length searched + 1 ≡ last + 1 - place = omega (arith, searched_length) in
       let zero_more : place + 0 ≡ place = omega arith in
       ap (λ n. find (λ place. stands wanted text place last) (range_with_len n (length searched + 1))) zero_more
       ∙ ap (λ n. find (λ place. stands wanted text place last) (range_with_len place n)) count
 
-  pub occurrence_found : (found : ℕ) → FindsNeedle searched wanted 0 (Some found) → find (λ place. stands wanted text place last) (range_with_len place (last + 1 - place)) ≡ Some (place + found)
+  pub occurrence_found : (found : ℕ) → FindsNeedle searched wanted 0 (Some found)
+      → find (λ place. stands wanted text place last) (range_with_len place (last + 1 - place)) ≡ Some (place + found)
   occurrence_found found first =
       let all : length searched + 1 ≡ 0 + (length searched + 1) = omega arith in
       sym from_start
-      ∙ one_found (λ place. stands wanted text place last) (OccursAt searched wanted) place 0 (length searched + 1) found (λ k less. occurs_there k) (stands_there found first.1)
+      ∙ one_found (λ place. stands wanted text place last) (OccursAt searched wanted) place 0 (length searched + 1) found (λ k less. occurs_there k)
+      (stands_there found first.1)
       (subst (λ n. NoneBefore (OccursAt searched wanted) 0 n found) all first.0)
 
   pub no_occurrence : FindsNeedle searched wanted 0 None → find (λ place. stands wanted text place last) (range_with_len place (last + 1 - place)) ≡ None

@@ -68,23 +68,28 @@ runs_no_more test text at to low less high is =
 pub counts_up : (opening closing : List ℕ) (byte count : ℕ) → contains opening byte ≡ true → Some (count + 1) ≡ count_behind opening closing byte count
 counts_up opening closing byte count is = sym (ap (λ b. cond b (Some (count + 1)) (cond (contains closing byte) (closed count) (Some count))) is)
 
-counts_closed : (opening closing : List ℕ) (byte count : ℕ) → contains opening byte ≡ false → contains closing byte ≡ true → count_behind opening closing byte count ≡ closed count
+counts_closed : (opening closing : List ℕ) (byte count : ℕ) → contains opening byte ≡ false → contains closing byte ≡ true
+    → count_behind opening closing byte count ≡ closed count
 counts_closed opening closing byte count absent is =
     ap (λ b. cond b (Some (count + 1)) (cond (contains closing byte) (closed count) (Some count))) absent ∙ ap (λ b. cond b (closed count) (Some count)) is
 
-pub counts_none : (opening closing : List ℕ) (byte count : ℕ) → contains opening byte ≡ false → contains closing byte ≡ true → count ≡ 0 → None ≡ count_behind opening closing byte count
+pub counts_none : (opening closing : List ℕ) (byte count : ℕ) → contains opening byte ≡ false → contains closing byte ≡ true → count ≡ 0
+    → None ≡ count_behind opening closing byte count
 counts_none opening closing byte count absent is none = sym (counts_closed opening closing byte count absent is ∙ ap closed none)
 
 closed_above : (count : ℕ) → 0 < count → closed count ≡ Some (count - 1)
 closed_above zero some = absurd (omega arith)
 closed_above (suc count) some = let same : count ≡ suc count - 1 = omega arith in ap Some same
 
-pub counts_down : (opening closing : List ℕ) (byte count : ℕ) → contains opening byte ≡ false → contains closing byte ≡ true → 0 < count → Some (count - 1) ≡ count_behind opening closing byte count
+pub counts_down : (opening closing : List ℕ) (byte count : ℕ) → contains opening byte ≡ false → contains closing byte ≡ true → 0 < count
+    → Some (count - 1) ≡ count_behind opening closing byte count
 counts_down opening closing byte count absent is some = sym (counts_closed opening closing byte count absent is ∙ closed_above count some)
 
-pub counts_same : (opening closing : List ℕ) (byte count : ℕ) → contains opening byte ≡ false → contains closing byte ≡ false → Some count ≡ count_behind opening closing byte count
+pub counts_same : (opening closing : List ℕ) (byte count : ℕ) → contains opening byte ≡ false → contains closing byte ≡ false
+    → Some count ≡ count_behind opening closing byte count
 counts_same opening closing byte count absent not =
-    sym (ap (λ b. cond b (Some (count + 1)) (cond (contains closing byte) (closed count) (Some count))) absent ∙ ap (λ b. cond b (closed count) (Some count)) not)
+    sym (ap (λ b. cond b (Some (count + 1)) (cond (contains closing byte) (closed count) (Some count))) absent
+    ∙ ap (λ b. cond b (closed count) (Some count)) not)
 
 -- The first balanced place
 
@@ -95,16 +100,20 @@ module _ (wanted opening closing text : List ℕ) (at last count : ℕ) (low : 1
   later : Option ℕ → Option ℕ
   later counted = option_and_then (λ behind. balanced_place wanted opening closing (between text (at + 1) last) (at + 1) behind) counted
 
-  balanced_by : balanced_place wanted opening closing (between text at last) at count ≡ cond ((count == 0) && contains wanted byte) (Some at) (later (count_behind opening closing byte count))
+  balanced_by : balanced_place wanted opening closing (between text at last) at count
+      ≡ cond ((count == 0) && contains wanted byte) (Some at) (later (count_behind opening closing byte count))
   unfolding byte later
   balanced_by = ap (λ bytes. balanced_place wanted opening closing bytes at count) (between_from text at last low less high)
 
-  pub balanced_here : ((count == 0) && contains wanted (get_or text (at - 1) 0)) ≡ true → balanced_place wanted opening closing (between text at last) at count ≡ Some at
+  pub balanced_here : ((count == 0) && contains wanted (get_or text (at - 1) 0)) ≡ true
+      → balanced_place wanted opening closing (between text at last) at count ≡ Some at
   unfolding byte later
   balanced_here is = balanced_by ∙ ap (λ b. cond b (Some at) (later (count_behind opening closing byte count))) is
 
-  pub balanced_later : ((count == 0) && contains wanted (get_or text (at - 1) 0)) ≡ false → (behind : ℕ) → count_behind opening closing (get_or text (at - 1) 0) count ≡ Some behind
-      → balanced_place wanted opening closing (between text at last) at count ≡ balanced_place wanted opening closing (between text (at + 1) last) (at + 1) behind
+  pub balanced_later : ((count == 0) && contains wanted (get_or text (at - 1) 0)) ≡ false → (behind : ℕ)
+      → count_behind opening closing (get_or text (at - 1) 0) count ≡ Some behind
+      → balanced_place wanted opening closing (between text at last) at count
+      ≡ balanced_place wanted opening closing (between text (at + 1) last) (at + 1) behind
   unfolding byte later
   balanced_later absent behind is = balanced_by ∙ (ap (λ b. cond b (Some at) (later (count_behind opening closing byte count))) absent ∙ ap later is)
 
@@ -113,13 +122,19 @@ module _ (wanted opening closing text : List ℕ) (at last count : ℕ) (low : 1
   unfolding byte later
   balanced_over absent is = balanced_by ∙ (ap (λ b. cond b (Some at) (later (count_behind opening closing byte count))) absent ∙ ap later is)
 
-pub balanced_nowhere : (wanted opening closing text : List ℕ) (at last count : ℕ) → last ≤ at → balanced_place wanted opening closing (between text at last) at count ≡ None
-balanced_nowhere wanted opening closing text at last count less = ap (λ bytes. balanced_place wanted opening closing bytes at count) (between_none text at last less)
+pub balanced_nowhere : (wanted opening closing text : List ℕ) (at last count : ℕ) → last ≤ at
+    → balanced_place wanted opening closing (between text at last) at count ≡ None
+balanced_nowhere wanted opening closing text at last count less =
+    ap (λ bytes. balanced_place wanted opening closing bytes at count) (between_none text at last less)
 
 -- where the count is 0, a byte is balanced where it is of the cset
-pub balanced_at_zero : (wanted : Cset) (byte count : ℕ) (result : Bool) → byte < 256 → count ≡ 0 → result ≡ has wanted byte → result ≡ ((count == 0) && contains (members_of wanted) byte)
-balanced_at_zero wanted byte count result few none is = is ∙ (sym (is_member wanted byte few) ∙ sym (ap (λ n. (n == 0) && contains (members_of wanted) byte) none))
+pub balanced_at_zero : (wanted : Cset) (byte count : ℕ) (result : Bool) → byte < 256 → count ≡ 0 → result ≡ has wanted byte
+    → result ≡ ((count == 0) && contains (members_of wanted) byte)
+balanced_at_zero wanted byte count result few none is =
+    is ∙ (sym (is_member wanted byte few) ∙ sym (ap (λ n. (n == 0) && contains (members_of wanted) byte) none))
 
 -- where a place is below another one, a byte stands there where it is of the cset
-pub member_below : (wanted : Cset) (byte from to : ℕ) (result : Bool) → byte < 256 → from < to → result ≡ has wanted byte → result ≡ (nat_lt from to && contains (members_of wanted) byte)
-member_below wanted byte from to result few less is = is ∙ (sym (is_member wanted byte few) ∙ sym (ap (λ t. t && contains (members_of wanted) byte) (lt-ltb from to less)))
+pub member_below : (wanted : Cset) (byte from to : ℕ) (result : Bool) → byte < 256 → from < to → result ≡ has wanted byte
+    → result ≡ (nat_lt from to && contains (members_of wanted) byte)
+member_below wanted byte from to result few less is =
+    is ∙ (sym (is_member wanted byte few) ∙ sym (ap (λ t. t && contains (members_of wanted) byte) (lt-ltb from to less)))

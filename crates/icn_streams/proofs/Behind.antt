@@ -42,7 +42,8 @@ module _ (row rest : Row) (at : Setting) (same : row at ≡ rest at) (before aft
   stops_same (reading is) = reading (reading_same is)
   stops_same (putting is) = putting (putting_same is)
 
-answers_same : (row rest : Row) (was : Outside) (before after : CallState) (result : Result HeldOutcome Halt) → row (setting_with was before) ≡ rest (setting_with was before)
+answers_same : (row rest : Row) (was : Outside) (before after : CallState) (result : Result HeldOutcome Halt)
+    → row (setting_with was before) ≡ rest (setting_with was before)
     → Answers rest was before after result → Answers row was before after result
 answers_same row rest was before after (Ok outcome) same is = record { now = is.now; follows = is.follows; comes = same ∙ is.comes }
 answers_same row rest was before after (Err (ErrorHalt number offending)) same is = record { now = is.now; follows = is.follows; comes = same ∙ is.comes }
@@ -52,14 +53,16 @@ answers_same row rest was before after (Err WriteFault) same is = putting_same r
 answers_same row rest was before after (Err NoMemory) same is = stops_same row rest (setting_with was before) same before.handed after.handed is
 
 -- the row goes on as another one, of which this is said
-pub applies_same : (row rest : Row) (before after : CallState) (result : Result HeldOutcome Halt) → ((was : Outside) → row (setting_with was before) ≡ rest (setting_with was before))
+pub applies_same : (row rest : Row) (before after : CallState) (result : Result HeldOutcome Halt)
+    → ((was : Outside) → row (setting_with was before) ≡ rest (setting_with was before))
     → Applies rest before after result → Applies row before after result
 applies_same row rest before after result same is = record {
   answers = λ was told. answers_same row rest was before after result (same was) (is.answers was told);
   meant = record {
     had = is.meant.had;
     has = is.meant.has;
-    answers = λ was first. answers_same row rest was (with_left is.meant.had before) (with_left is.meant.has after) result (same was) (is.meant.answers was first);
+    answers = λ was first. answers_same row rest was (with_left is.meant.had before) (with_left is.meant.has after) result (same was)
+        (is.meant.answers was first);
   };
   caused = is.caused;
   live = is.live;
@@ -93,8 +96,10 @@ stopped find next all NoMemoryStop stops live lives = record {
   kept = items_all (reach_given all);
 }
 
-pub stops_there : {A : Type 0} (find : Finds A) (next : A → Row) (all : CallState) (stop : Stop) (result : Result HeldOutcome Halt) → IsErrAnd result (λ halt. halt ≡ halt_of stop)
+pub stops_there : {A : Type 0} (find : Finds A) (next : A → Row) (all : CallState) (stop : Stop) (result : Result HeldOutcome Halt)
+    → IsErrAnd result (λ halt. halt ≡ halt_of stop)
     → ((was : Outside) → StopsFinding (extent_of all.world.heap) find (setting_with was all) (setting_with was all) stop)
     → IsLiveStop (extent_of all.world.heap) stop → All (IsLive (extent_of all.world.heap)) all.locals → Applies (find next) all all result
 stops_there find next all stop (Ok outcome) same stops live lives = absurd same
-stops_there find next all stop (Err halt) same stops live lives = subst (λ h. Applies (find next) all all (Err h)) (sym same) (stopped find next all stop stops live lives)
+stops_there find next all stop (Err halt) same stops live lives =
+    subst (λ h. Applies (find next) all all (Err h)) (sym same) (stopped find next all stop stops live lives)

@@ -19,8 +19,10 @@ use Rattle.icn_streams.proofs.Following.{follows_all}
 use Rattle.icn_streams.proofs.Idle.{all_counts}
 
 module _ (row : Row) (old new : World) (locals locals' : List Val) (handed : CallStreams) where
-  answers_by : (result : Result Outcome Halt) → ((outside : Outside) → ComesToAnswer (extent_of new.heap) row (setting_of outside old locals) (setting_of outside new locals') result)
-      → (streams : CallStreams) (was : Outside) → streams.left ≡ Some was.left → Answers row was (call_state old locals streams) (call_state new locals' streams) result
+  answers_by : (result : Result Outcome Halt)
+      → ((outside : Outside) → ComesToAnswer (extent_of new.heap) row (setting_of outside old locals) (setting_of outside new locals') result)
+      → (streams : CallStreams) (was : Outside) → streams.left ≡ Some was.left
+      → Answers row was (call_state old locals streams) (call_state new locals' streams) result
   answers_by (Ok outcome) row streams was told = record { now = was; follows = follows_all streams was told; comes = row was }
   answers_by (Err (ErrorHalt number offending)) row streams was told = record { now = was; follows = follows_all streams was told; comes = row was }
   answers_by (Err (EndsHalt status)) row streams was told = record { now = was; follows = follows_all streams was told; comes = row was }
@@ -29,7 +31,8 @@ module _ (row : Row) (old new : World) (locals locals' : List Val) (handed : Cal
   answers_by (Err NoMemory) row streams was told = idle refl
 
   caused_by : (result : Result Outcome Halt)
-      → ((outside : Outside) → ComesToAnswer (extent_of new.heap) row (setting_of outside old locals) (setting_of outside new locals') result) → CausedBy result handed handed
+      → ((outside : Outside) → ComesToAnswer (extent_of new.heap) row (setting_of outside old locals) (setting_of outside new locals') result)
+      → CausedBy result handed handed
   caused_by (Ok outcome) row = all_counts handed
   caused_by (Err (ErrorHalt number offending)) row = all_counts handed
   caused_by (Err (EndsHalt status)) row = all_counts handed
@@ -38,7 +41,8 @@ module _ (row : Row) (old new : World) (locals locals' : List Val) (handed : Cal
   caused_by (Err NoMemory) row = uncounted (all_counts handed)
 
   -- what it says of every outside is all that is to be said
-  pub faultless_applies : (result : Result Outcome Halt) → ((outside : Outside) → ComesToAnswer (extent_of new.heap) row (setting_of outside old locals) (setting_of outside new locals') result)
+  pub faultless_applies : (result : Result Outcome Halt)
+      → ((outside : Outside) → ComesToAnswer (extent_of new.heap) row (setting_of outside old locals) (setting_of outside new locals') result)
       → IsLiveAnswer (reach_of new locals') result → All (IsLive (extent_of new.heap)) locals' → KeepsItems (reach_of old locals) (reach_of new locals')
       → Applies row (call_state old locals handed) (call_state new locals' handed) result
   faultless_applies result row live lives kept = record {

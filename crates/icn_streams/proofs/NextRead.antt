@@ -23,20 +23,24 @@ drop_taken (suc count) (x ∷ xs) = drop_taken count xs
 
 -- something is there, and is taken and charged
 pub next_there : (asked : Request) (next : List ℕ → Row) (s : Setting) → is_there asked s.outside.left ≡ true
-    → next_read asked next s ≡ costs_bytes (length (read_of asked s.outside.left)) (next (read_of asked s.outside.left)) (record s { outside = after_reading asked s.outside })
+    → next_read asked next s
+    ≡ costs_bytes (length (read_of asked s.outside.left)) (next (read_of asked s.outside.left)) (record s { outside = after_reading asked s.outside })
 next_there ALine next s is =
-    ap (λ b. passing b (takes_input (length (take_while (λ byte. not (byte == 10)) s.outside.left) + 1) (costs_bytes (length (take_while (λ byte. not (byte == 10)) s.outside.left)) (next (take_while (λ byte. not (byte == 10)) s.outside.left))))
+    ap (λ b. passing b (takes_input (length (take_while (λ byte. not (byte == 10)) s.outside.left) + 1)
+    (costs_bytes (length (take_while (λ byte. not (byte == 10)) s.outside.left)) (next (take_while (λ byte. not (byte == 10)) s.outside.left))))
     (record s { outside = with_reading ALine s.outside })) is
 next_there (SomeBytes count) next s is =
     ap (λ b. passing b (takes_input (length (take count s.outside.left)) (costs_bytes (length (take count s.outside.left)) (next (take count s.outside.left))))
     (record s { outside = with_reading (SomeBytes count) s.outside })) is
-    ∙ ap (λ left. costs_bytes (length (take count s.outside.left)) (next (take count s.outside.left)) (record s { outside = record (with_reading (SomeBytes count) s.outside) { left = left } })) (drop_taken count s.outside.left)
+    ∙ ap (λ left. costs_bytes (length (take count s.outside.left)) (next (take count s.outside.left))
+    (record s { outside = record (with_reading (SomeBytes count) s.outside) { left = left } })) (drop_taken count s.outside.left)
 
 -- nothing is there
 pub next_gone : (asked : Request) (next : List ℕ → Row) (s : Setting) → is_there asked s.outside.left ≡ false
     → next_read asked next s ≡ Fails (record s { outside = with_reading asked s.outside })
 next_gone ALine next s is =
-    ap (λ b. passing b (takes_input (length (take_while (λ byte. not (byte == 10)) s.outside.left) + 1) (costs_bytes (length (take_while (λ byte. not (byte == 10)) s.outside.left)) (next (take_while (λ byte. not (byte == 10)) s.outside.left))))
+    ap (λ b. passing b (takes_input (length (take_while (λ byte. not (byte == 10)) s.outside.left) + 1)
+    (costs_bytes (length (take_while (λ byte. not (byte == 10)) s.outside.left)) (next (take_while (λ byte. not (byte == 10)) s.outside.left))))
     (record s { outside = with_reading ALine s.outside })) is
 next_gone (SomeBytes count) next s is =
     ap (λ b. passing b (takes_input (length (take count s.outside.left)) (costs_bytes (length (take count s.outside.left)) (next (take count s.outside.left))))
@@ -48,16 +52,19 @@ rest_gone ALine [] is = refl
 rest_gone ALine (x ∷ xs) is = let above : nat_lt 0 (suc (length xs)) ≡ true = lt-ltb 0 (suc (length xs)) (omega arith) in cc
 rest_gone (SomeBytes zero) left is = refl
 rest_gone (SomeBytes (suc count)) [] is = refl
-rest_gone (SomeBytes (suc count)) (x ∷ xs) is = let above : nat_lt 0 (suc (length (take count xs))) ≡ true = lt-ltb 0 (suc (length (take count xs))) (omega arith) in cc
+rest_gone (SomeBytes (suc count)) (x ∷ xs) is =
+    let above : nat_lt 0 (suc (length (take count xs))) ≡ true = lt-ltb 0 (suc (length (take count xs))) (omega arith) in cc
 
 -- all that is asked for was taken
-loses_all : (asked : Request) (left : List ℕ) (after : Option (List ℕ)) → after ≡ Some (drop (asked_of asked left) left) → LosesPart left (asked_of asked left) after
+loses_all : (asked : Request) (left : List ℕ) (after : Option (List ℕ)) → after ≡ Some (drop (asked_of asked left) left)
+    → LosesPart left (asked_of asked left) after
 loses_all asked left after is = record { count = asked_of asked left; within = omega arith; is = is }
 
 -- What a call was answered that read
 
 module _ (asked : Request) (was : Outside) (before after : CallState) where
-  pub reads_some : (there : Bool) (held bytes : List ℕ) (span : Span) → Fills asked was.left there held after.handed.left → there ≡ true → bytes ≡ held → text_in (extent_of after.world.heap) span ≡ bytes
+  pub reads_some : (there : Bool) (held bytes : List ℕ) (span : Span) → Fills asked was.left there held after.handed.left → there ≡ true → bytes ≡ held
+      → text_in (extent_of after.world.heap) span ≡ bytes
       → Passes (costs_bytes (length bytes)) (setting_with (after_reading asked was) before) (setting_with (after_reading asked was) after)
       → Reads asked was before after (Ok (Some span))
   reads_some there held bytes span fills met same text step = (
@@ -67,7 +74,8 @@ module _ (asked : Request) (was : Outside) (before after : CallState) where
     fills.rest,
   )
 
-  pub reads_none : (there : Bool) (bytes : List ℕ) → Fills asked was.left there bytes after.handed.left → there ≡ false → setting_with (with_reading asked was) before ≡ setting_with (with_reading asked was) after
+  pub reads_none : (there : Bool) (bytes : List ℕ) → Fills asked was.left there bytes after.handed.left → there ≡ false
+      → setting_with (with_reading asked was) before ≡ setting_with (with_reading asked was) after
       → Reads asked was before after (Ok None)
   reads_none there bytes fills missed same = (
     λ next. next_gone asked next (setting_with was before) (sym fills.found ∙ missed) ∙ ap Fails same,
@@ -75,7 +83,8 @@ module _ (asked : Request) (was : Outside) (before after : CallState) where
   )
 
   refused : (there : Bool) (held bytes : List ℕ) (stop : Stop) → Fills asked was.left there held after.handed.left → there ≡ true → bytes ≡ held
-      → StopsPassing (extent_of after.world.heap) (costs_bytes (length bytes)) (setting_with (after_reading asked was) before) (setting_with (after_reading asked was) after) stop
+      → StopsPassing (extent_of after.world.heap) (costs_bytes (length bytes)) (setting_with (after_reading asked was) before)
+      (setting_with (after_reading asked was) after) stop
       → Reads asked was before after (Err (halt_of stop))
   refused there held bytes (ErrorStop number offending) fills met same step = (
     λ next. next_there asked next (setting_with was before) (sym fills.found ∙ met)
@@ -84,14 +93,18 @@ module _ (asked : Request) (was : Outside) (before after : CallState) where
   )
   refused there held bytes NoMemoryStop fills met same step = loses_all asked was.left after.handed.left fills.rest
 
-  pub reads_err : (there : Bool) (held bytes : List ℕ) (stop : Stop) (result : Result (Option Span) Halt) → Fills asked was.left there held after.handed.left → there ≡ true → bytes ≡ held
-      → StopsPassing (extent_of after.world.heap) (costs_bytes (length bytes)) (setting_with (after_reading asked was) before) (setting_with (after_reading asked was) after) stop
+  pub reads_err : (there : Bool) (held bytes : List ℕ) (stop : Stop) (result : Result (Option Span) Halt) → Fills asked was.left there held after.handed.left
+      → there ≡ true → bytes ≡ held
+      → StopsPassing (extent_of after.world.heap) (costs_bytes (length bytes)) (setting_with (after_reading asked was) before)
+      (setting_with (after_reading asked was) after) stop
       → IsErrAnd result (λ halt. halt ≡ halt_of stop) → Reads asked was before after result
   reads_err there held bytes stop (Ok found) fills met same step is = absurd is
-  reads_err there held bytes stop (Err halt) fills met same step is = subst (λ h. Reads asked was before after (Err h)) (sym is) (refused there held bytes stop fills met same step)
+  reads_err there held bytes stop (Err halt) fills met same step is =
+      subst (λ h. Reads asked was before after (Err h)) (sym is) (refused there held bytes stop fills met same step)
 
 -- an answer that is known to be an error
-pub stopped : (result : Result Span Stop) (P : Span → Type 0) (Q : Stop → Type 0) (stop : Stop) → IsErrAnd result (λ other. other ≡ stop) → Q stop → MatchResult result P Q
+pub stopped : (result : Result Span Stop) (P : Span → Type 0) (Q : Stop → Type 0) (stop : Stop) → IsErrAnd result (λ other. other ≡ stop) → Q stop
+    → MatchResult result P Q
 stopped (Ok span) P Q stop same is = absurd same
 stopped (Err other) P Q stop same is = subst Q (sym same) is
 

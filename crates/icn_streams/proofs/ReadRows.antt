@@ -42,21 +42,25 @@ passed true next s readings same rest = rest
 passed false next s readings same rest = same
 
 -- The row reads once.
-reads_once : (asked : Request) (next : List ℕ → Row) (quiet : IsQuiet next) (s : Setting) → (outside_after (next_read asked next s)).readings ≡ (with_reading asked s.outside).readings
+reads_once : (asked : Request) (next : List ℕ → Row) (quiet : IsQuiet next) (s : Setting)
+    → (outside_after (next_read asked next s)).readings ≡ (with_reading asked s.outside).readings
 reads_once ALine next quiet s =
     let line : List ℕ = take_while (λ byte. not (byte == 10)) s.outside.left in
-    passed (nat_lt 0 (length s.outside.left)) (takes_input (length line + 1) (costs_bytes (length line) (next line))) (record s { outside = with_reading ALine s.outside })
+    passed (nat_lt 0 (length s.outside.left)) (takes_input (length line + 1) (costs_bytes (length line) (next line)))
+    (record s { outside = with_reading ALine s.outside })
     (with_reading ALine s.outside).readings refl
     (checked _ (next line) (record s { outside = after_reading ALine s.outside }) (with_reading ALine s.outside).readings refl
     (λ s' same. ap (λ (o : Outside). o.readings) (quiet.outside line s') ∙ same) (length line))
 reads_once (SomeBytes count) next quiet s =
     let bytes : List ℕ = take count s.outside.left in
-    passed (nat_lt 0 (length bytes)) (takes_input (length bytes) (costs_bytes (length bytes) (next bytes))) (record s { outside = with_reading (SomeBytes count) s.outside })
+    passed (nat_lt 0 (length bytes)) (takes_input (length bytes) (costs_bytes (length bytes) (next bytes)))
+    (record s { outside = with_reading (SomeBytes count) s.outside })
     (with_reading (SomeBytes count) s.outside).readings refl
     (checked _ (next bytes) _ (with_reading (SomeBytes count) s.outside).readings refl
     (λ s' same. ap (λ (o : Outside). o.readings) (quiet.outside bytes s') ∙ same) (length bytes))
 
-module _ (asked : Request) (next : List ℕ → Row) (quiet : IsQuiet next) (old new : World) (locals : List Val) (left left' : Option (List ℕ)) (faults faults' : ℕ) (output errors : SinkState) where
+module _ (asked : Request) (next : List ℕ → Row) (quiet : IsQuiet next) (old new : World) (locals : List Val) (left left' : Option (List ℕ))
+    (faults faults' : ℕ) (output errors : SinkState) where
   -- it follows the outside, whatever the input tells
   was_read : (tells tells' : Option (List ℕ)) (was now : Outside) → tells' ≡ Some now.left → now.output ≡ was.output → now.errors ≡ was.errors
       → Follows (call_streams tells faults output errors) (call_streams tells' faults' output errors) was now
@@ -66,15 +70,19 @@ module _ (asked : Request) (next : List ℕ → Row) (quiet : IsQuiet next) (old
     errors = record { text = []; is = same_errors ∙ sym (append-nil was.errors); gains = gains_nothing errors.held };
   }
 
-  halted : (tells tells' : Option (List ℕ)) (was : Outside) (halt : Halt) → Reads asked was (call_state old locals (call_streams tells faults output errors)) (call_state new locals (call_streams tells' faults' output errors)) (Err halt)
-      → Answers (next_read asked next) was (call_state old locals (call_streams tells faults output errors)) (call_state new locals (call_streams tells' faults' output errors)) (Err halt)
-  halted tells tells' was (ErrorHalt number offending) reads = record { now = after_reading asked was; follows = was_read tells tells' was (after_reading asked was) reads.1 refl refl; comes = reads.0 next }
+  halted : (tells tells' : Option (List ℕ)) (was : Outside) (halt : Halt) → Reads asked was (call_state old locals (call_streams tells faults output errors))
+      (call_state new locals (call_streams tells' faults' output errors)) (Err halt)
+      → Answers (next_read asked next) was (call_state old locals (call_streams tells faults output errors))
+      (call_state new locals (call_streams tells' faults' output errors)) (Err halt)
+  halted tells tells' was (ErrorHalt number offending) reads =
+      record { now = after_reading asked was; follows = was_read tells tells' was (after_reading asked was) reads.1 refl refl; comes = reads.0 next }
   halted tells tells' was (EndsHalt status) reads = absurd reads
   halted tells tells' was ReadFault reads = record { asked = asked; made = reads_once asked next quiet _; left = reads; output = refl; errors = refl }
   halted tells tells' was WriteFault reads = absurd reads
   halted tells tells' was NoMemory reads = reading (record { asked = asked; made = reads_once asked next quiet _; left = reads; output = refl; errors = refl })
 
-  halt_caused : (halt : Halt) → InputCause faults faults' (Err halt) → CausedBy (Err halt) (call_streams left faults output errors) (call_streams left' faults' output errors)
+  halt_caused : (halt : Halt) → InputCause faults faults' (Err halt)
+      → CausedBy (Err halt) (call_streams left faults output errors) (call_streams left' faults' output errors)
   halt_caused (ErrorHalt number offending) cause = record { faults = cause; output = counts_all output; errors = counts_all errors }
   halt_caused (EndsHalt status) cause = absurd cause
   halt_caused ReadFault cause = record { faults = cause; output = refl; errors = refl }
@@ -83,13 +91,18 @@ module _ (asked : Request) (next : List ℕ → Row) (quiet : IsQuiet next) (old
 
   -- the reading was not made, or an error of the row
   pub read_halts : (halt : Halt) (result : Result Outcome Halt) → IsErrAnd result (λ other. other ≡ halt)
-      → ((was : Outside) → left ≡ Some was.left → Reads asked was (call_state old locals (call_streams left faults output errors)) (call_state new locals (call_streams left' faults' output errors)) (Err halt))
-      → ReadsOfSome asked (call_state old locals (call_streams left faults output errors)) (call_state new locals (call_streams left' faults' output errors)) (Err halt)
-      → InputCause faults faults' (Err halt) → IsLiveHalt (reach_of new locals) halt → All (IsLive (extent_of new.heap)) locals → KeepsItems (reach_of old locals) (reach_of new locals)
-      → Applies (next_read asked next) (call_state old locals (call_streams left faults output errors)) (call_state new locals (call_streams left' faults' output errors)) result
+      → ((was : Outside) → left ≡ Some was.left → Reads asked was (call_state old locals (call_streams left faults output errors))
+      (call_state new locals (call_streams left' faults' output errors)) (Err halt))
+      → ReadsOfSome asked (call_state old locals (call_streams left faults output errors)) (call_state new locals (call_streams left' faults' output errors))
+      (Err halt)
+      → InputCause faults faults' (Err halt) → IsLiveHalt (reach_of new locals) halt → All (IsLive (extent_of new.heap)) locals
+      → KeepsItems (reach_of old locals) (reach_of new locals)
+      → Applies (next_read asked next) (call_state old locals (call_streams left faults output errors))
+      (call_state new locals (call_streams left' faults' output errors)) result
   read_halts halt (Ok outcome) same reads some cause live lives kept = absurd same
   read_halts halt (Err other) same reads some cause live lives kept =
-      subst (λ h. Applies (next_read asked next) (call_state old locals (call_streams left faults output errors)) (call_state new locals (call_streams left' faults' output errors)) (Err h)) (sym same) (record {
+      subst (λ h. Applies (next_read asked next) (call_state old locals (call_streams left faults output errors))
+      (call_state new locals (call_streams left' faults' output errors)) (Err h)) (sym same) (record {
         answers = λ was told. halted left left' was halt (reads was told);
         meant = record { had = some.had; has = some.has; answers = λ was first. halted (Some some.had) (Some some.has) was halt (some.reads was first) };
         caused = halt_caused halt cause;
@@ -98,9 +111,12 @@ module _ (asked : Request) (next : List ℕ → Row) (quiet : IsQuiet next) (old
         kept = kept;
       })
 
-  given_by : (tells tells' : Option (List ℕ)) (span : Span) (outcome : Outcome) → ((s : Setting) → next (text_in (extent_of new.heap) span) s ≡ outcome_in (extent_of new.heap) outcome s) → (was : Outside)
-      → Reads asked was (call_state old locals (call_streams tells faults output errors)) (call_state new locals (call_streams tells' faults' output errors)) (Ok (Some span))
-      → Answers (next_read asked next) was (call_state old locals (call_streams tells faults output errors)) (call_state new locals (call_streams tells' faults' output errors)) (Ok outcome)
+  given_by : (tells tells' : Option (List ℕ)) (span : Span) (outcome : Outcome)
+      → ((s : Setting) → next (text_in (extent_of new.heap) span) s ≡ outcome_in (extent_of new.heap) outcome s) → (was : Outside)
+      → Reads asked was (call_state old locals (call_streams tells faults output errors)) (call_state new locals (call_streams tells' faults' output errors))
+      (Ok (Some span))
+      → Answers (next_read asked next) was (call_state old locals (call_streams tells faults output errors))
+      (call_state new locals (call_streams tells' faults' output errors)) (Ok outcome)
   given_by tells tells' span outcome goes was reads = record {
     now = after_reading asked was;
     follows = was_read tells tells' was (after_reading asked was) reads.1 refl refl;
@@ -108,8 +124,10 @@ module _ (asked : Request) (next : List ℕ → Row) (quiet : IsQuiet next) (old
   }
 
   failed_by : (tells tells' : Option (List ℕ)) (was : Outside)
-      → Reads asked was (call_state old locals (call_streams tells faults output errors)) (call_state new locals (call_streams tells' faults' output errors)) (Ok None)
-      → Answers (next_read asked next) was (call_state old locals (call_streams tells faults output errors)) (call_state new locals (call_streams tells' faults' output errors)) (Ok HeldFails)
+      → Reads asked was (call_state old locals (call_streams tells faults output errors)) (call_state new locals (call_streams tells' faults' output errors))
+      (Ok None)
+      → Answers (next_read asked next) was (call_state old locals (call_streams tells faults output errors))
+      (call_state new locals (call_streams tells' faults' output errors)) (Ok HeldFails)
   failed_by tells tells' was reads = record {
     now = with_reading asked was;
     follows = was_read tells tells' was (with_reading asked was) reads.1 refl refl;
@@ -117,19 +135,26 @@ module _ (asked : Request) (next : List ℕ → Row) (quiet : IsQuiet next) (old
   }
 
   -- a text was read, and the row goes on with it
-  pub read_gives : (found : Option Span) (span : Span) (outcome : Outcome) → found ≡ Some span → ((s : Setting) → next (text_in (extent_of new.heap) span) s ≡ outcome_in (extent_of new.heap) outcome s)
-      → ((was : Outside) → left ≡ Some was.left → Reads asked was (call_state old locals (call_streams left faults output errors)) (call_state new locals (call_streams left' faults' output errors)) (Ok found))
-      → ReadsOfSome asked (call_state old locals (call_streams left faults output errors)) (call_state new locals (call_streams left' faults' output errors)) (Ok found)
-      → faults' ≡ faults → IsLiveOutcome (reach_of new locals) outcome → All (IsLive (extent_of new.heap)) locals → KeepsItems (reach_of old locals) (reach_of new locals)
-      → Applies (next_read asked next) (call_state old locals (call_streams left faults output errors)) (call_state new locals (call_streams left' faults' output errors)) (Ok outcome)
+  pub read_gives : (found : Option Span) (span : Span) (outcome : Outcome) → found ≡ Some span
+      → ((s : Setting) → next (text_in (extent_of new.heap) span) s ≡ outcome_in (extent_of new.heap) outcome s)
+      → ((was : Outside) → left ≡ Some was.left → Reads asked was (call_state old locals (call_streams left faults output errors))
+      (call_state new locals (call_streams left' faults' output errors)) (Ok found))
+      → ReadsOfSome asked (call_state old locals (call_streams left faults output errors)) (call_state new locals (call_streams left' faults' output errors))
+      (Ok found)
+      → faults' ≡ faults → IsLiveOutcome (reach_of new locals) outcome → All (IsLive (extent_of new.heap)) locals
+      → KeepsItems (reach_of old locals) (reach_of new locals)
+      → Applies (next_read asked next) (call_state old locals (call_streams left faults output errors))
+      (call_state new locals (call_streams left' faults' output errors)) (Ok outcome)
   read_gives found span outcome same goes reads some cause live lives kept = record {
-    answers = λ was told. given_by left left' span outcome goes was (subst (λ f. Reads asked was (call_state old locals (call_streams left faults output errors)) (call_state new locals (call_streams left' faults' output errors)) (Ok f)) same (reads was told));
+    answers = λ was told. given_by left left' span outcome goes was (subst (λ f. Reads asked was (call_state old locals
+        (call_streams left faults output errors)) (call_state new locals (call_streams left' faults' output errors)) (Ok f)) same (reads was told));
     meant = record {
       had = some.had;
       has = some.has;
       answers = λ was first.
           given_by (Some some.had) (Some some.has) span outcome goes was
-          (subst (λ f. Reads asked was (call_state old locals (call_streams (Some some.had) faults output errors)) (call_state new locals (call_streams (Some some.has) faults' output errors)) (Ok f)) same (some.reads was first));
+          (subst (λ f. Reads asked was (call_state old locals (call_streams (Some some.had) faults output errors))
+          (call_state new locals (call_streams (Some some.has) faults' output errors)) (Ok f)) same (some.reads was first));
     };
     caused = record { faults = cause; output = counts_all output; errors = counts_all errors };
     live = live;
@@ -138,18 +163,23 @@ module _ (asked : Request) (next : List ℕ → Row) (quiet : IsQuiet next) (old
   }
 
   -- nothing was there, and the row fails
-  pub read_fails : (found : Option Span) → found ≡ None → ((was : Outside) → left ≡ Some was.left → Reads asked was (call_state old locals (call_streams left faults output errors)) (call_state new locals (call_streams left' faults' output errors)) (Ok found))
-      → ReadsOfSome asked (call_state old locals (call_streams left faults output errors)) (call_state new locals (call_streams left' faults' output errors)) (Ok found)
+  pub read_fails : (found : Option Span) → found ≡ None → ((was : Outside) → left ≡ Some was.left → Reads asked was
+      (call_state old locals (call_streams left faults output errors)) (call_state new locals (call_streams left' faults' output errors)) (Ok found))
+      → ReadsOfSome asked (call_state old locals (call_streams left faults output errors)) (call_state new locals (call_streams left' faults' output errors))
+      (Ok found)
       → faults' ≡ faults → All (IsLive (extent_of new.heap)) locals → KeepsItems (reach_of old locals) (reach_of new locals)
-      → Applies (next_read asked next) (call_state old locals (call_streams left faults output errors)) (call_state new locals (call_streams left' faults' output errors)) (Ok HeldFails)
+      → Applies (next_read asked next) (call_state old locals (call_streams left faults output errors))
+      (call_state new locals (call_streams left' faults' output errors)) (Ok HeldFails)
   read_fails found same reads some cause lives kept = record {
-    answers = λ was told. failed_by left left' was (subst (λ f. Reads asked was (call_state old locals (call_streams left faults output errors)) (call_state new locals (call_streams left' faults' output errors)) (Ok f)) same (reads was told));
+    answers = λ was told. failed_by left left' was (subst (λ f. Reads asked was (call_state old locals (call_streams left faults output errors))
+        (call_state new locals (call_streams left' faults' output errors)) (Ok f)) same (reads was told));
     meant = record {
       had = some.had;
       has = some.has;
       answers = λ was first.
           failed_by (Some some.had) (Some some.has) was
-          (subst (λ f. Reads asked was (call_state old locals (call_streams (Some some.had) faults output errors)) (call_state new locals (call_streams (Some some.has) faults' output errors)) (Ok f)) same (some.reads was first));
+          (subst (λ f. Reads asked was (call_state old locals (call_streams (Some some.had) faults output errors))
+          (call_state new locals (call_streams (Some some.has) faults' output errors)) (Ok f)) same (some.reads was first));
     };
     caused = record { faults = cause; output = counts_all output; errors = counts_all errors };
     live = record { live = tt };

@@ -78,28 +78,33 @@ module _ (asked : Request) (before after : CallState) where
     filled was is = subst (λ left. Fills asked left there held (Some rest)) (sym is) some.fills
 
     pub some_text : (span : Span) → there ≡ true → bytes ≡ held → text_in (extent_of after.world.heap) span ≡ bytes
-        → ((outside : Outside) → Passes (costs_bytes (length bytes)) (setting_with outside before) (setting_with outside after)) → ReadsOfSome asked before after (Ok (Some span))
+        → ((outside : Outside) → Passes (costs_bytes (length bytes)) (setting_with outside before) (setting_with outside after))
+        → ReadsOfSome asked before after (Ok (Some span))
     some_text span met same text step = record {
       had = some.left;
       has = rest;
-      reads = λ was is. reads_some asked was (with_left some.left before) (with_left rest after) there held bytes span (filled was is) met same text (step (after_reading asked was));
+      reads = λ was is. reads_some asked was (with_left some.left before) (with_left rest after) there held bytes span (filled was is) met same text
+          (step (after_reading asked was));
     }
 
     pub some_none : there ≡ false → ((outside : Outside) → setting_with outside before ≡ setting_with outside after) → ReadsOfSome asked before after (Ok None)
     some_none missed same = record {
       had = some.left;
       has = rest;
-      reads = λ was is. reads_none asked was (with_left some.left before) (with_left rest after) there held (filled was is) missed (same (with_reading asked was));
+      reads = λ was is. reads_none asked was (with_left some.left before) (with_left rest after) there held (filled was is) missed
+          (same (with_reading asked was));
     }
 
     pub some_err : (stop : Stop) (result : Result (Option Span) Halt) → there ≡ true → bytes ≡ held
-        → ((outside : Outside) → StopsPassing (extent_of after.world.heap) (costs_bytes (length bytes)) (setting_with outside before) (setting_with outside after) stop)
+        → ((outside : Outside)
+        → StopsPassing (extent_of after.world.heap) (costs_bytes (length bytes)) (setting_with outside before) (setting_with outside after) stop)
         → IsErrAnd result (λ halt. halt ≡ halt_of stop) → ReadsOfSome asked before after result
     some_err stop result met same step is = record {
       had = some.left;
       has = rest;
       reads = λ was first.
-          reads_err asked was (with_left some.left before) (with_left rest after) there held bytes stop result (filled was first) met same (step (after_reading asked was)) is;
+          reads_err asked was (with_left some.left before) (with_left rest after) there held bytes stop result (filled was first) met same
+          (step (after_reading asked was)) is;
     }
 
   pub some_fault : ReadsOfSome asked before after (Err ReadFault)

@@ -54,17 +54,21 @@ gives_text row before after bytes made reads same = rw same reads
 
 -- a text is held, and nothing changes
 pub holds_text : (outside : Outside) (old new : HeldHeap) (pair : Pair) (random : ℕ) (globals statics locals : List HeldVal) (bytes made : List ℕ)
-    → Keeps (extent_of old) (extent_of new) → heap_of new ≡ heap_of old → IsSoundWorld (extent_of old) pair random globals statics → All (IsLive (extent_of old)) locals → made ≡ bytes
-    → gives_value (Text bytes) (setting_over outside old pair random globals statics locals) ≡ GivesOutcome (Val (Text made)) (setting_over outside new pair random globals statics locals)
+    → Keeps (extent_of old) (extent_of new) → heap_of new ≡ heap_of old → IsSoundWorld (extent_of old) pair random globals statics
+    → All (IsLive (extent_of old)) locals → made ≡ bytes
+    → gives_value (Text bytes) (setting_over outside old pair random globals statics locals)
+    ≡ GivesOutcome (Val (Text made)) (setting_over outside new pair random globals statics locals)
 holds_text outside old new pair random globals statics locals bytes made keeps same sound live is =
     rw is (ap (gives_value (Text bytes)) (heap_changed outside old new pair random globals statics locals keeps same sound live))
 
-so_stopped : (all : Extent) (row : Row) (setting : Setting) (stop : Stop) → StopsRow all row setting stop → (let r : Result Outcome Stop = Err stop in ComesToOutcome all row setting setting r)
+so_stopped : (all : Extent) (row : Row) (setting : Setting) (stop : Stop) → StopsRow all row setting stop → (let r : Result Outcome Stop = Err stop in
+    ComesToOutcome all row setting setting r)
 so_stopped all row setting (Error number offending) is = is
 so_stopped all row setting NoMemory is = tt
 
 -- a check stopped the row
-pub stops_so : (all : Extent) (row : Row) (setting : Setting) (stop : Stop) (result : Result Outcome Stop) → IsErrAnd result (λ other. other ≡ stop) → StopsRow all row setting stop
+pub stops_so : (all : Extent) (row : Row) (setting : Setting) (stop : Stop) (result : Result Outcome Stop) → IsErrAnd result (λ other. other ≡ stop)
+    → StopsRow all row setting stop
     → ComesToOutcome all row setting setting result
 stops_so all row setting stop result same is = comes_same all row setting setting stop result same (so_stopped all row setting stop is)
 

@@ -56,7 +56,8 @@ drop_past (x ∷ xs) rest (suc m) n is = let same : suc m + n ≡ suc (m + n) = 
 take_past : (front rest : List ℕ) (m n : ℕ) → length front ≡ m → take (m + n) (front ++ rest) ≡ front ++ take n rest
 take_past [] rest m n is = let same : m + n ≡ n = omega (arith, is) in rw same refl
 take_past (x ∷ xs) rest zero n is = absurd (omega (arith, is))
-take_past (x ∷ xs) rest (suc m) n is = let same : suc m + n ≡ suc (m + n) = omega arith in rw same (ap (λ tail. x ∷ tail) (take_past xs rest m n (omega (arith, is))))
+take_past (x ∷ xs) rest (suc m) n is =
+    let same : suc m + n ≡ suc (m + n) = omega arith in rw same (ap (λ tail. x ∷ tail) (take_past xs rest m n (omega (arith, is))))
 
 last_part : (n r len : ℕ) (text : List ℕ) → length text ≡ len → r ≤ len → r ≤ n → drop (n * len - r) (copies n text) ≡ drop (len - r) text
 last_part zero r len text is within few =
@@ -110,7 +111,8 @@ right_parts fill unit count is some =
     ∙ ap (λ text. drop (length (copies count text) - count) (copies count text)) is
 
 -- what is appended in two steps is appended
-pub filled_from_left : (old between now fill unit : List ℕ) (count : ℕ) → unit ≡ filling fill → 0 < length unit → between ≡ old ++ copies (count / length unit) unit
+pub filled_from_left : (old between now fill unit : List ℕ) (count : ℕ) → unit ≡ filling fill → 0 < length unit
+    → between ≡ old ++ copies (count / length unit) unit
     → now ≡ between ++ take (count % length unit) unit → now ≡ old ++ filled_left fill count
 filled_from_left old between now fill unit count is some first second =
     second ∙ (ap (λ front. front ++ take (count % length unit) unit) first

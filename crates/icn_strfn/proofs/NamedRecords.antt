@@ -16,7 +16,8 @@ record_count : (heap : Heap) → length (heap_of heap).records ≡ (extent_of he
 unfolding heap_of extent_of
 record_count heap = length-map heap.records.items (record_in (extent_of heap))
 
-pub kind_named : (names : Names) (heap : Heap) (id : ℕ) → AreRecordsNamed names (heap_of heap) → IsLive (extent_of heap) (Rec id) → (record_at (heap_of heap) id).kind < length names.records
+pub kind_named : (names : Names) (heap : Heap) (id : ℕ) → AreRecordsNamed names (heap_of heap) → IsLive (extent_of heap) (Rec id)
+    → (record_at (heap_of heap) id).kind < length names.records
 kind_named names heap id named live =
     let below : id < (extent_of heap).records = live.live in
     let within : id < length (heap_of heap).records = omega (arith, record_count heap) in

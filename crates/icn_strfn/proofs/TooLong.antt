@@ -12,7 +12,8 @@ use Rattle.icn_strfn.specs.declared.layouts.Layout.TheVariants.{Left, Right, Cen
 use Rattle.icn_strfn.specs.Layouts.{laid_out}
 use Rattle.icn_strfn.proofs.Fillings.{copies, length-copies, no_less}
 
-pub too_long : (text : List ℕ) (setting : Setting) → setting.world.heap.bounds.strings < setting.world.heap.strings + length text → builds text setting ≡ Error 306 None setting
+pub too_long : (text : List ℕ) (setting : Setting) → setting.world.heap.bounds.strings < setting.world.heap.strings + length text
+    → builds text setting ≡ Error 306 None setting
 too_long text setting long =
     let test : nat_le (setting.world.heap.strings + length text) setting.world.heap.bounds.strings ≡ false =
     lt-leb (setting.world.heap.strings + length text) setting.world.heap.bounds.strings (omega arith) in
@@ -61,7 +62,8 @@ length-laid_out Center text fill width =
     omega (arith, whole, inner, front, middle, left, end)
 
 -- so many copies are no shorter than their length as it is told, also where that is no number of 64 bits
-pub repeated_long : (count : ℕ) (text : List ℕ) (len product : ℕ) → len ≡ length text → product ≡ min (count * len) (2 ^ 64 - 1) → product ≤ length (copies count text)
+pub repeated_long : (count : ℕ) (text : List ℕ) (len product : ℕ) → len ≡ length text → product ≡ min (count * len) (2 ^ 64 - 1)
+    → product ≤ length (copies count text)
 repeated_long count text len product same is =
     let whole : length (copies count text) ≡ count * length text = length-copies count text in
     let turned : count * len ≡ count * length text = ap (λ k. count * k) same in
@@ -72,7 +74,8 @@ no_both heap full is = cc
 
 -- a charge that is refused would pass the limit
 no_sum : (heap : Heap) (sum : ℕ) (full : Full) (fits : Bool) → nat_le (heap.strings + sum) heap.bounds.strings ≡ fits
-    → (let refused : Result Heap Full = Err full in (if fits then Ok (record heap { strings = heap.strings + sum }) else Err (Strings heap.strings heap.bounds.strings)) ≡ refused)
+    → (let refused : Result Heap Full = Err full in
+    (if fits then Ok (record heap { strings = heap.strings + sum }) else Err (Strings heap.strings heap.bounds.strings)) ≡ refused)
     → heap.bounds.strings < heap.strings + sum
 no_sum heap sum full true test is = absurd (no_both (record heap { strings = heap.strings + sum }) full is)
 no_sum heap sum full false test is = leb-false (heap.strings + sum) heap.bounds.strings test

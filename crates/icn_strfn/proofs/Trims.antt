@@ -16,6 +16,8 @@ or_false true = refl
 or_false false = refl
 
 -- the cset of a blank
-pub blank_members : (empty blank : Cset) → HasMembers empty (λ byte. false) → HasMembers blank (λ other. other == 32 || has empty other) → members_of blank ≡ codes " "
+pub blank_members : (empty blank : Cset) → HasMembers empty (λ byte. false) → HasMembers blank (λ other. other == 32 || has empty other)
+    → members_of blank ≡ codes " "
 blank_members empty blank none is =
-    members_by blank (λ other. other == 32) (record { is = λ byte few. is.is byte few ∙ (ap (λ b. (byte == 32) || b) (none.is byte few) ∙ or_false (byte == 32)) })
+    members_by blank (λ other. other == 32)
+    (record { is = λ byte few. is.is byte few ∙ (ap (λ b. (byte == 32) || b) (none.is byte few) ∙ or_false (byte == 32)) })

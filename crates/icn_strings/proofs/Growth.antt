@@ -66,6 +66,7 @@ pub ruleset growth = (keeps_more, keeps_same, unchanged)
 pub part_short : (xs : List ℕ) (at n most : ℕ) → length xs < most → length (take n (drop at xs)) < most
 part_short xs at n most h =
     elim (cases_lt (length (drop at xs)) n) [
-      | inl beyond ↦ (let all : length (take n (drop at xs)) ≡ length (drop at xs) = ap length (take_all n (drop at xs) (omega arith)) in omega (arith, length-drop at xs))
+      | inl beyond ↦
+          (let all : length (take n (drop at xs)) ≡ length (drop at xs) = ap length (take_all n (drop at xs) (omega arith)) in omega (arith, length-drop at xs))
       | inr within ↦ omega (arith, length-take-le n (drop at xs) within, length-drop at xs)
     ]

@@ -34,7 +34,9 @@ paid_cells : (heap : Heap) (count : ℕ) (paid : Heap) → charged_cells heap co
 unfolding charged_cells
 paid_cells heap count paid is = by_test (nat_le (heap.cells + count) heap.bounds.cells) is
   where
-    by_test : (b : Bool) → (let r : ChangedHeap = if b then Ok (with_cells (heap.cells + count) heap) else Err (Cells heap.cells heap.bounds.cells) in r) ≡ Ok paid → paid ≡ with_cells (heap.cells + count) heap
+    by_test : (b : Bool)
+        → (let r : ChangedHeap = if b then Ok (with_cells (heap.cells + count) heap) else Err (Cells heap.cells heap.bounds.cells) in r) ≡ Ok paid
+        → paid ≡ with_cells (heap.cells + count) heap
     by_test true is = cc
     by_test false is = cc
 
@@ -43,21 +45,29 @@ module _ (grown : Numbered Value → Value → Numbered Value) (id : ℕ) where
   one_more : Value → Heap → Heap
   one_more value heap = with_list id (grown (list_at heap id) value) (with_cells (heap.cells + 1) heap)
 
-  added_one : (heap new : Heap) (value : Value) → and_then (charged_cells heap 1) (λ paid. let r : ChangedHeap = Ok (with_list id (grown (list_at paid id) value) paid) in r) ≡ Ok new → new ≡ one_more value heap
+  added_one : (heap new : Heap) (value : Value)
+      → and_then (charged_cells heap 1) (λ paid. let r : ChangedHeap = Ok (with_list id (grown (list_at paid id) value) paid) in r) ≡ Ok new
+      → new ≡ one_more value heap
   unfolding one_more
   added_one heap new value step =
       let paid = charged_then (λ paid. with_list id (grown (list_at paid id) value) paid) (charged_cells heap 1) new step in
       sym paid.2 ∙ ap (λ paid. with_list id (grown (list_at paid id) value) paid) (paid_cells heap 1 paid.0 paid.1)
 
-  pub cells_more : (heap new : Heap) (value : Value) → and_then (charged_cells heap 1) (λ paid. let r : ChangedHeap = Ok (with_list id (grown (list_at paid id) value) paid) in r) ≡ Ok new → new.cells ≡ heap.cells + 1
+  pub cells_more : (heap new : Heap) (value : Value)
+      → and_then (charged_cells heap 1) (λ paid. let r : ChangedHeap = Ok (with_list id (grown (list_at paid id) value) paid) in r) ≡ Ok new
+      → new.cells ≡ heap.cells + 1
   unfolding one_more
   cells_more heap new value step = ap (λ (h : Heap). h.cells) (added_one heap new value step)
 
-  pub bounds_stay : (heap new : Heap) (value : Value) → and_then (charged_cells heap 1) (λ paid. let r : ChangedHeap = Ok (with_list id (grown (list_at paid id) value) paid) in r) ≡ Ok new → new.bounds.cells ≡ heap.bounds.cells
+  pub bounds_stay : (heap new : Heap) (value : Value)
+      → and_then (charged_cells heap 1) (λ paid. let r : ChangedHeap = Ok (with_list id (grown (list_at paid id) value) paid) in r) ≡ Ok new
+      → new.bounds.cells ≡ heap.bounds.cells
   unfolding one_more
   bounds_stay heap new value step = ap (λ (h : Heap). h.bounds.cells) (added_one heap new value step)
 
-  pub records_stay : (heap new : Heap) (value : Value) → and_then (charged_cells heap 1) (λ paid. let r : ChangedHeap = Ok (with_list id (grown (list_at paid id) value) paid) in r) ≡ Ok new → new.records ≡ heap.records
+  pub records_stay : (heap new : Heap) (value : Value)
+      → and_then (charged_cells heap 1) (λ paid. let r : ChangedHeap = Ok (with_list id (grown (list_at paid id) value) paid) in r) ≡ Ok new
+      → new.records ≡ heap.records
   unfolding one_more
   records_stay heap new value step = ap (λ (h : Heap). h.records) (added_one heap new value step)
 
@@ -68,11 +78,13 @@ module _ (grown : Numbered Value → Value → Numbered Value) (id : ℕ) where
       → (let h : Heap = record heap { lists = lists'; cells = cells' } in h) ≡ (let h : Heap = record heap { lists = lists; cells = cells } in h)
   heap_by heap lists cells = cc
 
-  grows_next : (heap : Heap) (value : Value) (values : List Value) → id < length heap.lists → added_to grown id values (one_more value heap) ≡ added_to grown id (value ∷ values) heap
+  grows_next : (heap : Heap) (value : Value) (values : List Value) → id < length heap.lists
+      → added_to grown id values (one_more value heap) ≡ added_to grown id (value ∷ values) heap
   unfolding one_more
   grows_next heap value values there =
       heap_by heap
-      (ap (λ (list : Numbered Value). slice_set (slice_set heap.lists id (grown (list_at heap id) value)) id (fold grown list values)) (at_set heap.lists (grown (list_at heap id) value) there)
+      (ap (λ (list : Numbered Value). slice_set (slice_set heap.lists id (grown (list_at heap id) value)) id (fold grown list values))
+      (at_set heap.lists (grown (list_at heap id) value) there)
       ∙ set-set heap.lists id (grown (list_at heap id) value) (fold grown (grown (list_at heap id) value) values))
       (omega arith)
 
@@ -90,7 +102,8 @@ module _ (grown : Numbered Value → Value → Numbered Value) (id : ℕ) where
 
   -- where there is room, only memory may be wanting
   pub no_refusal : (heap : Heap) (value : Value) (full : Full) → heap.cells + 1 ≤ heap.bounds.cells
-      → Refuses (and_then (charged_cells heap 1) (λ paid. let r : ChangedHeap = Ok (with_list id (grown (list_at paid id) value) paid) in r)) full → full ≡ NoMemory
+      → Refuses (and_then (charged_cells heap 1) (λ paid. let r : ChangedHeap = Ok (with_list id (grown (list_at paid id) value) paid) in r)) full
+      → full ≡ NoMemory
   no_refusal heap value full room why =
       let paid : charged_cells heap 1 ≡ Ok (with_cells (heap.cells + 1) heap) = charge_fits heap 1 (heap.cells + 1) refl room in
       ⊎_elim (λ (e : full ≡ NoMemory). e)
@@ -104,17 +117,22 @@ module _ (grown : Numbered Value → Value → Numbered Value) (id : ℕ) where
 
   module _ (old new : HeldHeap) (pair : Pair) (random : ℕ) (globals statics locals : List Val) (keeps : Keeps (extent_of old) (extent_of new))
       (sound : IsSoundWorld (extent_of old) pair random globals statics) (live : All (IsLive (extent_of old)) locals) (values : List Value) where
-    pub added : charged_cells (heap_of old) (length values) ≡ Ok (with_cells ((heap_of old).cells + length values) (heap_of old)) → heap_of new ≡ added_to grown id values (heap_of old) → (outside : Outside)
-        → Passes (adds grown id values) (setting_over outside old pair random globals statics locals) (setting_over outside new pair random globals statics locals)
+    pub added : charged_cells (heap_of old) (length values) ≡ Ok (with_cells ((heap_of old).cells + length values) (heap_of old))
+        → heap_of new ≡ added_to grown id values (heap_of old) → (outside : Outside)
+        → Passes (adds grown id values) (setting_over outside old pair random globals statics locals)
+        (setting_over outside new pair random globals statics locals)
     added paid step outside next =
-        (cells_change (length values)).ok (setting_over outside old pair random globals statics locals) (with_cells ((heap_of old).cells + length values) (heap_of old)) paid
+        (cells_change (length values)).ok (setting_over outside old pair random globals statics locals)
+        (with_cells ((heap_of old).cells + length values) (heap_of old)) paid
         (here (λ setting. changes_heap (with_list id (fold grown (list_at setting.world.heap id) values)) next))
         ∙ ap next (heap_changed outside old new pair random globals statics locals keeps step sound live)
 
-  pub not_added : {B : Type 0} (all : Extent) (setting : Setting) (values : List Value) (full : Full) (result : Result B Stop) → charged_cells setting.world.heap (length values) ≡ Err full
+  pub not_added : {B : Type 0} (all : Extent) (setting : Setting) (values : List Value) (full : Full) (result : Result B Stop)
+      → charged_cells setting.world.heap (length values) ≡ Err full
       → IsErrAnd result (λ stop. stop ≡ stop_of full) → Passed all (adds grown id values) setting setting result
   not_added all setting values full result why err =
-      first_part_stops all (costs_cells (length values)) (λ next. here (λ setting. changes_heap (with_list id (fold grown (list_at setting.world.heap id) values)) next)) setting setting (stop_of full) result err
+      first_part_stops all (costs_cells (length values))
+      (λ next. here (λ setting. changes_heap (with_list id (fold grown (list_at setting.world.heap id) values)) next)) setting setting (stop_of full) result err
       ((cells_change (length values)).err all setting full why)
 
   pub unfinished : {B : Type 0} (all : Extent) (before after : Setting) (values : List Value) (full : Full) (result : Result B Stop) → full ≡ NoMemory

@@ -34,7 +34,8 @@ sets value setting = by_list (list_of value)
     by_list (Some id) = refl
 
 -- what is its own copy
-pub copies_itself : (all : Extent) (val : Val) → ((id : ℕ) → val ≡ ListVal id → ⊥) → ((id : ℕ) → val ≡ SetVal id → ⊥) → ((id : ℕ) → val ≡ TableVal id → ⊥) → ((id : ℕ) → val ≡ RecVal id → ⊥)
+pub copies_itself : (all : Extent) (val : Val) → ((id : ℕ) → val ≡ ListVal id → ⊥) → ((id : ℕ) → val ≡ SetVal id → ⊥) → ((id : ℕ) → val ≡ TableVal id → ⊥)
+    → ((id : ℕ) → val ≡ RecVal id → ⊥)
     → (next : Value → Row) (setting : Setting) → copy_of_value (value_in all val) next setting ≡ next (value_in all val) setting
 copies_itself all NullVal a b c d next setting = refl
 copies_itself all (IntegerVal n) a b c d next setting = refl

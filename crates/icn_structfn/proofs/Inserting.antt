@@ -37,7 +37,8 @@ looks_for kept key = present (keeper_of kept) 122 (Some kept) (λ found. here (�
 
 module _ (kept key : Value) (setting : Setting) where
   pub is_there : (keeper : Option Keeper) → (let some : Option Bool = Some true in some) ≡ option_map (λ found. has_key setting.world.heap found key) keeper
-      → present keeper 122 (Some kept) (λ found. here (λ setting. passing (has_key setting.world.heap found key) (gives_value key))) setting ≡ Gives (ItemVal key) setting
+      → present keeper 122 (Some kept) (λ found. here (λ setting. passing (has_key setting.world.heap found key) (gives_value key))) setting
+      ≡ Gives (ItemVal key) setting
   is_there None is = cc
   is_there (Some found) is = ap (λ b. passing b (gives_value key) setting) (sym (same_Some _ _ is))
 
@@ -47,7 +48,8 @@ module _ (kept key : Value) (setting : Setting) where
   is_missing (Some found) is = ap (λ b. passing b (gives_value key) setting) (sym (same_Some _ _ is))
 
   pub is_none : (keeper : Option Keeper) → (let none : Option Bool = None in none) ≡ option_map (λ found. has_key setting.world.heap found key) keeper
-      → present keeper 122 (Some kept) (λ found. here (λ setting. passing (has_key setting.world.heap found key) (gives_value key))) setting ≡ Error 122 (Some kept) setting
+      → present keeper 122 (Some kept) (λ found. here (λ setting. passing (has_key setting.world.heap found key) (gives_value key))) setting
+      ≡ Error 122 (Some kept) setting
   is_none None is = refl
   is_none (Some found) is = cc
 
@@ -57,7 +59,8 @@ module _ (kept key : Value) (setting : Setting) where
 abbrev pub takes_out : Value → Value → Row
 takes_out kept key = keeper kept (λ found. changes_heap (without_key found key) (gives_value kept))
 
-pub takes_out_is : (kept key : Value) → true ≡ is_some (keeper_of kept) → (setting : Setting) → takes_out kept key setting ≡ changes_heap (without_value kept key) (gives_value kept) setting
+pub takes_out_is : (kept key : Value) → true ≡ is_some (keeper_of kept) → (setting : Setting)
+    → takes_out kept key setting ≡ changes_heap (without_value kept key) (gives_value kept) setting
 takes_out_is Null key is setting = absurd (false≢true (sym is))
 takes_out_is (Integer n) key is setting = absurd (false≢true (sym is))
 takes_out_is (Text bytes) key is setting = absurd (false≢true (sym is))
@@ -73,13 +76,15 @@ takes_out_is (ACoexp id) key is setting = absurd (false≢true (sym is))
 pub takes_none_out : (kept key : Value) → false ≡ is_some (keeper_of kept) → (setting : Setting) → takes_out kept key setting ≡ Error 122 (Some kept) setting
 takes_none_out kept key is setting = by_keeper (keeper_of kept) is
   where
-    by_keeper : (found : Option Keeper) → false ≡ is_some found → present found 122 (Some kept) (λ found. changes_heap (without_key found key) (gives_value kept)) setting ≡ Error 122 (Some kept) setting
+    by_keeper : (found : Option Keeper) → false ≡ is_some found
+        → present found 122 (Some kept) (λ found. changes_heap (without_key found key) (gives_value kept)) setting ≡ Error 122 (Some kept) setting
     by_keeper None is = refl
     by_keeper (Some found) is = absurd (false≢true is)
 
 -- Putting in
 
-refused_first : (charge : ChangedHeap) (change : Heap → Heap) (full : Full) → and_then charge (λ paid. let r : ChangedHeap = Ok (change paid) in r) ≡ Err full → charge ≡ Err full
+refused_first : (charge : ChangedHeap) (change : Heap → Heap) (full : Full) → and_then charge (λ paid. let r : ChangedHeap = Ok (change paid) in r) ≡ Err full
+    → charge ≡ Err full
 refused_first (Ok paid) change full is = absurd (never is)
   where
     never : (let r : ChangedHeap = Ok (change paid) in r) ≡ Err full → ⊥
@@ -90,8 +95,10 @@ module _ (old new : HeldHeap) (pair : Pair) (random : ℕ) (globals statics loca
     (sound : IsSoundWorld (extent_of old) pair random globals statics) (live : All (IsLive (extent_of old)) locals)
     {part : Row → Row} {charge : Heap → ChangedHeap} (is : IsChange part charge) (change after : Heap → Heap) where
   -- it is charged, and the heap is changed
-  pub charged : ((paid : Heap) → IsCharged (heap_of old) paid → change paid ≡ after paid) → and_then (charge (heap_of old)) (λ paid. let r : ChangedHeap = Ok (after paid) in r) ≡ Ok (heap_of new) → (outside : Outside)
-      → Passes (λ next. part (changes_heap change next)) (setting_over outside old pair random globals statics locals) (setting_over outside new pair random globals statics locals)
+  pub charged : ((paid : Heap) → IsCharged (heap_of old) paid → change paid ≡ after paid)
+      → and_then (charge (heap_of old)) (λ paid. let r : ChangedHeap = Ok (after paid) in r) ≡ Ok (heap_of new) → (outside : Outside)
+      → Passes (λ next. part (changes_heap change next)) (setting_over outside old pair random globals statics locals)
+      (setting_over outside new pair random globals statics locals)
   charged same step outside next =
       let before : Setting = setting_over outside old pair random globals statics locals in
       let paid = charged_then after (charge (heap_of old)) (heap_of new) step in
@@ -99,17 +106,22 @@ module _ (old new : HeldHeap) (pair : Pair) (random : ℕ) (globals statics loca
       ∙ (ap (λ (heap : Heap). next (having_heap (λ old. heap) before)) (same paid.0 (is.charged (heap_of old) paid.0 paid.1) ∙ paid.2)
       ∙ ap next (heap_changed outside old new pair random globals statics locals keeps refl sound live))
 
-  pub not_charged : {B : Type 0} (full : Full) (result : Result B Stop) → heap_of new ≡ heap_of old → Refuses (and_then (charge (heap_of old)) (λ paid. let r : ChangedHeap = Ok (after paid) in r)) full
+  pub not_charged : {B : Type 0} (full : Full) (result : Result B Stop) → heap_of new ≡ heap_of old
+      → Refuses (and_then (charge (heap_of old)) (λ paid. let r : ChangedHeap = Ok (after paid) in r)) full
       → IsErrAnd result (λ stop. stop ≡ stop_of full) → (outside : Outside)
-      → Passed (extent_of new) (λ next. part (changes_heap change next)) (setting_over outside old pair random globals statics locals) (setting_over outside new pair random globals statics locals) result
+      → Passed (extent_of new) (λ next. part (changes_heap change next)) (setting_over outside old pair random globals statics locals)
+      (setting_over outside new pair random globals statics locals) result
   not_charged full result same why err outside =
       let first : Refuses (charge (heap_of old)) full =
-      ⊎_elim (λ (e : full ≡ NoMemory). inl e) (λ (e : and_then (charge (heap_of old)) (λ paid. let r : ChangedHeap = Ok (after paid) in r) ≡ Err full). inr (refused_first (charge (heap_of old)) after full e)) why in
-      first_part_stops (extent_of new) part (changes_heap change) (setting_over outside old pair random globals statics locals) (setting_over outside new pair random globals statics locals) (stop_of full) result err
+      ⊎_elim (λ (e : full ≡ NoMemory). inl e) (λ (e : and_then (charge (heap_of old)) (λ paid. let r : ChangedHeap = Ok (after paid) in r) ≡ Err full).
+      inr (refused_first (charge (heap_of old)) after full e)) why in
+      first_part_stops (extent_of new) part (changes_heap change) (setting_over outside old pair random globals statics locals)
+      (setting_over outside new pair random globals statics locals) (stop_of full) result err
       (stops old new pair random globals statics locals keeps sound live is same full first (extent_of new) outside)
 
 -- what is put into a set or a table is the same whether it is charged before
-pub member_after : (id : ℕ) (value : Value) (heap paid : Heap) → IsCharged heap paid → with_set id (with_member (set_at heap id) value) paid ≡ having_member id value paid
+pub member_after : (id : ℕ) (value : Value) (heap paid : Heap) → IsCharged heap paid
+    → with_set id (with_member (set_at heap id) value) paid ≡ having_member id value paid
 member_after id value heap paid is =
     ap (λ (sets : List (List Value)). with_set id (with_member (unwrap_or (slice_get sets id) []) value) paid) (sym is.sets)
 

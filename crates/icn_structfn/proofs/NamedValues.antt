@@ -37,10 +37,12 @@ named_at names all vals place val is named =
     named_value names all val (subst (ValueNamed names) (sym is) (holds_at (ValueNamed names) (map (value_in all) vals) Null place named tt))
 
 -- the pair at a place of such pairs
-pub pair_named : (names : Names) (all : Extent) (pairs : List (Val × Val)) (place : ℕ) (pair : Val × Val) → values_in all pair ≡ pair_at (map (values_in all) pairs) place
+pub pair_named : (names : Names) (all : Extent) (pairs : List (Val × Val)) (place : ℕ) (pair : Val × Val)
+    → values_in all pair ≡ pair_at (map (values_in all) pairs) place
     → All (PairNamed names) (map (values_in all) pairs) → IsNamed names pair.0 × IsNamed names pair.1
 pair_named names all pairs place pair is named =
-    let both : PairNamed names (values_in all pair) = subst (PairNamed names) (sym is) (holds_at (PairNamed names) (map (values_in all) pairs) (Null, Null) place named (tt, tt)) in
+    let both : PairNamed names (values_in all pair) = subst (PairNamed names) (sym is)
+    (holds_at (PairNamed names) (map (values_in all) pairs) (Null, Null) place named (tt, tt)) in
     (named_value names all pair.0 both.0, named_value names all pair.1 both.1)
 
 -- The parts of its structures

@@ -55,14 +55,16 @@ tables_stay heap paid is = ap (λ tables. ATable (length tables)) is.tables
 pub records_stay : (heap paid : Heap) → IsCharged heap paid → record_number paid ≡ record_number heap
 records_stay heap paid is = ap (λ records. ARecord (length records)) is.records
 
-refused_first : (charge : ChangedHeap) (change : Heap → Heap) (full : Full) → and_then charge (λ paid. let r : ChangedHeap = Ok (change paid) in r) ≡ Err full → charge ≡ Err full
+refused_first : (charge : ChangedHeap) (change : Heap → Heap) (full : Full) → and_then charge (λ paid. let r : ChangedHeap = Ok (change paid) in r) ≡ Err full
+    → charge ≡ Err full
 refused_first (Ok paid) change full is = absurd (never is)
   where
     never : (let r : ChangedHeap = Ok (change paid) in r) ≡ Err full → ⊥
     never is = cc
 refused_first (Err why) change full is = is
 
-finding_of : {A : Type 0} (all : Extent) (part : Row → Row) (rest : (A → Row) → Row) (before after : Setting) (stop : Stop) → StopsPassing all part before after stop
+finding_of : {A : Type 0} (all : Extent) (part : Row → Row) (rest : (A → Row) → Row) (before after : Setting) (stop : Stop)
+    → StopsPassing all part before after stop
     → StopsFinding all (λ next. part (rest next)) before after stop
 finding_of all part rest before after (Error number offending) is = λ next. is (rest next)
 finding_of all part rest before after NoMemoryStop is = tt
@@ -73,32 +75,41 @@ module _ (old new : HeldHeap) (pair : Pair) (random : ℕ) (globals statics loca
   -- it is made
   pub made : ((paid : Heap) → IsCharged (heap_of old) paid → number paid ≡ number (heap_of old)) → (value : Value) → value ≡ number (heap_of old)
       → and_then (charged_cells (heap_of old) count) (λ paid. let r : ChangedHeap = Ok (change paid) in r) ≡ Ok (heap_of new) → (outside : Outside)
-      → GoesOn (makes count change number) (setting_over outside old pair random globals statics locals) value (setting_over outside new pair random globals statics locals)
+      → GoesOn (makes count change number) (setting_over outside old pair random globals statics locals) value
+      (setting_over outside new pair random globals statics locals)
   made same value is step outside next =
       let before : Setting = setting_over outside old pair random globals statics locals in
       let paid = charged_then change (charged_cells (heap_of old) count) (heap_of new) step in
       (cells_change count).ok before paid.0 paid.1 (here (λ setting. changes_heap change (next (number setting.world.heap))))
-      ∙ (ap (λ (v : Value). next v (having_heap (λ heap. change paid.0) before)) (same paid.0 ((cells_change count).charged (heap_of old) paid.0 paid.1) ∙ sym is)
-      ∙ ap (next value) (ap (λ (heap : Heap). having_heap (λ old. heap) before) paid.2 ∙ heap_changed outside old new pair random globals statics locals keeps refl sound live))
+      ∙ (ap (λ (v : Value). next v (having_heap (λ heap. change paid.0) before))
+      (same paid.0 ((cells_change count).charged (heap_of old) paid.0 paid.1) ∙ sym is)
+      ∙ ap (next value)
+      (ap (λ (heap : Heap). having_heap (λ old. heap) before) paid.2 ∙ heap_changed outside old new pair random globals statics locals keeps refl sound live))
 
   -- it is refused
   pub refused : {B : Type 0} (shown : B → Value) (full : Full) (result : Result B Stop) → heap_of new ≡ heap_of old
-      → Refuses (and_then (charged_cells (heap_of old) count) (λ paid. let r : ChangedHeap = Ok (change paid) in r)) full → IsErrAnd result (λ stop. stop ≡ stop_of full) → (outside : Outside)
-      → Found (extent_of new) (makes count change number) (setting_over outside old pair random globals statics locals) (setting_over outside new pair random globals statics locals) shown result
+      → Refuses (and_then (charged_cells (heap_of old) count) (λ paid. let r : ChangedHeap = Ok (change paid) in r)) full
+      → IsErrAnd result (λ stop. stop ≡ stop_of full) → (outside : Outside)
+      → Found (extent_of new) (makes count change number) (setting_over outside old pair random globals statics locals)
+      (setting_over outside new pair random globals statics locals) shown result
   refused shown full result same why err outside =
       let before : Setting = setting_over outside old pair random globals statics locals in
       let after : Setting = setting_over outside new pair random globals statics locals in
       let first : Refuses (charged_cells (heap_of old) count) full =
-      ⊎_elim (λ (e : full ≡ NoMemory). inl e) (λ (e : and_then (charged_cells (heap_of old) count) (λ paid. let r : ChangedHeap = Ok (change paid) in r) ≡ Err full). inr (refused_first (charged_cells (heap_of old) count) change full e)) why in
+      ⊎_elim (λ (e : full ≡ NoMemory). inl e) (λ (e : and_then (charged_cells (heap_of old) count) (λ paid. let r : ChangedHeap = Ok (change paid) in r)
+      ≡ Err full). inr (refused_first (charged_cells (heap_of old) count) change full e)) why in
       found_err (extent_of new) (makes count change number) before after shown (stop_of full) result err
-      (finding_of (extent_of new) (costs_cells count) (λ next. here (λ setting. changes_heap change (next (number setting.world.heap)))) before after (stop_of full)
+      (finding_of (extent_of new) (costs_cells count) (λ next. here (λ setting. changes_heap change (next (number setting.world.heap)))) before after
+      (stop_of full)
       (stops old new pair random globals statics locals keeps sound live (cells_change count) same full first (extent_of new) outside))
 
 -- a record is made
-pub fields_new : (count kind : ℕ) (fields : List Value) (old new : Heap) → and_then (charged_cells old count) (λ paid. let r : ChangedHeap = Ok (having_record kind fields paid) in r) ≡ Ok new
+pub fields_new : (count kind : ℕ) (fields : List Value) (old new : Heap)
+    → and_then (charged_cells old count) (λ paid. let r : ChangedHeap = Ok (having_record kind fields paid) in r) ≡ Ok new
     → KeepsFields (field_counts old) (field_counts new)
 fields_new count kind fields old new step =
     let paid = charged_then (having_record kind fields) (charged_cells old count) new step in
     fields_by old (having_record kind fields paid.0) new
-    (fields_then (field_counts old) (field_counts paid.0) (field_counts (having_record kind fields paid.0)) (same_records old paid.0 ((cells_change count).charged old paid.0 paid.1).records) (fields_made kind fields paid.0))
+    (fields_then (field_counts old) (field_counts paid.0) (field_counts (having_record kind fields paid.0))
+    (same_records old paid.0 ((cells_change count).charged old paid.0 paid.1).records) (fields_made kind fields paid.0))
     (sym paid.2)

@@ -24,7 +24,8 @@ pub sorted_by_closure : {F X : Type 0} {g : Mut F (Bor X × (Bor X × Unit {0}))
     → ((a : Bor X × (Bor X × Unit {0})) (r : Ordering) (f' : F) → Called g f a r f' → (r ≡ cmp a.0.now a.1.0.now) × (f' ≡ f)) → IsSorted cmp xs
 sorted_by_closure {X = X} {g = g} {f = f} cmp total xs up answers =
     up (λ x y. is_lt (cmp x y)) (ranks_by total (λ (x : X). x))
-    (always_returns_same g (λ a r. is_lt r ≡ is_lt (cmp a.0.now a.1.0.now)) f (λ a r f' called. (ap is_lt (answers a r f' called).0, (answers a r f' called).1)))
+    (always_returns_same g (λ a r. is_lt r ≡ is_lt (cmp a.0.now a.1.0.now)) f
+    (λ a r f' called. (ap is_lt (answers a r f' called).0, (answers a r f' called).1)))
 
 module _ {A : Type 0} (xs : List A) (none : A) where
   -- the item at a place, and another one where there is none
@@ -34,7 +35,8 @@ module _ {A : Type 0} (xs : List A) (none : A) where
   all_items : map item_at (range_with_len 0 (length xs)) ≡ xs
   all_items = ext_get_or none (map item_at (range_with_len 0 (length xs))) xs (length-map-range_with_len item_at 0 (length xs)) at
     where
-      at : (k : ℕ) → k < length (map item_at (range_with_len 0 (length xs))) → slice_index_or (map item_at (range_with_len 0 (length xs))) k none ≡ slice_index_or xs k none
+      at : (k : ℕ) → k < length (map item_at (range_with_len 0 (length xs)))
+          → slice_index_or (map item_at (range_with_len 0 (length xs))) k none ≡ slice_index_or xs k none
       at k below =
           let within : k < length xs = subst (λ n. k < n) (length-map-range_with_len item_at 0 (length xs)) below in
           get_or-map-range_with_len item_at 0 (length xs) k k none within (omega arith) ∙ unwrap_or-slice_get xs k none
@@ -61,7 +63,8 @@ module _ {A : Type 0} (xs : List A) (none : A) where
       ap (map item_at) is ∙ one (map item_at places) (items_moved count places same moved) (items_sorted cmp places up)
 
 -- items are taken from the first place on: one more is, of those that are left
-pub one_taken : {B C : Type 0} (shown : B → C) (f : ℕ → C) (done now : List B) (item : B) (first : ℕ) (rest others : List ℕ) (whole : List C) → now ≡ done ++ item ∷ [] → rest ≡ first ∷ others
+pub one_taken : {B C : Type 0} (shown : B → C) (f : ℕ → C) (done now : List B) (item : B) (first : ℕ) (rest others : List ℕ) (whole : List C)
+    → now ≡ done ++ item ∷ [] → rest ≡ first ∷ others
     → shown item ≡ f first → map shown done ++ map f rest ≡ whole → map shown now ++ map f others ≡ whole
 one_taken shown f done now item first rest others whole more same is so =
     ap (λ vals. map shown vals ++ map f others) more
@@ -71,7 +74,8 @@ one_taken shown f done now item first rest others whole more same is so =
     ∙ (ap (λ left. map shown done ++ map f left) (sym same) ∙ so))))
 
 -- all are taken
-pub all_taken : {B C : Type 0} (shown : B → C) (f : ℕ → C) (done : List B) (rest : List ℕ) (whole : List C) → length rest ≡ 0 → map shown done ++ map f rest ≡ whole → map shown done ≡ whole
+pub all_taken : {B C : Type 0} (shown : B → C) (f : ℕ → C) (done : List B) (rest : List ℕ) (whole : List C) → length rest ≡ 0
+    → map shown done ++ map f rest ≡ whole → map shown done ≡ whole
 all_taken shown f done rest whole none so =
     sym (append-nil (map shown done)) ∙ (ap (λ left. map shown done ++ map f left) (sym (nothing_left rest none)) ∙ so)
 
@@ -79,4 +83,5 @@ all_taken shown f done rest whole none so =
 pub holds_at : {A : Type 0} (P : A → Type 0) (xs : List A) (none : A) (place : ℕ) → All P xs → P none → P (unwrap_or (slice_get xs place) none)
 holds_at P xs none place all of_none =
     subst P (sym (unwrap_or-slice_get xs place none))
-    (⊎_elim (λ (below : place < length xs). all place none below) (λ (past : length xs ≤ place). subst P (sym (get_or_past xs place none past)) of_none) (cases_lt place (length xs)))
+    (⊎_elim (λ (below : place < length xs). all place none below) (λ (past : length xs ≤ place). subst P (sym (get_or_past xs place none past)) of_none)
+    (cases_lt place (length xs)))

@@ -15,26 +15,31 @@ use Rattle.icn_args.specs.Words.{Found}
 use Rattle.icn_args.proofs.Answering.{answer_then, row_stops, row_stops_at}
 
 -- the row goes on as another one, which stops where a thing is looked for
-pub stops_finding : {A : Type 0} (all : Extent) (row : Row) (find : Finds A) (next : A → Row) (before between after : Setting) (stop : Stop) (result : Result Outcome Halt)
-    → row before ≡ find next between → IsErrAnd result (λ halt. halt ≡ halt_of stop) → StopsFinding all find between after stop → ComesToAnswer all row before after result
+pub stops_finding : {A : Type 0} (all : Extent) (row : Row) (find : Finds A) (next : A → Row) (before between after : Setting) (stop : Stop)
+    (result : Result Outcome Halt)
+    → row before ≡ find next between → IsErrAnd result (λ halt. halt ≡ halt_of stop) → StopsFinding all find between after stop
+    → ComesToAnswer all row before after result
 stops_finding all row find next before between after stop result same err is =
     answer_then all row (find next) before between after result same (row_stops all find next between after stop result err is)
 
 -- the row goes on as another one, which stops at a part of it
 pub stops_passing : (all : Extent) (row : Row) (part : Row → Row) (next : Row) (before between after : Setting) (stop : Stop) (result : Result Outcome Halt)
-    → row before ≡ part next between → IsErrAnd result (λ halt. halt ≡ halt_of stop) → StopsPassing all part between after stop → ComesToAnswer all row before after result
+    → row before ≡ part next between → IsErrAnd result (λ halt. halt ≡ halt_of stop) → StopsPassing all part between after stop
+    → ComesToAnswer all row before after result
 stops_passing all row part next before between after stop result same err is =
     answer_then all row (part next) before between after result same (row_stops_at all part next between after stop result err is)
 
 -- what finds the same
-pub found_as : {A B : Type 0} (all : Extent) (find other : Finds A) (before after : Setting) (shown : B → A) (result : Result B Stop) → ((next : A → Row) → find next before ≡ other next before)
+pub found_as : {A B : Type 0} (all : Extent) (find other : Finds A) (before after : Setting) (shown : B → A) (result : Result B Stop)
+    → ((next : A → Row) → find next before ≡ other next before)
     → Found all other before after shown result → Found all find before after shown result
 found_as all find other before after shown (Ok thing) same is = λ next. same next ∙ is next
 found_as all find other before after shown (Err (Error number offending)) same is = λ next. same next ∙ is next
 found_as all find other before after shown (Err NoMemory) same is = tt
 
 -- an error of another type, which is known
-pub err_is : {B : Type 0} {F : Type 0} (full wanted : F) (result : Result B F) → IsErrAnd result (λ other. other ≡ full) → full ≡ wanted → IfErr result (λ other. other ≡ wanted)
+pub err_is : {B : Type 0} {F : Type 0} (full wanted : F) (result : Result B F) → IsErrAnd result (λ other. other ≡ full) → full ≡ wanted
+    → IfErr result (λ other. other ≡ wanted)
 err_is full wanted (Ok thing) same is = tt
 err_is full wanted (Err other) same is = same ∙ is
 
@@ -43,8 +48,10 @@ nothing_left [] none = refl
 nothing_left (item ∷ items) none = absurd (omega arith)
 
 -- a thing is found, and then what is looked for with it
-pub found_behind : {A B C : Type 0} (all : Extent) (find : Finds A) (thing : A) (rest : A → Finds B) (before between after : Setting) (shown : C → B) (result : Result C Stop)
-    → GoesOn find before thing between → Found all (rest thing) between after shown result → Found all (λ next. find (λ thing. rest thing next)) before after shown result
+pub found_behind : {A B C : Type 0} (all : Extent) (find : Finds A) (thing : A) (rest : A → Finds B) (before between after : Setting) (shown : C → B)
+    (result : Result C Stop)
+    → GoesOn find before thing between → Found all (rest thing) between after shown result
+    → Found all (λ next. find (λ thing. rest thing next)) before after shown result
 found_behind all find thing rest before between after shown (Ok held) first is = λ next. first (λ thing. rest thing next) ∙ is next
 found_behind all find thing rest before between after shown (Err (Error number offending)) first is = λ next. first (λ thing. rest thing next) ∙ is next
 found_behind all find thing rest before between after shown (Err NoMemory) first is = tt

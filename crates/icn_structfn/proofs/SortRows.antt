@@ -60,7 +60,8 @@ no_structure names n chosen all (TableVal id) a b c d next setting = absurd (c i
 no_structure names n chosen all (CoexpVal id) a b c d next setting = refl
 
 -- both values of a pair, alone and as a pair
-pub two_same : (old new : Extent) (pair : Val × Val) → Keeps old new → AreLive old pair → map (value_in new) (pair.0 ∷ pair.1 ∷ []) ≡ (values_in old pair).0 ∷ (values_in old pair).1 ∷ []
+pub two_same : (old new : Extent) (pair : Val × Val) → Keeps old new → AreLive old pair
+    → map (value_in new) (pair.0 ∷ pair.1 ∷ []) ≡ (values_in old pair).0 ∷ (values_in old pair).1 ∷ []
 two_same old new pair keeps live =
     ap (λ (v : Value). v ∷ value_in new pair.1 ∷ []) (keeps.value pair.0 live.first)
     ∙ ap (λ (v : Value). value_in old pair.0 ∷ v ∷ []) (keeps.value pair.1 live.second)
@@ -72,10 +73,12 @@ two_live all x y first second (suc (suc k)) d below = absurd (omega (arith, belo
 
 -- Keys and values in turn
 
-pub one_turned : (all : Extent) (vals mid now : List Val) (first : Val × Val) (rest others : List (Val × Val)) (whole : List Value) → mid ≡ vals ++ first.0 ∷ [] → now ≡ mid ++ first.1 ∷ [] → rest ≡ first ∷ others
+pub one_turned : (all : Extent) (vals mid now : List Val) (first : Val × Val) (rest others : List (Val × Val)) (whole : List Value) → mid ≡ vals ++ first.0 ∷ []
+    → now ≡ mid ++ first.1 ∷ [] → rest ≡ first ∷ others
     → map (value_in all) vals ++ in_turn (map (values_in all) rest) ≡ whole → map (value_in all) now ++ in_turn (map (values_in all) others) ≡ whole
 one_turned all vals mid now first rest others whole more again same so =
-    ap (λ list. map (value_in all) list ++ in_turn (map (values_in all) others)) (again ∙ (ap (λ list. list ++ first.1 ∷ []) more ∙ append_assoc vals (first.0 ∷ []) (first.1 ∷ [])))
+    ap (λ list. map (value_in all) list ++ in_turn (map (values_in all) others))
+    (again ∙ (ap (λ list. list ++ first.1 ∷ []) more ∙ append_assoc vals (first.0 ∷ []) (first.1 ∷ [])))
     ∙ (ap (λ list. list ++ in_turn (map (values_in all) others)) (map-append (value_in all) vals (first.0 ∷ first.1 ∷ []))
     ∙ (append_assoc (map (value_in all) vals) (value_in all first.0 ∷ value_in all first.1 ∷ []) (in_turn (map (values_in all) others))
     ∙ (ap (λ left. map (value_in all) vals ++ in_turn (map (values_in all) left)) (sym same) ∙ so)))
@@ -83,7 +86,8 @@ one_turned all vals mid now first rest others whole more again same so =
 pub all_turned : (all : Extent) (vals : List Val) (rest : List (Val × Val)) (whole : List Value) → length rest ≡ 0
     → map (value_in all) vals ++ in_turn (map (values_in all) rest) ≡ whole → map (value_in all) vals ≡ whole
 all_turned all vals rest whole none so =
-    sym (append-nil (map (value_in all) vals)) ∙ (ap (λ left. map (value_in all) vals ++ in_turn (map (values_in all) left)) (sym (nothing_left rest none)) ∙ so)
+    sym (append-nil (map (value_in all) vals)) ∙ (ap (λ left. map (value_in all) vals ++ in_turn (map (values_in all) left)) (sym (nothing_left rest none))
+    ∙ so)
 
 -- Lists of two, one after the other
 
@@ -103,7 +107,8 @@ module _ (pairs : List (Value × Value)) (before : Setting) where
       behind = simp append_assoc
 
   -- one that is not made
-  pub one_stops : (all : Extent) (done : List Value) (first : Value × Value) (rest others : List (Value × Value)) (now after : Setting) (stop : Stop) → rest ≡ first ∷ others
+  pub one_stops : (all : Extent) (done : List Value) (first : Value × Value) (rest others : List (Value × Value)) (now after : Setting) (stop : Stop)
+      → rest ≡ first ∷ others
       → Left done rest now → StopsFinding all (new_list_of (first.0 ∷ first.1 ∷ [])) now after stop → StopsFinding all (pair_lists pairs) before after stop
   one_stops all done first rest others now after (ErrorStop number offending) same so stops = λ next.
       so next ∙ (ap (λ (left : List (Value × Value)). pair_lists_behind done left next now) same
@@ -113,7 +118,8 @@ module _ (pairs : List (Value × Value)) (before : Setting) where
   -- all are made
   pub all_made : (done : List Value) (rest : List (Value × Value)) (now : Setting) → rest ≡ [] → Left done rest now → GoesOn (pair_lists pairs) before done now
   all_made done rest now none so next =
-      so next ∙ (ap (λ (left : List (Value × Value)). pair_lists_behind done left next now) none ∙ ap (λ (values : List Value). next values now) (append-nil done))
+      so next
+      ∙ (ap (λ (left : List (Value × Value)). pair_lists_behind done left next now) none ∙ ap (λ (values : List Value). next values now) (append-nil done))
 
 -- The row from its number on
 

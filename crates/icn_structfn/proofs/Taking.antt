@@ -21,14 +21,16 @@ use Rattle.icn_vars.proofs.Growing.{heap_changed, setting_over}
 -- an element is taken from a list
 abbrev pub takes : (Numbered Value → Option Value) → (Numbered Value → Numbered Value) → Value → Row
 takes taken rest value =
-    list value (λ id. here (λ setting. found (taken (list_at setting.world.heap id)) (λ element. changes_heap (with_list id (rest (list_at setting.world.heap id))) (gives_value element))))
+    list value (λ id. here (λ setting.
+    found (taken (list_at setting.world.heap id)) (λ element. changes_heap (with_list id (rest (list_at setting.world.heap id))) (gives_value element))))
 
 -- nothing leaves an empty list
 
 pub left_none : (list : Numbered Value) → (let found : Option Value = None in found) ≡ leftmost list → without_left list ≡ list
 left_none list none = by_items list.items none
   where
-    by_items : (items : List Value) → (let found : Option Value = None in found) ≡ slice_get items 0 → after_first items list.number ≡ (let l : Numbered Value = record { items = items; number = list.number } in l)
+    by_items : (items : List Value) → (let found : Option Value = None in found) ≡ slice_get items 0
+        → after_first items list.number ≡ (let l : Numbered Value = record { items = items; number = list.number } in l)
     by_items [] none = refl
     by_items (item ∷ items) none = absurd (none_there (item ∷ items) 0 (omega arith) none)
 
@@ -36,7 +38,8 @@ pub right_none : (list : Numbered Value) → (let found : Option Value = None in
 right_none list none = by_items list.items none
   where
     by_items : (items : List Value) → (let found : Option Value = None in found) ≡ slice_get items (length items - 1)
-        → (let l : Numbered Value = record { items = take (length items - 1) items; number = list.number } in l) ≡ (let l : Numbered Value = record { items = items; number = list.number } in l)
+        → (let l : Numbered Value = record { items = take (length items - 1) items; number = list.number } in l)
+        ≡ (let l : Numbered Value = record { items = items; number = list.number } in l)
     by_items [] none = refl
     by_items (item ∷ items) none = absurd (none_there (item ∷ items) (length (item ∷ items) - 1) (omega arith) none)
 
@@ -50,13 +53,16 @@ list_stays heap id =
 pub not_taken : (taken : Numbered Value → Option Value) (rest : Numbered Value → Numbered Value) (value : Value) → list_of value ≡ None → (setting : Setting)
     → takes taken rest value setting ≡ Error 108 (Some value) setting
 not_taken taken rest value none setting =
-    ap (λ opt. present opt 108 (Some value) (λ id. here (λ setting. found (taken (list_at setting.world.heap id)) (λ element. changes_heap (with_list id (rest (list_at setting.world.heap id))) (gives_value element)))) setting) none
+    ap (λ opt. present opt 108 (Some value) (λ id. here (λ setting. found (taken (list_at setting.world.heap id))
+    (λ element. changes_heap (with_list id (rest (list_at setting.world.heap id))) (gives_value element)))) setting) none
 
 module _ (old new : HeldHeap) (pair : Pair) (random : ℕ) (globals statics locals : List Val) (keeps : Keeps (extent_of old) (extent_of new))
     (sound : IsSoundWorld (extent_of old) pair random globals statics) (live : All (IsLive (extent_of old)) locals)
     (taken : Numbered Value → Option Value) (rest : Numbered Value → Numbered Value) (value : Value) (id : ℕ) (is : value ≡ AList id) where
-  pub given : (element : Value) → (let found : Option Value = Some element in found) ≡ taken (list_at (heap_of old) id) → heap_of new ≡ with_list id (rest (list_at (heap_of old) id)) (heap_of old) → (outside : Outside)
-      → takes taken rest value (setting_over outside old pair random globals statics locals) ≡ Gives (ItemVal element) (setting_over outside new pair random globals statics locals)
+  pub given : (element : Value) → (let found : Option Value = Some element in found) ≡ taken (list_at (heap_of old) id)
+      → heap_of new ≡ with_list id (rest (list_at (heap_of old) id)) (heap_of old) → (outside : Outside)
+      → takes taken rest value (setting_over outside old pair random globals statics locals)
+      ≡ Gives (ItemVal element) (setting_over outside new pair random globals statics locals)
   given element some step outside =
       let before : Setting = setting_over outside old pair random globals statics locals in
       ap (λ v. takes taken rest v before) is
@@ -65,9 +71,11 @@ module _ (old new : HeldHeap) (pair : Pair) (random : ℕ) (globals statics loca
 
   pub failed : (let found : Option Value = None in found) ≡ taken (list_at (heap_of old) id) → rest (list_at (heap_of old) id) ≡ list_at (heap_of old) id
       → heap_of new ≡ with_list id (rest (list_at (heap_of old) id)) (heap_of old) → (outside : Outside)
-      → takes taken rest value (setting_over outside old pair random globals statics locals) ≡ Fails (setting_over outside new pair random globals statics locals)
+      → takes taken rest value (setting_over outside old pair random globals statics locals)
+      ≡ Fails (setting_over outside new pair random globals statics locals)
   failed none same step outside =
       let before : Setting = setting_over outside old pair random globals statics locals in
       ap (λ v. takes taken rest v before) is
       ∙ (ap (λ f. found f (λ element. changes_heap (with_list id (rest (list_at (heap_of old) id))) (gives_value element)) before) (sym none)
-      ∙ ap Fails (heap_changed outside old new pair random globals statics locals keeps (step ∙ (ap (λ l. with_list id l (heap_of old)) same ∙ list_stays (heap_of old) id)) sound live))
+      ∙ ap Fails (heap_changed outside old new pair random globals statics locals keeps
+      (step ∙ (ap (λ l. with_list id l (heap_of old)) same ∙ list_stays (heap_of old) id)) sound live))

@@ -13,16 +13,20 @@ space_stops : (base : ℕ) (after : List ℕ) → base ≤ 36 → list_all is_sp
 space_stops base [] most h = tt
 space_stops base (b ∷ after) most h = space_no_digit base b most (both (is_space b) (list_all is_space after) h).0
 
-digits_again : (base : ℕ) (digits after : List ℕ) → base ≤ 36 → IsDigits base digits → list_all is_space after ≡ true → digits_read base (digits ++ after) ≡ Some (digits_value base digits)
+digits_again : (base : ℕ) (digits after : List ℕ) → base ≤ 36 → IsDigits base digits → list_all is_space after ≡ true
+    → digits_read base (digits ++ after) ≡ Some (digits_value base digits)
 digits_again base digits after most is space =
-    let count : prefix_len (is_digit_of base) (digits ++ after) ≡ length digits = run_len (is_digit_of base) digits after is.each (space_stops base after most space) in
+    let count : prefix_len (is_digit_of base) (digits ++ after)
+    ≡ length digits = run_len (is_digit_of base) digits after is.each (space_stops base after most space) in
     ap (λ n. cond (nat_lt 0 n && list_all is_space (drop n (digits ++ after))) (Some (digits_value base (take n (digits ++ after)))) None) count
-    ∙ ap (λ rest. cond (nat_lt 0 (length digits) && list_all is_space rest) (Some (digits_value base (take (length digits) (digits ++ after)))) None) (drop-append_seam digits after)
+    ∙ ap (λ rest. cond (nat_lt 0 (length digits) && list_all is_space rest) (Some (digits_value base (take (length digits) (digits ++ after)))) None)
+    (drop-append_seam digits after)
     ∙ ap (λ front. cond (nat_lt 0 (length digits) && list_all is_space after) (Some (digits_value base front)) None) (take-append_seam digits after)
     ∙ ap (λ t. cond (t && list_all is_space after) (Some (digits_value base digits)) None) (lt-ltb 0 (length digits) is.some)
     ∙ ap (λ t. cond t (Some (digits_value base digits)) None) space
 
-radix_again : (base : ℕ) (digits after : List ℕ) → 2 ≤ base → base ≤ 36 → IsDigits base digits → list_all is_space after ≡ true → radix_read base (digits ++ after) ≡ Some (digits_value base digits)
+radix_again : (base : ℕ) (digits after : List ℕ) → 2 ≤ base → base ≤ 36 → IsDigits base digits → list_all is_space after ≡ true
+    → radix_read base (digits ++ after) ≡ Some (digits_value base digits)
 radix_again base digits after least most is space =
     ap (λ t. cond (t && nat_le base 36) (digits_read base (digits ++ after)) None) (le-leb 2 base least)
     ∙ ap (λ t. cond t (digits_read base (digits ++ after)) None) (le-leb base 36 most)
@@ -31,9 +35,11 @@ radix_again base digits after least most is space =
 -- behind the digits stands no mark
 plain_by : (text digits after : List ℕ) → list_all is_space after ≡ true → numeral_by text digits after ≡ digits_read 10 text
 plain_by text digits [] space = refl
-plain_by text digits (b ∷ after) space = ap (λ t. cond t (radix_read (digits_value 10 digits) after) (digits_read 10 text)) (space_no_mark b (both (is_space b) (list_all is_space after) space).0)
+plain_by text digits (b ∷ after) space =
+    ap (λ t. cond t (radix_read (digits_value 10 digits) after) (digits_read 10 text)) (space_no_mark b (both (is_space b) (list_all is_space after) space).0)
 
-cut : (text digits rest : List ℕ) → text ≡ digits ++ rest → list_all (is_digit_of 10) digits ≡ true → Stops (is_digit_of 10) rest → numeral_read text ≡ numeral_by text digits rest
+cut : (text digits rest : List ℕ) → text ≡ digits ++ rest → list_all (is_digit_of 10) digits ≡ true → Stops (is_digit_of 10) rest
+    → numeral_read text ≡ numeral_by text digits rest
 cut text digits rest is each stops =
     let count : prefix_len (is_digit_of 10) text ≡ length digits = ap (prefix_len (is_digit_of 10)) is ∙ run_len (is_digit_of 10) digits rest each stops in
     ap (λ n. numeral_by text (take n text) (drop n text)) count
@@ -41,7 +47,8 @@ cut text digits rest is each stops =
     ∙ ap (λ front. numeral_by text front (drop (length digits) (digits ++ rest))) (take-append_seam digits rest)
     ∙ ap (numeral_by text digits) (drop-append_seam digits rest)
 
-pub numeral_again : (middle : List ℕ) (n : ℕ) (after : List ℕ) → WritesNumeral middle n → list_all is_space after ≡ true → numeral_read (middle ++ after) ≡ Some n
+pub numeral_again : (middle : List ℕ) (n : ℕ) (after : List ℕ) → WritesNumeral middle n → list_all is_space after ≡ true
+    → numeral_read (middle ++ after) ≡ Some n
 numeral_again _ _ after (decimal digits is) space =
     cut (digits ++ after) digits after refl is.each (space_stops 10 after (omega arith) space)
     ∙ plain_by (digits ++ after) digits after space
@@ -66,7 +73,8 @@ signed_by : (text : List ℕ) (b : ℕ) (later : List ℕ) → text ≡ b ∷ la
 signed_by text b later is above =
     let signs = above_no_sign b above in
     ap signed_read is
-    ∙ ap (λ t. cond t (option_map (λ n. (true, n)) (numeral_read later)) (cond (b == 43) (option_map (λ n. (false, n)) (numeral_read later)) (option_map (λ n. (false, n)) (numeral_read (b ∷ later))))) signs.0
+    ∙ ap (λ t. cond t (option_map (λ n. (true, n)) (numeral_read later))
+    (cond (b == 43) (option_map (λ n. (false, n)) (numeral_read later)) (option_map (λ n. (false, n)) (numeral_read (b ∷ later))))) signs.0
     ∙ ap (λ t. cond t (option_map (λ n. (false, n)) (numeral_read later)) (option_map (λ n. (false, n)) (numeral_read (b ∷ later)))) signs.1
     ∙ ap (λ whole. option_map (λ n. (false, n)) (numeral_read whole)) (sym is)
 
@@ -92,5 +100,6 @@ skip text before rest is space stops =
 
 pub integer_again : {text : List ℕ} {n : ℤ} (w : WritesInteger text n) → integer_read text ≡ Some (w.is_negative, w.magnitude)
 integer_again {text} {n} w =
-    skip text w.before (w.middle ++ w.after) (w.whole ∙ append_assoc w.before w.middle w.after) w.space_before (signed_stops w.middle w.is_negative w.magnitude w.after w.written)
+    skip text w.before (w.middle ++ w.after) (w.whole ∙ append_assoc w.before w.middle w.after) w.space_before
+    (signed_stops w.middle w.is_negative w.magnitude w.after w.written)
     ∙ signed_again w.middle w.is_negative w.magnitude w.after w.written w.space_after

@@ -10,13 +10,15 @@ use Rattle.icn_text.specs.Reading.{in_64_bits}
 -- one digit more
 pub value_step : (radix : ℕ) (digits : List ℕ) (i n all next : ℕ) → i < length digits → digits_value_after radix n (drop i digits) ≡ all
     → next ≡ n * radix + digit_value (get_or digits i 0) → digits_value_after radix next (drop (i + 1) digits) ≡ all
-value_step radix digits i n all next within h is = ap (λ m. digits_value_after radix m (drop (i + 1) digits)) is ∙ sym (at_drop_more (digits_value_after radix n) digits i 0 within) ∙ h
+value_step radix digits i n all next within h is =
+    ap (λ m. digits_value_after radix m (drop (i + 1) digits)) is ∙ sym (at_drop_more (digits_value_after radix n) digits i 0 within) ∙ h
 
 grows : (radix n : ℕ) (digits : List ℕ) → 1 ≤ radix → n ≤ digits_value_after radix n digits
 grows radix n [] h = omega arith
 grows radix n (digit ∷ digits) h =
     let more : n * 1 ≤ n * radix = mul-le-mul_left n h in
-    let later : n * radix + digit_value digit ≤ digits_value_after radix (n * radix + digit_value digit) digits = grows radix (n * radix + digit_value digit) digits h in
+    let later : n * radix + digit_value digit
+    ≤ digits_value_after radix (n * radix + digit_value digit) digits = grows radix (n * radix + digit_value digit) digits h in
     le_trans (omega (arith, more)) later
 
 pub held_not : (n : ℕ) → 2 ^ 64 ≤ n → in_64_bits n ≡ None

@@ -11,7 +11,8 @@ use Rattle.icn_text.specs.IntegerArithmetic.{fits, fitting, within_64_bits}
 -- an integer of 64 bits passes the test
 pub fits_so : (n : ℤ) → FitsSigned w64 n → fits n ≡ true
 fits_so (pos n) h = let below : n < 2 ^ 63 = h.sfits in let small : n ≤ 9223372036854775807 = omega arith in le-leb n 9223372036854775807 small
-fits_so (negsuc n) h = let below : n < 2 ^ 63 = h.sfits in let small : n ≤ 9223372036854775807 = omega arith in ap (λ b. b && true) (le-leb n 9223372036854775807 small)
+fits_so (negsuc n) h =
+    let below : n < 2 ^ 63 = h.sfits in let small : n ≤ 9223372036854775807 = omega arith in ap (λ b. b && true) (le-leb n 9223372036854775807 small)
 
 small_fits : (n : ℕ) → n ≤ 9223372036854775807 → n < 2 ^ 63
 small_fits n small = omega arith

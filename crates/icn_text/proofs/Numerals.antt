@@ -12,7 +12,8 @@ space_small : (b : ℕ) → is_space b ≡ true → b < 48
 space_small b h = grind (arith, nat_tests)
 
 value_small : (b : ℕ) → b < 48 → digit_value b ≡ 36
-value_small b h = ap (λ t. cond t 36 (cond (nat_lt b 58) (b - 48) (cond (nat_lt b 65) 36 (cond (nat_lt b 91) (b - 55) (cond (nat_lt b 97) 36 (cond (nat_lt b 123) (b - 87) 36)))))) (lt-ltb b 48 h)
+value_small b h = ap (λ t. cond t 36 (cond (nat_lt b 58) (b - 48)
+    (cond (nat_lt b 65) 36 (cond (nat_lt b 91) (b - 55) (cond (nat_lt b 97) 36 (cond (nat_lt b 123) (b - 87) 36)))))) (lt-ltb b 48 h)
 
 pub space_no_digit : (radix b : ℕ) → radix ≤ 36 → is_space b ≡ true → is_digit_of radix b ≡ false
 space_no_digit radix b most h = ap (λ v. nat_lt v radix) (value_small b (space_small b h)) ∙ le-ltb 36 radix most
@@ -59,10 +60,12 @@ run_len p (x ∷ xs) ys h s =
     let later : prefix_len p (xs ++ ys) ≡ length xs = run_len p xs ys here.1 s in
     ap (λ t. cond t (1 + prefix_len p (xs ++ ys)) 0) here.0 ∙ omega (arith, later)
 
-run_step : (p : ℕ → Bool) (x : ℕ) (xs : List ℕ) (t : Bool) → p x ≡ t → list_all p (take (prefix_len p xs) xs) ≡ true → list_all p (take (prefix_len p (x ∷ xs)) (x ∷ xs)) ≡ true
+run_step : (p : ℕ → Bool) (x : ℕ) (xs : List ℕ) (t : Bool) → p x ≡ t → list_all p (take (prefix_len p xs) xs) ≡ true
+    → list_all p (take (prefix_len p (x ∷ xs)) (x ∷ xs)) ≡ true
 run_step p x xs true is h =
     let one : 1 + prefix_len p xs ≡ suc (prefix_len p xs) = omega arith in
-    ap (λ t. list_all p (take (cond t (1 + prefix_len p xs) 0) (x ∷ xs))) is ∙ ap (λ n. list_all p (take n (x ∷ xs))) one ∙ ap (λ t. t && list_all p (take (prefix_len p xs) xs)) is ∙ h
+    ap (λ t. list_all p (take (cond t (1 + prefix_len p xs) 0) (x ∷ xs))) is ∙ ap (λ n. list_all p (take n (x ∷ xs))) one
+    ∙ ap (λ t. t && list_all p (take (prefix_len p xs) xs)) is ∙ h
 run_step p x xs false is h = ap (λ t. list_all p (take (cond t (1 + prefix_len p xs) 0) (x ∷ xs))) is
 
 pub run_all : (p : ℕ → Bool) (xs : List ℕ) → list_all p (take (prefix_len p xs) xs) ≡ true

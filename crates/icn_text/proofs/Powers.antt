@@ -36,7 +36,8 @@ square_overflows b e half h past =
 is_held : (n : ℕ) → n < 2 ^ 64 → Some n ≡ in_64_bits n
 is_held n h = sym (ap (λ b. cond b (Some n) None) (lt-ltb n (2 ^ 64) h))
 
-pub even_power : (b e half square : ℕ) → e % 2 ≡ 0 → Some half ≡ in_64_bits (b ^ (e / 2)) → square ≡ half * half → half * half < 2 ^ 64 → Some square ≡ in_64_bits (b ^ e)
+pub even_power : (b e half square : ℕ) → e % 2 ≡ 0 → Some half ≡ in_64_bits (b ^ (e / 2)) → square ≡ half * half → half * half < 2 ^ 64
+    → Some square ≡ in_64_bits (b ^ e)
 even_power b e half square even h is fits =
     let twice : e / 2 + e / 2 ≡ e = omega arith in
     let same : square ≡ b ^ e = is ∙ square_of b (e / 2) half (some_held (b ^ (e / 2)) half h).0 ∙ ap (λ n. b ^ n) twice in
@@ -46,7 +47,8 @@ by_product : (n m : ℕ) (result : Option ℕ) → n ≡ m → SomeIff result (n
 by_product n m None is h = sym (held_not m (rw (sym is) (not_below n h)))
 by_product n m (Some x) is h = ap Some h.1 ∙ is_held n h.0 ∙ ap in_64_bits is
 
-pub odd_power : (b e half square : ℕ) (result : Option ℕ) → e % 2 ≢ 0 → Some half ≡ in_64_bits (b ^ (e / 2)) → square ≡ half * half → SomeIff result (square * b < 2 ^ 64) (square * b) → result ≡ in_64_bits (b ^ e)
+pub odd_power : (b e half square : ℕ) (result : Option ℕ) → e % 2 ≢ 0 → Some half ≡ in_64_bits (b ^ (e / 2)) → square ≡ half * half
+    → SomeIff result (square * b < 2 ^ 64) (square * b) → result ≡ in_64_bits (b ^ e)
 odd_power b e half square result odd h is times =
     let k = e / 2 in
     let more : suc (k + k) ≡ e = omega arith in
@@ -73,7 +75,8 @@ whole z = Ok z
 
 power_of_minus_one : (e : ℕ) (b : Bool) → (suc e % 2 == 0) ≡ b → power (negsuc 0) (negsuc e) ≡ Ok (cond b (pos 1) (negsuc 0))
 power_of_minus_one e b is =
-    ap (λ (z : ℤ). whole z) (ap (int_pow (negsuc 0)) (add-one e) ∙ ap (λ t. cond t (pos (1 ^ suc e)) (neg_ℤ (pos (1 ^ suc e)))) is ∙ ap (λ n. cond b (pos n) (neg_ℤ (pos n))) (one_power (suc e)))
+    ap (λ (z : ℤ). whole z) (ap (int_pow (negsuc 0)) (add-one e) ∙ ap (λ t. cond t (pos (1 ^ suc e)) (neg_ℤ (pos (1 ^ suc e)))) is
+    ∙ ap (λ n. cond b (pos n) (neg_ℤ (pos n))) (one_power (suc e)))
 
 even_at : (n : ℤ) → ¬ FitsUnsignedBits 64 n → FitsSigned w64 n → cast_unsigned w64 (int_rem n (pos 2)) ≡ 0 → Ok (pos 1) ≡ power (negsuc 0) n
 even_at (pos e) below h is = absurd (below (let small : e < 2 ^ 63 = h.sfits in omega arith))

@@ -60,7 +60,8 @@ numeral n h =
     let is = decimal_is_IsNumeral n h in
     subst (WritesNumeral (decimal_text n)) is.1 (decimal (decimal_text n) (record { some = is.0.0; each = digits_pass (decimal_text n) is.0.1 }))
 
-alone : (middle : List ℕ) (is_negative : Bool) (magnitude : ℕ) (n : ℤ) → WritesSigned middle is_negative magnitude → n ≡ signed is_negative magnitude → FitsSigned w64 n → WritesInteger middle n
+alone : (middle : List ℕ) (is_negative : Bool) (magnitude : ℕ) (n : ℤ) → WritesSigned middle is_negative magnitude → n ≡ signed is_negative magnitude
+    → FitsSigned w64 n → WritesInteger middle n
 alone middle is_negative magnitude n written value fits =
     record {
       before = [];

@@ -46,7 +46,8 @@ all_declared start names last ps qs first second e f g h k =
     k ∙ ap (with_names names) g ∙ ap (λ all. with_names all qs) (h ∙ ap (with_names start) f ∙ ap (λ all. with_names all ps) e) ∙ sym (names_then [] ps qs)
 
 -- one more declaration, with what it gives
-pub part_step : {A : Type 0} (parts : Declaration → List A) (decls : List Decl) (i : ℕ) (decl : Decl) (done later : List A) → i < length decls → decl ≡ get_or decls i decl
+pub part_step : {A : Type 0} (parts : Declaration → List A) (decls : List Decl) (i : ℕ) (decl : Decl) (done later : List A) → i < length decls
+    → decl ≡ get_or decls i decl
     → later ≡ done ++ parts (declaration_of decl)
     → later ++ flat_map parts (map declaration_of (drop (i + 1) decls)) ≡ done ++ flat_map parts (map declaration_of (drop i decls))
 part_step parts decls i decl done later within is e =

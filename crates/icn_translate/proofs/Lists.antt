@@ -29,16 +29,19 @@ pub other_element : (first : Expr) (others exprs : List Expr) → exprs ≡ firs
 other_element first others exprs e h =
     sym (ap (λ (x : List Expr). is_no_element (all_of x)) e ∙ no_element_is (tree_of first) (all_of others) ∙ ap (λ is. is && is_nothing (all_of others)) h)
 
-pub one_element : (first : Expr) (others exprs : List Expr) → exprs ≡ first ∷ others → is_empty (tree_of first) ≡ true → (length others == 0) ≡ is_no_element (all_of exprs)
+pub one_element : (first : Expr) (others exprs : List Expr) → exprs ≡ first ∷ others → is_empty (tree_of first) ≡ true
+    → (length others == 0) ≡ is_no_element (all_of exprs)
 one_element first others exprs e h =
-    sym (ap (λ (x : List Expr). is_no_element (all_of x)) e ∙ no_element_is (tree_of first) (all_of others) ∙ ap (λ is. is && is_nothing (all_of others)) h ∙ none_left others)
+    sym (ap (λ (x : List Expr). is_no_element (all_of x)) e ∙ no_element_is (tree_of first) (all_of others) ∙ ap (λ is. is && is_nothing (all_of others)) h
+    ∙ none_left others)
 
 elements_by : (es : Trees) (is : Bool) → is_no_element es ≡ is → elements_of es ≡ (elim is as (λ is. Trees) [ true ↦ NoTrees | false ↦ es ])
 elements_by NoTrees true h = refl
 elements_by NoTrees false h = refl
 elements_by (More t ts) is h = more t ts is h
   where
-    more : (t : Tree) (ts : Trees) (is : Bool) → is_no_element (More t ts) ≡ is → elements_of (More t ts) ≡ (elim is as (λ is. Trees) [ true ↦ NoTrees | false ↦ More t ts ])
+    more : (t : Tree) (ts : Trees) (is : Bool) → is_no_element (More t ts) ≡ is
+        → elements_of (More t ts) ≡ (elim is as (λ is. Trees) [ true ↦ NoTrees | false ↦ More t ts ])
     more Empty NoTrees true h = refl
     more Empty NoTrees false h = cc
     more Empty (More t ts) true h = cc
@@ -52,7 +55,8 @@ no_count es h = sym (ap count_of (elements_by es true h))
 pub all_counted : (exprs : List Expr) → is_no_element (all_of exprs) ≡ false → length exprs ≡ elements (all_of exprs)
 all_counted exprs h = sym (count exprs) ∙ sym (ap count_of (elements_by (all_of exprs) false h))
 
-arguments_by : (o : Open) (es : Trees) (d : Draft) (is : Bool) → is_no_element es ≡ is → arguments o es d ≡ (elim is as (λ is. Draft) [ true ↦ d | false ↦ operands o es d ])
+arguments_by : (o : Open) (es : Trees) (d : Draft) (is : Bool) → is_no_element es ≡ is
+    → arguments o es d ≡ (elim is as (λ is. Draft) [ true ↦ d | false ↦ operands o es d ])
 arguments_by o NoTrees d true h = refl
 arguments_by o NoTrees d false h = refl
 arguments_by o (More e es) d is h = ap (λ is. elim is as (λ is. Draft) [ true ↦ d | false ↦ operands o es (translate o e d) ]) h
@@ -63,7 +67,8 @@ no_arguments o es d h = sym (arguments_by o es d true h)
 pub all_arguments : (o : Open) (es : Trees) (d : Draft) → is_no_element es ≡ false → operands o es d ≡ arguments o es d
 all_arguments o es d h = sym (arguments_by o es d false h)
 
-creations_by : (es : Trees) (d : Draft) (is : Bool) → is_no_element es ≡ is → creations es d ≡ (elim is as (λ is. Draft) [ true ↦ d | false ↦ other_creations es d ])
+creations_by : (es : Trees) (d : Draft) (is : Bool) → is_no_element es ≡ is
+    → creations es d ≡ (elim is as (λ is. Draft) [ true ↦ d | false ↦ other_creations es d ])
 creations_by NoTrees d true h = refl
 creations_by NoTrees d false h = refl
 creations_by (More e es) d is h = ap (λ is. elim is as (λ is. Draft) [ true ↦ d | false ↦ other_creations es (create_code (translate Outermost e) d) ]) h
@@ -82,9 +87,11 @@ last_at exprs i h = none_left (drop (i + 1) exprs) ∙ same_zero _ (length exprs
 
 -- one more expression of a compound
 pub compound_step : (o : Open) (exprs : List Expr) (i : ℕ) (first : Expr) (d later : Draft) → i < length exprs → first ≡ get_or exprs i first
-    → later ≡ either_step (i + 1 == length exprs) (translate o (tree_of first)) (unless_empty (tree_of first) (bounded_code (translate (Marked o) (tree_of first)))) d
+    → later
+    ≡ either_step (i + 1 == length exprs) (translate o (tree_of first)) (unless_empty (tree_of first) (bounded_code (translate (Marked o) (tree_of first)))) d
     → compound o (all_of (drop (i + 1) exprs)) later ≡ compound o (all_of (drop i exprs)) d
 compound_step o exprs i first d later below is g =
-    ap (compound o (all_of (drop (i + 1) exprs))) (g ∙ ap (λ is. either_step is (translate o (tree_of first)) (unless_empty (tree_of first) (bounded_code (translate (Marked o) (tree_of first)))) d) (sym (last_at exprs i below)))
+    ap (compound o (all_of (drop (i + 1) exprs))) (g ∙ ap (λ is. either_step is (translate o (tree_of first))
+    (unless_empty (tree_of first) (bounded_code (translate (Marked o) (tree_of first)))) d) (sym (last_at exprs i below)))
     ∙ ap (λ (e : Expr). compound o (all_of (e ∷ drop (i + 1) exprs)) d) is
     ∙ sym (at_drop_more (λ xs. compound o (all_of xs) d) exprs i first below)

@@ -20,15 +20,19 @@ seen_behind : (keys : List (Bor (List ℕ))) (key : Bor (List ℕ)) → seen (ke
 seen_behind [] key = refl
 seen_behind (other ∷ keys) key = ap (λ texts. other.now ∷ texts) (seen_behind keys key)
 
-seen_by : (test : Bool) (keys : List (Bor (List ℕ))) (key : Bor (List ℕ)) → seen (if test then keys else keys ++ key ∷ []) ≡ (if test then seen keys else seen keys ++ key.now ∷ [])
+seen_by : (test : Bool) (keys : List (Bor (List ℕ))) (key : Bor (List ℕ)) → seen (if test then keys else keys ++ key ∷ []) ≡ (if test then seen keys
+    else seen keys ++ key.now ∷ [])
 seen_by true keys key = refl
 seen_by false keys key = seen_behind keys key
 
 -- a name that is entered stands once
-pub entered : (keys new : List (Bor (List ℕ))) (key : Bor (List ℕ)) → new ≡ insert_key (λ a b. bytes_eq a.now b.now) keys key → seen new ≡ with_name (seen keys) key.now
+pub entered : (keys new : List (Bor (List ℕ))) (key : Bor (List ℕ)) → new ≡ insert_key (λ a b. bytes_eq a.now b.now) keys key
+    → seen new ≡ with_name (seen keys) key.now
 entered keys new key e =
-    ap seen e ∙ (seen_by (list_any (λ other. bytes_eq key.now other.now) keys) keys key ∙ ap (λ test. if test then seen keys else seen keys ++ key.now ∷ []) (any_seen key.now keys))
+    ap seen e ∙ (seen_by (list_any (λ other. bytes_eq key.now other.now) keys) keys key
+    ∙ ap (λ test. if test then seen keys else seen keys ++ key.now ∷ []) (any_seen key.now keys))
 
 -- its place
-pub placed : (keys : List (Bor (List ℕ))) (key : Bor (List ℕ)) (n place : ℕ) → n ≡ position_or_len (λ other. bytes_eq key.now other.now) keys → place ≡ n → place ≡ name_place (seen keys) key.now
+pub placed : (keys : List (Bor (List ℕ))) (key : Bor (List ℕ)) (n place : ℕ) → n ≡ position_or_len (λ other. bytes_eq key.now other.now) keys → place ≡ n
+    → place ≡ name_place (seen keys) key.now
 placed keys key n place e f = f ∙ (e ∙ place_seen key.now keys)

@@ -77,7 +77,8 @@ mutual
   found_more_clauses (MoreClauses clause clauses) = more_clauses_found clause clauses (found_clause clause) (found_more_clauses clauses)
 
 -- what the tokens have in front, where what stands behind does not go on with it
-pub optional_found : (tree : Tree) (here after : List Token) → Part 0 tree (Spells tree) here after → goes_on 1 (next after) ≡ false → Gives (λ self. self.read 0 here) (tree, after)
+pub optional_found : (tree : Tree) (here after : List Token) → Part 0 tree (Spells tree) here after → goes_on 1 (next after) ≡ false
+    → Gives (λ self. self.read 0 here) (tree, after)
 optional_found tree here after p e = optional_read tree (found tree) here after p (and_left (goes_on 1 (next after)) (is_present tree) e)
 
 whole : (level : ℕ) (tree : Tree) (here after : List Token) → Part level tree (Spells tree) here after → Part 0 tree (Spells tree) here after
@@ -85,4 +86,5 @@ whole level tree here after p = record { fits = omega arith; spells = p.spells; 
 
 pub one_expression : (level : ℕ) (a b : Tree) (tokens : List Token) → Part level a (Spells a) tokens [] → Part level b (Spells b) tokens [] → a ≡ b
 one_expression level a b tokens s t =
-    ap (λ (found : Tree × List Token). found.0) (gives_one (λ self. self.read 0 tokens) (a, []) (b, []) (optional_found a tokens [] (whole level a tokens [] s) refl) (optional_found b tokens [] (whole level b tokens [] t) refl))
+    ap (λ (found : Tree × List Token). found.0) (gives_one (λ self. self.read 0 tokens) (a, []) (b, [])
+    (optional_found a tokens [] (whole level a tokens [] s) refl) (optional_found b tokens [] (whole level b tokens [] t) refl))

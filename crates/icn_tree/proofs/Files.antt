@@ -52,7 +52,9 @@ one_file (first ∷ others) (declaration ∷ rest) here s t =
     let g = declaration_found declaration here t.0 t.1 (cut_no_comma (next t.0) (file_first rest t.0 t.2)) in
     let both : (first, s.0) ≡ (declaration, t.0) = gives_one (λ self. declaration_read self here) (first, s.0) (declaration, t.0) f g in
     let left : s.0 ≡ t.0 = ap (λ (r : Declaration × List Token). r.1) both in
-    ap (λ (r : Declaration × List Token). r.0 ∷ others) both ∙ ap (λ tail. declaration ∷ tail) (one_file others rest t.0 (subst (λ tokens. SpellsFile others tokens []) left s.2) t.2)
+    ap (λ (r : Declaration × List Token). r.0 ∷ others) both
+    ∙ ap (λ tail. declaration ∷ tail) (one_file others rest t.0 (subst (λ tokens. SpellsFile others tokens []) left s.2) t.2)
 
 pub one_declaration : (a b : Declaration) (tokens : List Token) → IsDeclarationOf a tokens → IsDeclarationOf b tokens → a ≡ b
-one_declaration a b tokens s t = ap (λ (r : Declaration × List Token). r.0) (gives_one (λ self. declaration_read self tokens) (a, []) (b, []) (declaration_found a tokens [] s refl) (declaration_found b tokens [] t refl))
+one_declaration a b tokens s t = ap (λ (r : Declaration × List Token). r.0)
+    (gives_one (λ self. declaration_read self tokens) (a, []) (b, []) (declaration_found a tokens [] s refl) (declaration_found b tokens [] t refl))

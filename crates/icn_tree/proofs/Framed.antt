@@ -74,25 +74,44 @@ keyword_framed : (name : Name) → Framed 1 false (keyword name)
 keyword_framed name = record { frames = framed_at }
   where
     framed_at : (here after : List Token) → keyword name here after → Frame 1 false (keyword name) here after
-    framed_at here after (inl s) = record { taken = token_at name.place (IdentifierKind name.text) ∷ []; is = s; enough = omega arith; plain = (refl, tt); again = λ other e. inl refl }
-    framed_at here after (inr s) = record { taken = token_at name.place (WordKind Words.Fail) ∷ []; is = s.1; enough = omega arith; plain = (refl, tt); again = λ other e. inr (s.0, refl) }
+    framed_at here after (inl s) =
+        record { taken = token_at name.place (IdentifierKind name.text) ∷ []; is = s; enough = omega arith; plain = (refl, tt); again = λ other e. inl refl }
+    framed_at here after (inr s) = record {
+      taken = token_at name.place (WordKind Words.Fail) ∷ [];
+      is = s.1;
+      enough = omega arith;
+      plain = (refl, tt);
+      again = λ other e. inr (s.0, refl);
+    }
 
 infix_framed : (operator : Infix) → Framed 1 false (infix_sign operator)
-infix_framed operator = record { frames = λ here after s. record { taken = token_at s.1.0 (infix_kind operator) ∷ []; is = s.1.1; enough = omega arith; plain = (plain_infix operator, tt); again = λ other e. (s.0, (s.1.0, refl)) } }
+infix_framed operator = record {
+  frames = λ here after s. record {
+    taken = token_at s.1.0 (infix_kind operator) ∷ [];
+    is = s.1.1;
+    enough = omega arith;
+    plain = (plain_infix operator, tt);
+    again = λ other e. (s.0, (s.1.0, refl));
+  };
+}
 
 abbrev first_or : Token → List Token → Token
 first_or token [] = token
 first_or token (first ∷ tokens) = first
 
-prefix_at : (place : Place) (operator : Operator) (operand : Tree) → (here middle after : List Token) (characters : Operator) (others : Option Operator) (rest : List Token) → prefix_of characters ≡ Some (operator, others)
-    → here ≡ token_at place (OperatorKind characters) ∷ rest → middle ≡ before place others rest → Part 12 operand (Spells operand) middle after → (taken : List Token) → middle ≡ taken ++ after → 1 ≤ length taken → Plain taken
-    → ((other : List Token) → Alike other after → Part 12 operand (Spells operand) (taken ++ other) other) → Frame 1 false (IsPrefix place operator ⨾ Part 12 operand (Spells operand)) here after
+prefix_at : (place : Place) (operator : Operator) (operand : Tree)
+    → (here middle after : List Token) (characters : Operator) (others : Option Operator) (rest : List Token) → prefix_of characters ≡ Some (operator, others)
+    → here ≡ token_at place (OperatorKind characters) ∷ rest → middle ≡ before place others rest → Part 12 operand (Spells operand) middle after
+    → (taken : List Token) → middle ≡ taken ++ after → 1 ≤ length taken → Plain taken
+    → ((other : List Token) → Alike other after → Part 12 operand (Spells operand) (taken ++ other) other)
+    → Frame 1 false (IsPrefix place operator ⨾ Part 12 operand (Spells operand)) here after
 prefix_at place operator operand here middle after characters None rest f e m p taken is enough plain again = record {
   taken = token_at place (OperatorKind characters) ∷ taken;
   is = e ∙ ap (λ tokens. token_at place (OperatorKind characters) ∷ tokens) (sym m ∙ is);
   enough = omega arith;
   plain = (refl, plain);
-  again = λ other a. (taken ++ other, record { characters = characters; others = None; behind = taken ++ other; first = f; is_here = refl; is_after = refl }, again other a);
+  again = λ other a.
+      (taken ++ other, record { characters = characters; others = None; behind = taken ++ other; first = f; is_here = refl; is_after = refl }, again other a);
 }
 prefix_at place operator operand here middle after characters (Some other_operator) rest f e m p [] is enough plain again = absurd (omega arith)
 prefix_at place operator operand here middle after characters (Some other_operator) rest f e m p (token ∷ taken) is enough plain again = record {
@@ -100,15 +119,28 @@ prefix_at place operator operand here middle after characters (Some other_operat
   is = e ∙ ap (λ tokens. token_at place (OperatorKind characters) ∷ tokens) (ap behind (sym m ∙ is));
   enough = omega arith;
   plain = (refl, plain.1);
-  again = λ other a. (token ∷ (taken ++ other), record { characters = characters; others = Some other_operator; behind = taken ++ other; first = f; is_here = refl; is_after = ap (λ t. t ∷ (taken ++ other)) (ap (first_or token) (sym is ∙ m)) }, again other a);
+  again = λ other a. (
+    token ∷ (taken ++ other),
+    record {
+      characters = characters;
+      others = Some other_operator;
+      behind = taken ++ other;
+      first = f;
+      is_here = refl;
+      is_after = ap (λ t. t ∷ (taken ++ other)) (ap (first_or token) (sym is ∙ m));
+    },
+    again other a,
+  );
 }
 
-prefix_framed : (place : Place) (operator : Operator) (operand : Tree) → FramedTree operand → Framed 1 false (IsPrefix place operator ⨾ Part 12 operand (Spells operand))
+prefix_framed : (place : Place) (operator : Operator) (operand : Tree) → FramedTree operand
+    → Framed 1 false (IsPrefix place operator ⨾ Part 12 operand (Spells operand))
 prefix_framed place operator operand f = record {
   frames = λ here after s.
       let i = s.1 in
       let a = (part_framed 12 operand f).frames s.0 after s.2 in
-      prefix_at place operator operand here s.0 after i.characters i.others i.behind i.first i.is_here i.is_after s.2 a.taken a.is (omega (arith, a.enough, some_tokens operand s.2.fits)) a.plain a.again;
+      prefix_at place operator operand here s.0 after i.characters i.others i.behind i.first i.is_here i.is_after s.2 a.taken a.is
+      (omega (arith, a.enough, some_tokens operand s.2.fits)) a.plain a.again;
 }
 
 no_phrase : {l : ℕ} {free : Bool} → Framed l free (λ here after. ⊥)
@@ -126,21 +158,32 @@ mutual
   framed (Parentheses place elements) = seq (at_mark place OpenParenthesis) (seq (framed_list ByComma elements) (by_mark CloseParenthesis))
   framed (Listing place elements) = seq (at_mark place OpenBracket) (seq (framed_list ByComma elements) (by_mark CloseBracket))
   framed (Compound place exprs) = seq (at_mark place OpenBrace) (seq (framed_list BySemicolon exprs) (by_mark CloseBrace))
-  framed (Call place callee arguments) = starts_framed place (seq_second (part 13 callee (framed callee)) (seq (by_mark OpenParenthesis) (seq (framed_list ByComma arguments) (by_mark CloseParenthesis))))
-  framed (CoCall place callee arguments) = starts_framed place (seq_second (part 13 callee (framed callee)) (seq (by_mark OpenBrace) (seq (framed_list ByComma arguments) (by_mark CloseBrace))))
-  framed (Subscript place subject subscripts) = starts_framed place (seq_second (part 13 subject (framed subject)) (seq (by_mark OpenBracket) (seq (framed_list ByComma subscripts) (by_mark CloseBracket))))
-  framed (Section place kind subject from to) = starts_framed place (seq_second (part 13 subject (framed subject)) (seq (by_mark OpenBracket) (seq (part 1 from (framed from)) (seq (by_mark (section_sign kind)) (seq (part 1 to (framed to)) (by_mark CloseBracket))))))
-  framed (Field place subject name) = starts_framed place (seq_second (part 13 subject (framed subject)) (seq (bound (sign_framed (OperatorKind Dot) refl)) (bound (identifier_framed name))))
+  framed (Call place callee arguments) = starts_framed place
+      (seq_second (part 13 callee (framed callee)) (seq (by_mark OpenParenthesis) (seq (framed_list ByComma arguments) (by_mark CloseParenthesis))))
+  framed (CoCall place callee arguments) =
+      starts_framed place (seq_second (part 13 callee (framed callee)) (seq (by_mark OpenBrace) (seq (framed_list ByComma arguments) (by_mark CloseBrace))))
+  framed (Subscript place subject subscripts) = starts_framed place
+      (seq_second (part 13 subject (framed subject)) (seq (by_mark OpenBracket) (seq (framed_list ByComma subscripts) (by_mark CloseBracket))))
+  framed (Section place kind subject from to) = starts_framed place (seq_second (part 13 subject (framed subject))
+      (seq (by_mark OpenBracket) (seq (part 1 from (framed from)) (seq (by_mark (section_sign kind)) (seq (part 1 to (framed to)) (by_mark CloseBracket))))))
+  framed (Field place subject name) =
+      starts_framed place (seq_second (part 13 subject (framed subject)) (seq (bound (sign_framed (OperatorKind Dot) refl)) (bound (identifier_framed name))))
   framed (Prefix place operator operand) = prefix_framed place operator operand (framed operand)
   framed (Not place operand) = seq (at_word place Words.Not refl) (part 12 operand (framed operand))
-  framed (Binary place operator left right) = starts_framed place (seq_second (part (left_level (infix_level operator)) left (framed left)) (seq (infix_framed operator) (part (right_level (infix_level operator)) right (framed right))))
+  framed (Binary place operator left right) = starts_framed place (seq_second (part (left_level (infix_level operator)) left (framed left))
+      (seq (infix_framed operator) (part (right_level (infix_level operator)) right (framed right))))
   framed (To place from to Absent) = starts_framed place (seq_second (part 4 from (framed from)) (seq (by_word Words.To refl) (part 5 to (framed to))))
-  framed (To place from to (Present by)) = starts_framed place (seq_second (part 4 from (framed from)) (seq (by_word Words.To refl) (seq (part 5 to (framed to)) (seq (by_word Words.By refl) (part 5 by (framed by))))))
-  framed (If place condition first Absent) = seq (at_word place Words.If refl) (seq (part 1 condition (framed condition)) (seq (by_word Words.Then refl) (part 1 first (framed first))))
-  framed (If place condition first (Present other)) = seq (at_word place Words.If refl) (seq (part 1 condition (framed condition)) (seq (by_word Words.Then refl) (seq (part 1 first (framed first)) (seq (by_word Words.Else refl) (part 1 other (framed other))))))
-  framed (Case place subject clauses) = seq (at_word place Words.Case refl) (seq (part 1 subject (framed subject)) (seq (by_word Words.Of refl) (seq (by_mark OpenBrace) (seq (framed_clauses clauses) (by_mark CloseBrace)))))
+  framed (To place from to (Present by)) = starts_framed place
+      (seq_second (part 4 from (framed from)) (seq (by_word Words.To refl) (seq (part 5 to (framed to)) (seq (by_word Words.By refl) (part 5 by (framed by))))))
+  framed (If place condition first Absent) =
+      seq (at_word place Words.If refl) (seq (part 1 condition (framed condition)) (seq (by_word Words.Then refl) (part 1 first (framed first))))
+  framed (If place condition first (Present other)) = seq (at_word place Words.If refl) (seq (part 1 condition (framed condition))
+      (seq (by_word Words.Then refl) (seq (part 1 first (framed first)) (seq (by_word Words.Else refl) (part 1 other (framed other))))))
+  framed (Case place subject clauses) = seq (at_word place Words.Case refl)
+      (seq (part 1 subject (framed subject)) (seq (by_word Words.Of refl) (seq (by_mark OpenBrace) (seq (framed_clauses clauses) (by_mark CloseBrace)))))
   framed (Loop place kind control Absent) = seq (at_word place (loop_word kind) (plain_loop kind)) (part 1 control (framed control))
-  framed (Loop place kind control (Present body)) = seq (at_word place (loop_word kind) (plain_loop kind)) (seq (part 1 control (framed control)) (seq (by_word Words.Do refl) (part 1 body (framed body))))
+  framed (Loop place kind control (Present body)) =
+      seq (at_word place (loop_word kind) (plain_loop kind)) (seq (part 1 control (framed control)) (seq (by_word Words.Do refl) (part 1 body (framed body))))
   framed (Repeat place body) = seq (at_word place Words.Repeat refl) (part 1 body (framed body))
   framed (Create place body) = seq (at_word place Words.Create refl) (part 1 body (framed body))
   framed (Next place) = at_word place Words.Next refl
@@ -148,7 +191,8 @@ mutual
   framed (Break place value) = seq (at_word place Words.Break refl) (part 0 value (framed value))
   framed (Return place value) = seq (at_word place Words.Return refl) (part 0 value (framed value))
   framed (Suspend place value Absent) = seq (at_word place Words.Suspend refl) (part 0 value (framed value))
-  framed (Suspend place value (Present body)) = seq (at_word place Words.Suspend refl) (seq (part 0 value (framed value)) (seq (by_word Words.Do refl) (part 1 body (framed body))))
+  framed (Suspend place value (Present body)) =
+      seq (at_word place Words.Suspend refl) (seq (part 0 value (framed value)) (seq (by_word Words.Do refl) (part 1 body (framed body))))
 
   pub framed_list : (by : Separator) (trees : Trees) → Framed 0 false (SpellsList by trees)
   framed_list by NoTrees = no_phrase
@@ -204,11 +248,13 @@ plain_local Static = refl
 
 locals_framed : (locals : List Locals) → Framed 0 true (SpellsLocals locals)
 locals_framed [] = nothing_framed
-locals_framed (first ∷ others) = less 0 (omega arith) (free_seq (sign_at_framed first.place (WordKind (local_word first.kind)) (plain_local first.kind)) (free_seq (names_framed first.names) (free_seq (free_mark Semicolon) (locals_framed others))))
+locals_framed (first ∷ others) = less 0 (omega arith) (free_seq (sign_at_framed first.place (WordKind (local_word first.kind)) (plain_local first.kind))
+    (free_seq (names_framed first.names) (free_seq (free_mark Semicolon) (locals_framed others))))
 
 initial_framed : (initial : Initial) → Framed 0 true (SpellsInitial initial)
 initial_framed NoInitial = nothing_framed
-initial_framed (Initially place value) = less 0 (omega arith) (free_seq (sign_at_framed place (WordKind Words.Initial) refl) (seq_end (part 1 value (framed value)) (free_mark Semicolon)))
+initial_framed (Initially place value) =
+    less 0 (omega arith) (free_seq (sign_at_framed place (WordKind Words.Initial) refl) (seq_end (part 1 value (framed value)) (free_mark Semicolon)))
 
 body_framed : (trees : Trees) → Framed 0 true (SpellsBody trees)
 body_framed NoTrees = nothing_framed
@@ -222,7 +268,8 @@ pub record DeclarationFrame (p : Phrase) (here after : List Token) : Type 0 wher
   pub plain : Plain taken
   pub again : (other : List Token) → p (first ∷ (taken ++ other)) other
 
-declared : {l : ℕ} (place : Place) (reserved : Word) {rest : Phrase} → Framed l true rest → (here after : List Token) → (word_at place reserved ⨾ rest) here after → DeclarationFrame (word_at place reserved ⨾ rest) here after
+declared : {l : ℕ} (place : Place) (reserved : Word) {rest : Phrase} → Framed l true rest → (here after : List Token)
+    → (word_at place reserved ⨾ rest) here after → DeclarationFrame (word_at place reserved ⨾ rest) here after
 declared place reserved f here after s =
     let a = f.frames s.0 after s.2 in
     record {
@@ -233,10 +280,13 @@ declared place reserved f here after s =
       again = λ other. (a.taken ++ other, refl, a.again other tt);
     }
 
-pub declaration_framed : (declaration : Declaration) (here after : List Token) → SpellsDeclaration declaration here after → DeclarationFrame (SpellsDeclaration declaration) here after
+pub declaration_framed : (declaration : Declaration) (here after : List Token) → SpellsDeclaration declaration here after
+    → DeclarationFrame (SpellsDeclaration declaration) here after
 declaration_framed (Global place names) = declared place Words.Global (names_framed names)
 declaration_framed (Link place items) = declared place Words.Link (some_framed SpellsItem item_framed items)
 declaration_framed (Invocable place items) = declared place Words.Invocable (some_framed SpellsItem item_framed items)
-declaration_framed (Record place name fields) = declared place Words.Record (free_seq (identifier_framed name) (free_seq (free_mark OpenParenthesis) (free_seq (maybe_names_framed fields) (free_mark CloseParenthesis))))
-declaration_framed (ProcedureOf p) = declared p.place Words.Procedure (free_seq (identifier_framed p.name) (free_seq (free_mark OpenParenthesis) (free_seq (parameters_framed p.parameters p.is_variadic) (free_seq (free_mark CloseParenthesis) (free_seq (free_mark Semicolon)
+declaration_framed (Record place name fields) = declared place Words.Record
+    (free_seq (identifier_framed name) (free_seq (free_mark OpenParenthesis) (free_seq (maybe_names_framed fields) (free_mark CloseParenthesis))))
+declaration_framed (ProcedureOf p) = declared p.place Words.Procedure (free_seq (identifier_framed p.name) (free_seq (free_mark OpenParenthesis)
+    (free_seq (parameters_framed p.parameters p.is_variadic) (free_seq (free_mark CloseParenthesis) (free_seq (free_mark Semicolon)
     (free_seq (locals_framed p.locals) (free_seq (initial_framed p.initial) (free_seq (body_framed p.body) (sign_framed (WordKind Words.End) refl)))))))))

@@ -51,20 +51,33 @@ nonempty_alike [] other after h = absurd (omega arith)
 nonempty_alike (token ∷ taken) other after h = record { kind = refl; place = refl }
 
 pub less : {least free : _} {p : Phrase} (l : ℕ) → l ≤ least → Framed least free p → Framed l free p
-less l h f = record { frames = λ here after s. let g = f.frames here after s in record { taken = g.taken; is = g.is; enough = omega (arith, h, g.enough); plain = g.plain; again = g.again } }
+less l h f = record {
+  frames = λ here after s. let g = f.frames here after s in
+      record { taken = g.taken; is = g.is; enough = omega (arith, h, g.enough); plain = g.plain; again = g.again };
+}
 
 pub bound : {least : ℕ} {p : Phrase} → Framed least true p → Framed least false p
-bound f = record { frames = λ here after s. let g = f.frames here after s in record { taken = g.taken; is = g.is; enough = g.enough; plain = g.plain; again = λ other a. g.again other tt } }
+bound f = record {
+  frames = λ here after s. let g = f.frames here after s in
+      record { taken = g.taken; is = g.is; enough = g.enough; plain = g.plain; again = λ other a. g.again other tt };
+}
 
 -- one phrase and then another
-joined : (p q : Phrase) (l k m : ℕ) (f g h : Bool) (here between after : List Token) → (a : Frame l f p here between) → (b : Frame k g q between after) → m ≤ l + k
-    → ((other : List Token) → May h other after → May f (b.taken ++ other) (b.taken ++ after)) → ((other : List Token) → May h other after → May g other after) → Frame m h (p ⨾ q) here after
+joined : (p q : Phrase) (l k m : ℕ) (f g h : Bool) (here between after : List Token) → (a : Frame l f p here between) → (b : Frame k g q between after)
+    → m ≤ l + k
+    → ((other : List Token) → May h other after → May f (b.taken ++ other) (b.taken ++ after)) → ((other : List Token) → May h other after → May g other after)
+    → Frame m h (p ⨾ q) here after
 joined p q l k m f g h here between after a b le first second = record {
   taken = a.taken ++ b.taken;
   is = a.is ∙ ap (λ tokens. a.taken ++ tokens) b.is ∙ sym (append_assoc a.taken b.taken after);
   enough = omega (arith, le, a.enough, b.enough, length-append a.taken b.taken);
   plain = plain_both a.taken b.taken a.plain b.plain;
-  again = λ other e. (b.taken ++ other, subst (λ tokens. p tokens (b.taken ++ other)) (sym (append_assoc a.taken b.taken other)) (a.again (b.taken ++ other) (subst (λ tokens. May f (b.taken ++ other) tokens) (sym b.is) (first other e))), b.again other (second other e));
+  again = λ other e. (
+    b.taken ++ other,
+    subst (λ tokens. p tokens (b.taken ++ other)) (sym (append_assoc a.taken b.taken other))
+        (a.again (b.taken ++ other) (subst (λ tokens. May f (b.taken ++ other) tokens) (sym b.is) (first other e))),
+    b.again other (second other e),
+  );
 }
 
 pub seq : {l k : ℕ} {p q : Phrase} → Framed l false p → Framed k false q → Framed l false (p ⨾ q)
@@ -96,23 +109,38 @@ pub nothing_framed : Framed 0 true nothing
 nothing_framed = record { frames = λ here after s. record { taken = []; is = s; enough = omega arith; plain = tt; again = λ other e. refl } }
 
 pub sign_at_framed : (place : Place) (kind : Kind) → kind_declares kind ≡ false → Framed 1 true (sign_at place kind)
-sign_at_framed place kind e = record { frames = λ here after s. record { taken = token_at place kind ∷ []; is = s; enough = omega arith; plain = (e, tt); again = λ other e. refl } }
+sign_at_framed place kind e =
+    record { frames = λ here after s. record { taken = token_at place kind ∷ []; is = s; enough = omega arith; plain = (e, tt); again = λ other e. refl } }
 
 pub sign_framed : (kind : Kind) → kind_declares kind ≡ false → Framed 1 true (sign kind)
-sign_framed kind e = record { frames = λ here after s. record { taken = token_at s.0 kind ∷ []; is = s.1; enough = omega arith; plain = (e, tt); again = λ other e. (s.0, refl) } }
+sign_framed kind e = record {
+  frames = λ here after s. record { taken = token_at s.0 kind ∷ []; is = s.1; enough = omega arith; plain = (e, tt); again = λ other e. (s.0, refl) };
+}
 
 pub starts_framed : {l : ℕ} {p : Phrase} (place : Place) → Framed l false p → Framed l false (starts_at place p)
 starts_framed place f = record {
   frames = λ here after s.
       let a = f.frames here after s.1 in
-      record { taken = a.taken; is = a.is; enough = a.enough; plain = a.plain; again = λ other e. ((alike_behind a.taken other after e).place ∙ ap place_of (sym a.is) ∙ s.0, a.again other e) };
+      record {
+        taken = a.taken;
+        is = a.is;
+        enough = a.enough;
+        plain = a.plain;
+        again = λ other e. ((alike_behind a.taken other after e).place ∙ ap place_of (sym a.is) ∙ s.0, a.again other e);
+      };
 }
 
 pub part_framed : {l : ℕ} (level : ℕ) (tree : Tree) → Framed l false (Spells tree) → Framed l false (Part level tree (Spells tree))
 part_framed level tree f = record {
   frames = λ here after s.
       let a = f.frames here after s.spells in
-      record { taken = a.taken; is = a.is; enough = a.enough; plain = a.plain; again = λ other e. record { fits = s.fits; spells = a.again other e; longest = ap (wants tree) e.kind ∙ s.longest } };
+      record {
+        taken = a.taken;
+        is = a.is;
+        enough = a.enough;
+        plain = a.plain;
+        again = λ other e. record { fits = s.fits; spells = a.again other e; longest = ap (wants tree) e.kind ∙ s.longest };
+      };
 }
 
 pub seq_second : {l k : ℕ} {p q : Phrase} → Framed l false p → Framed k false q → Framed k false (p ⨾ q)

@@ -13,7 +13,8 @@ use Rattle.icn_tree.specs.Tokens.{longer, longest, front_token}
 abbrev Sense : Type 0
 Sense = List ℕ → Option (Result Kind Rule)
 
-longer_some : (found : Option (Result Kind Rule)) (x : Result Kind Rule) (count : ℕ) (shorter : Option (Result Kind Rule × ℕ)) → found ≡ Some x → longer found count shorter ≡ Some (x, count)
+longer_some : (found : Option (Result Kind Rule)) (x : Result Kind Rule) (count : ℕ) (shorter : Option (Result Kind Rule × ℕ)) → found ≡ Some x
+    → longer found count shorter ≡ Some (x, count)
 longer_some found x count shorter e = rw e refl
 
 longer_none : (found : Option (Result Kind Rule)) (count : ℕ) (shorter : Option (Result Kind Rule × ℕ)) → found ≡ None → longer found count shorter ≡ shorter
@@ -39,24 +40,30 @@ longest_is sense (suc n) count bytes x p h is none =
 pub longest_none : (sense : Sense) (n : ℕ) (bytes : List ℕ) → ((m : ℕ) → 0 < m → m ≤ n → sense (take m bytes) ≡ None) → longest sense n bytes ≡ None
 longest_none sense zero bytes none = refl
 longest_none sense (suc n) bytes none =
-    longer_none (sense (take (suc n) bytes)) (suc n) (longest sense n bytes) (none (suc n) (omega arith) (omega arith)) ∙ longest_none sense n bytes (λ m g k. none m g (omega arith))
+    longer_none (sense (take (suc n) bytes)) (suc n) (longest sense n bytes) (none (suc n) (omega arith) (omega arith))
+    ∙ longest_none sense n bytes (λ m g k. none m g (omega arith))
 
 -- two senses of the same fronts
-pub longest_same : (f g : Sense) (n : ℕ) (bytes : List ℕ) → ((m : ℕ) → 0 < m → m ≤ n → f (take m bytes) ≡ g (take m bytes)) → longest f n bytes ≡ longest g n bytes
+pub longest_same : (f g : Sense) (n : ℕ) (bytes : List ℕ) → ((m : ℕ) → 0 < m → m ≤ n → f (take m bytes) ≡ g (take m bytes))
+    → longest f n bytes ≡ longest g n bytes
 longest_same f g zero bytes same = refl
 longest_same f g (suc n) bytes same =
     ap (λ found. longer found (suc n) (longest f n bytes)) (same (suc n) (omega arith) (omega arith))
     ∙ ap (longer (g (take (suc n) bytes)) (suc n)) (longest_same f g n bytes (λ m p h. same m p (omega arith)))
 
-within_step : (found : Option (Result Kind Rule)) (n : ℕ) (shorter : Option (Result Kind Rule × ℕ)) (x : Result Kind Rule) (count : ℕ) → longer found (suc n) shorter ≡ Some (x, count)
+within_step : (found : Option (Result Kind Rule)) (n : ℕ) (shorter : Option (Result Kind Rule × ℕ)) (x : Result Kind Rule) (count : ℕ)
+    → longer found (suc n) shorter ≡ Some (x, count)
     → (shorter ≡ Some (x, count) → (0 < count) × (count ≤ n)) → (0 < count) × (count ≤ suc n)
-within_step (Some k) n shorter x count e below = let same : suc n ≡ count = ap (λ (p : Result Kind Rule × ℕ). p.1) (same_Some (k, suc n) (x, count) e) in (omega arith, omega arith)
+within_step (Some k) n shorter x count e below =
+    let same : suc n ≡ count = ap (λ (p : Result Kind Rule × ℕ). p.1) (same_Some (k, suc n) (x, count) e) in (omega arith, omega arith)
 within_step None n shorter x count e below = (omega (arith, (below e).0), omega (arith, (below e).1))
 
 -- the longest is one of the fronts
-pub longest_within : (sense : Sense) (n : ℕ) (bytes : List ℕ) (x : Result Kind Rule) (count : ℕ) → longest sense n bytes ≡ Some (x, count) → (0 < count) × (count ≤ n)
+pub longest_within : (sense : Sense) (n : ℕ) (bytes : List ℕ) (x : Result Kind Rule) (count : ℕ) → longest sense n bytes ≡ Some (x, count)
+    → (0 < count) × (count ≤ n)
 longest_within sense zero bytes x count e = absurd (none-some _ e)
-longest_within sense (suc n) bytes x count e = within_step (sense (take (suc n) bytes)) n (longest sense n bytes) x count e (longest_within sense n bytes x count)
+longest_within sense (suc n) bytes x count e =
+    within_step (sense (take (suc n) bytes)) n (longest sense n bytes) x count e (longest_within sense n bytes x count)
 
 count_of : Result (Kind × ℕ) Rule → ℕ
 count_of (Ok found) = found.1
@@ -66,7 +73,8 @@ same_count : (k kind : Kind) (m count : ℕ) → ◌≡◌ {A = Result (Kind × 
 unfolding count_of
 same_count k kind m count e = ap count_of e
 
-judged_within : (sense : Sense) (n : ℕ) (bytes : List ℕ) (kind : Kind) (count : ℕ) (found : Option (Result Kind Rule × ℕ)) → longest sense n bytes ≡ found → front_token found ≡ Ok (kind, count)
+judged_within : (sense : Sense) (n : ℕ) (bytes : List ℕ) (kind : Kind) (count : ℕ) (found : Option (Result Kind Rule × ℕ)) → longest sense n bytes ≡ found
+    → front_token found ≡ Ok (kind, count)
     → (0 < count) × (count ≤ n)
 judged_within sense n bytes kind count None is e = absurd (cc)
 judged_within sense n bytes kind count (Some (Ok k, m)) is e =
@@ -75,12 +83,14 @@ judged_within sense n bytes kind count (Some (Ok k, m)) is e =
     (omega (arith, within.0, same), omega (arith, within.1, same))
 judged_within sense n bytes kind count (Some (Err rule, m)) is e = absurd (cc)
 
-pub first_within : (sense : Sense) (n : ℕ) (bytes : List ℕ) (kind : Kind) (count : ℕ) → front_token (longest sense n bytes) ≡ Ok (kind, count) → (0 < count) × (count ≤ n)
+pub first_within : (sense : Sense) (n : ℕ) (bytes : List ℕ) (kind : Kind) (count : ℕ) → front_token (longest sense n bytes) ≡ Ok (kind, count)
+    → (0 < count) × (count ≤ n)
 first_within sense n bytes kind count e = judged_within sense n bytes kind count (longest sense n bytes) refl e
 
 -- Runs of bytes
 
-front_step : (p : ℕ → Bool) (x : ℕ) (xs : List ℕ) (k : ℕ) (passes : Bool) → p x ≡ passes → suc k ≤ cond passes (1 + prefix_len p xs) 0 → (k ≤ prefix_len p xs → list_all p (take k xs) ≡ true)
+front_step : (p : ℕ → Bool) (x : ℕ) (xs : List ℕ) (k : ℕ) (passes : Bool) → p x ≡ passes → suc k ≤ cond passes (1 + prefix_len p xs) 0
+    → (k ≤ prefix_len p xs → list_all p (take k xs) ≡ true)
     → (p x && list_all p (take k xs)) ≡ true
 front_step p x xs k true e h rest = rw (e, rest (omega arith)) refl
 front_step p x xs k false e h rest = absurd (omega arith)
@@ -98,7 +108,8 @@ front_fails p xs k l h =
     let fails : p (get_or (take k xs) n 0) ≡ false = rw get_or-take (prefix_len_stops p xs 0 (omega arith)) in
     list_all_at p (take k xs) n 0 (omega (arith, length-take-le k xs h)) fails
 
-run_step : (p : ℕ → Bool) (x : ℕ) (xs ys : List ℕ) (passes : Bool) → p x ≡ passes → (passes ≡ true → prefix_len p ys ≡ prefix_len p xs) → cond passes (1 + prefix_len p ys) 0 ≡ cond passes (1 + prefix_len p xs) 0
+run_step : (p : ℕ → Bool) (x : ℕ) (xs ys : List ℕ) (passes : Bool) → p x ≡ passes → (passes ≡ true → prefix_len p ys ≡ prefix_len p xs)
+    → cond passes (1 + prefix_len p ys) 0 ≡ cond passes (1 + prefix_len p xs) 0
 run_step p x xs ys true e same = ap (λ n. 1 + n) (same refl)
 run_step p x xs ys false e same = refl
 

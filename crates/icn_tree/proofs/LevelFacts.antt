@@ -49,7 +49,8 @@ not_twelve : (low : ℕ) → groups_right low ≡ false → low ≤ 12 → low <
 not_twelve low e h = other_level low 12 e h refl
 
 pub left_edge : (low : ℕ) (tree : Tree) → groups_right low ≡ false → low ≤ level_of tree → low < edge tree
-left_edge low (Binary place operator left right) e h = past (groups_right (infix_level operator)) low (infix_level operator) (other_level low (infix_level operator) e h) h
+left_edge low (Binary place operator left right) e h =
+    past (groups_right (infix_level operator)) low (infix_level operator) (other_level low (infix_level operator) e h) h
 left_edge low (To place from to by) e h = omega arith
 left_edge low (Prefix place operator operand) e h = not_twelve low e h
 left_edge low (Not place operand) e h = not_twelve low e h

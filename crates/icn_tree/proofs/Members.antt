@@ -21,17 +21,22 @@ unfolding members_below
 members_below-one n bytes = rw add-one refl
 
 -- a member comes in, as at a step of a loop
-pub member_joins : (n : ℕ) (bytes members : List ℕ) → members ≡ members_below n bytes → list_any (λ b. b == n) bytes ≡ true → members ++ n ∷ [] ≡ members_below (n + 1) bytes
+pub member_joins : (n : ℕ) (bytes members : List ℕ) → members ≡ members_below n bytes → list_any (λ b. b == n) bytes ≡ true
+    → members ++ n ∷ [] ≡ members_below (n + 1) bytes
 member_joins n bytes members so found = ap (λ m. m ++ n ∷ []) so ∙ sym (members_below-one n bytes ∙ ap (λ b. members_below n bytes ++ cond b (n ∷ []) []) found)
 
 -- another byte does not
-pub other_stays : (n : ℕ) (bytes members : List ℕ) → members ≡ members_below n bytes → list_any (λ b. b == n) bytes ≡ false → members ≡ members_below (n + 1) bytes
-other_stays n bytes members so found = so ∙ sym (members_below-one n bytes ∙ ap (λ b. members_below n bytes ++ cond b (n ∷ []) []) found ∙ append-nil (members_below n bytes))
+pub other_stays : (n : ℕ) (bytes members : List ℕ) → members ≡ members_below n bytes → list_any (λ b. b == n) bytes ≡ false
+    → members ≡ members_below (n + 1) bytes
+other_stays n bytes members so found =
+    so ∙ sym (members_below-one n bytes ∙ ap (λ b. members_below n bytes ++ cond b (n ∷ []) []) found ∙ append-nil (members_below n bytes))
 
 marked : (present : List Bool) (byte k : ℕ) (before : Bool) (same : Bool) → (byte == k) ≡ same → byte < length present → get_or present k false ≡ before
     → get_or (set present byte true) k false ≡ (before || same)
-marked present byte k before true is within was = subst (λ q. get_or (set present byte true) q false ≡ (before || true)) (eqb-true byte k is) (get_or-set_same present byte true false within ∙ sym (or-true before))
-marked present byte k before false is within was = let other : k ≢ byte = λ e. eqb-false byte k is (sym e) in get_or-set_other present byte k true false other ∙ was ∙ sym (or-false before)
+marked present byte k before true is within was = subst (λ q. get_or (set present byte true) q false ≡ (before || true)) (eqb-true byte k is)
+    (get_or-set_same present byte true false within ∙ sym (or-true before))
+marked present byte k before false is within was =
+    let other : k ≢ byte = λ e. eqb-false byte k is (sym e) in get_or-set_other present byte k true false other ∙ was ∙ sym (or-false before)
 
 -- of each byte whether it stands in the first bytes of a list, as the next one is marked
 pub mark_more : (present : List Bool) (bytes : List ℕ) (i byte : ℕ) → byte ≡ get_or bytes i 0 → i < length bytes → Fits w8 byte → length present ≡ 256
@@ -89,7 +94,8 @@ ascend_step false n xs h = subst (AscendBelow (n + 1)) (sym (append-nil xs)) (h.
 ascend_below : (n : ℕ) (bytes : List ℕ) → AscendBelow n (members_below n bytes)
 ascend_below zero bytes = subst (AscendBelow zero) (sym (members_below-zero bytes)) (refl, refl)
 ascend_below (suc n) bytes =
-    rw (← add-one) (subst (AscendBelow (n + 1)) (sym (members_below-one n bytes)) (ascend_step (list_any (λ b. b == n) bytes) n (members_below n bytes) (ascend_below n bytes)))
+    rw (← add-one) (subst (AscendBelow (n + 1)) (sym (members_below-one n bytes))
+    (ascend_step (list_any (λ b. b == n) bytes) n (members_below n bytes) (ascend_below n bytes)))
 
 pub members_ascend : (bytes : List ℕ) → (ascends (members_of bytes) ≡ true) × (list_all is_byte (members_of bytes) ≡ true)
 members_ascend bytes = ascend_below 256 bytes

@@ -18,11 +18,13 @@ not_cut_here : (token : Token) (tokens : List Token) → is_cut (next tokens) �
 not_cut_here token tokens e = cond-false (is_cut (next tokens)) ((token ∷ []) ∷ pieces tokens) (in_front token (pieces tokens)) e
 
 -- tokens in which no declaration begins stay with the one before them
-one_piece : (token : Token) (taken after : List Token) → Plain taken → is_cut (next after) ≡ true → pieces (token ∷ (taken ++ after)) ≡ (token ∷ taken) ∷ pieces after
+one_piece : (token : Token) (taken after : List Token) → Plain taken → is_cut (next after) ≡ true
+    → pieces (token ∷ (taken ++ after)) ≡ (token ∷ taken) ∷ pieces after
 one_piece token [] after p e = cut_here token after e
 one_piece token (second ∷ taken) after p e = not_cut_here token (second ∷ (taken ++ after)) p.0 ∙ ap (in_front token) (one_piece second taken after p.1 e)
 
-declaration_alone : (declaration : Declaration) (first : Token) (taken : List Token) → SpellsDeclaration declaration (first ∷ (taken ++ [])) [] → IsDeclarationOf declaration (first ∷ taken)
+declaration_alone : (declaration : Declaration) (first : Token) (taken : List Token) → SpellsDeclaration declaration (first ∷ (taken ++ [])) []
+    → IsDeclarationOf declaration (first ∷ taken)
 declaration_alone declaration first taken s = subst (λ tokens. SpellsDeclaration declaration (first ∷ tokens) []) (append-nil taken) s
 
 each_piece : (file : List Declaration) (here : List Token) → SpellsFile file here [] → AllByRecursion SpellDeclaration (pieces here)
@@ -30,7 +32,8 @@ each_piece [] here s = subst (λ tokens. AllByRecursion SpellDeclaration (pieces
 each_piece (declaration ∷ others) here s =
     let f = declaration_framed declaration here s.0 s.1 in
     let cut : pieces here ≡ (f.first ∷ f.taken) ∷ pieces s.0 = ap pieces f.is ∙ one_piece f.first f.taken s.0 f.plain (file_first others s.0 s.2) in
-    subst (λ all. AllByRecursion SpellDeclaration all) (sym cut) ((declaration, declaration_alone declaration f.first f.taken (f.again [])), each_piece others s.0 s.2)
+    subst (λ all. AllByRecursion SpellDeclaration all) (sym cut)
+    ((declaration, declaration_alone declaration f.first f.taken (f.again [])), each_piece others s.0 s.2)
 
 abbrev joined : List (List Token) → List Token
 joined [] = []
@@ -48,7 +51,8 @@ pieces_joined : (tokens : List Token) → joined (pieces tokens) ≡ tokens
 pieces_joined [] = refl
 pieces_joined (token ∷ tokens) = cut_joined (is_cut (next tokens)) token (pieces tokens) ∙ ap (λ rest. token ∷ rest) (pieces_joined tokens)
 
-spelled_before : (declaration : Declaration) (piece after : List Token) → IsDeclarationOf declaration piece → SpellsDeclaration declaration (piece ++ after) after
+spelled_before : (declaration : Declaration) (piece after : List Token) → IsDeclarationOf declaration piece
+    → SpellsDeclaration declaration (piece ++ after) after
 spelled_before declaration piece after s =
     let f = declaration_framed declaration piece [] s in
     let is : piece ++ after ≡ f.first ∷ (f.taken ++ after) = ap (λ tokens. tokens ++ after) (f.is ∙ ap (λ tokens. f.first ∷ tokens) (append-nil f.taken)) in
@@ -61,4 +65,7 @@ all_joined (piece ∷ others) a =
     (a.0.0 ∷ rest.0, (joined others, spelled_before a.0.0 piece (joined others) a.0.1, rest.1))
 
 pub tree_by_pieces : (tokens : List Token) → HasTree tokens ↔ AllByRecursion SpellDeclaration (pieces tokens)
-tree_by_pieces tokens = (λ tree. each_piece tree.0 tokens tree.1, λ a. let whole = all_joined (pieces tokens) a in (whole.0, subst (λ t. SpellsFile whole.0 t []) (pieces_joined tokens) whole.1))
+tree_by_pieces tokens = (
+  λ tree. each_piece tree.0 tokens tree.1,
+  λ a. let whole = all_joined (pieces tokens) a in (whole.0, subst (λ t. SpellsFile whole.0 t []) (pieces_joined tokens) whole.1),
+)

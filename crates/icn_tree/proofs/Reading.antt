@@ -83,18 +83,23 @@ list_read self by tokens = self.read 0 tokens >>= λ first. self.more by first.1
 
 abbrev pub clause_by : Bool → Readers → Reads Clause
 clause_by true self tokens = self.read 1 (behind (behind tokens)) >>= λ value. Some (Default (place_of tokens) value.0, value.1)
-clause_by false self tokens = self.read 1 tokens >>= λ guard. self.read 1 (behind guard.1) >>= λ value. Some (Guarded (place_of tokens) guard.0 value.0, value.1)
+clause_by false self tokens =
+    self.read 1 tokens >>= λ guard. self.read 1 (behind guard.1) >>= λ value. Some (Guarded (place_of tokens) guard.0 value.0, value.1)
 
 abbrev pub clauses_read : Readers → Reads Clauses
-clauses_read self tokens = clause_by (is_default (next tokens)) self tokens >>= λ first. self.more_clauses first.1 >>= λ others. Some (MoreClauses first.0 others.0, others.1)
+clauses_read self tokens =
+    clause_by (is_default (next tokens)) self tokens >>= λ first. self.more_clauses first.1 >>= λ others. Some (MoreClauses first.0 others.0, others.1)
 
 abbrev pub loop_operand : Readers → Place → LoopKind → Reads Tree
-loop_operand self place kind tokens = self.read 1 tokens >>= λ control. maybe_read (is_do (next control.1)) (self.read 1) control.1 >>= λ body. Some (Loop place kind control.0 body.0, body.1)
+loop_operand self place kind tokens =
+    self.read 1 tokens >>= λ control. maybe_read (is_do (next control.1)) (self.read 1) control.1 >>= λ body. Some (Loop place kind control.0 body.0, body.1)
 
 abbrev pub word_operand : Readers → Place → Word → Reads Tree
 word_operand self place Words.Not tokens = self.read 12 tokens >>= λ operand. Some (Not place operand.0, operand.1)
-word_operand self place Words.If tokens = self.read 1 tokens >>= λ condition. self.read 1 (behind condition.1) >>= λ first. maybe_read (is_else (next first.1)) (self.read 1) first.1 >>= λ other. Some (If place condition.0 first.0 other.0, other.1)
-word_operand self place Words.Case tokens = self.read 1 tokens >>= λ subject. clauses_read self (behind (behind subject.1)) >>= λ clauses. Some (Case place subject.0 clauses.0, behind clauses.1)
+word_operand self place Words.If tokens = self.read 1 tokens >>= λ condition. self.read 1 (behind condition.1)
+    >>= λ first. maybe_read (is_else (next first.1)) (self.read 1) first.1 >>= λ other. Some (If place condition.0 first.0 other.0, other.1)
+word_operand self place Words.Case tokens =
+    self.read 1 tokens >>= λ subject. clauses_read self (behind (behind subject.1)) >>= λ clauses. Some (Case place subject.0 clauses.0, behind clauses.1)
 word_operand self place Words.While tokens = loop_operand self place Loops.While tokens
 word_operand self place Words.Until tokens = loop_operand self place Loops.Until tokens
 word_operand self place Words.Every tokens = loop_operand self place Loops.Every tokens
@@ -104,7 +109,8 @@ word_operand self place Words.Next tokens = Some (Next place, tokens)
 word_operand self place Words.Fail tokens = Some (Fail place, tokens)
 word_operand self place Words.Break tokens = self.read 0 tokens >>= λ value. Some (Break place value.0, value.1)
 word_operand self place Words.Return tokens = self.read 0 tokens >>= λ value. Some (Return place value.0, value.1)
-word_operand self place Words.Suspend tokens = self.read 0 tokens >>= λ value. maybe_read (is_do (next value.1)) (self.read 1) value.1 >>= λ body. Some (Suspend place value.0 body.0, body.1)
+word_operand self place Words.Suspend tokens =
+    self.read 0 tokens >>= λ value. maybe_read (is_do (next value.1)) (self.read 1) value.1 >>= λ body. Some (Suspend place value.0 body.0, body.1)
 word_operand self place _ tokens = None
 
 -- an operator before its operand, or a keyword
@@ -149,26 +155,33 @@ read_step self (suc level) tokens = start self (suc level) tokens
 -- what a token makes with the tree before it
 
 abbrev pub infix_extended : Readers → ℕ → Place → Tree → Infix → Reads Tree
-infix_extended self level place tree operator tokens = self.read (right_level (infix_level operator)) tokens >>= λ right. self.climb level place (Binary place operator tree right.0) right.1
+infix_extended self level place tree operator tokens =
+    self.read (right_level (infix_level operator)) tokens >>= λ right. self.climb level place (Binary place operator tree right.0) right.1
 
 abbrev pub operator_extended : Bool → Readers → ℕ → Place → Tree → Operator → Reads Tree
 operator_extended true self level place tree operator tokens = self.climb level place (Field place tree (name_here tokens)) (behind tokens)
 operator_extended false self level place tree operator tokens = infix_extended self level place tree (Plain operator) tokens
 
 abbrev pub bracket_extended : Readers → ℕ → Place → Tree → Tree × List Token → Option SectionKind → Option (Tree × List Token)
-bracket_extended self level place tree first None = self.more ByComma first.1 >>= λ others. self.climb level place (Subscript place tree (More first.0 others.0)) (behind others.1)
-bracket_extended self level place tree first (Some kind) = self.read 1 (behind first.1) >>= λ second. self.climb level place (Section place kind tree first.0 second.0) (behind second.1)
+bracket_extended self level place tree first None =
+    self.more ByComma first.1 >>= λ others. self.climb level place (Subscript place tree (More first.0 others.0)) (behind others.1)
+bracket_extended self level place tree first (Some kind) =
+    self.read 1 (behind first.1) >>= λ second. self.climb level place (Section place kind tree first.0 second.0) (behind second.1)
 
 abbrev pub mark_extended : Readers → ℕ → Place → Tree → Punctuation → Reads Tree
-mark_extended self level place tree OpenParenthesis tokens = list_read self ByComma tokens >>= λ arguments. self.climb level place (Call place tree arguments.0) (behind arguments.1)
-mark_extended self level place tree OpenBrace tokens = list_read self ByComma tokens >>= λ arguments. self.climb level place (CoCall place tree arguments.0) (behind arguments.1)
-mark_extended self level place tree OpenBracket tokens = self.read 0 tokens >>= λ first. bracket_extended self level place tree first (section_kind (next first.1))
+mark_extended self level place tree OpenParenthesis tokens =
+    list_read self ByComma tokens >>= λ arguments. self.climb level place (Call place tree arguments.0) (behind arguments.1)
+mark_extended self level place tree OpenBrace tokens =
+    list_read self ByComma tokens >>= λ arguments. self.climb level place (CoCall place tree arguments.0) (behind arguments.1)
+mark_extended self level place tree OpenBracket tokens =
+    self.read 0 tokens >>= λ first. bracket_extended self level place tree first (section_kind (next first.1))
 mark_extended self level place tree _ tokens = None
 
 abbrev pub extended : Readers → ℕ → Place → Tree → Kind → Reads Tree
 extended self level place tree (OperatorKind operator) tokens = operator_extended (is_dot operator) self level place tree operator tokens
 extended self level place tree (AugmentedKind operator) tokens = infix_extended self level place tree (Augmented operator) tokens
-extended self level place tree (WordKind word) tokens = self.read 5 tokens >>= λ to. maybe_read (is_by (next to.1)) (self.read 5) to.1 >>= λ by. self.climb level place (To place tree to.0 by.0) by.1
+extended self level place tree (WordKind word) tokens =
+    self.read 5 tokens >>= λ to. maybe_read (is_by (next to.1)) (self.read 5) to.1 >>= λ by. self.climb level place (To place tree to.0 by.0) by.1
 extended self level place tree (PunctuationKind mark) tokens = mark_extended self level place tree mark tokens
 extended self level place tree _ tokens = None
 
@@ -242,7 +255,8 @@ is_open_bracket _ = false
 
 abbrev pub locals_by : Option LocalKind → Readers → Reads (List Locals)
 locals_by None self tokens = Some ([], tokens)
-locals_by (Some kind) self tokens = self.locals (behind (some_read name_of (behind tokens)).1) >>= λ others. Some (record { place = place_of tokens; kind = kind; names = (some_read name_of (behind tokens)).0 } ∷ others.0, others.1)
+locals_by (Some kind) self tokens = self.locals (behind (some_read name_of (behind tokens)).1)
+    >>= λ others. Some (record { place = place_of tokens; kind = kind; names = (some_read name_of (behind tokens)).0 } ∷ others.0, others.1)
 
 abbrev pub body_by : Bool → Readers → Reads Trees
 body_by true self tokens = Some (NoTrees, tokens)
@@ -267,14 +281,20 @@ abbrev pub parameters_read : List Token → List Name × Bool × List Token
 parameters_read tokens = variadic_by (is_open_bracket (next (names_read tokens).1)) (names_read tokens)
 
 abbrev pub procedure_by : Readers → Place → Name → List Name × Bool × List Token → Option (Declaration × List Token)
-procedure_by self place name parameters = self.locals (behind (behind parameters.2)) >>= λ locals. initial_by (is_initial (next locals.1)) self locals.1 >>= λ initial. self.body initial.1 >>= λ body.
-    Some (ProcedureOf (record { place = place; name = name; parameters = parameters.0; is_variadic = parameters.1; locals = locals.0; initial = initial.0; body = body.0 }), behind body.1)
+procedure_by self place name parameters = self.locals (behind (behind parameters.2))
+    >>= λ locals. initial_by (is_initial (next locals.1)) self locals.1 >>= λ initial. self.body initial.1 >>= λ body.
+    Some (
+      ProcedureOf
+          (record { place = place; name = name; parameters = parameters.0; is_variadic = parameters.1; locals = locals.0; initial = initial.0; body = body.0 }),
+      behind body.1,
+    )
 
 abbrev pub declaration_by : Option Kind → Readers → Place → Reads Declaration
 declaration_by (Some (WordKind Words.Global)) self place tokens = Some (Global place (some_read name_of tokens).0, (some_read name_of tokens).1)
 declaration_by (Some (WordKind Words.Link)) self place tokens = Some (Link place (some_read item_of tokens).0, (some_read item_of tokens).1)
 declaration_by (Some (WordKind Words.Invocable)) self place tokens = Some (Invocable place (some_read item_of tokens).0, (some_read item_of tokens).1)
-declaration_by (Some (WordKind Words.Record)) self place tokens = Some (Record place (name_here tokens) (names_read (behind (behind tokens))).0, behind (names_read (behind (behind tokens))).1)
+declaration_by (Some (WordKind Words.Record)) self place tokens =
+    Some (Record place (name_here tokens) (names_read (behind (behind tokens))).0, behind (names_read (behind (behind tokens))).1)
 declaration_by (Some (WordKind Words.Procedure)) self place tokens = procedure_by self place (name_here tokens) (parameters_read (behind (behind tokens)))
 declaration_by _ self place tokens = None
 
@@ -293,5 +313,12 @@ step self = record {
 
 -- the readers that take so many steps
 unfoldable pub readers : ℕ → Readers
-readers zero = record { read = λ level tokens. None; climb = λ level place tree tokens. None; more = λ by tokens. None; more_clauses = λ tokens. None; locals = λ tokens. None; body = λ tokens. None }
+readers zero = record {
+  read = λ level tokens. None;
+  climb = λ level place tree tokens. None;
+  more = λ by tokens. None;
+  more_clauses = λ tokens. None;
+  locals = λ tokens. None;
+  body = λ tokens. None;
+}
 readers (suc n) = step (readers n)

@@ -65,7 +65,8 @@ abbrev Clean : Option (Result Kind Rule) → List ℕ → Type 0
 Clean None text = Unit {0}
 Clean (Some sense) text = is_clean text ≡ true
 
-choose_clean : (test : Bool) (x y : Option (Result Kind Rule)) (text : List ℕ) → (test ≡ true → Clean x text) → (test ≡ false → Clean y text) → Clean (cond test x y) text
+choose_clean : (test : Bool) (x y : Option (Result Kind Rule)) (text : List ℕ) → (test ≡ true → Clean x text) → (test ≡ false → Clean y text)
+    → Clean (cond test x y) text
 choose_clean true x y text h g = h refl
 choose_clean false x y text h g = g refl
 
@@ -78,10 +79,12 @@ number_by_clean digits [] h = clean_append digits [] h refl
 number_by_clean digits (c ∷ rest) h =
     choose_clean (is_radix_mark c && list_all is_alphanumeric rest) _ _ (digits ++ c ∷ rest)
     (λ e. let parts = both (is_radix_mark c) (list_all is_alphanumeric rest) e in
-    clean_append digits (c ∷ rest) h (and_true (no_blank c) (is_clean rest) (passes_no_blank is_radix_mark c refl parts.0) (all_clean is_alphanumeric rest refl parts.1)))
+    clean_append digits (c ∷ rest) h
+    (and_true (no_blank c) (is_clean rest) (passes_no_blank is_radix_mark c refl parts.0) (all_clean is_alphanumeric rest refl parts.1)))
     (λ e. choose_clean (is_real_mark c && is_nothing rest) _ None (digits ++ c ∷ rest)
     (λ e. let parts = both (is_real_mark c) (is_nothing rest) e in
-    clean_append digits (c ∷ rest) h (and_true (no_blank c) (is_clean rest) (passes_no_blank is_real_mark c refl parts.0) (nothing_clean rest parts.1))) (λ e. tt)) where
+    clean_append digits (c ∷ rest) h (and_true (no_blank c) (is_clean rest) (passes_no_blank is_real_mark c refl parts.0) (nothing_clean rest parts.1)))
+    (λ e. tt)) where
       nothing_clean : (text : List ℕ) → is_nothing text ≡ true → is_clean text ≡ true
       nothing_clean [] e = refl
       nothing_clean (b ∷ rest) e = absurd (false≢true e)
@@ -111,17 +114,23 @@ row_clean row = is_clean row.0
 marks_clean : (b : ℕ) → list_all row_clean (marks_of b) ≡ true
 unfolding marks_of
 marks_clean b =
-    choose_rows row_clean (b == 33) _ _ refl (choose_rows row_clean (b == 36) _ _ refl (choose_rows row_clean (b == 37) _ _ refl (choose_rows row_clean (b == 38) _ _ refl (choose_rows row_clean (b == 40) _ _ refl
-    (choose_rows row_clean (b == 41) _ _ refl (choose_rows row_clean (b == 42) _ _ refl (choose_rows row_clean (b == 43) _ _ refl (choose_rows row_clean (b == 44) _ _ refl (choose_rows row_clean (b == 45) _ _ refl
-    (choose_rows row_clean (b == 47) _ _ refl (choose_rows row_clean (b == 58) _ _ refl (choose_rows row_clean (b == 59) _ _ refl (choose_rows row_clean (b == 60) _ _ refl (choose_rows row_clean (b == 61) _ _ refl
-    (choose_rows row_clean (b == 62) _ _ refl (choose_rows row_clean (b == 63) _ _ refl (choose_rows row_clean (b == 64) _ _ refl (choose_rows row_clean (b == 91) _ _ refl (choose_rows row_clean (b == 92) _ _ refl
-    (choose_rows row_clean (b == 93) _ _ refl (choose_rows row_clean (b == 94) _ _ refl (choose_rows row_clean (b == 123) _ _ refl (choose_rows row_clean (b == 124) _ _ refl (choose_rows row_clean (b == 125) _ _ refl
+    choose_rows row_clean (b == 33) _ _ refl (choose_rows row_clean
+    (b == 36) _ _ refl (choose_rows row_clean (b == 37) _ _ refl (choose_rows row_clean (b == 38) _ _ refl (choose_rows row_clean (b == 40) _ _ refl
+    (choose_rows row_clean (b == 41) _ _ refl (choose_rows row_clean
+    (b == 42) _ _ refl (choose_rows row_clean (b == 43) _ _ refl (choose_rows row_clean (b == 44) _ _ refl (choose_rows row_clean (b == 45) _ _ refl
+    (choose_rows row_clean (b == 47) _ _ refl (choose_rows row_clean
+    (b == 58) _ _ refl (choose_rows row_clean (b == 59) _ _ refl (choose_rows row_clean (b == 60) _ _ refl (choose_rows row_clean (b == 61) _ _ refl
+    (choose_rows row_clean (b == 62) _ _ refl (choose_rows row_clean
+    (b == 63) _ _ refl (choose_rows row_clean (b == 64) _ _ refl (choose_rows row_clean (b == 91) _ _ refl (choose_rows row_clean (b == 92) _ _ refl
+    (choose_rows row_clean (b == 93) _ _ refl (choose_rows row_clean
+    (b == 94) _ _ refl (choose_rows row_clean (b == 123) _ _ refl (choose_rows row_clean (b == 124) _ _ refl (choose_rows row_clean (b == 125) _ _ refl
     (choose_rows row_clean (b == 126) _ _ refl refl)))))))))))))))))))))))))
 
 abbrev CleanAt : Option Kind → List ℕ → Type 0
 CleanAt found text = Clean (option_map (λ kind. Ok kind) found) text
 
-choose_row : (test : Bool) (kind : Kind) (others : Option Kind) (text : List ℕ) → (test ≡ true → is_clean text ≡ true) → CleanAt others text → CleanAt (cond test (Some kind) others) text
+choose_row : (test : Bool) (kind : Kind) (others : Option Kind) (text : List ℕ) → (test ≡ true → is_clean text ≡ true) → CleanAt others text
+    → CleanAt (cond test (Some kind) others) text
 choose_row true kind others text h g = h refl
 choose_row false kind others text h g = g
 
@@ -129,15 +138,18 @@ rows_clean : (rows : List (List ℕ × Kind)) (text : List ℕ) → list_all row
 rows_clean [] text h = tt
 rows_clean (row ∷ rows) text h =
     let parts = both (row_clean row) (list_all row_clean rows) h in
-    choose_row (bytes_eq text row.0) row.1 (lookup_text rows text) text (λ e. ap is_clean (same_text text row.0 (sym e)) ∙ parts.0) (rows_clean rows text parts.1)
+    choose_row (bytes_eq text row.0) row.1 (lookup_text rows text) text (λ e. ap is_clean (same_text text row.0 (sym e)) ∙ parts.0)
+    (rows_clean rows text parts.1)
 
 spelled_clean : (text : List ℕ) → Clean (spelled text) text
 unfolding spelled
 spelled_clean [] = tt
 spelled_clean (b ∷ rest) =
-    choose_clean (begins_identifier b) (name b rest) (cond (is_digit b) (number (b ∷ rest)) (cond (b == 46) (dot_number rest) (mark b rest))) (b ∷ rest) (λ e. name_clean b rest e)
+    choose_clean (begins_identifier b) (name b rest) (cond (is_digit b) (number (b ∷ rest)) (cond (b == 46) (dot_number rest) (mark b rest))) (b ∷ rest)
+    (λ e. name_clean b rest e)
     (λ e. choose_clean (is_digit b) (number (b ∷ rest)) (cond (b == 46) (dot_number rest) (mark b rest)) (b ∷ rest) (λ e. number_clean (b ∷ rest))
-    (λ e. choose_clean (b == 46) (dot_number rest) (mark b rest) (b ∷ rest) (λ e. subst (λ (c : ℕ). Clean (dot_number rest) (c ∷ rest)) (sym (eqb-true b 46 e)) (dotted_clean rest))
+    (λ e. choose_clean (b == 46) (dot_number rest) (mark b rest) (b ∷ rest)
+    (λ e. subst (λ (c : ℕ). Clean (dot_number rest) (c ∷ rest)) (sym (eqb-true b 46 e)) (dotted_clean rest))
     (λ e. rows_clean (marks_of b) (b ∷ rest) (marks_clean b))))
 
 pub blank_none : (text : List ℕ) → is_clean text ≡ false → spelled text ≡ None
@@ -198,7 +210,8 @@ quote_none b rest h = by_quote (either (b == 34) (b == 39) h) where
   by_quote (inl e) = at_number b 34 rest e refl
   by_quote (inr e) = at_number b 39 rest e refl
 
-is_not : (p : ℕ → Bool) (b : ℕ) (rest : List ℕ) (sense : Result Kind Rule) → (p b ≡ true → spelled (b ∷ rest) ≡ None) → spelled (b ∷ rest) ≡ Some sense → p b ≡ false
+is_not : (p : ℕ → Bool) (b : ℕ) (rest : List ℕ) (sense : Result Kind Rule) → (p b ≡ true → spelled (b ∷ rest) ≡ None) → spelled (b ∷ rest) ≡ Some sense
+    → p b ≡ false
 is_not p b rest sense none e = false_from_ne_true (p b) (λ h. absurd (some_none sense (sym e ∙ none h))) where
   some_none : (sense : Result Kind Rule) → ◌≡◌ {A = Option (Result Kind Rule)} (Some sense) None → ⊥
   some_none sense e = cc
@@ -214,7 +227,8 @@ longer_none text [] m s l g = absurd (omega (arith, length-append text []))
 longer_none text (b ∷ rest) m s l g =
     let n = length text in
     let size : m ≡ n + suc (m - n - 1) = omega arith in
-    let cut : take m (text ++ b ∷ rest) ≡ text ++ b ∷ take (m - n - 1) rest = ap (λ k. take k (text ++ b ∷ rest)) size ∙ take-append-add text (b ∷ rest) (suc (m - n - 1)) in
+    let cut : take m (text ++ b ∷ rest) ≡ text ++ b ∷ take (m - n - 1) rest = ap (λ k. take k (text ++ b ∷ rest)) size
+    ∙ take-append-add text (b ∷ rest) (suc (m - n - 1)) in
     ap spelled cut ∙ blank_none (text ++ b ∷ take (m - n - 1) rest) (unclean text b (take (m - n - 1) rest) s) where
       unclean : (text : List ℕ) (b : ℕ) (rest : List ℕ) → b ≡ 32 → is_clean (text ++ b ∷ rest) ≡ false
       unclean [] b rest s = rw s refl
@@ -223,7 +237,8 @@ longer_none text (b ∷ rest) m s l g =
         no_more true y h = h
         no_more false y h = refl
 
-first_alone : (b : ℕ) (rest tail : List ℕ) (kind : Kind) → spelled (b ∷ rest) ≡ Some (Ok kind) → Stops tail → first_of (b ∷ rest ++ tail) ≡ Ok (kind, length (b ∷ rest))
+first_alone : (b : ℕ) (rest tail : List ℕ) (kind : Kind) → spelled (b ∷ rest) ≡ Some (Ok kind) → Stops tail
+    → first_of (b ∷ rest ++ tail) ≡ Ok (kind, length (b ∷ rest))
 unfolding first_of
 first_alone b rest tail kind e s =
     let text = b ∷ rest in
@@ -231,7 +246,8 @@ first_alone b rest tail kind e s =
     ap front_token (longest_is spelled (length (text ++ tail)) (length text) (text ++ tail) (Ok kind) (omega arith) (omega (arith, size))
     (ap spelled (take-append_seam text tail) ∙ e) (λ m l g. longer_none text tail m s l g))
 
-bare_step : (later : Option Literal → Scan) (line : SourceLine) (is_first : Bool) (text tail : List ℕ) (kind : Kind) → spelled text ≡ Some (Ok kind) → Stops tail
+bare_step : (later : Option Literal → Scan) (line : SourceLine) (is_first : Bool) (text tail : List ℕ) (kind : Kind) → spelled text ≡ Some (Ok kind)
+    → Stops tail
     → bytes_from later line (Between is_first) zero (text ++ tail) ≡ before (piece_on line is_first kind) (bytes_from later line (Between false) zero tail)
 unfolding bytes_from spelled
 bare_step later line is_first [] tail kind e s = absurd (cc)
@@ -240,8 +256,10 @@ bare_step later line is_first (b ∷ rest) tail kind e s =
     cond-false (is_space b) _ _ (is_not is_space b rest (Ok kind) (space_none b rest) e)
     ∙ (cond-false (begins_comment b) _ _ (is_not begins_comment b rest (Ok kind) (comment_none b rest) e)
     ∙ (cond-false (is_quote b) _ _ (is_not is_quote b rest (Ok kind) (quote_none b rest) e)
-    ∙ (ap (λ first. token_then line is_first first (λ count. bytes_from later line (Between false) (count - 1) (rest ++ tail))) (first_alone b rest tail kind e s)
-    ∙ ap (before (piece_on line is_first kind)) (ap (λ k. bytes_from later line (Between false) k (rest ++ tail)) one ∙ (skip later line (Between false) (length rest) (rest ++ tail)
+    ∙ (ap (λ first. token_then line is_first first (λ count. bytes_from later line (Between false) (count - 1) (rest ++ tail)))
+    (first_alone b rest tail kind e s)
+    ∙ ap (before (piece_on line is_first kind))
+    (ap (λ k. bytes_from later line (Between false) k (rest ++ tail)) one ∙ (skip later line (Between false) (length rest) (rest ++ tail)
     ∙ ap (bytes_from later line (Between false) zero) (drop-append_seam rest tail))))))
 
 -- Literals
@@ -269,10 +287,11 @@ none_of true y h = absurd (false≢true (sym h))
 none_of false y h = (refl, h)
 
 not_quote : (b q : ℕ) → is_quote q ≡ true → is_special b ≡ false → (b == q) ≡ false
-not_quote b q h s = by_quote (either (q == 34) (q == 39) h) (none_of (b == 34) (b == 39) (none_of (b == 34 || b == 39) (b == 92) (none_of (b == 34 || b == 39 || b == 92) (b == 95) s).0).0) where
-  by_quote : ((q == 34) ≡ true) ⊎ ((q == 39) ≡ true) → ((b == 34) ≡ false) × ((b == 39) ≡ false) → (b == q) ≡ false
-  by_quote (inl e) nots = ap (λ n. b == n) (eqb-true q 34 e) ∙ nots.0
-  by_quote (inr e) nots = ap (λ n. b == n) (eqb-true q 39 e) ∙ nots.1
+not_quote b q h s = by_quote (either (q == 34) (q == 39) h)
+    (none_of (b == 34) (b == 39) (none_of (b == 34 || b == 39) (b == 92) (none_of (b == 34 || b == 39 || b == 92) (b == 95) s).0).0) where
+      by_quote : ((q == 34) ≡ true) ⊎ ((q == 39) ≡ true) → ((b == 34) ≡ false) × ((b == 39) ≡ false) → (b == q) ≡ false
+      by_quote (inl e) nots = ap (λ n. b == n) (eqb-true q 34 e) ∙ nots.0
+      by_quote (inr e) nots = ap (λ n. b == n) (eqb-true q 39 e) ∙ nots.1
 
 not_backslash : (b : ℕ) → is_special b ≡ false → (b == 92) ≡ false
 not_backslash b s = (none_of (b == 34 || b == 39) (b == 92) (none_of (b == 34 || b == 39 || b == 92) (b == 95) s).0).1
@@ -293,7 +312,8 @@ with_bytes literal bytes = record literal { bytes = literal.bytes ++ bytes }
 quote_same : (n : ℕ) → (n == n) ≡ true
 quote_same n = grind arith
 
-special_step : (later : Option Literal → Scan) (line : SourceLine) (literal : Literal) (b : ℕ) (rest : List ℕ) → is_quote literal.quote ≡ true → is_special b ≡ true
+special_step : (later : Option Literal → Scan) (line : SourceLine) (literal : Literal) (b : ℕ) (rest : List ℕ) → is_quote literal.quote ≡ true
+    → is_special b ≡ true
     → bytes_from later line (Inside literal) zero (92 ∷ b ∷ rest) ≡ bytes_from later line (Inside (with_byte literal b)) zero rest
 unfolding bytes_from
 special_step later line literal b rest q s =
@@ -301,14 +321,16 @@ special_step later line literal b rest q s =
     ∙ (ap (λ found. escape_found line found (λ byte count. bytes_from later line (Inside (with_byte literal byte)) count (b ∷ rest))) (special_escape b rest s)
     ∙ skip later line (Inside (with_byte literal b)) 1 (b ∷ rest))
 
-plain_step : (later : Option Literal → Scan) (line : SourceLine) (literal : Literal) (b : ℕ) (rest : List ℕ) → is_quote literal.quote ≡ true → is_special b ≡ false
+plain_step : (later : Option Literal → Scan) (line : SourceLine) (literal : Literal) (b : ℕ) (rest : List ℕ) → is_quote literal.quote ≡ true
+    → is_special b ≡ false
     → bytes_from later line (Inside literal) zero (b ∷ rest) ≡ bytes_from later line (Inside (with_byte literal b)) zero rest
 unfolding bytes_from
 plain_step later line literal b rest q s =
     cond-false (b == literal.quote) _ _ (not_quote b literal.quote q s)
     ∙ (cond-false (b == 92) _ _ (not_backslash b s) ∙ cond-false (b == 95 && is_nothing rest) _ _ (rw (not_underscore b s) refl))
 
-quoted_step : (later : Option Literal → Scan) (line : SourceLine) (literal : Literal) (b : ℕ) (rest : List ℕ) (special : Bool) → is_quote literal.quote ≡ true → is_special b ≡ special
+quoted_step : (later : Option Literal → Scan) (line : SourceLine) (literal : Literal) (b : ℕ) (rest : List ℕ) (special : Bool) → is_quote literal.quote ≡ true
+    → is_special b ≡ special
     → bytes_from later line (Inside literal) zero (cond special (92 ∷ b ∷ []) (b ∷ []) ++ rest) ≡ bytes_from later line (Inside (with_byte literal b)) zero rest
 quoted_step later line literal b rest true q s = special_step later line literal b rest q s
 quoted_step later line literal b rest false q s = plain_step later line literal b rest q s
@@ -320,18 +342,23 @@ at_close later line literal rest = cond-true (literal.quote == literal.quote) _ 
 
 -- quoted bytes up to the closing quote
 inside_quoted : (later : Option Literal → Scan) (line : SourceLine) (literal : Literal) (bytes tail : List ℕ) → is_quote literal.quote ≡ true
-    → bytes_from later line (Inside literal) zero (quoted bytes ++ literal.quote ∷ tail) ≡ closed_then (with_bytes literal bytes) (bytes_from later line (Between false) zero tail)
+    → bytes_from later line (Inside literal) zero (quoted bytes ++ literal.quote ∷ tail)
+    ≡ closed_then (with_bytes literal bytes) (bytes_from later line (Between false) zero tail)
 unfolding with_bytes
 inside_quoted later line literal [] tail q =
-    at_close later line literal tail ∙ ap (λ bytes. closed_then (record literal { bytes = bytes }) (bytes_from later line (Between false) zero tail)) (sym (append-nil literal.bytes))
+    at_close later line literal tail
+    ∙ ap (λ bytes. closed_then (record literal { bytes = bytes }) (bytes_from later line (Between false) zero tail)) (sym (append-nil literal.bytes))
 inside_quoted later line literal (b ∷ rest) tail q =
     ap (bytes_from later line (Inside literal) zero) (append_assoc (cond (is_special b) (92 ∷ b ∷ []) (b ∷ [])) (quoted rest) (literal.quote ∷ tail))
     ∙ (quoted_step later line literal b (quoted rest ++ literal.quote ∷ tail) (is_special b) q refl
     ∙ (inside_quoted later line (with_byte literal b) rest tail q
-    ∙ ap (λ bytes. closed_then (record literal { bytes = bytes }) (bytes_from later line (Between false) zero tail)) (append_assoc literal.bytes (b ∷ []) rest)))
+    ∙ ap (λ bytes. closed_then (record literal { bytes = bytes }) (bytes_from later line (Between false) zero tail))
+    (append_assoc literal.bytes (b ∷ []) rest)))
 
-literal_step : (later : Option Literal → Scan) (line : SourceLine) (is_first : Bool) (q : ℕ) (bytes tail : List ℕ) → is_space q ≡ false → begins_comment q ≡ false → is_quote q ≡ true → length bytes ≤ 65535
-    → bytes_from later line (Between is_first) zero (q ∷ (quoted bytes ++ q ∷ []) ++ tail) ≡ before (piece_on line is_first (literal_kind q bytes)) (bytes_from later line (Between false) zero tail)
+literal_step : (later : Option Literal → Scan) (line : SourceLine) (is_first : Bool) (q : ℕ) (bytes tail : List ℕ) → is_space q ≡ false
+    → begins_comment q ≡ false → is_quote q ≡ true → length bytes ≤ 65535
+    → bytes_from later line (Between is_first) zero (q ∷ (quoted bytes ++ q ∷ []) ++ tail)
+    ≡ before (piece_on line is_first (literal_kind q bytes)) (bytes_from later line (Between false) zero tail)
 unfolding bytes_from with_bytes
 literal_step later line is_first q bytes tail s c h size =
     cond-false (is_space q) _ _ s ∙ (cond-false (begins_comment q) _ _ c ∙ (cond-true (is_quote q) _ _ h
@@ -353,7 +380,8 @@ pieces_of : SourceLine → Bool → List Kind → List Piece
 pieces_of line is_first [] = []
 pieces_of line is_first (kind ∷ kinds) = piece_on line is_first kind ∷ pieces_of line false kinds
 
-at_blank : (later : Option Literal → Scan) (line : SourceLine) (is_first : Bool) (rest : List ℕ) → bytes_from later line (Between is_first) zero (32 ∷ rest) ≡ bytes_from later line (Between is_first) zero rest
+at_blank : (later : Option Literal → Scan) (line : SourceLine) (is_first : Bool) (rest : List ℕ)
+    → bytes_from later line (Between is_first) zero (32 ∷ rest) ≡ bytes_from later line (Between is_first) zero rest
 unfolding bytes_from
 at_blank later line is_first rest = refl
 
@@ -361,7 +389,8 @@ at_end : (later : Option Literal → Scan) (line : SourceLine) (is_first : Bool)
 unfolding bytes_from
 at_end later line is_first = refl
 
-all_steps : (later : Option Literal → Scan) (line : SourceLine) (is_first : Bool) (kinds : List Kind) (text : List ℕ) → later None ≡ Found [] → SpellsAll kinds text
+all_steps : (later : Option Literal → Scan) (line : SourceLine) (is_first : Bool) (kinds : List Kind) (text : List ℕ) → later None ≡ Found []
+    → SpellsAll kinds text
     → bytes_from later line (Between is_first) zero text ≡ Found (pieces_of line is_first kinds)
 unfolding pieces_of
 all_steps later line is_first _ _ e nothing = at_end later line is_first ∙ e
@@ -375,7 +404,8 @@ all_steps later line is_first _ _ e (more kind next others first rest s all) =
 token_on : SourceLine → Kind → Token
 token_on line kind = record { kind = kind; line = line.number; file = line.file }
 
-no_semicolons : (line : SourceLine) (is_first : Bool) (kinds : List Kind) → with_semicolons (pieces_of line is_first kinds) ≡ map (λ (kind : Kind). token_on line kind) kinds
+no_semicolons : (line : SourceLine) (is_first : Bool) (kinds : List Kind)
+    → with_semicolons (pieces_of line is_first kinds) ≡ map (λ (kind : Kind). token_on line kind) kinds
 unfolding pieces_of token_on
 no_semicolons line is_first [] = refl
 no_semicolons line is_first (kind ∷ []) = refl
@@ -395,7 +425,8 @@ unfolding tokens_of token_on
 spelled_again kinds line s =
     ap finish_scan (one_line line ∙ all_steps (λ begun. lines_from [] begun) line true kinds line.bytes no_lines s) ∙ ap Scanned (no_semicolons line true kinds)
 
-spelling_next : (kind : Kind) (text : List ℕ) (kinds : List Kind) (rest : List ℕ) → Spells kind text → SpellsAll kinds rest → (all : List ℕ) × SpellsAll (kind ∷ kinds) all
+spelling_next : (kind : Kind) (text : List ℕ) (kinds : List Kind) (rest : List ℕ) → Spells kind text → SpellsAll kinds rest
+    → (all : List ℕ) × SpellsAll (kind ∷ kinds) all
 spelling_next kind text [] rest s r = (text, last kind text s)
 spelling_next kind text (next ∷ kinds) rest s r = (text ++ 32 ∷ rest, more kind next kinds text rest s r)
 
@@ -404,5 +435,6 @@ spelling_of [] h = ([], nothing)
 spelling_of (token ∷ tokens) h =
     let rest = spelling_of tokens h.1 in spelling_next token.kind h.0.text (map (λ (token : Token). token.kind) tokens) rest.0 h.0.spells rest.1
 
-pub always_spelled : (lines : List SourceLine) (tokens : List Token) → tokens_of lines ≡ Scanned tokens → (text : List ℕ) × SpellsAll (map (λ (token : Token). token.kind) tokens) text
+pub always_spelled : (lines : List SourceLine) (tokens : List Token) → tokens_of lines ≡ Scanned tokens
+    → (text : List ℕ) × SpellsAll (map (λ (token : Token). token.kind) tokens) text
 always_spelled lines tokens e = spelling_of tokens (tokens_sound lines tokens e)

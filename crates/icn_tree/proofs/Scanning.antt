@@ -60,18 +60,22 @@ word_sized (Some word) text e n p h = (tt, tt)
 name_sized : (b : ℕ) (rest : List ℕ) → begins_identifier b ≡ true → FoundSized (name b rest)
 name_sized b rest begins = choose_found_so (list_all continues_identifier rest) (Some (sized (b ∷ rest) (Ok (name_of (b ∷ rest))))) None
     (λ goes_on. choose_sense (nat_le (length (b ∷ rest)) 65535) (Ok (name_of (b ∷ rest))) (Err L7)
-    (λ h. word_sized (word_of (b ∷ rest)) (b ∷ rest) refl (ap (λ first. first && list_all continues_identifier rest) begins ∙ goes_on) (omega arith) (at_most (length (b ∷ rest)) 65535 h)) tt) tt
+    (λ h. word_sized (word_of (b ∷ rest)) (b ∷ rest) refl (ap (λ first. first && list_all continues_identifier rest) begins
+    ∙ goes_on) (omega arith) (at_most (length (b ∷ rest)) 65535 h)) tt) tt
 
 bounded_sized : (n : ℕ) → SenseSized (integer_kind n)
 bounded_sized n = choose_sense (nat_le n 9223372036854775807) (Ok (Integer (pos n))) (Err L4) (λ h. (at_most n 9223372036854775807 h, tt)) tt
 
 integer_sized : (radix : ℕ) (digits : List ℕ) → SenseSized (integer radix digits)
-integer_sized radix digits = choose_sense (is_between 2 36 radix && are_digits radix digits) (integer_kind (number_in radix digits)) (Err L5) (λ h. bounded_sized (number_in radix digits)) tt
+integer_sized radix digits = choose_sense (is_between 2 36 radix && are_digits radix digits) (integer_kind (number_in radix digits)) (Err L5)
+    (λ h. bounded_sized (number_in radix digits)) tt
 
 number_by_sized : (digits rest : List ℕ) → FoundSized (number_by digits rest)
-number_by_sized digits [] = choose_sense (nat_le (length digits) 65535) (integer_kind (number_in 10 digits)) (Err L7) (λ h. bounded_sized (number_in 10 digits)) tt
+number_by_sized digits [] =
+    choose_sense (nat_le (length digits) 65535) (integer_kind (number_in 10 digits)) (Err L7) (λ h. bounded_sized (number_in 10 digits)) tt
 number_by_sized digits (c ∷ rest) =
-    choose_found (is_radix_mark c && list_all is_alphanumeric rest) (Some (sized (digits ++ c ∷ rest) (integer (number_in 10 digits) rest))) (cond (is_real_mark c && is_nothing rest) (Some (Err L6)) None)
+    choose_found (is_radix_mark c && list_all is_alphanumeric rest) (Some (sized (digits ++ c ∷ rest) (integer (number_in 10 digits) rest)))
+    (cond (is_real_mark c && is_nothing rest) (Some (Err L6)) None)
     (choose_sense (nat_le (length (digits ++ c ∷ rest)) 65535) (integer (number_in 10 digits) rest) (Err L7) (λ h. integer_sized (number_in 10 digits) rest) tt)
     (choose_found (is_real_mark c && is_nothing rest) (Some (Err L6)) None tt tt)
 
@@ -104,18 +108,24 @@ mark_is_sized (Text bytes) h = absurd (false≢true h)
 abbrev pub row_marks : List ℕ × Kind → Bool
 row_marks row = is_mark row.1
 
-pub choose_rows : (p : List ℕ × Kind → Bool) (test : Bool) (x y : List (List ℕ × Kind)) → list_all p x ≡ true → list_all p y ≡ true → list_all p (cond test x y) ≡ true
+pub choose_rows : (p : List ℕ × Kind → Bool) (test : Bool) (x y : List (List ℕ × Kind)) → list_all p x ≡ true → list_all p y ≡ true
+    → list_all p (cond test x y) ≡ true
 choose_rows p true x y h g = h
 choose_rows p false x y h g = g
 
 marks_are : (b : ℕ) → list_all row_marks (marks_of b) ≡ true
 unfolding marks_of
 marks_are b =
-    choose_rows row_marks (b == 33) _ _ refl (choose_rows row_marks (b == 36) _ _ refl (choose_rows row_marks (b == 37) _ _ refl (choose_rows row_marks (b == 38) _ _ refl (choose_rows row_marks (b == 40) _ _ refl
-    (choose_rows row_marks (b == 41) _ _ refl (choose_rows row_marks (b == 42) _ _ refl (choose_rows row_marks (b == 43) _ _ refl (choose_rows row_marks (b == 44) _ _ refl (choose_rows row_marks (b == 45) _ _ refl
-    (choose_rows row_marks (b == 47) _ _ refl (choose_rows row_marks (b == 58) _ _ refl (choose_rows row_marks (b == 59) _ _ refl (choose_rows row_marks (b == 60) _ _ refl (choose_rows row_marks (b == 61) _ _ refl
-    (choose_rows row_marks (b == 62) _ _ refl (choose_rows row_marks (b == 63) _ _ refl (choose_rows row_marks (b == 64) _ _ refl (choose_rows row_marks (b == 91) _ _ refl (choose_rows row_marks (b == 92) _ _ refl
-    (choose_rows row_marks (b == 93) _ _ refl (choose_rows row_marks (b == 94) _ _ refl (choose_rows row_marks (b == 123) _ _ refl (choose_rows row_marks (b == 124) _ _ refl (choose_rows row_marks (b == 125) _ _ refl
+    choose_rows row_marks (b == 33) _ _ refl (choose_rows row_marks
+    (b == 36) _ _ refl (choose_rows row_marks (b == 37) _ _ refl (choose_rows row_marks (b == 38) _ _ refl (choose_rows row_marks (b == 40) _ _ refl
+    (choose_rows row_marks (b == 41) _ _ refl (choose_rows row_marks
+    (b == 42) _ _ refl (choose_rows row_marks (b == 43) _ _ refl (choose_rows row_marks (b == 44) _ _ refl (choose_rows row_marks (b == 45) _ _ refl
+    (choose_rows row_marks (b == 47) _ _ refl (choose_rows row_marks
+    (b == 58) _ _ refl (choose_rows row_marks (b == 59) _ _ refl (choose_rows row_marks (b == 60) _ _ refl (choose_rows row_marks (b == 61) _ _ refl
+    (choose_rows row_marks (b == 62) _ _ refl (choose_rows row_marks
+    (b == 63) _ _ refl (choose_rows row_marks (b == 64) _ _ refl (choose_rows row_marks (b == 91) _ _ refl (choose_rows row_marks (b == 92) _ _ refl
+    (choose_rows row_marks (b == 93) _ _ refl (choose_rows row_marks
+    (b == 94) _ _ refl (choose_rows row_marks (b == 123) _ _ refl (choose_rows row_marks (b == 124) _ _ refl (choose_rows row_marks (b == 125) _ _ refl
     (choose_rows row_marks (b == 126) _ _ refl refl)))))))))))))))))))))))))
 
 both : (x y : Bool) → (x && y) ≡ true → (x ≡ true) × (y ≡ true)
@@ -139,7 +149,8 @@ spelled_sized : (text : List ℕ) → FoundSized (spelled text)
 unfolding spelled
 spelled_sized [] = tt
 spelled_sized (b ∷ rest) =
-    choose_found_so (begins_identifier b) (name b rest) (cond (is_digit b) (number (b ∷ rest)) (cond (b == 46) (dot_number rest) (mark b rest))) (name_sized b rest)
+    choose_found_so (begins_identifier b) (name b rest) (cond (is_digit b) (number (b ∷ rest)) (cond (b == 46) (dot_number rest) (mark b rest)))
+    (name_sized b rest)
     (choose_found (is_digit b) (number (b ∷ rest)) (cond (b == 46) (dot_number rest) (mark b rest)) (number_sized (b ∷ rest))
     (choose_found (b == 46) (dot_number rest) (mark b rest) (dotted_sized rest) (rows_sized (marks_of b) (b ∷ rest) (marks_are b))))
 
@@ -155,14 +166,16 @@ LongestSound None = Unit {0}
 LongestSound (Some (Ok kind, count)) = IsSound kind
 LongestSound (Some (Err rule, count)) = IsScanRule rule
 
-longer_sound : (found : Option (Result Kind Rule)) (text : List ℕ) (n : ℕ) (shorter : Option (Result Kind Rule × ℕ)) → spelled text ≡ found → FoundSized found → LongestSound shorter → LongestSound (longer found n shorter)
+longer_sound : (found : Option (Result Kind Rule)) (text : List ℕ) (n : ℕ) (shorter : Option (Result Kind Rule × ℕ)) → spelled text ≡ found → FoundSized found
+    → LongestSound shorter → LongestSound (longer found n shorter)
 longer_sound None text n shorter e h g = g
 longer_sound (Some (Ok kind)) text n shorter e h g = record { sized = h.0; formed = h.1; text = text; spells = bare kind text e }
 longer_sound (Some (Err rule)) text n shorter e h g = h
 
 longest_sound : (n : ℕ) (bytes : List ℕ) → LongestSound (longest spelled n bytes)
 longest_sound zero bytes = tt
-longest_sound (suc n) bytes = longer_sound (spelled (take (suc n) bytes)) (take (suc n) bytes) (suc n) (longest spelled n bytes) refl (spelled_sized (take (suc n) bytes)) (longest_sound n bytes)
+longest_sound (suc n) bytes = longer_sound (spelled (take (suc n) bytes)) (take (suc n) bytes) (suc n) (longest spelled n bytes) refl
+    (spelled_sized (take (suc n) bytes)) (longest_sound n bytes)
 
 abbrev FirstSound : Result (Kind × ℕ) Rule → Type 0
 FirstSound (Ok first) = IsSound first.0
@@ -195,7 +208,8 @@ before_sound : (piece : Piece) (later : Scan) → IsSound piece.token.kind → S
 before_sound piece (Found pieces) h g = (h, g)
 before_sound piece (Broken rule line file) h g = g
 
-token_sound : (line : SourceLine) (is_first : Bool) (found : Result (Kind × ℕ) Rule) (later : ℕ → Scan) → FirstSound found → ((n : ℕ) → ScanSound (later n)) → ScanSound (token_then line is_first found later)
+token_sound : (line : SourceLine) (is_first : Bool) (found : Result (Kind × ℕ) Rule) (later : ℕ → Scan) → FirstSound found → ((n : ℕ) → ScanSound (later n))
+    → ScanSound (token_then line is_first found later)
 token_sound line is_first (Ok first) later h g = before_sound (piece_on line is_first first.0) (later first.1) h (g first.1)
 token_sound line is_first (Err rule) later h g = h
 
@@ -208,15 +222,18 @@ closed_sound literal later g =
     choose_scan (nat_le (length literal.bytes) 65535) (before (literal_piece literal) later) (Broken L7 literal.line literal.file)
     (λ h. before_sound (literal_piece literal) later (kind_sound (literal.quote == 39) literal.bytes (at_most (length literal.bytes) 65535 h)) g) tt
 
-escape_found_sound : (line : SourceLine) (found : Option (ℕ × ℕ)) (later : ℕ → ℕ → Scan) → ((byte count : ℕ) → ScanSound (later byte count)) → ScanSound (escape_found line found later)
+escape_found_sound : (line : SourceLine) (found : Option (ℕ × ℕ)) (later : ℕ → ℕ → Scan) → ((byte count : ℕ) → ScanSound (later byte count))
+    → ScanSound (escape_found line found later)
 escape_found_sound line None later g = tt
 escape_found_sound line (Some found) later g = g found.0 found.1
 
-escape_sound : (line : SourceLine) (literal : Literal) (bytes : List ℕ) (later : ℕ → ℕ → Scan) → ((byte count : ℕ) → ScanSound (later byte count)) → ScanSound (escape_then line literal bytes later)
+escape_sound : (line : SourceLine) (literal : Literal) (bytes : List ℕ) (later : ℕ → ℕ → Scan) → ((byte count : ℕ) → ScanSound (later byte count))
+    → ScanSound (escape_then line literal bytes later)
 escape_sound line literal [] later g = tt
 escape_sound line literal (b ∷ rest) later g = escape_found_sound line (escape_of (b ∷ rest)) later g
 
-bytes_sound : (later : Option Literal → Scan) → ((begun : Option Literal) → ScanSound (later begun)) → (line : SourceLine) (state : State) (taken : ℕ) (bytes : List ℕ) → ScanSound (bytes_from later line state taken bytes)
+bytes_sound : (later : Option Literal → Scan) → ((begun : Option Literal) → ScanSound (later begun))
+    → (line : SourceLine) (state : State) (taken : ℕ) (bytes : List ℕ) → ScanSound (bytes_from later line state taken bytes)
 unfolding bytes_from
 bytes_sound later h line (Between is_first) taken [] = h None
 bytes_sound later h line (Inside literal) taken [] = tt
@@ -226,13 +243,17 @@ bytes_sound later h line (Between is_first) zero (b ∷ rest) =
     choose_scan (is_space b) _ _ (λ e. bytes_sound later h line (Between is_first) zero rest)
     (choose_scan (begins_comment b) _ _ (λ e. h None)
     (choose_scan (is_quote b) _ _ (λ e. bytes_sound later h line (Inside (open_literal line is_first b)) zero rest)
-    (token_sound line is_first (first_of (b ∷ rest)) (λ count. bytes_from later line (Between false) (count - 1) rest) (first_sound (b ∷ rest)) (λ count. bytes_sound later h line (Between false) (count - 1) rest))))
+    (token_sound line is_first (first_of (b ∷ rest)) (λ count. bytes_from later line (Between false) (count - 1) rest) (first_sound (b ∷ rest))
+    (λ count. bytes_sound later h line (Between false) (count - 1) rest))))
 bytes_sound later h line (Inside literal) zero (b ∷ rest) =
-    choose_scan (b == literal.quote) _ _ (λ e. closed_sound literal (bytes_from later line (Between false) zero rest) (bytes_sound later h line (Between false) zero rest))
-    (choose_scan (b == 92) _ _ (λ e. escape_sound line literal rest (λ byte count. bytes_from later line (Inside (with_byte literal byte)) count rest) (λ byte count. bytes_sound later h line (Inside (with_byte literal byte)) count rest))
+    choose_scan
+    (b == literal.quote) _ _ (λ e. closed_sound literal (bytes_from later line (Between false) zero rest) (bytes_sound later h line (Between false) zero rest))
+    (choose_scan (b == 92) _ _ (λ e. escape_sound line literal rest (λ byte count. bytes_from later line (Inside (with_byte literal byte)) count rest)
+    (λ byte count. bytes_sound later h line (Inside (with_byte literal byte)) count rest))
     (choose_scan (b == 95 && is_nothing rest) _ _ (λ e. h (Some literal)) (bytes_sound later h line (Inside (with_byte literal b)) zero rest)))
 
-line_sound : (later : Option Literal → Scan) → ((begun : Option Literal) → ScanSound (later begun)) → (line : SourceLine) (begun : Option Literal) → ScanSound (line_from later line begun)
+line_sound : (later : Option Literal → Scan) → ((begun : Option Literal) → ScanSound (later begun)) → (line : SourceLine) (begun : Option Literal)
+    → ScanSound (line_from later line begun)
 line_sound later h line None = bytes_sound later h line (Between true) zero line.bytes
 line_sound later h line (Some literal) = bytes_sound later h line (Inside literal) zero (after_blanks line.bytes)
 
@@ -243,7 +264,8 @@ lines_sound [] (Some literal) = tt
 lines_sound (line ∷ lines) begun = line_sound (λ begun. lines_from lines begun) (λ begun. lines_sound lines begun) line begun
 
 -- the bytes of what was read are passed over
-pub skip : (later : Option Literal → Scan) (line : SourceLine) (state : State) (n : ℕ) (bytes : List ℕ) → bytes_from later line state n bytes ≡ bytes_from later line state 0 (drop n bytes)
+pub skip : (later : Option Literal → Scan) (line : SourceLine) (state : State) (n : ℕ) (bytes : List ℕ)
+    → bytes_from later line state n bytes ≡ bytes_from later line state 0 (drop n bytes)
 unfolding bytes_from
 skip later line state zero bytes = refl
 skip later line (Between is_first) (suc n) [] = refl
@@ -282,7 +304,10 @@ choose_between false token rest h = h
 semicolons_sound : (pieces : List Piece) → PiecesSound pieces → TokensSound (with_semicolons pieces)
 semicolons_sound [] h = tt
 semicolons_sound (a ∷ []) h = (h.0, tt)
-semicolons_sound (a ∷ b ∷ rest) h = (h.0, choose_between (b.is_first && is_ender a.token.kind && is_beginner b.token.kind) a.token (with_semicolons (b ∷ rest)) (semicolons_sound (b ∷ rest) h.1))
+semicolons_sound (a ∷ b ∷ rest) h = (
+  h.0,
+  choose_between (b.is_first && is_ender a.token.kind && is_beginner b.token.kind) a.token (with_semicolons (b ∷ rest)) (semicolons_sound (b ∷ rest) h.1),
+)
 
 tokens_in : Outcome → List Token
 tokens_in (Scanned tokens) = tokens
@@ -329,17 +354,21 @@ no_beginner : (x y : Bool) → y ≡ false → (x && y) ≡ false
 no_beginner true y h = h
 no_beginner false y h = refl
 
-cut : (front rest : List Piece) (a b : Piece) → between a.token b ≡ [] → with_semicolons (front ++ a ∷ b ∷ rest) ≡ with_semicolons (front ++ a ∷ []) ++ with_semicolons (b ∷ rest)
+cut : (front rest : List Piece) (a b : Piece) → between a.token b ≡ []
+    → with_semicolons (front ++ a ∷ b ∷ rest) ≡ with_semicolons (front ++ a ∷ []) ++ with_semicolons (b ∷ rest)
 cut [] rest a b h = ap (λ join. a.token ∷ join ++ with_semicolons (b ∷ rest)) h
-cut (x ∷ []) rest a b h = ap (λ later. x.token ∷ between x.token a ++ later) (cut [] rest a b h) ∙ sym (append_assoc (x.token ∷ between x.token a) (with_semicolons (a ∷ [])) (with_semicolons (b ∷ rest)))
+cut (x ∷ []) rest a b h = ap (λ later. x.token ∷ between x.token a ++ later) (cut [] rest a b h)
+    ∙ sym (append_assoc (x.token ∷ between x.token a) (with_semicolons (a ∷ [])) (with_semicolons (b ∷ rest)))
 cut (x ∷ y ∷ front) rest a b h =
     ap (λ later. x.token ∷ between x.token y ++ later) (cut (y ∷ front) rest a b h)
     ∙ sym (append_assoc (x.token ∷ between x.token y) (with_semicolons (y ∷ front ++ a ∷ [])) (with_semicolons (b ∷ rest)))
 
-pub cut_before : (front rest : List Piece) (a b : Piece) → is_beginner b.token.kind ≡ false → with_semicolons (front ++ a ∷ b ∷ rest) ≡ with_semicolons (front ++ a ∷ []) ++ with_semicolons (b ∷ rest)
+pub cut_before : (front rest : List Piece) (a b : Piece) → is_beginner b.token.kind ≡ false
+    → with_semicolons (front ++ a ∷ b ∷ rest) ≡ with_semicolons (front ++ a ∷ []) ++ with_semicolons (b ∷ rest)
 cut_before front rest a b h = cut front rest a b (no_semicolon a.token b (no_beginner (is_ender a.token.kind) _ h))
 
-pub cut_behind : (front rest : List Piece) (a b : Piece) → is_ender a.token.kind ≡ false → with_semicolons (front ++ a ∷ b ∷ rest) ≡ with_semicolons (front ++ a ∷ []) ++ with_semicolons (b ∷ rest)
+pub cut_behind : (front rest : List Piece) (a b : Piece) → is_ender a.token.kind ≡ false
+    → with_semicolons (front ++ a ∷ b ∷ rest) ≡ with_semicolons (front ++ a ∷ []) ++ with_semicolons (b ∷ rest)
 cut_behind front rest a b h = cut front rest a b (no_semicolon a.token b (no_ender (is_ender a.token.kind) _ h))
 
 -- How many tokens there are
@@ -403,21 +432,25 @@ before_cost counts piece (Broken rule line file) = omega arith
 abbrev LaterCost : (Option Literal → Scan) → ℕ → Type 0
 LaterCost later n = (counts : Bool) (begun : Option Literal) → cost counts (later begun) ≤ n + begun_price counts begun
 
-token_cost : (counts : Bool) (line : SourceLine) (is_first : Bool) (found : Result (Kind × ℕ) Rule) (later : ℕ → Scan) (n : ℕ) → ((count : ℕ) → cost true (later count) ≤ n)
+token_cost : (counts : Bool) (line : SourceLine) (is_first : Bool) (found : Result (Kind × ℕ) Rule) (later : ℕ → Scan) (n : ℕ)
+    → ((count : ℕ) → cost true (later count) ≤ n)
     → cost counts (token_then line is_first found later) ≤ 1 + flag (counts && is_first) + n
 token_cost counts line is_first (Ok first) later n h = omega (arith, before_cost counts (piece_on line is_first first.0) (later first.1), h first.1)
 token_cost counts line is_first (Err rule) later n h = omega arith
 
-closed_cost : (counts : Bool) (literal : Literal) (later : Scan) (n : ℕ) → cost true later ≤ n → cost counts (closed_then literal later) ≤ 1 + flag (counts && literal.is_first) + n
+closed_cost : (counts : Bool) (literal : Literal) (later : Scan) (n : ℕ) → cost true later ≤ n
+    → cost counts (closed_then literal later) ≤ 1 + flag (counts && literal.is_first) + n
 closed_cost counts literal later n h =
     choose_cost counts (nat_le (length literal.bytes) 65535) (before (literal_piece literal) later) (Broken L7 literal.line literal.file) _
     (omega (arith, before_cost counts (literal_piece literal) later, h)) (omega arith)
 
-escape_found_cost : (counts : Bool) (line : SourceLine) (found : Option (ℕ × ℕ)) (later : ℕ → ℕ → Scan) (n : ℕ) → ((byte count : ℕ) → cost counts (later byte count) ≤ n) → cost counts (escape_found line found later) ≤ n
+escape_found_cost : (counts : Bool) (line : SourceLine) (found : Option (ℕ × ℕ)) (later : ℕ → ℕ → Scan) (n : ℕ)
+    → ((byte count : ℕ) → cost counts (later byte count) ≤ n) → cost counts (escape_found line found later) ≤ n
 escape_found_cost counts line None later n h = omega arith
 escape_found_cost counts line (Some found) later n h = h found.0 found.1
 
-escape_cost : (counts : Bool) (line : SourceLine) (literal : Literal) (bytes : List ℕ) (later : ℕ → ℕ → Scan) (n : ℕ) → ((byte count : ℕ) → cost counts (later byte count) ≤ n) → cost counts (escape_then line literal bytes later) ≤ n
+escape_cost : (counts : Bool) (line : SourceLine) (literal : Literal) (bytes : List ℕ) (later : ℕ → ℕ → Scan) (n : ℕ)
+    → ((byte count : ℕ) → cost counts (later byte count) ≤ n) → cost counts (escape_then line literal bytes later) ≤ n
 escape_cost counts line literal [] later n h = omega arith
 escape_cost counts line literal (b ∷ rest) later n h = escape_found_cost counts line (escape_of (b ∷ rest)) later n h
 
@@ -435,16 +468,20 @@ bytes_cost counts later n h line (Between is_first) zero (b ∷ rest) =
     choose_cost counts (is_space b) _ _ _ (omega (arith, bytes_cost counts later n h line (Between is_first) zero rest))
     (choose_cost counts (begins_comment b) _ _ _ (omega (arith, h counts None))
     (choose_cost counts (is_quote b) _ _ _ (omega (arith, bytes_cost counts later n h line (Inside (open_literal line is_first b)) zero rest))
-    (let each : (count : ℕ) → cost true (bytes_from later line (Between false) (count - 1) rest) ≤ length rest + n = λ count. omega (arith, bytes_cost true later n h line (Between false) (count - 1) rest) in
-    omega (arith, token_cost counts line is_first (first_of (b ∷ rest)) (λ count. bytes_from later line (Between false) (count - 1) rest) (length rest + n) each))))
+    (let each : (count : ℕ) → cost true (bytes_from later line (Between false) (count - 1) rest)
+    ≤ length rest + n = λ count. omega (arith, bytes_cost true later n h line (Between false) (count - 1) rest) in
+    omega
+    (arith, token_cost counts line is_first (first_of (b ∷ rest)) (λ count. bytes_from later line (Between false) (count - 1) rest) (length rest + n) each))))
 bytes_cost counts later n h line (Inside literal) zero (b ∷ rest) =
     choose_cost counts (b == literal.quote) _ _ _
-    (let behind : cost true (bytes_from later line (Between false) zero rest) ≤ length rest + n = omega (arith, bytes_cost true later n h line (Between false) zero rest) in
+    (let behind : cost true (bytes_from later line (Between false) zero rest)
+    ≤ length rest + n = omega (arith, bytes_cost true later n h line (Between false) zero rest) in
     omega (arith, closed_cost counts literal (bytes_from later line (Between false) zero rest) (length rest + n) behind))
     (choose_cost counts (b == 92) _ _ _
     (escape_cost counts line literal rest (λ byte count. bytes_from later line (Inside (with_byte literal byte)) count rest) _
     (λ byte count. omega (arith, bytes_cost counts later n h line (Inside (with_byte literal byte)) count rest)))
-    (choose_cost counts (b == 95 && is_nothing rest) _ _ _ (omega (arith, h counts (Some literal))) (omega (arith, bytes_cost counts later n h line (Inside (with_byte literal b)) zero rest))))
+    (choose_cost counts (b == 95 && is_nothing rest) _ _ _ (omega (arith, h counts (Some literal)))
+    (omega (arith, bytes_cost counts later n h line (Inside (with_byte literal b)) zero rest))))
 
 line_cost : (counts : Bool) (later : Option Literal → Scan) (n : ℕ) → LaterCost later n → (line : SourceLine) (begun : Option Literal)
     → cost counts (line_from later line begun) ≤ length line.bytes + flag counts + begun_price counts begun + n
@@ -457,12 +494,14 @@ at_most_one : (counts : Bool) → flag counts ≤ 1
 at_most_one true = omega arith
 at_most_one false = omega arith
 
-lines_cost : (lines : List SourceLine) (counts : Bool) (begun : Option Literal) → cost counts (lines_from lines begun) ≤ ended_len lines + begun_price counts begun
+lines_cost : (lines : List SourceLine) (counts : Bool) (begun : Option Literal)
+    → cost counts (lines_from lines begun) ≤ ended_len lines + begun_price counts begun
 unfolding lines_from
 lines_cost [] counts None = omega arith
 lines_cost [] counts (Some literal) = omega arith
 lines_cost (line ∷ lines) counts begun =
-    omega (arith, at_most_one counts, line_cost counts (λ begun. lines_from lines begun) (ended_len lines) (λ counts begun. lines_cost lines counts begun) line begun)
+    omega
+    (arith, at_most_one counts, line_cost counts (λ begun. lines_from lines begun) (ended_len lines) (λ counts begun. lines_cost lines counts begun) line begun)
 
 ended_joined : (line : SourceLine) (lines : List SourceLine) → length line.bytes + ended_len lines ≡ joined_len (line ∷ lines)
 ended_joined line [] = omega arith
@@ -472,7 +511,11 @@ all_cost : (lines : List SourceLine) → cost false (lines_from lines None) ≤ 
 unfolding lines_from
 all_cost [] = omega arith
 all_cost (line ∷ lines) =
-    omega (arith, ended_joined line lines, line_cost false (λ begun. lines_from lines begun) (ended_len lines) (λ counts begun. lines_cost lines counts begun) line None)
+    omega (
+      arith,
+      ended_joined line lines,
+      line_cost false (λ begun. lines_from lines begun) (ended_len lines) (λ counts begun. lines_cost lines counts begun) line None,
+    )
 
 count_of : (scan : Scan) (tokens : List Token) (n : ℕ) → cost false scan ≤ n → finish_scan scan ≡ Scanned tokens → length tokens ≤ n
 unfolding tokens_in

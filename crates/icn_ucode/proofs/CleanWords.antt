@@ -26,7 +26,8 @@ no_other : (b n : ℕ) → (b == n) ≡ false → cond (b == n) false true ≡ t
 no_other b n e = ap (λ test. cond test false true) e
 
 pub word_byte : (b : ℕ) → 33 ≤ b → is_word_byte b ≡ true
-word_byte b h = and_true (is_inside b) (is_in_line b) (no_other b 32 (ne_eqb b 32 (λ e. omega (arith, h)))) (no_other b 10 (ne_eqb b 10 (λ e. omega (arith, h))))
+word_byte b h =
+    and_true (is_inside b) (is_in_line b) (no_other b 32 (ne_eqb b 32 (λ e. omega (arith, h)))) (no_other b 10 (ne_eqb b 10 (λ e. omega (arith, h))))
 
 begins_word : (b : ℕ) → begins_identifier b ≡ true → 33 ≤ b
 begins_word b h = grind (arith, nat_tests)
@@ -36,7 +37,8 @@ continues_word b h = grind (arith, nat_tests)
 
 pub all_weaker : {A : Type 0} (p q : A → Bool) (xs : List A) → ((x : A) → p x ≡ true → q x ≡ true) → list_all p xs ≡ true → list_all q xs ≡ true
 all_weaker p q [] weaker h = refl
-all_weaker p q (x ∷ xs) weaker h = let parts = both (p x) (list_all p xs) h in and_true (q x) (list_all q xs) (weaker x parts.0) (all_weaker p q xs weaker parts.1)
+all_weaker p q (x ∷ xs) weaker h =
+    let parts = both (p x) (list_all p xs) h in and_true (q x) (list_all q xs) (weaker x parts.0) (all_weaker p q xs weaker parts.1)
 
 pub all_of_both : {A : Type 0} (p : A → Bool) (xs ys : List A) → list_all p xs ≡ true → list_all p ys ≡ true → list_all p (xs ++ ys) ≡ true
 all_of_both p [] ys h g = g
@@ -47,7 +49,8 @@ name_clean [] h = refl
 name_clean (b ∷ rest) h =
     let firsts = both (begins_identifier b && list_all continues_identifier rest) _ h in
     let parts = both (begins_identifier b) (list_all continues_identifier rest) firsts.0 in
-    and_true (is_word_byte b) (clean rest) (word_byte b (begins_word b parts.0)) (all_weaker continues_identifier is_word_byte rest (λ c t. word_byte c (continues_word c t)) parts.1)
+    and_true (is_word_byte b) (clean rest) (word_byte b (begins_word b parts.0))
+    (all_weaker continues_identifier is_word_byte rest (λ c t. word_byte c (continues_word c t)) parts.1)
 
 pub clean_in_line : (text : List ℕ) → clean text ≡ true → in_line text ≡ true
 clean_in_line text h = all_weaker is_word_byte is_in_line text (λ b t. (both (is_inside b) (is_in_line b) t).1) h
@@ -63,7 +66,8 @@ pub cut_word : (word rest : List ℕ) → clean word ≡ true → first_field (w
 cut_word [] rest h = refl
 cut_word (b ∷ word) rest h =
     let parts = both (is_word_byte b) (clean word) h in
-    cut_more b (word ++ 32 ∷ rest) (both (is_inside b) (is_in_line b) parts.0).0 ∙ ap (λ (p : List ℕ × Option (List ℕ)). (b ∷ p.0, p.1)) (cut_word word rest parts.1)
+    cut_more b (word ++ 32 ∷ rest) (both (is_inside b) (is_in_line b) parts.0).0
+    ∙ ap (λ (p : List ℕ × Option (List ℕ)). (b ∷ p.0, p.1)) (cut_word word rest parts.1)
 
 pub cut_last : (word : List ℕ) → clean word ≡ true → first_field word ≡ (word, None)
 cut_last [] h = refl
@@ -76,20 +80,25 @@ cut_last (b ∷ word) h =
 abbrev pub Leads : {S : Type 0} → (S → List ℕ → Result S Rule) → S → List ℕ → S → Type 0
 Leads step from text to = (rest : List ℕ) → each_line step from [] (text ++ rest) ≡ each_line step to [] rest
 
-line_read : {S : Type 0} (step : S → List ℕ → Result S Rule) (state : S) (front line rest : List ℕ) → in_line line ≡ true → each_line step state front (line ++ 10 ∷ rest) ≡ then_step (step state (front ++ line)) (λ next. each_line step next [] rest)
+line_read : {S : Type 0} (step : S → List ℕ → Result S Rule) (state : S) (front line rest : List ℕ) → in_line line ≡ true
+    → each_line step state front (line ++ 10 ∷ rest) ≡ then_step (step state (front ++ line)) (λ next. each_line step next [] rest)
 line_read step state front [] rest h = ap (λ line. then_step (step state line) (λ next. each_line step next [] rest)) (sym (append-nil front))
 line_read step state front (b ∷ line) rest h =
     let parts = both (is_in_line b) (in_line line) h in
-    cond-false (b == 10) _ _ (inside (b == 10) parts.0) ∙ (line_read step state (front ++ b ∷ []) line rest parts.1 ∙ ap (λ line. then_step (step state line) (λ next. each_line step next [] rest)) (append_assoc front (b ∷ []) line)) where
+    cond-false (b == 10) _ _ (inside (b == 10) parts.0) ∙ (line_read step state (front ++ b ∷ []) line rest parts.1
+    ∙ ap (λ line. then_step (step state line) (λ next. each_line step next [] rest)) (append_assoc front (b ∷ []) line)) where
       inside : (test : Bool) → cond test false true ≡ true → test ≡ false
       inside true h = absurd (false≢true h)
       inside false h = refl
 
-pub line_leads : {S : Type 0} (step : S → List ℕ → Result S Rule) (from to : S) (line : List ℕ) → in_line line ≡ true → step from line ≡ Ok to → Leads step from (line ++ 10 ∷ []) to
+pub line_leads : {S : Type 0} (step : S → List ℕ → Result S Rule) (from to : S) (line : List ℕ) → in_line line ≡ true → step from line ≡ Ok to
+    → Leads step from (line ++ 10 ∷ []) to
 line_leads step from to line h e rest =
-    ap (λ text. each_line step from [] text) (append_assoc line (10 ∷ []) rest) ∙ (line_read step from [] line rest h ∙ ap (λ found. then_step found (λ next. each_line step next [] rest)) e)
+    ap (λ text. each_line step from [] text) (append_assoc line (10 ∷ []) rest)
+    ∙ (line_read step from [] line rest h ∙ ap (λ found. then_step found (λ next. each_line step next [] rest)) e)
 
-pub leads_then : {S : Type 0} (step : S → List ℕ → Result S Rule) (a b c : S) (text more : List ℕ) → Leads step a text b → Leads step b more c → Leads step a (text ++ more) c
+pub leads_then : {S : Type 0} (step : S → List ℕ → Result S Rule) (a b c : S) (text more : List ℕ) → Leads step a text b → Leads step b more c
+    → Leads step a (text ++ more) c
 leads_then step a b c text more first second rest = ap (λ text. each_line step a [] text) (append_assoc text more rest) ∙ (first (more ++ rest) ∙ second rest)
 
 -- one item after the other, where the state is that of the items so far
@@ -101,4 +110,5 @@ leads_all step text at Good each done (x ∷ more) good =
     let front = each done x more good in
     let same : (done ++ x ∷ []) ++ more ≡ done ++ x ∷ more = append_assoc done (x ∷ []) more in
     let behind = leads_all step text at Good each (done ++ x ∷ []) more (subst Good (sym same) good) in
-    leads_then step (at done) (at (done ++ x ∷ [])) (at (done ++ x ∷ more)) (text x) (flat_map text more) front (subst (λ items. Leads step (at (done ++ x ∷ [])) (flat_map text more) (at items)) same behind)
+    leads_then step (at done) (at (done ++ x ∷ [])) (at (done ++ x ∷ more)) (text x) (flat_map text more) front
+    (subst (λ items. Leads step (at (done ++ x ∷ [])) (flat_map text more) (at items)) same behind)

@@ -50,25 +50,30 @@ none_at : {A : Type 0} (p : A → Bool) (done : List A) (x : A) (rest : List A) 
 none_at p [] x rest h = (neither (p x) (list_any p rest) h).0
 none_at p (y ∷ done) x rest h = none_at p done x rest (neither (p y) (list_any p (done ++ x ∷ rest)) h).1
 
-pub differs_at : {A : Type 0} (same : A → A → Bool) → ((x y : A) → same x y ≡ same y x) → (done : List A) (x : A) (rest : List A) → all_differ same (done ++ x ∷ rest) ≡ true → is_among same done x ≡ false
+pub differs_at : {A : Type 0} (same : A → A → Bool) → ((x y : A) → same x y ≡ same y x) → (done : List A) (x : A) (rest : List A)
+    → all_differ same (done ++ x ∷ rest) ≡ true → is_among same done x ≡ false
 differs_at same turned [] x rest h = refl
 differs_at same turned (y ∷ done) x rest h =
     let parts = both (not (is_among same (done ++ x ∷ rest) y)) (all_differ same (done ++ x ∷ rest)) h in
     let other = none_at (λ z. same y z) done x rest (not_true (is_among same (done ++ x ∷ rest) y) parts.0) in
     nor (same x y) (is_among same done x) (turned x y ∙ other) (differs_at same turned done x rest parts.1)
 
-pub differs_behind : (done : List (List ℕ)) (x : List ℕ) (rest : List (List ℕ)) → all_differ bytes_eq (done ++ x ∷ rest) ≡ true → is_among bytes_eq rest x ≡ false
+pub differs_behind : (done : List (List ℕ)) (x : List ℕ) (rest : List (List ℕ)) → all_differ bytes_eq (done ++ x ∷ rest) ≡ true
+    → is_among bytes_eq rest x ≡ false
 differs_behind [] x rest h = not_true (is_among bytes_eq rest x) (both (not (is_among bytes_eq rest x)) (all_differ bytes_eq rest) h).0
-differs_behind (y ∷ done) x rest h = differs_behind done x rest (both (not (is_among bytes_eq (done ++ x ∷ rest) y)) (all_differ bytes_eq (done ++ x ∷ rest)) h).1
+differs_behind (y ∷ done) x rest h =
+    differs_behind done x rest (both (not (is_among bytes_eq (done ++ x ∷ rest) y)) (all_differ bytes_eq (done ++ x ∷ rest)) h).1
 
-pub differ_last : {A : Type 0} (same : A → A → Bool) → ((x y : A) → same x y ≡ same y x) → (xs : List A) (x : A) → all_differ same xs ≡ true → is_among same xs x ≡ false → all_differ same (xs ++ x ∷ []) ≡ true
+pub differ_last : {A : Type 0} (same : A → A → Bool) → ((x y : A) → same x y ≡ same y x) → (xs : List A) (x : A) → all_differ same xs ≡ true
+    → is_among same xs x ≡ false → all_differ same (xs ++ x ∷ []) ≡ true
 differ_last same turned [] x h g = refl
 differ_last same turned (y ∷ xs) x h g =
     let parts = both (not (is_among same xs y)) (all_differ same xs) h in
     let others = neither (same x y) (is_among same xs x) g in
     let among : is_among same (xs ++ x ∷ []) y ≡ false =
     any_last (λ z. same y z) xs x ∙ (ap (λ test. cond test true (is_among same xs y)) (turned y x ∙ others.0) ∙ not_true (is_among same xs y) parts.0) in
-    and_true (not (is_among same (xs ++ x ∷ []) y)) (all_differ same (xs ++ x ∷ [])) (is_not (is_among same (xs ++ x ∷ []) y) among) (differ_last same turned xs x parts.1 others.1)
+    and_true (not (is_among same (xs ++ x ∷ []) y)) (all_differ same (xs ++ x ∷ [])) (is_not (is_among same (xs ++ x ∷ []) y) among)
+    (differ_last same turned xs x parts.1 others.1)
 
 -- The order of names
 
@@ -80,15 +85,18 @@ rank_behind a b rest =
     let one_less : length (a ∷ b ∷ rest) - 1 ≡ suc (length (b ∷ rest) - 1) = omega arith in
     ap (λ i. option_map_or (λ (name : UnitName). rank name.kind) (slice_get (a ∷ b ∷ rest) i) 0) one_less
 
-pub in_order_at : (done : List UnitName) (x : UnitName) (rest : List UnitName) → in_order (done ++ x ∷ rest) ≡ true → nat_le (last_rank done) (rank x.kind) ≡ true
+pub in_order_at : (done : List UnitName) (x : UnitName) (rest : List UnitName) → in_order (done ++ x ∷ rest) ≡ true
+    → nat_le (last_rank done) (rank x.kind) ≡ true
 in_order_at [] x rest h = at_least_zero (rank x.kind)
 in_order_at (a ∷ []) x rest h = (both (nat_le (rank a.kind) (rank x.kind)) (in_order (x ∷ rest)) h).0
 in_order_at (a ∷ b ∷ done) x rest h =
-    ap (λ r. nat_le r (rank x.kind)) (rank_behind a b done) ∙ in_order_at (b ∷ done) x rest (both (nat_le (rank a.kind) (rank b.kind)) (in_order ((b ∷ done) ++ x ∷ rest)) h).1
+    ap (λ r. nat_le r (rank x.kind)) (rank_behind a b done)
+    ∙ in_order_at (b ∷ done) x rest (both (nat_le (rank a.kind) (rank b.kind)) (in_order ((b ∷ done) ++ x ∷ rest)) h).1
 
 pub in_order_last : (xs : List UnitName) (x : UnitName) → in_order xs ≡ true → nat_le (last_rank xs) (rank x.kind) ≡ true → in_order (xs ++ x ∷ []) ≡ true
 in_order_last [] x h g = refl
 in_order_last (a ∷ []) x h g = and_true (nat_le (rank a.kind) (rank x.kind)) true g refl
 in_order_last (a ∷ b ∷ xs) x h g =
     let parts = both (nat_le (rank a.kind) (rank b.kind)) (in_order (b ∷ xs)) h in
-    and_true (nat_le (rank a.kind) (rank b.kind)) (in_order ((b ∷ xs) ++ x ∷ [])) parts.0 (in_order_last (b ∷ xs) x parts.1 (ap (λ r. nat_le r (rank x.kind)) (sym (rank_behind a b xs)) ∙ g))
+    and_true (nat_le (rank a.kind) (rank b.kind)) (in_order ((b ∷ xs) ++ x ∷ [])) parts.0
+    (in_order_last (b ∷ xs) x parts.1 (ap (λ r. nat_le r (rank x.kind)) (sym (rank_behind a b xs)) ∙ g))

@@ -42,24 +42,30 @@ short bytes text is h = let half : length text ≡ 2 * length bytes = ap length 
 
 pub bytes_kept : (text bytes : List ℕ) → bytes_of text ≡ Some bytes → is_byte_text bytes ≡ true
 bytes_kept text bytes e = by_dash (bytes_eq text (codes "-")) e where
-  by_len : (test : Bool) → (nat_le 1 (length text) && nat_le (length text) 131070) ≡ test → cond test (hexadecimal_bytes text) None ≡ Some bytes → is_byte_text bytes ≡ true
+  by_len : (test : Bool) → (nat_le 1 (length text) && nat_le (length text) 131070) ≡ test → cond test (hexadecimal_bytes text) None ≡ Some bytes
+      → is_byte_text bytes ≡ true
   by_len true t e =
       let found = hexadecimal_spelled text bytes e in
-      and_true (list_all is_byte bytes) (nat_le (length bytes) 65535) (are_bytes bytes found.1) (short bytes text found.0 (both (nat_le 1 (length text)) (nat_le (length text) 131070) t).1)
+      and_true (list_all is_byte bytes) (nat_le (length bytes) 65535) (are_bytes bytes found.1)
+      (short bytes text found.0 (both (nat_le 1 (length text)) (nat_le (length text) 131070) t).1)
   by_len false t e = absurd (none-some bytes e)
 
-  by_dash : (test : Bool) → cond test (Some []) (cond (nat_le 1 (length text) && nat_le (length text) 131070) (hexadecimal_bytes text) None) ≡ Some bytes → is_byte_text bytes ≡ true
+  by_dash : (test : Bool) → cond test (Some []) (cond (nat_le 1 (length text) && nat_le (length text) 131070) (hexadecimal_bytes text) None) ≡ Some bytes
+      → is_byte_text bytes ≡ true
   by_dash true e = ap is_byte_text (sym (same_Some [] bytes e))
   by_dash false e = by_len (nat_le 1 (length text) && nat_le (length text) 131070) refl e
 
-same_kept : (names : ℕ) (x instr : UnitInstr) → ◌≡◌ {A = Option UnitInstr} (Some x) (Some instr) → keeps_operand names x ≡ true → keeps_operand names instr ≡ true
+same_kept : (names : ℕ) (x instr : UnitInstr) → ◌≡◌ {A = Option UnitInstr} (Some x) (Some instr) → keeps_operand names x ≡ true
+    → keeps_operand names instr ≡ true
 same_kept names x instr e h = ap (keeps_operand names) (sym (same_Some x instr e)) ∙ h
 
-mapped_kept : {A : Type 0} (names : ℕ) (make : A → UnitInstr) (found : Option A) (instr : UnitInstr) → ((x : A) → found ≡ Some x → keeps_operand names (make x) ≡ true) → option_map make found ≡ Some instr → keeps_operand names instr ≡ true
+mapped_kept : {A : Type 0} (names : ℕ) (make : A → UnitInstr) (found : Option A) (instr : UnitInstr)
+    → ((x : A) → found ≡ Some x → keeps_operand names (make x) ≡ true) → option_map make found ≡ Some instr → keeps_operand names instr ≡ true
 mapped_kept names make None instr h e = absurd (none-some instr e)
 mapped_kept names make (Some x) instr h e = same_kept names (make x) instr e (h x refl)
 
-label_kept : (text : List ℕ) (names : ℕ) (make : ℕ → UnitInstr) (instr : UnitInstr) → ((n : ℕ) → is_number n ≡ true → keeps_operand names (make n) ≡ true) → option_and_then (λ label. Some (make label)) (label_of text) ≡ Some instr
+label_kept : (text : List ℕ) (names : ℕ) (make : ℕ → UnitInstr) (instr : UnitInstr) → ((n : ℕ) → is_number n ≡ true → keeps_operand names (make n) ≡ true)
+    → option_and_then (λ label. Some (make label)) (label_of text) ≡ Some instr
     → keeps_operand names instr ≡ true
 label_kept text names make instr keeps e = by_found (label_of text) refl e where
   by_letter : (text : List ℕ) (n : ℕ) → label_of text ≡ Some n → is_number n ≡ true
@@ -73,11 +79,13 @@ label_kept text names make instr keeps e = by_found (label_of text) refl e where
   by_found None f e = absurd (none-some instr e)
   by_found (Some n) f e = same_kept names (make n) instr e (keeps n (by_letter text n f))
 
-op_kept : (names : ℕ) (found : Option ℕ) (instr : UnitInstr) → option_and_then (λ n. option_map (λ op. IOp op) (op_of n)) found ≡ Some instr → keeps_operand names instr ≡ true
+op_kept : (names : ℕ) (found : Option ℕ) (instr : UnitInstr) → option_and_then (λ n. option_map (λ op. IOp op) (op_of n)) found ≡ Some instr
+    → keeps_operand names instr ≡ true
 op_kept names None instr e = absurd (none-some instr e)
 op_kept names (Some n) instr e = mapped_kept names (λ op. IOp op) (op_of n) instr (λ op f. refl) e
 
-field_kept : (text : List ℕ) (names : ℕ) (instr : UnitInstr) (test : Bool) → is_name text ≡ test → cond test (Some (IField text)) None ≡ Some instr → keeps_operand names instr ≡ true
+field_kept : (text : List ℕ) (names : ℕ) (instr : UnitInstr) (test : Bool) → is_name text ≡ test → cond test (Some (IField text)) None ≡ Some instr
+    → keeps_operand names instr ≡ true
 field_kept text names instr true t e = same_kept names (IField text) instr e t
 field_kept text names instr false t e = absurd (none-some instr e)
 
@@ -119,14 +127,18 @@ alone_kept Coret names instr e = same_kept names ICoret instr e refl
 alone_kept Cofail names instr e = same_kept names ICofail instr e refl
 alone_kept Lab names instr e = absurd (none-some instr e)
 
-operand_kept : (word : InstrWord) (text : List ℕ) (names : ℕ) (instr : UnitInstr) → operand_instr word text names ≡ Some instr → keeps_operand names instr ≡ true
+operand_kept : (word : InstrWord) (text : List ℕ) (names : ℕ) (instr : UnitInstr) → operand_instr word text names ≡ Some instr
+    → keeps_operand names instr ≡ true
 operand_kept Pnull text names instr e = absurd (no_label (label_of text) instr e)
-operand_kept Int text names instr e = mapped_kept names (λ n. IInt (pos n)) (number_of 9223372036854775807 text) instr (λ n f. number_kept 9223372036854775807 text n f) e
+operand_kept Int text names instr e =
+    mapped_kept names (λ n. IInt (pos n)) (number_of 9223372036854775807 text) instr (λ n f. number_kept 9223372036854775807 text n f) e
 operand_kept Str text names instr e = mapped_kept names (λ bytes. IStr bytes) (bytes_of text) instr (λ bytes f. bytes_kept text bytes f) e
 operand_kept Cset text names instr e =
     guarded (bytes_of text) ascends (λ bytes. ICset (members_of bytes)) instr (λ instr. keeps_operand names instr ≡ true)
-    (λ bytes f t. ap (λ members. is_byte_text members && ascends members) (members_same bytes t (bytes_spelled text bytes f).1) ∙ and_true (is_byte_text bytes) (ascends bytes) (bytes_kept text bytes f) t) e
-operand_kept Var text names instr e = guarded (number_of 4294967295 text) (λ n. nat_lt n names) (λ n. IVar n) instr (λ instr. keeps_operand names instr ≡ true) (λ n f t. and_true (nat_lt n names) (is_number n) t (number_kept 4294967295 text n f)) e
+    (λ bytes f t. ap (λ members. is_byte_text members && ascends members) (members_same bytes t (bytes_spelled text bytes f).1)
+    ∙ and_true (is_byte_text bytes) (ascends bytes) (bytes_kept text bytes f) t) e
+operand_kept Var text names instr e = guarded (number_of 4294967295 text) (λ n. nat_lt n names) (λ n. IVar n) instr (λ instr. keeps_operand names instr ≡ true)
+    (λ n f t. and_true (nat_lt n names) (is_number n) t (number_kept 4294967295 text n f)) e
 operand_kept Keywd text names instr e = mapped_kept names (λ keyword. IKeywd keyword) (keyword_of text) instr (λ keyword f. refl) e
 operand_kept Pop text names instr e = absurd (no_label (label_of text) instr e)
 operand_kept Dup text names instr e = absurd (no_label (label_of text) instr e)
@@ -159,6 +171,7 @@ operand_kept Coret text names instr e = absurd (no_label (label_of text) instr e
 operand_kept Cofail text names instr e = absurd (no_label (label_of text) instr e)
 operand_kept Lab text names instr e = label_kept text names (λ n. ILab n) instr (λ n h. h) e
 
-pub instr_kept : (word : InstrWord) (operand : Option (List ℕ)) (names : ℕ) (instr : UnitInstr) → instr_of word operand names ≡ Some instr → keeps_operand names instr ≡ true
+pub instr_kept : (word : InstrWord) (operand : Option (List ℕ)) (names : ℕ) (instr : UnitInstr) → instr_of word operand names ≡ Some instr
+    → keeps_operand names instr ≡ true
 instr_kept word None names instr e = alone_kept word names instr e
 instr_kept word (Some text) names instr e = operand_kept word text names instr e

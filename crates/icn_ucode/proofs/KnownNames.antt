@@ -33,7 +33,8 @@ pub more_among : {A : Type 0} (same : A → A → Bool) (turned : (x y : A) → 
     → (λ other. cond (same x other) true (met other)) ≡ is_among same (xs ++ x ∷ [])
 more_among same turned met xs x known = λ i other. at other i where
   at : (other : _) → cond (same x other) true (met other) ≡ is_among same (xs ++ x ∷ []) other
-  at other = ap (λ test. cond test true (met other)) (turned x other) ∙ (ap (λ f. cond (same other x) true (f other)) known ∙ sym (any_last (λ y. same other y) xs x))
+  at other =
+      ap (λ test. cond test true (met other)) (turned x other) ∙ (ap (λ f. cond (same other x) true (f other)) known ∙ sym (any_last (λ y. same other y) xs x))
 
 pub bytes_turned : (xs ys : List ℕ) → bytes_eq xs ys ≡ bytes_eq ys xs
 bytes_turned xs ys = by_tests (bytes_eq xs ys) (bytes_eq ys xs) refl refl where
@@ -46,15 +47,18 @@ bytes_turned xs ys = by_tests (bytes_eq xs ys) (bytes_eq ys xs) refl refl where
 pub nat_turned : (m n : ℕ) → nat_eq m n ≡ nat_eq n m
 nat_turned m n = grind (arith, nat_tests)
 
-pub more_names : (met : List ℕ → Bool) (names more : List (List ℕ)) (name : List ℕ) → met ≡ has_name names → more ≡ names ++ name ∷ [] → with_name met name ≡ has_name more
+pub more_names : (met : List ℕ → Bool) (names more : List (List ℕ)) (name : List ℕ) → met ≡ has_name names → more ≡ names ++ name ∷ []
+    → with_name met name ≡ has_name more
 more_names met names more name known is = more_among bytes_eq bytes_turned met names name known ∙ ap has_name (sym is)
 
-pub more_labels : (met : ℕ → Bool) (labels more : List ℕ) (label : ℕ) → met ≡ has_label labels → more ≡ labels ++ label ∷ [] → with_label met label ≡ has_label more
+pub more_labels : (met : ℕ → Bool) (labels more : List ℕ) (label : ℕ) → met ≡ has_label labels → more ≡ labels ++ label ∷ []
+    → with_label met label ≡ has_label more
 more_labels met labels more label known is = more_among nat_eq nat_turned met labels label known ∙ ap has_label (sym is)
 
 -- Procedures, declarations and instructions
 
-pub procs_named : (procs : List ProcCode) (proc : ProcCode) → proc_names (map proc_seen (procs ++ proc ∷ [])) ≡ proc_names (map proc_seen procs) ++ proc.name ∷ []
+pub procs_named : (procs : List ProcCode) (proc : ProcCode)
+    → proc_names (map proc_seen (procs ++ proc ∷ [])) ≡ proc_names (map proc_seen procs) ++ proc.name ∷ []
 procs_named [] proc = refl
 procs_named (first ∷ procs) proc = ap (λ names. first.name ∷ names) (procs_named procs proc)
 
@@ -62,30 +66,43 @@ pub entries_named : (entries : List UnitName) (entry : UnitName) → entry_names
 entries_named [] entry = refl
 entries_named (first ∷ entries) entry = ap (λ names. first.name ∷ names) (entries_named entries entry)
 
-pub decls_owned : (decls : List UnitDecl) (decl : UnitDecl) → owned_names (map decl_seen (decls ++ decl ∷ [])) ≡ owned_names (map decl_seen decls) ++ owned_name (decl_seen decl)
+pub decls_owned : (decls : List UnitDecl) (decl : UnitDecl)
+    → owned_names (map decl_seen (decls ++ decl ∷ [])) ≡ owned_names (map decl_seen decls) ++ owned_name (decl_seen decl)
 decls_owned [] decl = append-nil (owned_name (decl_seen decl))
-decls_owned (first ∷ decls) decl = ap (λ names. owned_name (decl_seen first) ++ names) (decls_owned decls decl) ∙ sym (append_assoc (owned_name (decl_seen first)) (owned_names (map decl_seen decls)) (owned_name (decl_seen decl)))
+decls_owned (first ∷ decls) decl = ap (λ names. owned_name (decl_seen first) ++ names) (decls_owned decls decl)
+    ∙ sym (append_assoc (owned_name (decl_seen first)) (owned_names (map decl_seen decls)) (owned_name (decl_seen decl)))
 
 pub more_placed : (instrs : List UnitInstr) (instr : UnitInstr) → placed_labels (instrs ++ instr ∷ []) ≡ placed_labels instrs ++ own_labels (own_label instr)
 more_placed [] instr = append-nil (own_labels (own_label instr))
-more_placed (first ∷ instrs) instr = ap (λ labels. own_labels (own_label first) ++ labels) (more_placed instrs instr) ∙ sym (append_assoc (own_labels (own_label first)) (placed_labels instrs) (own_labels (own_label instr)))
+more_placed (first ∷ instrs) instr = ap (λ labels. own_labels (own_label first) ++ labels) (more_placed instrs instr)
+    ∙ sym (append_assoc (own_labels (own_label first)) (placed_labels instrs) (own_labels (own_label instr)))
 
-pub places_known : (met : ℕ → Bool) (instrs : List UnitInstr) (instr : UnitInstr) → met ≡ has_label (placed_labels instrs) → with_place met (own_label instr) ≡ has_label (placed_labels (instrs ++ instr ∷ []))
+pub places_known : (met : ℕ → Bool) (instrs : List UnitInstr) (instr : UnitInstr) → met ≡ has_label (placed_labels instrs)
+    → with_place met (own_label instr) ≡ has_label (placed_labels (instrs ++ instr ∷ []))
 places_known met instrs instr known = by_place (own_label instr) (more_placed instrs instr) where
-  by_place : (place : Option ℕ) → placed_labels (instrs ++ instr ∷ []) ≡ placed_labels instrs ++ own_labels place → with_place met place ≡ has_label (placed_labels (instrs ++ instr ∷ []))
+  by_place : (place : Option ℕ) → placed_labels (instrs ++ instr ∷ []) ≡ placed_labels instrs ++ own_labels place
+      → with_place met place ≡ has_label (placed_labels (instrs ++ instr ∷ []))
   by_place None is = known ∙ ap has_label (sym (is ∙ append-nil (placed_labels instrs)))
   by_place (Some label) is = more_labels met (placed_labels instrs) _ label known is
 
 -- a declaration that is no procedure and no record, and one that is
-pub still_owned : (met : List ℕ → Bool) (decls : List UnitDecl) (decl : UnitDecl) → met ≡ has_name (owned_names (map decl_seen decls)) → owned_name (decl_seen decl) ≡ [] → met ≡ has_name (owned_names (map decl_seen (decls ++ decl ∷ [])))
-still_owned met decls decl known none = known ∙ ap has_name (sym (decls_owned decls decl ∙ (ap (λ names. owned_names (map decl_seen decls) ++ names) none ∙ append-nil (owned_names (map decl_seen decls)))))
+pub still_owned : (met : List ℕ → Bool) (decls : List UnitDecl) (decl : UnitDecl) → met ≡ has_name (owned_names (map decl_seen decls))
+    → owned_name (decl_seen decl) ≡ [] → met ≡ has_name (owned_names (map decl_seen (decls ++ decl ∷ [])))
+still_owned met decls decl known none = known ∙ ap has_name
+    (sym (decls_owned decls decl ∙ (ap (λ names. owned_names (map decl_seen decls) ++ names) none ∙ append-nil (owned_names (map decl_seen decls)))))
 
-pub also_owned : (met : List ℕ → Bool) (decls : List UnitDecl) (decl : UnitDecl) (name : List ℕ) → met ≡ has_name (owned_names (map decl_seen decls)) → owned_name (decl_seen decl) ≡ name ∷ []
+pub also_owned : (met : List ℕ → Bool) (decls : List UnitDecl) (decl : UnitDecl) (name : List ℕ) → met ≡ has_name (owned_names (map decl_seen decls))
+    → owned_name (decl_seen decl) ≡ name ∷ []
     → with_name met name ≡ has_name (owned_names (map decl_seen (decls ++ decl ∷ [])))
-also_owned met decls decl name known one = more_names met (owned_names (map decl_seen decls)) _ name known (decls_owned decls decl ∙ ap (λ names. owned_names (map decl_seen decls) ++ names) one)
+also_owned met decls decl name known one =
+    more_names met (owned_names (map decl_seen decls)) _ name known (decls_owned decls decl ∙ ap (λ names. owned_names (map decl_seen decls) ++ names) one)
 
-pub proc_known : (met : List ℕ → Bool) (procs : List ProcCode) (proc : ProcCode) (name : List ℕ) → met ≡ has_name (proc_names (map proc_seen procs)) → name ≡ proc.name → with_name met name ≡ has_name (proc_names (map proc_seen (procs ++ proc ∷ [])))
-proc_known met procs proc name known is = more_names met (proc_names (map proc_seen procs)) _ name known (procs_named procs proc ∙ ap (λ name. proc_names (map proc_seen procs) ++ name ∷ []) (sym is))
+pub proc_known : (met : List ℕ → Bool) (procs : List ProcCode) (proc : ProcCode) (name : List ℕ) → met ≡ has_name (proc_names (map proc_seen procs))
+    → name ≡ proc.name → with_name met name ≡ has_name (proc_names (map proc_seen (procs ++ proc ∷ [])))
+proc_known met procs proc name known is = more_names met (proc_names (map proc_seen procs)) _ name known (procs_named procs proc
+    ∙ ap (λ name. proc_names (map proc_seen procs) ++ name ∷ []) (sym is))
 
-pub entry_known : (met : List ℕ → Bool) (entries : List UnitName) (entry : UnitName) (name : List ℕ) → met ≡ has_name (entry_names entries) → name ≡ entry.name → with_name met name ≡ has_name (entry_names (entries ++ entry ∷ []))
-entry_known met entries entry name known is = more_names met (entry_names entries) _ name known (entries_named entries entry ∙ ap (λ name. entry_names entries ++ name ∷ []) (sym is))
+pub entry_known : (met : List ℕ → Bool) (entries : List UnitName) (entry : UnitName) (name : List ℕ) → met ≡ has_name (entry_names entries) → name ≡ entry.name
+    → with_name met name ≡ has_name (entry_names (entries ++ entry ∷ []))
+entry_known met entries entry name known is =
+    more_names met (entry_names entries) _ name known (entries_named entries entry ∙ ap (λ name. entry_names entries ++ name ∷ []) (sym is))

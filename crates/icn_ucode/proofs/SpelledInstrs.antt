@@ -266,7 +266,8 @@ pub record InstrLine (instr : UnitInstr) (names : ℕ) : Type 0 where
   pub clean : CleanOperand operand
   pub read : instr_of (word_of instr) operand names ≡ Some instr
 
-labelled_line : (instr : UnitInstr) (names label : ℕ) → operand_text instr ≡ rest_text (Some (label_text label)) → instr_of (word_of instr) (Some (label_text label)) names ≡ Some instr → is_number label ≡ true → InstrLine instr names
+labelled_line : (instr : UnitInstr) (names label : ℕ) → operand_text instr ≡ rest_text (Some (label_text label))
+    → instr_of (word_of instr) (Some (label_text label)) names ≡ Some instr → is_number label ≡ true → InstrLine instr names
 labelled_line instr names label s r h = record { operand = Some (label_text label); spelled = s; clean = label_clean label h; read = r }
 
 all_bytes : (bytes : List ℕ) → list_all is_byte bytes ≡ true → AreBytes bytes
@@ -289,22 +290,47 @@ instr_line (IInt (pos n)) names h = record {
   read = ap (λ found. option_map (λ n. IInt (pos n)) found) (number_again 9223372036854775807 n h (omega arith));
 }
 instr_line (IInt (negsuc n)) names h = absurd (false≢true h)
-instr_line (IStr bytes) names h = record { operand = Some (bytes_text bytes); spelled = refl; clean = bytes_clean bytes h; read = ap (λ found. option_map (λ bytes. IStr bytes) found) (bytes_again bytes h) }
+instr_line (IStr bytes) names h = record {
+  operand = Some (bytes_text bytes);
+  spelled = refl;
+  clean = bytes_clean bytes h;
+  read = ap (λ found. option_map (λ bytes. IStr bytes) found) (bytes_again bytes h);
+}
 instr_line (ICset bytes) names h =
     let parts = both (is_byte_text bytes) (ascends bytes) h in
     record { operand = Some (bytes_text bytes); spelled = refl; clean = bytes_clean bytes parts.0; read = cset_again bytes parts.0 parts.1 }
 instr_line (IVar k) names h =
     let parts = both (nat_lt k names) (is_number k) h in
-    record { operand = Some (decimal k); spelled = refl; clean = small_clean k parts.1; read = ap (λ found. option_and_then (λ n. cond (nat_lt n names) (Some (IVar n)) None) found) (small_again k parts.1) ∙ cond-true (nat_lt k names) _ _ parts.0 }
-instr_line (IKeywd keyword) names h = record { operand = Some (keyword_name keyword); spelled = refl; clean = keyword_clean keyword; read = ap (λ found. option_map (λ keyword. IKeywd keyword) found) (keyword_again keyword) }
+    record {
+      operand = Some (decimal k);
+      spelled = refl;
+      clean = small_clean k parts.1;
+      read = ap (λ found. option_and_then (λ n. cond (nat_lt n names) (Some (IVar n)) None) found) (small_again k parts.1)
+          ∙ cond-true (nat_lt k names) _ _ parts.0;
+    }
+instr_line (IKeywd keyword) names h = record {
+  operand = Some (keyword_name keyword);
+  spelled = refl;
+  clean = keyword_clean keyword;
+  read = ap (λ found. option_map (λ keyword. IKeywd keyword) found) (keyword_again keyword);
+}
 instr_line IPop names h = record { operand = None; spelled = refl; clean = tt; read = refl }
 instr_line IDup names h = record { operand = None; spelled = refl; clean = tt; read = refl }
-instr_line (IOp op) names h = record { operand = Some (decimal (op_number op)); spelled = refl; clean = small_clean (op_number op) (op_small op); read = ap (λ found. option_and_then (λ n. option_map (λ op. IOp op) (op_of n)) found) (small_again (op_number op) (op_small op)) ∙ ap (λ found. option_map (λ op. IOp op) found) (op_back op) }
-instr_line (ILlist n) names h = record { operand = Some (decimal n); spelled = refl; clean = small_clean n h; read = ap (λ found. option_map (λ n. ILlist n) found) (small_again n h) }
+instr_line (IOp op) names h = record {
+  operand = Some (decimal (op_number op));
+  spelled = refl;
+  clean = small_clean (op_number op) (op_small op);
+  read = ap (λ found. option_and_then (λ n. option_map (λ op. IOp op) (op_of n)) found) (small_again (op_number op) (op_small op))
+      ∙ ap (λ found. option_map (λ op. IOp op) found) (op_back op);
+}
+instr_line (ILlist n) names h =
+    record { operand = Some (decimal n); spelled = refl; clean = small_clean n h; read = ap (λ found. option_map (λ n. ILlist n) found) (small_again n h) }
 instr_line (IField name) names h = record { operand = Some name; spelled = refl; clean = name_clean name h; read = cond-true (is_name name) _ _ h }
-instr_line (IInvoke n) names h = record { operand = Some (decimal n); spelled = refl; clean = small_clean n h; read = ap (λ found. option_map (λ n. IInvoke n) found) (small_again n h) }
+instr_line (IInvoke n) names h =
+    record { operand = Some (decimal n); spelled = refl; clean = small_clean n h; read = ap (λ found. option_map (λ n. IInvoke n) found) (small_again n h) }
 instr_line IAppl names h = record { operand = None; spelled = refl; clean = tt; read = refl }
-instr_line (IMark label) names h = labelled_line (IMark label) names label refl (ap (λ found. option_and_then (λ label. Some (IMark label)) found) (label_again label h)) h
+instr_line (IMark label) names h =
+    labelled_line (IMark label) names label refl (ap (λ found. option_and_then (λ label. Some (IMark label)) found) (label_again label h)) h
 instr_line IMark0 names h = record { operand = None; spelled = refl; clean = tt; read = refl }
 instr_line IUnmark names h = record { operand = None; spelled = refl; clean = tt; read = refl }
 instr_line IEret names h = record { operand = None; spelled = refl; clean = tt; read = refl }
@@ -312,18 +338,24 @@ instr_line IEsusp names h = record { operand = None; spelled = refl; clean = tt;
 instr_line ILimit names h = record { operand = None; spelled = refl; clean = tt; read = refl }
 instr_line ILsusp names h = record { operand = None; spelled = refl; clean = tt; read = refl }
 instr_line IEfail names h = record { operand = None; spelled = refl; clean = tt; read = refl }
-instr_line (IChfail label) names h = labelled_line (IChfail label) names label refl (ap (λ found. option_and_then (λ label. Some (IChfail label)) found) (label_again label h)) h
-instr_line (IGoto label) names h = labelled_line (IGoto label) names label refl (ap (λ found. option_and_then (λ label. Some (IGoto label)) found) (label_again label h)) h
-instr_line (ILoop label) names h = labelled_line (ILoop label) names label refl (ap (λ found. option_and_then (λ label. Some (ILoop label)) found) (label_again label h)) h
+instr_line (IChfail label) names h =
+    labelled_line (IChfail label) names label refl (ap (λ found. option_and_then (λ label. Some (IChfail label)) found) (label_again label h)) h
+instr_line (IGoto label) names h =
+    labelled_line (IGoto label) names label refl (ap (λ found. option_and_then (λ label. Some (IGoto label)) found) (label_again label h)) h
+instr_line (ILoop label) names h =
+    labelled_line (ILoop label) names label refl (ap (λ found. option_and_then (λ label. Some (ILoop label)) found) (label_again label h)) h
 instr_line IBscan names h = record { operand = None; spelled = refl; clean = tt; read = refl }
 instr_line IEscan names h = record { operand = None; spelled = refl; clean = tt; read = refl }
 instr_line ICcase names h = record { operand = None; spelled = refl; clean = tt; read = refl }
-instr_line (IInit label) names h = labelled_line (IInit label) names label refl (ap (λ found. option_and_then (λ label. Some (IInit label)) found) (label_again label h)) h
+instr_line (IInit label) names h =
+    labelled_line (IInit label) names label refl (ap (λ found. option_and_then (λ label. Some (IInit label)) found) (label_again label h)) h
 instr_line IPsusp names h = record { operand = None; spelled = refl; clean = tt; read = refl }
 instr_line IPret names h = record { operand = None; spelled = refl; clean = tt; read = refl }
 instr_line IPfail names h = record { operand = None; spelled = refl; clean = tt; read = refl }
-instr_line (ICreate label) names h = labelled_line (ICreate label) names label refl (ap (λ found. option_and_then (λ label. Some (ICreate label)) found) (label_again label h)) h
+instr_line (ICreate label) names h =
+    labelled_line (ICreate label) names label refl (ap (λ found. option_and_then (λ label. Some (ICreate label)) found) (label_again label h)) h
 instr_line ICoact names h = record { operand = None; spelled = refl; clean = tt; read = refl }
 instr_line ICoret names h = record { operand = None; spelled = refl; clean = tt; read = refl }
 instr_line ICofail names h = record { operand = None; spelled = refl; clean = tt; read = refl }
-instr_line (ILab label) names h = labelled_line (ILab label) names label refl (ap (λ found. option_and_then (λ label. Some (ILab label)) found) (label_again label h)) h
+instr_line (ILab label) names h =
+    labelled_line (ILab label) names label refl (ap (λ found. option_and_then (λ label. Some (ILab label)) found) (label_again label h)) h

@@ -44,7 +44,8 @@ small n greatest h g = let most : n ≤ greatest = grind (arith, nat_tests) in o
 pub number_again : (greatest n : ℕ) → nat_le n greatest ≡ true → greatest ≤ 9223372036854775807 → number_of greatest (decimal n) ≡ Some n
 number_again greatest n h g =
     ap (λ v. cond (nat_le v greatest && bytes_eq (decimal v) (decimal n)) (Some v) None) (decimal_is n (small n greatest h g)).0
-    ∙ cond-true (nat_le n greatest && bytes_eq (decimal n) (decimal n)) _ _ (and_true (nat_le n greatest) (bytes_eq (decimal n) (decimal n)) h (equal_texts (decimal n) (decimal n) refl))
+    ∙ cond-true (nat_le n greatest && bytes_eq (decimal n) (decimal n))
+    _ _ (and_true (nat_le n greatest) (bytes_eq (decimal n) (decimal n)) h (equal_texts (decimal n) (decimal n) refl))
 
 pub decimal_clean : (greatest n : ℕ) → nat_le n greatest ≡ true → greatest ≤ 9223372036854775807 → clean (decimal n) ≡ true
 decimal_clean greatest n h g = (decimal_is n (small n greatest h g)).1
@@ -68,7 +69,8 @@ label_clean n h = small_clean n h
 
 digit_read : (n : ℕ) → n < 16 → (is_hexadecimal (hexadecimal_digit n) ≡ true) × (hexadecimal_value (hexadecimal_digit n) ≡ n) × (48 ≤ hexadecimal_digit n)
 digit_read n h = by_small (nat_lt n 10) refl where
-  by_small : (test : Bool) → nat_lt n 10 ≡ test → (is_hexadecimal (cond test (n + 48) (n + 87)) ≡ true) × (hexadecimal_value (cond test (n + 48) (n + 87)) ≡ n) × (48 ≤ cond test (n + 48) (n + 87))
+  by_small : (test : Bool) → nat_lt n 10 ≡ test
+      → (is_hexadecimal (cond test (n + 48) (n + 87)) ≡ true) × (hexadecimal_value (cond test (n + 48) (n + 87)) ≡ n) × (48 ≤ cond test (n + 48) (n + 87))
   by_small true t = low where
     below : n < 10
     below = grind (arith, nat_tests)
@@ -91,7 +93,8 @@ digit_read n h = by_small (nat_lt n 10) refl where
     high : (is_hexadecimal (n + 87) ≡ true) × (hexadecimal_value (n + 87) ≡ n) × (48 ≤ n + 87)
     high = (ap (λ test. test || is_between 97 102 (n + 87)) no_digit ∙ letter, cond-false (is_digit (n + 87)) _ _ no_digit ∙ omega arith, omega arith)
 
-byte_read : (a b : ℕ) (text : List ℕ) → is_hexadecimal a ≡ true → is_hexadecimal b ≡ true → hexadecimal_bytes (a ∷ b ∷ text) ≡ option_map (λ bytes. (hexadecimal_value a * 16 + hexadecimal_value b) ∷ bytes) (hexadecimal_bytes text)
+byte_read : (a b : ℕ) (text : List ℕ) → is_hexadecimal a ≡ true → is_hexadecimal b ≡ true
+    → hexadecimal_bytes (a ∷ b ∷ text) ≡ option_map (λ bytes. (hexadecimal_value a * 16 + hexadecimal_value b) ∷ bytes) (hexadecimal_bytes text)
 byte_read a b text h g = cond-true (is_hexadecimal a && is_hexadecimal b) _ _ (and_true (is_hexadecimal a) (is_hexadecimal b) h g)
 
 below_256 : (b : ℕ) → is_byte b ≡ true → b < 256
@@ -106,8 +109,10 @@ hexadecimal_again (b ∷ bytes) h =
     let low = digit_read (b % 16) (omega arith) in
     let whole : b / 16 * 16 + b % 16 ≡ b = omega arith in
     byte_read (hexadecimal_digit (b / 16)) (hexadecimal_digit (b % 16)) (flat_map byte_text bytes) high.0 low.0
-    ∙ (ap (λ found. option_map (λ bytes. (hexadecimal_value (hexadecimal_digit (b / 16)) * 16 + hexadecimal_value (hexadecimal_digit (b % 16))) ∷ bytes) found) (hexadecimal_again bytes parts.1)
-    ∙ (ap (λ v. Some ((v * 16 + hexadecimal_value (hexadecimal_digit (b % 16))) ∷ bytes)) high.1 ∙ (ap (λ v. Some ((b / 16 * 16 + v) ∷ bytes)) low.1 ∙ ap (λ v. Some (v ∷ bytes)) whole)))
+    ∙ (ap (λ found. option_map (λ bytes. (hexadecimal_value (hexadecimal_digit (b / 16)) * 16 + hexadecimal_value (hexadecimal_digit (b % 16))) ∷ bytes) found)
+    (hexadecimal_again bytes parts.1)
+    ∙ (ap (λ v. Some ((v * 16 + hexadecimal_value (hexadecimal_digit (b % 16))) ∷ bytes)) high.1
+    ∙ (ap (λ v. Some ((b / 16 * 16 + v) ∷ bytes)) low.1 ∙ ap (λ v. Some (v ∷ bytes)) whole)))
 
 hexadecimal_clean : (bytes : List ℕ) → list_all is_byte bytes ≡ true → clean (flat_map byte_text bytes) ≡ true
 hexadecimal_clean [] h = refl
@@ -116,8 +121,10 @@ hexadecimal_clean (b ∷ bytes) h =
     let less = below_256 b parts.0 in
     let high = digit_read (b / 16) (omega (arith, less)) in
     let low = digit_read (b % 16) (omega arith) in
-    and_true (is_word_byte (hexadecimal_digit (b / 16))) (clean (hexadecimal_digit (b % 16) ∷ flat_map byte_text bytes)) (word_byte (hexadecimal_digit (b / 16)) (omega (arith, high.2)))
-    (and_true (is_word_byte (hexadecimal_digit (b % 16))) (clean (flat_map byte_text bytes)) (word_byte (hexadecimal_digit (b % 16)) (omega (arith, low.2))) (hexadecimal_clean bytes parts.1))
+    and_true (is_word_byte (hexadecimal_digit (b / 16))) (clean (hexadecimal_digit (b % 16) ∷ flat_map byte_text bytes))
+    (word_byte (hexadecimal_digit (b / 16)) (omega (arith, high.2)))
+    (and_true (is_word_byte (hexadecimal_digit (b % 16))) (clean (flat_map byte_text bytes)) (word_byte (hexadecimal_digit (b % 16)) (omega (arith, low.2)))
+    (hexadecimal_clean bytes parts.1))
 
 no_dash : (text : List ℕ) → 2 ≤ length text → bytes_eq text (codes "-") ≡ false
 no_dash text h = other_texts text (codes "-") (λ e. omega (arith, h, ap length e))
@@ -125,7 +132,8 @@ no_dash text h = other_texts text (codes "-") (λ e. omega (arith, h, ap length 
 some_bytes : (text bytes : List ℕ) → hexadecimal_bytes text ≡ Some bytes → 2 ≤ length text → nat_le (length text) 131070 ≡ true → bytes_of text ≡ Some bytes
 some_bytes text bytes e h g =
     let least : nat_le 1 (length text) ≡ true = grind (arith, nat_tests, h) in
-    cond-false (bytes_eq text (codes "-")) _ _ (no_dash text h) ∙ (cond-true (nat_le 1 (length text) && nat_le (length text) 131070) _ _ (and_true (nat_le 1 (length text)) (nat_le (length text) 131070) least g) ∙ e)
+    cond-false (bytes_eq text (codes "-")) _ _ (no_dash text h)
+    ∙ (cond-true (nat_le 1 (length text) && nat_le (length text) 131070) _ _ (and_true (nat_le 1 (length text)) (nat_le (length text) 131070) least g) ∙ e)
 
 long_enough : (bytes : List ℕ) → nat_le (length bytes) 65535 ≡ true → nat_le (length (flat_map byte_text bytes)) 131070 ≡ true
 long_enough bytes h = let twice = twice_as_long bytes in grind (arith, nat_tests, twice)

@@ -28,17 +28,21 @@ IsSpelling name u1 u2 unit = (procs_text unit.procs ≡ u1) × (decls_text unit.
 abbrev Found : List ℕ → List ℕ → UnitRead → Type 0
 Found u1 u2 unit = (procs_of u1 ≡ Ok unit.procs) × (decls_of (proc_names unit.procs) u2 ≡ Ok unit.decls) × (same_names unit.procs unit.decls ≡ true)
 
-found_names : (name u1 u2 : List ℕ) (unit : UnitRead) (procs : List Proc) (decls : List Decl) (test : Bool) → procs_of u1 ≡ Ok procs → decls_of (proc_names procs) u2 ≡ Ok decls → same_names procs decls ≡ test
+found_names : (name u1 u2 : List ℕ) (unit : UnitRead) (procs : List Proc) (decls : List Decl) (test : Bool) → procs_of u1 ≡ Ok procs
+    → decls_of (proc_names procs) u2 ≡ Ok decls → same_names procs decls ≡ test
     → cond test (Whole (record { name = name; procs = procs; decls = decls })) (Faulty U7 true) ≡ Whole unit → Found u1 u2 unit × (unit.name ≡ name)
 found_names name u1 u2 unit procs decls true p d n e =
-    subst (λ (unit : UnitRead). Found u1 u2 unit × (unit.name ≡ name)) (whole_same (record { name = name; procs = procs; decls = decls }) unit e) ((p, d, n), refl)
+    subst (λ (unit : UnitRead). Found u1 u2 unit × (unit.name ≡ name)) (whole_same (record { name = name; procs = procs; decls = decls }) unit e)
+    ((p, d, n), refl)
 found_names name u1 u2 unit procs decls false p d n e = absurd (faulty_whole U7 true unit e)
 
-found_decls : (name u1 u2 : List ℕ) (unit : UnitRead) (procs : List Proc) (decls : Result (List Decl) Rule) → procs_of u1 ≡ Ok procs → decls_of (proc_names procs) u2 ≡ decls → with_decls name procs decls ≡ Whole unit → Found u1 u2 unit × (unit.name ≡ name)
+found_decls : (name u1 u2 : List ℕ) (unit : UnitRead) (procs : List Proc) (decls : Result (List Decl) Rule) → procs_of u1 ≡ Ok procs
+    → decls_of (proc_names procs) u2 ≡ decls → with_decls name procs decls ≡ Whole unit → Found u1 u2 unit × (unit.name ≡ name)
 found_decls name u1 u2 unit procs (Err rule) p d e = absurd (faulty_whole rule true unit e)
 found_decls name u1 u2 unit procs (Ok decls) p d e = found_names name u1 u2 unit procs decls (same_names procs decls) p d refl e
 
-found_procs : (name u1 u2 : List ℕ) (unit : UnitRead) (procs : Result (List Proc) Rule) → procs_of u1 ≡ procs → with_procs name procs u2 ≡ Whole unit → Found u1 u2 unit × (unit.name ≡ name)
+found_procs : (name u1 u2 : List ℕ) (unit : UnitRead) (procs : Result (List Proc) Rule) → procs_of u1 ≡ procs → with_procs name procs u2 ≡ Whole unit
+    → Found u1 u2 unit × (unit.name ≡ name)
 found_procs name u1 u2 unit (Err rule) p e = absurd (faulty_whole rule false unit e)
 found_procs name u1 u2 unit (Ok procs) p e = found_decls name u1 u2 unit procs (decls_of (proc_names procs) u2) p refl e
 
@@ -58,10 +62,12 @@ unit_again unit h =
     let parts = both (keeps_procs unit.procs && keeps_decls unit.decls) (same_names unit.procs unit.decls) h in
     let firsts = both (keeps_procs unit.procs) (keeps_decls unit.decls) parts.0 in
     ap (λ procs. with_procs unit.name procs (decls_text unit.decls)) (procs_again unit.procs firsts.0)
-    ∙ (ap (λ decls. with_decls unit.name unit.procs decls) (decls_again unit.procs unit.decls firsts.1 parts.1) ∙ cond-true (same_names unit.procs unit.decls) _ _ parts.1)
+    ∙ (ap (λ decls. with_decls unit.name unit.procs decls) (decls_again unit.procs unit.decls firsts.1 parts.1)
+    ∙ cond-true (same_names unit.procs unit.decls) _ _ parts.1)
 
 -- one spelling, one unit
-pub unit_once : (a b : UnitRead) → keeps_rules a.procs a.decls ≡ true → keeps_rules b.procs b.decls ≡ true → a.name ≡ b.name → procs_text a.procs ≡ procs_text b.procs → decls_text a.decls ≡ decls_text b.decls → a ≡ b
+pub unit_once : (a b : UnitRead) → keeps_rules a.procs a.decls ≡ true → keeps_rules b.procs b.decls ≡ true → a.name ≡ b.name
+    → procs_text a.procs ≡ procs_text b.procs → decls_text a.decls ≡ decls_text b.decls → a ≡ b
 unit_once a b h g n p d =
     whole_same a b
     (sym (unit_again a h)

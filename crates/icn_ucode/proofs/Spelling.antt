@@ -37,7 +37,8 @@ pub cut_all : (text : List ℕ) → text ≡ (first_field text).0 ++ rest_text (
 cut_all [] = refl
 cut_all (b ∷ text) = by_blank (b == 32) refl (cut_all text) where
   by_blank : (test : Bool) → (b == 32) ≡ test → text ≡ (first_field text).0 ++ rest_text (first_field text).1
-      → b ∷ text ≡ take (cond (cond test false true) (1 + prefix_len is_inside text) 0) (b ∷ text) ++ rest_text (behind (drop (cond (cond test false true) (1 + prefix_len is_inside text) 0) (b ∷ text)))
+      → b ∷ text ≡ take (cond (cond test false true) (1 + prefix_len is_inside text) 0) (b ∷ text)
+      ++ rest_text (behind (drop (cond (cond test false true) (1 + prefix_len is_inside text) 0) (b ∷ text)))
   by_blank true t rest = ap (λ c. c ∷ text) (eqb-true b 32 t)
   by_blank false t rest = let more : 1 + prefix_len is_inside text ≡ suc (prefix_len is_inside text) = omega arith in rw more (ap (λ xs. b ∷ xs) rest)
 
@@ -69,9 +70,13 @@ digit_again b h = by_digit (is_digit b) refl where
   letter : is_digit b ≡ false → (97 ≤ b) × (b ≤ 102)
   letter d = let l : is_between 97 102 b ≡ true = sym (ap (λ x. x || is_between 97 102 b) d) ∙ h in (grind (arith, nat_tests), grind (arith, nat_tests))
 
-  by_digit : (test : Bool) → is_digit b ≡ test → (cond (nat_lt (cond test (b - 48) (b - 87)) 10) (cond test (b - 48) (b - 87) + 48) (cond test (b - 48) (b - 87) + 87) ≡ b) × (cond test (b - 48) (b - 87) ≤ 15)
-  by_digit true d = let r = range d in (cond-true (nat_lt (b - 48) 10) _ _ (grind (arith, nat_tests, r.0, r.1)) ∙ omega (arith, r.0, r.1), omega (arith, r.0, r.1))
-  by_digit false d = let r = letter d in (cond-false (nat_lt (b - 87) 10) _ _ (grind (arith, nat_tests, r.0, r.1)) ∙ omega (arith, r.0, r.1), omega (arith, r.0, r.1))
+  by_digit : (test : Bool) → is_digit b ≡ test
+      → (cond (nat_lt (cond test (b - 48) (b - 87)) 10) (cond test (b - 48) (b - 87) + 48) (cond test (b - 48) (b - 87) + 87) ≡ b)
+      × (cond test (b - 48) (b - 87) ≤ 15)
+  by_digit true d =
+      let r = range d in (cond-true (nat_lt (b - 48) 10) _ _ (grind (arith, nat_tests, r.0, r.1)) ∙ omega (arith, r.0, r.1), omega (arith, r.0, r.1))
+  by_digit false d =
+      let r = letter d in (cond-false (nat_lt (b - 87) 10) _ _ (grind (arith, nat_tests, r.0, r.1)) ∙ omega (arith, r.0, r.1), omega (arith, r.0, r.1))
 
 byte_again : (a b : ℕ) → is_hexadecimal a ≡ true → is_hexadecimal b ≡ true → byte_text (hexadecimal_value a * 16 + hexadecimal_value b) ≡ a ∷ b ∷ []
 byte_again a b h g =
@@ -89,18 +94,20 @@ AreBytes (b ∷ rest) = (b < 256) × AreBytes rest
 pub hexadecimal_spelled : (text bytes : List ℕ) → hexadecimal_bytes text ≡ Some bytes → (flat_map byte_text bytes ≡ text) × AreBytes bytes
 hexadecimal_spelled [] bytes e = subst (λ (bytes : List ℕ). (flat_map byte_text bytes ≡ []) × AreBytes bytes) (same_Some [] bytes e) (refl, tt)
 hexadecimal_spelled (a ∷ []) bytes e = absurd (none-some bytes e)
-hexadecimal_spelled (a ∷ b ∷ rest) bytes e = by_test (is_hexadecimal a && is_hexadecimal b) refl (hexadecimal_bytes rest) refl (hexadecimal_spelled rest) e where
-  by_test : (test : Bool) → (is_hexadecimal a && is_hexadecimal b) ≡ test → (found : Option (List ℕ)) → hexadecimal_bytes rest ≡ found
-      → ((more : List ℕ) → hexadecimal_bytes rest ≡ Some more → (flat_map byte_text more ≡ rest) × AreBytes more)
-      → cond test (option_map (λ more. (hexadecimal_value a * 16 + hexadecimal_value b) ∷ more) found) None ≡ Some bytes → (flat_map byte_text bytes ≡ a ∷ b ∷ rest) × AreBytes bytes
-  by_test true t (Some more) f later e =
-      let parts = both (is_hexadecimal a) (is_hexadecimal b) t in
-      let below = later more f in
-      let small : hexadecimal_value a * 16 + hexadecimal_value b < 256 = omega (arith, (digit_again a parts.0).1, (digit_again b parts.1).1) in
-      subst (λ (bytes : List ℕ). (flat_map byte_text bytes ≡ a ∷ b ∷ rest) × AreBytes bytes) (same_Some _ bytes e)
-      (ap (λ front. front ++ flat_map byte_text more) (byte_again a b parts.0 parts.1) ∙ ap (λ xs. a ∷ b ∷ xs) below.0, (small, below.1))
-  by_test true t None f later e = absurd (none-some bytes e)
-  by_test false t found f later e = absurd (none-some bytes e)
+hexadecimal_spelled (a ∷ b ∷ rest) bytes e =
+    by_test (is_hexadecimal a && is_hexadecimal b) refl (hexadecimal_bytes rest) refl (hexadecimal_spelled rest) e where
+      by_test : (test : Bool) → (is_hexadecimal a && is_hexadecimal b) ≡ test → (found : Option (List ℕ)) → hexadecimal_bytes rest ≡ found
+          → ((more : List ℕ) → hexadecimal_bytes rest ≡ Some more → (flat_map byte_text more ≡ rest) × AreBytes more)
+          → cond test (option_map (λ more. (hexadecimal_value a * 16 + hexadecimal_value b) ∷ more) found) None ≡ Some bytes
+          → (flat_map byte_text bytes ≡ a ∷ b ∷ rest) × AreBytes bytes
+      by_test true t (Some more) f later e =
+          let parts = both (is_hexadecimal a) (is_hexadecimal b) t in
+          let below = later more f in
+          let small : hexadecimal_value a * 16 + hexadecimal_value b < 256 = omega (arith, (digit_again a parts.0).1, (digit_again b parts.1).1) in
+          subst (λ (bytes : List ℕ). (flat_map byte_text bytes ≡ a ∷ b ∷ rest) × AreBytes bytes) (same_Some _ bytes e)
+          (ap (λ front. front ++ flat_map byte_text more) (byte_again a b parts.0 parts.1) ∙ ap (λ xs. a ∷ b ∷ xs) below.0, (small, below.1))
+      by_test true t None f later e = absurd (none-some bytes e)
+      by_test false t found f later e = absurd (none-some bytes e)
 
 some_text : (bytes : List ℕ) → 0 < length (flat_map byte_text bytes) → bytes_text bytes ≡ flat_map byte_text bytes
 some_text [] h = absurd (omega arith)
@@ -108,7 +115,8 @@ some_text (b ∷ rest) h = refl
 
 pub bytes_spelled : (text bytes : List ℕ) → bytes_of text ≡ Some bytes → (bytes_text bytes ≡ text) × AreBytes bytes
 bytes_spelled text bytes e = by_dash (bytes_eq text (codes "-")) refl e where
-  by_len : (test : Bool) → (nat_le 1 (length text) && nat_le (length text) 131070) ≡ test → cond test (hexadecimal_bytes text) None ≡ Some bytes → (bytes_text bytes ≡ text) × AreBytes bytes
+  by_len : (test : Bool) → (nat_le 1 (length text) && nat_le (length text) 131070) ≡ test → cond test (hexadecimal_bytes text) None ≡ Some bytes
+      → (bytes_text bytes ≡ text) × AreBytes bytes
   by_len true t e =
       let found = hexadecimal_spelled text bytes e in
       let some : nat_le 1 (length text) ≡ true = (both (nat_le 1 (length text)) (nat_le (length text) 131070) t).0 in
@@ -116,8 +124,11 @@ bytes_spelled text bytes e = by_dash (bytes_eq text (codes "-")) refl e where
       (some_text bytes (omega (arith, ap length found.0)) ∙ found.0, found.1)
   by_len false t e = absurd (none-some bytes e)
 
-  by_dash : (test : Bool) → bytes_eq text (codes "-") ≡ test → cond test (Some []) (cond (nat_le 1 (length text) && nat_le (length text) 131070) (hexadecimal_bytes text) None) ≡ Some bytes → (bytes_text bytes ≡ text) × AreBytes bytes
-  by_dash true t e = subst (λ (bytes : List ℕ). (bytes_text bytes ≡ text) × AreBytes bytes) (same_Some [] bytes e) (sym (same_text text (codes "-") (sym t)), tt)
+  by_dash : (test : Bool) → bytes_eq text (codes "-") ≡ test
+      → cond test (Some []) (cond (nat_le 1 (length text) && nat_le (length text) 131070) (hexadecimal_bytes text) None) ≡ Some bytes
+      → (bytes_text bytes ≡ text) × AreBytes bytes
+  by_dash true t e =
+      subst (λ (bytes : List ℕ). (bytes_text bytes ≡ text) × AreBytes bytes) (same_Some [] bytes e) (sym (same_text text (codes "-") (sym t)), tt)
   by_dash false t e = by_len (nat_le 1 (length text) && nat_le (length text) 131070) refl e
 
 -- Sets
@@ -171,7 +182,8 @@ below_step : (n b : ℕ) (rest : List ℕ) → AreFrom (suc b) rest → below (s
     → below (suc n) (b ∷ rest) ≡ below n (b ∷ rest) ++ cond (list_any (λ c. c == n) (b ∷ rest)) (n ∷ []) []
 unfolding below
 below_step n b rest all more = by_order (cases_lt b n) where
-  by_over : (b < suc n) ⊎ (suc n ≤ b) → n ≤ b → cond (nat_lt b (suc n)) (b ∷ below (suc n) rest) [] ≡ cond (nat_lt b n) (b ∷ below n rest) [] ++ cond (list_any (λ c. c == n) (b ∷ rest)) (n ∷ []) []
+  by_over : (b < suc n) ⊎ (suc n ≤ b) → n ≤ b
+      → cond (nat_lt b (suc n)) (b ∷ below (suc n) rest) [] ≡ cond (nat_lt b n) (b ∷ below n rest) [] ++ cond (list_any (λ c. c == n) (b ∷ rest)) (n ∷ []) []
   by_over (inl l) h =
       let same : b ≡ n = omega arith in
       rw (same, ltb_next n, ltb_same n, eqb_same n) (ap (λ xs. n ∷ xs) (none_below (suc n) rest (subst (λ (k : ℕ). AreFrom (suc k) rest) same all)))
@@ -181,7 +193,8 @@ below_step n b rest all more = by_order (cases_lt b n) where
       let other : (b == n) ≡ false = ne_eqb b n (λ e. omega arith) in
       rw (over, also, other, none_equal n rest (lower (suc n) (suc b) rest (omega arith) all)) refl
 
-  by_order : (b < n) ⊎ (n ≤ b) → cond (nat_lt b (suc n)) (b ∷ below (suc n) rest) [] ≡ cond (nat_lt b n) (b ∷ below n rest) [] ++ cond (list_any (λ c. c == n) (b ∷ rest)) (n ∷ []) []
+  by_order : (b < n) ⊎ (n ≤ b)
+      → cond (nat_lt b (suc n)) (b ∷ below (suc n) rest) [] ≡ cond (nat_lt b n) (b ∷ below n rest) [] ++ cond (list_any (λ c. c == n) (b ∷ rest)) (n ∷ []) []
   by_order (inl l) =
       let under : nat_lt b (suc n) ≡ true = grind (arith, nat_tests) in
       let also : nat_lt b n ≡ true = grind (arith, nat_tests) in
@@ -217,10 +230,12 @@ abbrev RowsSpell : {A : Type 0} → (A → List ℕ) → List (List ℕ × A) �
 RowsSpell text [] = Unit {0}
 RowsSpell text (row ∷ rows) = (text row.1 ≡ row.0) × RowsSpell text rows
 
-row_spelled : {A : Type 0} (text : A → List ℕ) (rows : List (List ℕ × A)) (word : List ℕ) (x : A) → RowsSpell text rows → lookup_text rows word ≡ Some x → text x ≡ word
+row_spelled : {A : Type 0} (text : A → List ℕ) (rows : List (List ℕ × A)) (word : List ℕ) (x : A) → RowsSpell text rows → lookup_text rows word ≡ Some x
+    → text x ≡ word
 row_spelled text [] word x h e = absurd (none-some x e)
 row_spelled text (row ∷ rows) word x h e = by_test (bytes_eq word row.0) refl e (row_spelled text rows word x h.1) where
-  by_test : (test : Bool) → bytes_eq word row.0 ≡ test → cond test (Some row.1) (lookup_text rows word) ≡ Some x → (lookup_text rows word ≡ Some x → text x ≡ word) → text x ≡ word
+  by_test : (test : Bool) → bytes_eq word row.0 ≡ test → cond test (Some row.1) (lookup_text rows word) ≡ Some x
+      → (lookup_text rows word ≡ Some x → text x ≡ word) → text x ≡ word
   by_test true t e later = ap text (sym (same_Some row.1 x e)) ∙ (h.0 ∙ sym (same_text word row.0 (sym t)))
   by_test false t e later = later e
 
@@ -230,7 +245,13 @@ choose_rows text false x y h g = g
 
 words_spell : (b : ℕ) → RowsSpell word_text (instr_words b)
 unfolding instr_words
-words_spell b = choose_rows word_text (b == 97) _ _ (refl, tt) (choose_rows word_text (b == 98) _ _ (refl, tt) (choose_rows word_text (b == 99) _ _ (refl, (refl, (refl, (refl, (refl, (refl, (refl, tt))))))) (choose_rows word_text (b == 100) _ _ (refl, tt) (choose_rows word_text (b == 101) _ _ (refl, (refl, (refl, (refl, tt)))) (choose_rows word_text (b == 102) _ _ (refl, tt) (choose_rows word_text (b == 103) _ _ (refl, tt) (choose_rows word_text (b == 105) _ _ (refl, (refl, (refl, tt))) (choose_rows word_text (b == 107) _ _ (refl, tt) (choose_rows word_text (b == 108) _ _ (refl, (refl, (refl, (refl, (refl, tt))))) (choose_rows word_text (b == 109) _ _ (refl, (refl, tt)) (choose_rows word_text (b == 111) _ _ (refl, tt) (choose_rows word_text (b == 112) _ _ (refl, (refl, (refl, (refl, (refl, tt))))) (choose_rows word_text (b == 115) _ _ (refl, tt) (choose_rows word_text (b == 117) _ _ (refl, tt) (choose_rows word_text (b == 118) _ _ (refl, tt) (tt))))))))))))))))
+words_spell b = choose_rows word_text (b == 97) _ _ (refl, tt) (choose_rows word_text (b == 98) _ _ (refl, tt)
+    (choose_rows word_text (b == 99) _ _ (refl, (refl, (refl, (refl, (refl, (refl, (refl, tt))))))) (choose_rows word_text (b == 100) _ _ (refl, tt)
+    (choose_rows word_text (b == 101) _ _ (refl, (refl, (refl, (refl, tt)))) (choose_rows word_text (b == 102) _ _ (refl, tt)
+    (choose_rows word_text (b == 103) _ _ (refl, tt) (choose_rows word_text (b == 105) _ _ (refl, (refl, (refl, tt))) (choose_rows word_text (b == 107)
+    _ _ (refl, tt) (choose_rows word_text (b == 108) _ _ (refl, (refl, (refl, (refl, (refl, tt))))) (choose_rows word_text (b == 109) _ _ (refl, (refl, tt))
+    (choose_rows word_text (b == 111) _ _ (refl, tt) (choose_rows word_text (b == 112) _ _ (refl, (refl, (refl, (refl, (refl, tt))))) (choose_rows word_text
+    (b == 115) _ _ (refl, tt) (choose_rows word_text (b == 117) _ _ (refl, tt) (choose_rows word_text (b == 118) _ _ (refl, tt) (tt))))))))))))))))
 
 pub word_spelled : (text : List ℕ) (word : InstrWord) → instr_word_of text ≡ Some word → word_text word ≡ text
 word_spelled [] word e = absurd (none-some word e)
@@ -242,7 +263,8 @@ keyword_rows (keyword ∷ all) = (refl, keyword_rows all)
 
 keyword_spelled : (text : List ℕ) (keyword : Keyword) → keyword_of text ≡ Some keyword → keyword_name keyword ≡ text
 unfolding keyword_of
-keyword_spelled text keyword e = row_spelled keyword_name (map (λ (keyword : Keyword). (keyword_name keyword, keyword)) keywords) text keyword (keyword_rows keywords) e
+keyword_spelled text keyword e =
+    row_spelled keyword_name (map (λ (keyword : Keyword). (keyword_name keyword, keyword)) keywords) text keyword (keyword_rows keywords) e
 
 -- Instructions
 
@@ -250,10 +272,12 @@ keyword_spelled text keyword e = row_spelled keyword_name (map (λ (keyword : Ke
 abbrev SpelledBy : InstrWord → List ℕ → UnitInstr → Type 0
 SpelledBy word rest instr = word_text word ++ rest ≡ word_text (word_of instr) ++ operand_text instr
 
-same_instr : (word : InstrWord) (rest : List ℕ) (x instr : UnitInstr) → ◌≡◌ {A = Option UnitInstr} (Some x) (Some instr) → SpelledBy word rest x → SpelledBy word rest instr
+same_instr : (word : InstrWord) (rest : List ℕ) (x instr : UnitInstr) → ◌≡◌ {A = Option UnitInstr} (Some x) (Some instr) → SpelledBy word rest x
+    → SpelledBy word rest instr
 same_instr word rest x instr e h = subst (λ (instr : UnitInstr). SpelledBy word rest instr) (same_Some x instr e) h
 
-mapped : {A : Type 0} (word : InstrWord) (text : List ℕ) (make : A → UnitInstr) (spell : A → List ℕ) (found : Option A) (instr : UnitInstr) → ((x : A) → found ≡ Some x → spell x ≡ text)
+mapped : {A : Type 0} (word : InstrWord) (text : List ℕ) (make : A → UnitInstr) (spell : A → List ℕ) (found : Option A) (instr : UnitInstr)
+    → ((x : A) → found ≡ Some x → spell x ≡ text)
     → ((x : A) → SpelledBy word (32 ∷ spell x) (make x)) → option_map make found ≡ Some instr → SpelledBy word (32 ∷ text) instr
 mapped word text make spell None instr h g e = absurd (none-some instr e)
 mapped word text make spell (Some x) instr h g e = same_instr word (32 ∷ text) (make x) instr e (ap (λ t. word_text word ++ 32 ∷ t) (sym (h x refl)) ∙ g x)
@@ -300,14 +324,16 @@ pub no_label : {A B : Type 0} (found : Option A) (x : B) → option_and_then (λ
 no_label None x e = none-some x e
 no_label (Some a) x e = none-some x e
 
-labelled_spelled : (word : InstrWord) (text : List ℕ) (make : ℕ → UnitInstr) (instr : UnitInstr) → ((n : ℕ) → SpelledBy word (32 ∷ label_text n) (make n)) → option_and_then (λ label. Some (make label)) (label_of text) ≡ Some instr
+labelled_spelled : (word : InstrWord) (text : List ℕ) (make : ℕ → UnitInstr) (instr : UnitInstr) → ((n : ℕ) → SpelledBy word (32 ∷ label_text n) (make n))
+    → option_and_then (λ label. Some (make label)) (label_of text) ≡ Some instr
     → SpelledBy word (32 ∷ text) instr
 labelled_spelled word text make instr g e = by_found (label_of text) refl e where
   by_found : (found : Option ℕ) → label_of text ≡ found → option_and_then (λ label. Some (make label)) found ≡ Some instr → SpelledBy word (32 ∷ text) instr
   by_found None f e = absurd (none-some instr e)
   by_found (Some n) f e = same_instr word (32 ∷ text) (make n) instr e (ap (λ t. word_text word ++ 32 ∷ t) (sym (label_spelled text n f)) ∙ g n)
 
-pub guarded : {A : Type 0} (found : Option A) (test : A → Bool) (make : A → UnitInstr) (instr : UnitInstr) (P : UnitInstr → Type 0) → ((x : A) → found ≡ Some x → test x ≡ true → P (make x))
+pub guarded : {A : Type 0} (found : Option A) (test : A → Bool) (make : A → UnitInstr) (instr : UnitInstr) (P : UnitInstr → Type 0)
+    → ((x : A) → found ≡ Some x → test x ≡ true → P (make x))
     → option_and_then (λ x. cond (test x) (Some (make x)) None) found ≡ Some instr → P instr
 guarded None test make instr P h e = absurd (none-some instr e)
 guarded (Some x) test make instr P h e = by_test (test x) refl e where
@@ -315,28 +341,39 @@ guarded (Some x) test make instr P h e = by_test (test x) refl e where
   by_test true t e = subst P (same_Some (make x) instr e) (h x refl t)
   by_test false t e = absurd (none-some instr e)
 
-chained : (text : List ℕ) (found : Option ℕ) (instr : UnitInstr) → number_of 4294967295 text ≡ found → option_and_then (λ n. option_map (λ op. IOp op) (op_of n)) found ≡ Some instr → SpelledBy Op (32 ∷ text) instr
+chained : (text : List ℕ) (found : Option ℕ) (instr : UnitInstr) → number_of 4294967295 text ≡ found
+    → option_and_then (λ n. option_map (λ op. IOp op) (op_of n)) found ≡ Some instr → SpelledBy Op (32 ∷ text) instr
 chained text None instr f e = absurd (none-some instr e)
 chained text (Some n) instr f e =
-    mapped Op text (λ op. IOp op) (λ op. decimal (op_number op)) (op_of n) instr (λ op o. ap decimal (numbered op_number ops n op o) ∙ number_text 4294967295 text n f) (λ op. refl) e
+    mapped Op text (λ op. IOp op) (λ op. decimal (op_number op)) (op_of n) instr
+    (λ op o. ap decimal (numbered op_number ops n op o) ∙ number_text 4294967295 text n f) (λ op. refl) e
 
 named : (text : List ℕ) (instr : UnitInstr) (test : Bool) → cond test (Some (IField text)) None ≡ Some instr → SpelledBy Field (32 ∷ text) instr
 named text instr true e = same_instr Field (32 ∷ text) (IField text) instr e refl
 named text instr false e = absurd (none-some instr e)
 
-operand_spelled : (word : InstrWord) (text : List ℕ) (names : ℕ) (instr : UnitInstr) → operand_instr word text names ≡ Some instr → SpelledBy word (32 ∷ text) instr
+operand_spelled : (word : InstrWord) (text : List ℕ) (names : ℕ) (instr : UnitInstr) → operand_instr word text names ≡ Some instr
+    → SpelledBy word (32 ∷ text) instr
 operand_spelled Pnull text names instr e = absurd (no_label (label_of text) instr e)
-operand_spelled Int text names instr e = mapped Int text (λ n. IInt (pos n)) (λ n. decimal n) (number_of 9223372036854775807 text) instr (λ n f. number_text 9223372036854775807 text n f) (λ n. refl) e
-operand_spelled Str text names instr e = mapped Str text (λ bytes. IStr bytes) bytes_text (bytes_of text) instr (λ bytes f. (bytes_spelled text bytes f).0) (λ bytes. refl) e
-operand_spelled Cset text names instr e = guarded (bytes_of text) ascends (λ bytes. ICset (members_of bytes)) instr (λ instr. SpelledBy Cset (32 ∷ text) instr) (λ bytes f t. let found = bytes_spelled text bytes f in ap (λ xs. word_text Cset ++ 32 ∷ xs) (sym found.0) ∙ ap (λ xs. word_text Cset ++ 32 ∷ bytes_text xs) (sym (members_same bytes t found.1))) e
-operand_spelled Var text names instr e = guarded (number_of 4294967295 text) (λ n. nat_lt n names) (λ n. IVar n) instr (λ instr. SpelledBy Var (32 ∷ text) instr) (λ n f t. ap (λ xs. word_text Var ++ 32 ∷ xs) (sym (number_text 4294967295 text n f))) e
-operand_spelled Keywd text names instr e = mapped Keywd text (λ keyword. IKeywd keyword) keyword_name (keyword_of text) instr (λ keyword f. keyword_spelled text keyword f) (λ keyword. refl) e
+operand_spelled Int text names instr e = mapped Int text (λ n. IInt (pos n)) (λ n. decimal n) (number_of 9223372036854775807 text) instr
+    (λ n f. number_text 9223372036854775807 text n f) (λ n. refl) e
+operand_spelled Str text names instr e =
+    mapped Str text (λ bytes. IStr bytes) bytes_text (bytes_of text) instr (λ bytes f. (bytes_spelled text bytes f).0) (λ bytes. refl) e
+operand_spelled Cset text names instr e = guarded (bytes_of text) ascends (λ bytes. ICset (members_of bytes)) instr (λ instr. SpelledBy Cset (32 ∷ text) instr)
+    (λ bytes f t. let found = bytes_spelled text bytes f in
+    ap (λ xs. word_text Cset ++ 32 ∷ xs) (sym found.0) ∙ ap (λ xs. word_text Cset ++ 32 ∷ bytes_text xs) (sym (members_same bytes t found.1))) e
+operand_spelled Var text names instr e = guarded (number_of 4294967295 text) (λ n. nat_lt n names) (λ n. IVar n) instr
+    (λ instr. SpelledBy Var (32 ∷ text) instr) (λ n f t. ap (λ xs. word_text Var ++ 32 ∷ xs) (sym (number_text 4294967295 text n f))) e
+operand_spelled Keywd text names instr e =
+    mapped Keywd text (λ keyword. IKeywd keyword) keyword_name (keyword_of text) instr (λ keyword f. keyword_spelled text keyword f) (λ keyword. refl) e
 operand_spelled Pop text names instr e = absurd (no_label (label_of text) instr e)
 operand_spelled Dup text names instr e = absurd (no_label (label_of text) instr e)
 operand_spelled Op text names instr e = chained text (number_of 4294967295 text) instr refl e
-operand_spelled Llist text names instr e = mapped Llist text (λ n. ILlist n) (λ n. decimal n) (number_of 4294967295 text) instr (λ n f. number_text 4294967295 text n f) (λ n. refl) e
+operand_spelled Llist text names instr e =
+    mapped Llist text (λ n. ILlist n) (λ n. decimal n) (number_of 4294967295 text) instr (λ n f. number_text 4294967295 text n f) (λ n. refl) e
 operand_spelled Field text names instr e = named text instr (is_name text) e
-operand_spelled Invoke text names instr e = mapped Invoke text (λ n. IInvoke n) (λ n. decimal n) (number_of 4294967295 text) instr (λ n f. number_text 4294967295 text n f) (λ n. refl) e
+operand_spelled Invoke text names instr e =
+    mapped Invoke text (λ n. IInvoke n) (λ n. decimal n) (number_of 4294967295 text) instr (λ n f. number_text 4294967295 text n f) (λ n. refl) e
 operand_spelled Appl text names instr e = absurd (no_label (label_of text) instr e)
 operand_spelled Mark text names instr e = labelled_spelled Mark text (λ n. IMark n) instr (λ n. refl) e
 operand_spelled Mark0 text names instr e = absurd (no_label (label_of text) instr e)
@@ -362,6 +399,7 @@ operand_spelled Coret text names instr e = absurd (no_label (label_of text) inst
 operand_spelled Cofail text names instr e = absurd (no_label (label_of text) instr e)
 operand_spelled Lab text names instr e = labelled_spelled Lab text (λ n. ILab n) instr (λ n. refl) e
 
-pub instr_spelled : (word : InstrWord) (operand : Option (List ℕ)) (names : ℕ) (instr : UnitInstr) → instr_of word operand names ≡ Some instr → SpelledBy word (rest_text operand) instr
+pub instr_spelled : (word : InstrWord) (operand : Option (List ℕ)) (names : ℕ) (instr : UnitInstr) → instr_of word operand names ≡ Some instr
+    → SpelledBy word (rest_text operand) instr
 instr_spelled word None names instr e = alone_spelled word instr e
 instr_spelled word (Some text) names instr e = operand_spelled word text names instr e

@@ -19,7 +19,8 @@ from_grows : (n : ℕ) (digits : List ℕ) → n ≤ value_from n digits
 from_grows n [] = omega arith
 from_grows n (b ∷ rest) = omega (arith, from_grows (n * 10 + (b - 48)) rest)
 
-digit_more : (n : ℕ) (digits : List ℕ) (i all : ℕ) → i < length digits → value_from n (drop i digits) ≡ all → value_from (n * 10 + (get_or digits i 0 - 48)) (drop (i + 1) digits) ≡ all
+digit_more : (n : ℕ) (digits : List ℕ) (i all : ℕ) → i < length digits → value_from n (drop i digits) ≡ all
+    → value_from (n * 10 + (get_or digits i 0 - 48)) (drop (i + 1) digits) ≡ all
 digit_more n digits i all within h = sym (at_drop_more (value_from n) digits i 0 within) ∙ h
 
 limited_none : (n : ℕ) → None ≡ within_limit n → 9223372036854775807 < n
@@ -32,7 +33,8 @@ too_large : (n : ℕ) → 9223372036854775807 < n → within_limit n ≡ None
 too_large n h = cond-false (nat_le n 9223372036854775807) _ _ (grind (arith, nat_tests))
 
 -- what a number came to before the last of its digits is too large
-pub stays_large : (n : ℕ) (digits : List ℕ) (i : ℕ) → i < length digits → value_from n (drop i digits) ≡ value_from 0 digits → None ≡ within_limit (n * 10 + (get_or digits i 0 - 48)) → None ≡ value_limited digits
+pub stays_large : (n : ℕ) (digits : List ℕ) (i : ℕ) → i < length digits → value_from n (drop i digits) ≡ value_from 0 digits
+    → None ≡ within_limit (n * 10 + (get_or digits i 0 - 48)) → None ≡ value_limited digits
 stays_large n digits i within so_far none =
     let rest : value_from (n * 10 + (get_or digits i 0 - 48)) (drop (i + 1) digits) ≡ value_from 0 digits = digit_more n digits i _ within so_far in
     let large : 9223372036854775807 < n * 10 + (get_or digits i 0 - 48) = limited_none _ none in
@@ -70,9 +72,11 @@ keyword_again Source = refl
 keyword_again Subject = refl
 keyword_again Ucase = refl
 
-no_keyword : (all : List Keyword) (text : List ℕ) → ((keyword : Keyword) → keyword_name keyword ≢ text) → lookup_text (map (λ (keyword : Keyword). (keyword_name keyword, keyword)) all) text ≡ None
+no_keyword : (all : List Keyword) (text : List ℕ) → ((keyword : Keyword) → keyword_name keyword ≢ text)
+    → lookup_text (map (λ (keyword : Keyword). (keyword_name keyword, keyword)) all) text ≡ None
 no_keyword [] text h = refl
-no_keyword (keyword ∷ all) text h = cond-false (bytes_eq text (keyword_name keyword)) _ _ (other_texts text (keyword_name keyword) (λ e. h keyword (sym e))) ∙ no_keyword all text h
+no_keyword (keyword ∷ all) text h =
+    cond-false (bytes_eq text (keyword_name keyword)) _ _ (other_texts text (keyword_name keyword) (λ e. h keyword (sym e))) ∙ no_keyword all text h
 
 keyword_found : (keyword : Keyword) (text : List ℕ) → keyword_name keyword ≡ text → Some keyword ≡ keyword_of text
 keyword_found keyword text e = sym (ap keyword_of (sym e) ∙ keyword_again keyword)
@@ -81,24 +85,31 @@ keyword_missing : (text : List ℕ) → ((keyword : Keyword) → keyword_name ke
 unfolding keyword_of
 keyword_missing text h = sym (no_keyword keywords text h)
 
-pub keyword_exact : (found : Option Keyword) (text : List ℕ) → IfSome found (λ keyword. keyword_name keyword ≡ text) → IfNone found ((keyword : Keyword) → keyword_name keyword ≢ text) → found ≡ keyword_of text
+pub keyword_exact : (found : Option Keyword) (text : List ℕ) → IfSome found (λ keyword. keyword_name keyword ≡ text)
+    → IfNone found ((keyword : Keyword) → keyword_name keyword ≢ text) → found ≡ keyword_of text
 keyword_exact None text h g = keyword_missing text g
 keyword_exact (Some keyword) text h g = keyword_found keyword text h
 
 -- Hexadecimal
 
-hexadecimal_more : (done : List ℕ) (a b byte : ℕ) (rest : List ℕ) → Some byte ≡ byte_item a b → option_map (λ more. done ++ more) (hexadecimal_bytes (a ∷ b ∷ rest)) ≡ option_map (λ more. (done ++ byte ∷ []) ++ more) (hexadecimal_bytes rest)
+hexadecimal_more : (done : List ℕ) (a b byte : ℕ) (rest : List ℕ) → Some byte ≡ byte_item a b
+    → option_map (λ more. done ++ more) (hexadecimal_bytes (a ∷ b ∷ rest)) ≡ option_map (λ more. (done ++ byte ∷ []) ++ more) (hexadecimal_bytes rest)
 hexadecimal_more done a b byte rest e = by_test (is_hexadecimal a && is_hexadecimal b) refl e where
-  by_found : (byte : ℕ) (found : Option (List ℕ)) → option_map (λ more. done ++ more) (option_map (λ bytes. byte ∷ bytes) found) ≡ option_map (λ more. (done ++ byte ∷ []) ++ more) found
+  by_found : (byte : ℕ) (found : Option (List ℕ))
+      → option_map (λ more. done ++ more) (option_map (λ bytes. byte ∷ bytes) found) ≡ option_map (λ more. (done ++ byte ∷ []) ++ more) found
   by_found byte None = refl
   by_found byte (Some more) = ap Some (sym (append_assoc done (byte ∷ []) more))
 
   by_test : (test : Bool) → (is_hexadecimal a && is_hexadecimal b) ≡ test → Some byte ≡ cond test (Some (hexadecimal_value a * 16 + hexadecimal_value b)) None
-      → option_map (λ more. done ++ more) (cond test (option_map (λ bytes. (hexadecimal_value a * 16 + hexadecimal_value b) ∷ bytes) (hexadecimal_bytes rest)) None) ≡ option_map (λ more. (done ++ byte ∷ []) ++ more) (hexadecimal_bytes rest)
+      → option_map (λ more. done ++ more)
+      (cond test (option_map (λ bytes. (hexadecimal_value a * 16 + hexadecimal_value b) ∷ bytes) (hexadecimal_bytes rest)) None)
+      ≡ option_map (λ more. (done ++ byte ∷ []) ++ more) (hexadecimal_bytes rest)
   by_test true t e = let same : hexadecimal_value a * 16 + hexadecimal_value b ≡ byte = cc in rw same (by_found byte (hexadecimal_bytes rest))
   by_test false t e = absurd (cc)
 
 pub hexadecimal_step : (done text rest others behind : List ℕ) (a b byte : ℕ) → rest ≡ a ∷ others → others ≡ b ∷ behind → Some byte ≡ byte_item a b
-    → option_map (λ more. done ++ more) (hexadecimal_bytes rest) ≡ hexadecimal_bytes text → option_map (λ more. (done ++ byte ∷ []) ++ more) (hexadecimal_bytes behind) ≡ hexadecimal_bytes text
+    → option_map (λ more. done ++ more) (hexadecimal_bytes rest) ≡ hexadecimal_bytes text
+    → option_map (λ more. (done ++ byte ∷ []) ++ more) (hexadecimal_bytes behind) ≡ hexadecimal_bytes text
 hexadecimal_step done text rest others behind a b byte is next e h =
-    sym (hexadecimal_more done a b byte behind e) ∙ (ap (λ xs. option_map (λ more. done ++ more) (hexadecimal_bytes (a ∷ xs))) (sym next) ∙ (ap (λ xs. option_map (λ more. done ++ more) (hexadecimal_bytes xs)) (sym is) ∙ h))
+    sym (hexadecimal_more done a b byte behind e) ∙ (ap (λ xs. option_map (λ more. done ++ more) (hexadecimal_bytes (a ∷ xs))) (sym next)
+    ∙ (ap (λ xs. option_map (λ more. done ++ more) (hexadecimal_bytes xs)) (sym is) ∙ h))

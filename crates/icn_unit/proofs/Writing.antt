@@ -2,7 +2,8 @@
 use Rattle.std.proofs.Common.{◌≡◌, ℕ, cond, List, [], ◌∷◌, ◌++◌, Result, Ok, Err, OnOk, is_ok, ◌∙◌, append_assoc}
 use Rattle.std.specs.Prelude.{codes}
 
-pub put_last : {E : Type 0} (result : Result (Unit {0}) E) (old new piece wanted : List ℕ) → new ≡ cond (is_ok result) (old ++ piece) old → old ++ piece ≡ wanted → OnOk result (new ≡ wanted)
+pub put_last : {E : Type 0} (result : Result (Unit {0}) E) (old new piece wanted : List ℕ) → new ≡ cond (is_ok result) (old ++ piece) old
+    → old ++ piece ≡ wanted → OnOk result (new ≡ wanted)
 put_last (Ok x) old new piece wanted e h = e ∙ h
 put_last (Err x) old new piece wanted e h = tt
 

@@ -49,17 +49,20 @@ other_at a i small within = ap (λ n. n == 1) (bit_at_not w8 a i small within) �
 
 -- Lists of bytes, changed from the first on
 
-pub done_more : (now : List ℕ) (target : ℕ → ℕ) (place x : ℕ) → place < length now → x ≡ target place → ((k : ℕ) → k < place → slice_index now k ≡ target k) → (k : ℕ) → k < place + 1 → slice_index (slice_set now place x) k ≡ target k
+pub done_more : (now : List ℕ) (target : ℕ → ℕ) (place x : ℕ) → place < length now → x ≡ target place → ((k : ℕ) → k < place → slice_index now k ≡ target k)
+    → (k : ℕ) → k < place + 1 → slice_index (slice_set now place x) k ≡ target k
 done_more now target place x within is before k below = at (cases_lt k place)
   where
     at : (k < place) ⊎ (place ≤ k) → slice_index (slice_set now place x) k ≡ target k
     at (inl less) = get_or-set_other now place k x 0 (λ same. absurd (omega (arith, same))) ∙ before k less
     at (inr more) = let same : k ≡ place = omega arith in rw same (get_or-set_same now place x 0 within ∙ is)
 
-pub ahead_more : (now : List ℕ) (old : ℕ → ℕ) (place x : ℕ) → ((k : ℕ) → place ≤ k → slice_index now k ≡ old k) → (k : ℕ) → place + 1 ≤ k → slice_index (slice_set now place x) k ≡ old k
+pub ahead_more : (now : List ℕ) (old : ℕ → ℕ) (place x : ℕ) → ((k : ℕ) → place ≤ k → slice_index now k ≡ old k) → (k : ℕ) → place + 1 ≤ k
+    → slice_index (slice_set now place x) k ≡ old k
 ahead_more now old place x before k beyond = get_or-set_other now place k x 0 (λ same. absurd (omega (arith, same))) ∙ before k (omega arith)
 
-pub bounded_more : (old now : ℕ → ℕ) (place : ℕ) → ((k : ℕ) → place ≤ k → now k ≡ old k) → now place < 256 → ((k : ℕ) → k < place → old k < 256) → (k : ℕ) → k < place + 1 → old k < 256
+pub bounded_more : (old now : ℕ → ℕ) (place : ℕ) → ((k : ℕ) → place ≤ k → now k ≡ old k) → now place < 256 → ((k : ℕ) → k < place → old k < 256) → (k : ℕ)
+    → k < place + 1 → old k < 256
 bounded_more old now place ahead fits before k below = at (cases_lt k place)
   where
     at : (k < place) ⊎ (place ≤ k) → old k < 256
@@ -71,14 +74,26 @@ bounded_more old now place ahead fits before k below = at (cases_lt k place)
 within : (byte : ℕ) → byte < 256 → byte / 8 < 32
 within byte below = omega arith
 
-pub either_members : (a b new : Cset) → ((k : ℕ) → k < 32 → slice_index new.bits k ≡ bit_or (slice_index a.bits k) (slice_index b.bits k)) → HasMembers new (λ byte. has a byte || has b byte)
-either_members a b new bytes = record { is = λ byte below. ap (λ n. bit_at n (byte % 8) == 1) (bytes (byte / 8) (within byte below)) ∙ either_at (slice_index a.bits (byte / 8)) (slice_index b.bits (byte / 8)) (byte % 8) }
+pub either_members : (a b new : Cset) → ((k : ℕ) → k < 32 → slice_index new.bits k ≡ bit_or (slice_index a.bits k) (slice_index b.bits k))
+    → HasMembers new (λ byte. has a byte || has b byte)
+either_members a b new bytes = record {
+  is = λ byte below. ap (λ n. bit_at n (byte % 8) == 1) (bytes (byte / 8) (within byte below))
+      ∙ either_at (slice_index a.bits (byte / 8)) (slice_index b.bits (byte / 8)) (byte % 8);
+}
 
-pub both_members : (a b new : Cset) → ((k : ℕ) → k < 32 → slice_index new.bits k ≡ bit_and (slice_index a.bits k) (slice_index b.bits k)) → HasMembers new (λ byte. has a byte && has b byte)
-both_members a b new bytes = record { is = λ byte below. ap (λ n. bit_at n (byte % 8) == 1) (bytes (byte / 8) (within byte below)) ∙ both_at (slice_index a.bits (byte / 8)) (slice_index b.bits (byte / 8)) (byte % 8) }
+pub both_members : (a b new : Cset) → ((k : ℕ) → k < 32 → slice_index new.bits k ≡ bit_and (slice_index a.bits k) (slice_index b.bits k))
+    → HasMembers new (λ byte. has a byte && has b byte)
+both_members a b new bytes = record {
+  is = λ byte below. ap (λ n. bit_at n (byte % 8) == 1) (bytes (byte / 8) (within byte below))
+      ∙ both_at (slice_index a.bits (byte / 8)) (slice_index b.bits (byte / 8)) (byte % 8);
+}
 
-pub other_members : (a new : Cset) → ((k : ℕ) → k < 32 → slice_index a.bits k < 256) → ((k : ℕ) → k < 32 → slice_index new.bits k ≡ bit_not w8 (slice_index a.bits k)) → HasMembers new (λ byte. not (has a byte))
-other_members a new small bytes = record { is = λ byte below. ap (λ n. bit_at n (byte % 8) == 1) (bytes (byte / 8) (within byte below)) ∙ other_at (slice_index a.bits (byte / 8)) (byte % 8) (small (byte / 8) (within byte below)) (omega arith) }
+pub other_members : (a new : Cset) → ((k : ℕ) → k < 32 → slice_index a.bits k < 256)
+    → ((k : ℕ) → k < 32 → slice_index new.bits k ≡ bit_not w8 (slice_index a.bits k)) → HasMembers new (λ byte. not (has a byte))
+other_members a new small bytes = record {
+  is = λ byte below. ap (λ n. bit_at n (byte % 8) == 1) (bytes (byte / 8) (within byte below))
+      ∙ other_at (slice_index a.bits (byte / 8)) (byte % 8) (small (byte / 8) (within byte below)) (omega arith);
+}
 
 no_bytes : (n k : ℕ) → slice_index (replicate n 0) k ≡ 0
 no_bytes zero k = refl
@@ -89,7 +104,9 @@ pub no_members : HasMembers (record { bits = replicate 32 0 }) (λ byte. false)
 no_members = record { is = λ byte below. ap (λ n. bit_at n (byte % 8) == 1) (no_bytes 32 (byte / 8)) ∙ ap (λ n. n == 1) (bit_at-zero (byte % 8)) }
 
 -- one more byte is a member
-pub with_members : (a : Cset) (byte place : ℕ) → byte < 256 → place ≡ byte / 8 → length a.bits ≡ 32 → HasMembers (record { bits = slice_set a.bits place (bit_or (slice_index a.bits place) (1 * 2 ^ (byte % 8) % 256)) }) (λ other. other == byte || has a other)
+pub with_members : (a : Cset) (byte place : ℕ) → byte < 256 → place ≡ byte / 8 → length a.bits ≡ 32
+    → HasMembers (record { bits = slice_set a.bits place (bit_or (slice_index a.bits place) (1 * 2 ^ (byte % 8) % 256)) })
+    (λ other. other == byte || has a other)
 with_members a byte place small is bytes = record { is = λ other below. by_place other below (eqb_tells (other / 8) place) }
   where
     new : ℕ
@@ -98,18 +115,27 @@ with_members a byte place small is bytes = record { is = λ other below. by_plac
     apart : (other : ℕ) → other ≢ byte → has a other ≡ (other == byte || has a other)
     apart other other_byte = rw (ne_eqb other byte other_byte) refl
 
-    by_bit : (other : ℕ) → other < 256 → other / 8 ≡ place → ((eqb (other % 8) (byte % 8) ≡ true) × (other % 8 ≡ byte % 8)) ⊎ ((eqb (other % 8) (byte % 8) ≡ false) × (other % 8 ≢ byte % 8)) → (bit_at new (other % 8) == 1) ≡ (other == byte || has a other)
-    by_bit other below here (inl same) = let whole : other ≡ byte = omega (arith, same.1, here, is) in rw whole (rw (bit_at_set_same w8 (slice_index a.bits place) (byte % 8) (omega arith)) (rw (eq-eqb byte byte refl) refl))
-    by_bit other below here (inr differ) = ap (λ n. n == 1) (bit_at_set_other w8 (slice_index a.bits place) (byte % 8) (omega arith) (other % 8) differ.1) ∙ (ap (λ k. bit_at (slice_index a.bits k) (other % 8) == 1) (sym here) ∙ apart other (λ same. differ.1 (ap (λ n. n % 8) same)))
+    by_bit : (other : ℕ) → other < 256
+        → other / 8 ≡ place → ((eqb (other % 8) (byte % 8) ≡ true) × (other % 8 ≡ byte % 8)) ⊎ ((eqb (other % 8) (byte % 8) ≡ false) × (other % 8 ≢ byte % 8))
+        → (bit_at new (other % 8) == 1) ≡ (other == byte || has a other)
+    by_bit other below here (inl same) = let whole : other ≡ byte = omega (arith, same.1, here, is) in
+        rw whole (rw (bit_at_set_same w8 (slice_index a.bits place) (byte % 8) (omega arith)) (rw (eq-eqb byte byte refl) refl))
+    by_bit other below here (inr differ) = ap (λ n. n == 1) (bit_at_set_other w8 (slice_index a.bits place) (byte % 8) (omega arith) (other % 8) differ.1)
+        ∙ (ap (λ k. bit_at (slice_index a.bits k) (other % 8) == 1) (sym here) ∙ apart other (λ same. differ.1 (ap (λ n. n % 8) same)))
 
-    by_place : (other : ℕ) → other < 256 → ((eqb (other / 8) place ≡ true) × (other / 8 ≡ place)) ⊎ ((eqb (other / 8) place ≡ false) × (other / 8 ≢ place)) → (bit_at (slice_index (slice_set a.bits place new) (other / 8)) (other % 8) == 1) ≡ (other == byte || has a other)
-    by_place other below (inl same) = ap (λ n. bit_at n (other % 8) == 1) (ap (slice_index (slice_set a.bits place new)) same.1 ∙ get_or-set_same a.bits place new 0 (omega (arith, bytes, is, small))) ∙ by_bit other below same.1 (eqb_tells (other % 8) (byte % 8))
-    by_place other below (inr differ) = ap (λ n. bit_at n (other % 8) == 1) (get_or-set_other a.bits place (other / 8) new 0 differ.1) ∙ apart other (λ same. differ.1 (ap (λ n. n / 8) same ∙ sym is))
+    by_place : (other : ℕ) → other < 256 → ((eqb (other / 8) place ≡ true) × (other / 8 ≡ place)) ⊎ ((eqb (other / 8) place ≡ false) × (other / 8 ≢ place))
+        → (bit_at (slice_index (slice_set a.bits place new) (other / 8)) (other % 8) == 1) ≡ (other == byte || has a other)
+    by_place other below (inl same) = ap (λ n. bit_at n (other % 8) == 1) (ap (slice_index (slice_set a.bits place new)) same.1
+        ∙ get_or-set_same a.bits place new 0 (omega (arith, bytes, is, small))) ∙ by_bit other below same.1 (eqb_tells (other % 8) (byte % 8))
+    by_place other below (inr differ) = ap (λ n. bit_at n (other % 8) == 1) (get_or-set_other a.bits place (other / 8) new 0 differ.1)
+        ∙ apart other (λ same. differ.1 (ap (λ n. n / 8) same ∙ sym is))
 
 -- Numbers of members
 
-range_next : (a n m : ℕ) → m ≡ suc (n + 1) → range_with_len (a + 1) (n + 1) ≡ range_with_len (a + 1) n ++ (a + 1 + n) ∷ [] → range_with_len a m ≡ range_with_len a (suc n) ++ (a + suc n) ∷ []
-range_next a n m same rest = let last : a + 1 + n ≡ a + suc n = omega arith in rw same (ap (λ tail. a ∷ tail) (rest ∙ ap (λ k. range_with_len (a + 1) n ++ k ∷ []) last))
+range_next : (a n m : ℕ) → m ≡ suc (n + 1) → range_with_len (a + 1) (n + 1) ≡ range_with_len (a + 1) n ++ (a + 1 + n) ∷ []
+    → range_with_len a m ≡ range_with_len a (suc n) ++ (a + suc n) ∷ []
+range_next a n m same rest =
+    let last : a + 1 + n ≡ a + suc n = omega arith in rw same (ap (λ tail. a ∷ tail) (rest ∙ ap (λ k. range_with_len (a + 1) n ++ k ∷ []) last))
 
 range_more : (a n : ℕ) → range_with_len a (n + 1) ≡ range_with_len a n ++ (a + n) ∷ []
 range_more a zero = search rules
@@ -117,7 +143,8 @@ range_more a (suc n) = range_next a n (suc n + 1) (omega arith) (range_more (a +
 
 pub below_more : (cset : Cset) (n : ℕ) → members_below cset (n + 1) ≡ members_below cset n ++ (if has cset n then n ∷ [] else [])
 unfolding members_below
-below_more cset n = ap (filter (has cset)) (range_more 0 n ∙ (let same : 0 + n ≡ n = omega arith in ap (λ k. range_with_len 0 n ++ k ∷ []) same)) ∙ filter-append (has cset) (range_with_len 0 n) (n ∷ [])
+below_more cset n = ap (filter (has cset)) (range_more 0 n ∙ (let same : 0 + n ≡ n = omega arith in ap (λ k. range_with_len 0 n ++ k ∷ []) same))
+    ∙ filter-append (has cset) (range_with_len 0 n) (n ∷ [])
 
 pub none_below : (cset : Cset) → 0 ≡ length (members_below cset 0)
 unfolding members_below
@@ -134,7 +161,8 @@ filtered : (a b : ℕ → Bool) (from n : ℕ) → ((k : ℕ) → from ≤ k →
 filtered a b from zero same = refl
 filtered a b from (suc n) same = step (same from (omega arith) (omega arith)) (filtered a b (from + 1) n (λ k low high. same k (omega arith) (omega arith)))
   where
-    step : a from ≡ b from → filter a (range_with_len (from + 1) n) ≡ filter b (range_with_len (from + 1) n) → filter a (from ∷ range_with_len (from + 1) n) ≡ filter b (from ∷ range_with_len (from + 1) n)
+    step : a from ≡ b from → filter a (range_with_len (from + 1) n) ≡ filter b (range_with_len (from + 1) n)
+        → filter a (from ∷ range_with_len (from + 1) n) ≡ filter b (from ∷ range_with_len (from + 1) n)
     step here rest = rw here (rw rest refl)
 
 -- all 256 bytes are below 256

@@ -51,7 +51,8 @@ by_equal : {X : Type 0} (cmp : X → X → Ordering) → CmpEqualImpliesEq cmp �
 by_equal cmp exact x y is = exact x y ((Equal-is (cmp x y)).0 is)
 
 shape_by : {rank rank' : ℕ} {text text' : List ℕ} {number number' : ℤ} → rank ≡ rank' → text ≡ text' → number ≡ number'
-    → (let a : Shape = record { rank = rank; text = text; number = number } in a) ≡ (let b : Shape = record { rank = rank'; text = text'; number = number' } in b)
+    → (let a : Shape = record { rank = rank; text = text; number = number } in a) ≡ (let b : Shape = record { rank = rank'; text = text'; number = number' } in
+    b)
 shape_by rank text number = cc
 
 same_shape : (a b : Shape) → is_eq (shape_cmp a b) ≡ true → a ≡ b

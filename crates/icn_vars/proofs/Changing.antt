@@ -76,13 +76,16 @@ bytes_change count = record {
   ok = λ setting made is next. passed_by (nat_le (setting.world.heap.strings + count) setting.world.heap.bounds.strings) 306
       (λ heap. record heap { strings = heap.strings + count }) made (Strings setting.world.heap.strings setting.world.heap.bounds.strings) setting next is;
   err = λ all setting full is.
-      let no : IsRefused (nat_le (setting.world.heap.strings + count) setting.world.heap.bounds.strings) (Strings setting.world.heap.strings setting.world.heap.bounds.strings) full =
-      refused_by (nat_le (setting.world.heap.strings + count) setting.world.heap.bounds.strings) (record setting.world.heap { strings = setting.world.heap.strings + count })
+      let no : IsRefused (nat_le (setting.world.heap.strings + count) setting.world.heap.bounds.strings)
+      (Strings setting.world.heap.strings setting.world.heap.bounds.strings) full =
+      refused_by (nat_le (setting.world.heap.strings + count) setting.world.heap.bounds.strings)
+      (record setting.world.heap { strings = setting.world.heap.strings + count })
       (Strings setting.world.heap.strings setting.world.heap.bounds.strings) full is in
       subst (λ why. StopsPassing all (costs_bytes count) setting setting (stop_of why)) no.same
       (λ next. ap (λ t. check t 306 None (changes_heap (λ heap. record heap { strings = heap.strings + count }) next) setting) no.test);
   charged = λ heap made is.
-      subst (IsCharged heap) (paid_is (nat_le (heap.strings + count) heap.bounds.strings) (record heap { strings = heap.strings + count }) made (Strings heap.strings heap.bounds.strings) is)
+      subst (IsCharged heap) (paid_is (nat_le (heap.strings + count) heap.bounds.strings) (record heap { strings = heap.strings + count }) made
+      (Strings heap.strings heap.bounds.strings) is)
       (record { lists = refl; sets = refl; tables = refl; records = refl });
 }
 
@@ -93,13 +96,16 @@ cells_change count = record {
   ok = λ setting made is next. passed_by (nat_le (setting.world.heap.cells + count) setting.world.heap.bounds.cells) 307
       (λ heap. record heap { cells = heap.cells + count }) made (Cells setting.world.heap.cells setting.world.heap.bounds.cells) setting next is;
   err = λ all setting full is.
-      let no : IsRefused (nat_le (setting.world.heap.cells + count) setting.world.heap.bounds.cells) (Cells setting.world.heap.cells setting.world.heap.bounds.cells) full =
-      refused_by (nat_le (setting.world.heap.cells + count) setting.world.heap.bounds.cells) (record setting.world.heap { cells = setting.world.heap.cells + count })
+      let no : IsRefused (nat_le (setting.world.heap.cells + count) setting.world.heap.bounds.cells)
+      (Cells setting.world.heap.cells setting.world.heap.bounds.cells) full =
+      refused_by (nat_le (setting.world.heap.cells + count) setting.world.heap.bounds.cells)
+      (record setting.world.heap { cells = setting.world.heap.cells + count })
       (Cells setting.world.heap.cells setting.world.heap.bounds.cells) full is in
       subst (λ why. StopsPassing all (costs_cells count) setting setting (stop_of why)) no.same
       (λ next. ap (λ t. check t 307 None (changes_heap (λ heap. record heap { cells = heap.cells + count }) next) setting) no.test);
   charged = λ heap made is.
-      subst (IsCharged heap) (paid_is (nat_le (heap.cells + count) heap.bounds.cells) (record heap { cells = heap.cells + count }) made (Cells heap.cells heap.bounds.cells) is)
+      subst (IsCharged heap)
+      (paid_is (nat_le (heap.cells + count) heap.bounds.cells) (record heap { cells = heap.cells + count }) made (Cells heap.cells heap.bounds.cells) is)
       (record { lists = refl; sets = refl; tables = refl; records = refl });
 }
 
@@ -131,7 +137,8 @@ unless_change true = nothing_changes
 unless_change false = cells_change 1
 
 -- a charge that is followed by a change which charges nothing
-pub charged_then : (f : Heap → Heap) (charged : ChangedHeap) (new : Heap) → and_then charged (λ paid. let r : ChangedHeap = Ok (f paid) in r) ≡ Ok new → (paid : Heap) × (charged ≡ Ok paid) × (f paid ≡ new)
+pub charged_then : (f : Heap → Heap) (charged : ChangedHeap) (new : Heap) → and_then charged (λ paid. let r : ChangedHeap = Ok (f paid) in r) ≡ Ok new
+    → (paid : Heap) × (charged ≡ Ok paid) × (f paid ≡ new)
 charged_then f (Ok paid) new is = (paid, refl, nothing_made (f paid) new is)
 charged_then f (Err full) new is = absurd (never full is)
   where
@@ -139,20 +146,23 @@ charged_then f (Err full) new is = absurd (never full is)
     never full is = cc
 
 -- where it keeps the records, they stay
-pub fields_behind : {part : Row → Row} {change : Heap → ChangedHeap} → IsChange part change → (f : Heap → Heap) → ((heap : Heap) → (f heap).records ≡ heap.records) → (old new : Heap)
+pub fields_behind : {part : Row → Row} {change : Heap → ChangedHeap} → IsChange part change → (f : Heap → Heap)
+    → ((heap : Heap) → (f heap).records ≡ heap.records) → (old new : Heap)
     → and_then (change old) (λ paid. let r : ChangedHeap = Ok (f paid) in r) ≡ Ok new → KeepsFields (field_counts old) (field_counts new)
 fields_behind {change = change} is f keeps old new step =
     let made = charged_then f (change old) new step in
     same_records old new (sym (ap (λ (heap : Heap). heap.records) made.2) ∙ (keeps made.0 ∙ (is.charged old made.0 made.1).records))
 
 -- where it charges alone, they stay
-pub fields_charged : {part : Row → Row} {change : Heap → ChangedHeap} → IsChange part change → (old new : Heap) → change old ≡ Ok new → KeepsFields (field_counts old) (field_counts new)
+pub fields_charged : {part : Row → Row} {change : Heap → ChangedHeap} → IsChange part change → (old new : Heap) → change old ≡ Ok new
+    → KeepsFields (field_counts old) (field_counts new)
 fields_charged is old new step = same_records old new (is.charged old new step).records
 
 -- Changes of records
 
 counts_append : (records : List Record) (one : Record) (id : ℕ)
-    → slice_index (map (λ (structure : Record). length structure.fields) records) id ≤ slice_index (map (λ (structure : Record). length structure.fields) (records ++ one ∷ [])) id
+    → slice_index (map (λ (structure : Record). length structure.fields) records) id
+    ≤ slice_index (map (λ (structure : Record). length structure.fields) (records ++ one ∷ [])) id
 counts_append [] one id = omega arith
 counts_append (first ∷ records) one zero = omega arith
 counts_append (first ∷ records) one (suc id) = counts_append records one id
@@ -163,7 +173,8 @@ fields_made kind fields heap = record { more = counts_append heap.records (recor
 
 counts_set : (records : List Record) (rec place : ℕ) (value : Value) (id : ℕ)
     → slice_index (map (λ (structure : Record). length structure.fields) records) id
-    ≤ slice_index (map (λ (structure : Record). length structure.fields) (set records rec (record (unwrap_or (slice_get records rec) (record { kind = 0; fields = [] })) { fields = set (unwrap_or (slice_get records rec) (record { kind = 0; fields = [] })).fields place value }))) id
+    ≤ slice_index (map (λ (structure : Record). length structure.fields) (set records rec (record (unwrap_or (slice_get records rec)
+    (record { kind = 0; fields = [] })) { fields = set (unwrap_or (slice_get records rec) (record { kind = 0; fields = [] })).fields place value }))) id
 counts_set [] rec place value id = omega arith
 counts_set (first ∷ records) zero place value zero = let same = length-set first.fields place value in omega arith
 counts_set (first ∷ records) zero place value (suc id) = omega arith
@@ -186,20 +197,25 @@ module _ (old new : HeldHeap) (pair : Pair) (random : ℕ) (globals statics loca
   pub passes : {part : Row → Row} {change : Heap → ChangedHeap} → IsChange part change → change (heap_of old) ≡ Ok (heap_of new) → (outside : Outside)
       → Passes part (setting_over outside old pair random globals statics locals) (setting_over outside new pair random globals statics locals)
   passes is step outside next =
-      is.ok (setting_over outside old pair random globals statics locals) (heap_of new) step next ∙ ap next (heap_changed outside old new pair random globals statics locals keeps refl sound live)
+      is.ok (setting_over outside old pair random globals statics locals) (heap_of new) step next
+      ∙ ap next (heap_changed outside old new pair random globals statics locals keeps refl sound live)
 
   -- it stops there
-  pub stops : {part : Row → Row} {change : Heap → ChangedHeap} → IsChange part change → heap_of new ≡ heap_of old → (full : Full) → Refuses (change (heap_of old)) full
+  pub stops : {part : Row → Row} {change : Heap → ChangedHeap} → IsChange part change → heap_of new ≡ heap_of old → (full : Full)
+      → Refuses (change (heap_of old)) full
       → (all : Extent) (outside : Outside)
-      → StopsPassing all part (setting_over outside old pair random globals statics locals) (setting_over outside new pair random globals statics locals) (stop_of full)
+      → StopsPassing all part (setting_over outside old pair random globals statics locals) (setting_over outside new pair random globals statics locals)
+      (stop_of full)
   stops {part} {change} is same full why all outside =
       subst (λ (setting : Setting). StopsPassing all part (setting_over outside old pair random globals statics locals) setting (stop_of full))
       (heap_changed outside old new pair random globals statics locals keeps same sound live)
-      (⊎_elim (λ (e : full ≡ NoMemory). subst (λ f. StopsPassing all part (setting_over outside old pair random globals statics locals) (setting_over outside old pair random globals statics locals) (stop_of f)) (sym e) tt)
+      (⊎_elim (λ (e : full ≡ NoMemory). subst (λ f. StopsPassing all part (setting_over outside old pair random globals statics locals)
+      (setting_over outside old pair random globals statics locals) (stop_of f)) (sym e) tt)
       (λ (e : change (heap_of old) ≡ Err full). is.err all (setting_over outside old pair random globals statics locals) full e) why)
 
 -- a part of a row that stopped is the answer
-pub stops_at : {A : Type 0} (all : Extent) (part : Row → Row) (before after : Setting) (stop : Stop) (result : Result A Stop) → IsErrAnd result (λ other. other ≡ stop) → StopsPassing all part before after stop
+pub stops_at : {A : Type 0} (all : Extent) (part : Row → Row) (before after : Setting) (stop : Stop) (result : Result A Stop)
+    → IsErrAnd result (λ other. other ≡ stop) → StopsPassing all part before after stop
     → MatchResult result (λ _. Passes part before after) (StopsPassing all part before after)
 stops_at all part before after stop (Ok thing) same is = absurd same
 stops_at all part before after stop (Err other) same is = subst (StopsPassing all part before after) (sym same) is

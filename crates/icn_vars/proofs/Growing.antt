@@ -12,13 +12,15 @@ use Rattle.icn_heap.proofs.Keeping.{live_kept, values_kept}
 use Rattle.icn_vars.specs.Facts.{IsSoundWorld}
 
 -- what holds of a world is kept as its heap grows
-pub grows : (a b : Extent) (pair : Pair) (random : ℕ) (globals statics : List Val) → Keeps a b → IsSoundWorld a pair random globals statics → IsSoundWorld b pair random globals statics
+pub grows : (a b : Extent) (pair : Pair) (random : ℕ) (globals statics : List Val) → Keeps a b → IsSoundWorld a pair random globals statics
+    → IsSoundWorld b pair random globals statics
 grows a b pair random globals statics keeps sound = record {
   live_globals = live_kept keeps globals sound.live_globals;
   live_statics = live_kept keeps statics sound.live_statics;
   subject = keeps.text pair.subject sound.subject;
   low = sound.low;
-  high = (let same : length (text_in b pair.subject) ≡ length (text_in a pair.subject) = ap length (keeps.bytes pair.subject sound.subject) in let high = sound.high in omega arith);
+  high = (let same : length (text_in b pair.subject) ≡ length (text_in a pair.subject) = ap length (keeps.bytes pair.subject sound.subject) in
+      let high = sound.high in omega arith);
   state = sound.state;
 }
 
@@ -45,15 +47,20 @@ setting_over outside heap pair random globals statics locals = record {
   outside = outside;
 }
 
-setting_by : (outside : Outside) (position random : ℕ) {heap heap' : Heap} {subject subject' : List ℕ} {globals globals' statics statics' locals locals' : List Value}
+setting_by : (outside : Outside)
+    (position random : ℕ) {heap heap' : Heap} {subject subject' : List ℕ} {globals globals' statics statics' locals locals' : List Value}
     → heap' ≡ heap → subject' ≡ subject → globals' ≡ globals → statics' ≡ statics → locals' ≡ locals
-    → (let w : StoreWorld = record { heap = heap; subject = subject; position = position; random = random; globals = globals; statics = statics } in let s : Setting = record { world = w; locals = locals; outside = outside } in s)
-    ≡ (let w : StoreWorld = record { heap = heap'; subject = subject'; position = position; random = random; globals = globals'; statics = statics' } in let s : Setting = record { world = w; locals = locals'; outside = outside } in s)
+    → (let w : StoreWorld = record { heap = heap; subject = subject; position = position; random = random; globals = globals; statics = statics } in
+    let s : Setting = record { world = w; locals = locals; outside = outside } in s)
+    ≡ (let w : StoreWorld = record { heap = heap'; subject = subject'; position = position; random = random; globals = globals'; statics = statics' } in
+    let s : Setting = record { world = w; locals = locals'; outside = outside } in s)
 setting_by outside position random a b c d e = cc
 
 -- the heap changed, and nothing else
-pub heap_changed : (outside : Outside) (old new : HeldHeap) (pair : Pair) (random : ℕ) (globals statics locals : List Val) {heap : Heap} → Keeps (extent_of old) (extent_of new) → heap_of new ≡ heap
+pub heap_changed : (outside : Outside) (old new : HeldHeap) (pair : Pair) (random : ℕ) (globals statics locals : List Val) {heap : Heap}
+    → Keeps (extent_of old) (extent_of new) → heap_of new ≡ heap
     → IsSoundWorld (extent_of old) pair random globals statics → All (IsLive (extent_of old)) locals
     → having_heap (λ _. heap) (setting_over outside old pair random globals statics locals) ≡ setting_over outside new pair random globals statics locals
 heap_changed outside old new pair random globals statics locals keeps same sound live =
-    setting_by outside pair.position random same (keeps.bytes pair.subject sound.subject) (values_kept keeps globals sound.live_globals) (values_kept keeps statics sound.live_statics) (values_kept keeps locals live)
+    setting_by outside pair.position random same (keeps.bytes pair.subject sound.subject) (values_kept keeps globals sound.live_globals)
+    (values_kept keeps statics sound.live_statics) (values_kept keeps locals live)

@@ -36,15 +36,18 @@ coexp_made locals setting heap is =
     (record setting.world.heap { cells = setting.world.heap.cells + (1 + locals) }) heap
     (Cells setting.world.heap.cells setting.world.heap.bounds.cells) setting refl is
 
-pub coexp_refused : (locals : ℕ) (setting : Setting) (full : Full) → made_coexp setting.world.heap locals ≡ Err full → coexpression_row locals setting ≡ Error 307 None setting
+pub coexp_refused : (locals : ℕ) (setting : Setting) (full : Full) → made_coexp setting.world.heap locals ≡ Err full
+    → coexpression_row locals setting ≡ Error 307 None setting
 unfolding charged_cells
 coexp_refused locals setting full is =
     refused_row (nat_le (setting.world.heap.cells + (1 + locals)) setting.world.heap.bounds.cells) _
-    (record setting.world.heap { cells = setting.world.heap.cells + (1 + locals) }) (Cells setting.world.heap.cells setting.world.heap.bounds.cells) full setting is
+    (record setting.world.heap { cells = setting.world.heap.cells + (1 + locals) })
+    (Cells setting.world.heap.cells setting.world.heap.bounds.cells) full setting is
 
 -- One more result
 
-pub result_counted : (id : ℕ) (heap : Heap) → with_result id heap ≡ (let counted : Heap = record heap { coexps = slice_set heap.coexps id (suc (slice_index heap.coexps id)) } in counted)
+pub result_counted : (id : ℕ) (heap : Heap)
+    → with_result id heap ≡ (let counted : Heap = record heap { coexps = slice_set heap.coexps id (suc (slice_index heap.coexps id)) } in counted)
 result_counted id heap =
     let more : slice_index heap.coexps id + 1 ≡ suc (slice_index heap.coexps id) = omega arith in
     ap (λ n. let counted : Heap = record heap { coexps = slice_set heap.coexps id n } in counted) more

@@ -28,23 +28,27 @@ is_given (Ends status setting) = false
 text_given : (text : List ℕ) (value : Value) → Text text ≡ value → is_some (held_text value) ≡ true
 text_given text value is = sym (ap (λ v. is_some (held_text v)) is)
 
-never : {A : Type 0} (setting after : Setting) (number : ℕ) (offending : Option Value) (value : Value) → Error number offending setting ≡ Gives (Val value) after → A
+never : {A : Type 0} (setting after : Setting) (number : ℕ) (offending : Option Value) (value : Value)
+    → Error number offending setting ≡ Gives (Val value) after → A
 unfolding is_given
 never setting after number offending value is = absurd (no (ap is_given is))
   where
     no : false ≡ true → ⊥
     no is = cc
 
-checked : (t : Bool) (text : List ℕ) (value : Value) (s : Setting) → check t 205 None (gives_value (Text text)) s ≡ Gives (Val value) s → is_some (held_text value) ≡ true
+checked : (t : Bool) (text : List ℕ) (value : Value) (s : Setting) → check t 205 None (gives_value (Text text)) s ≡ Gives (Val value) s
+    → is_some (held_text value) ≡ true
 unfolding given
 checked true text value s is = text_given text value (ap given is)
 checked false text value s is = never s s 205 None value is
 
 part_by : (place size : ℕ) (found : Option Value) (value : Value) (s : Setting)
-    → present found 205 None (λ held. present (held_text held) 103 (Some held) (λ text. check (nat_le (place - 1 + size) (length text)) 205 None (gives_value (Text (slice_range text (place - 1) (place - 1 + size)))))) s ≡ Gives (Val value) s
+    → present found 205 None (λ held. present (held_text held) 103 (Some held) (λ text. check (nat_le (place - 1 + size) (length text)) 205 None
+    (gives_value (Text (slice_range text (place - 1) (place - 1 + size)))))) s ≡ Gives (Val value) s
     → is_some (held_text value) ≡ true
 part_by place size None value s is = never s s 205 None value is
-part_by place size (Some (Text text)) value s is = checked (nat_le (place - 1 + size) (length text)) (slice_range text (place - 1) (place - 1 + size)) value s is
+part_by place size (Some (Text text)) value s is =
+    checked (nat_le (place - 1 + size) (length text)) (slice_range text (place - 1) (place - 1 + size)) value s is
 part_by place size (Some Null) value s is = never s s 103 (Some Null) value is
 part_by place size (Some (Integer n)) value s is = never s s 103 (Some (Integer n)) value is
 part_by place size (Some (Chars bytes)) value s is = never s s 103 (Some (Chars bytes)) value is

@@ -25,7 +25,8 @@ pub fields_then : (a b c : List ℕ) → KeepsFields a b → KeepsFields b c →
 fields_then a b c first second = record { more = λ id. (let low = first.more id in let high = second.more id in omega arith) }
 
 -- a world keeps its items where its heap and its records keep theirs, and there are as many globals, statics and locals
-pub keeps_items : (old new : Reach) → Keeps old.extent new.extent → KeepsFields old.fields new.fields → new.globals ≡ old.globals → new.statics ≡ old.statics → new.locals ≡ old.locals → KeepsItems old new
+pub keeps_items : (old new : Reach) → Keeps old.extent new.extent → KeepsFields old.fields new.fields → new.globals ≡ old.globals → new.statics ≡ old.statics
+    → new.locals ≡ old.locals → KeepsItems old new
 keeps_items old new extent fields globals statics locals = record { extent = extent; fields = fields; globals = globals; statics = statics; locals = locals }
 
 pub items_all : (a : Reach) → KeepsItems a a

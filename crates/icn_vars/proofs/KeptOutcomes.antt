@@ -70,7 +70,8 @@ module _ {old new : Reach} (keeps : KeepsItems old new) where
   pub residuals_stay : (rests : List HeldResidual) → All (IsLiveResidual old) rests → All (IsLiveResidual new) rests
   residuals_stay rests are = All-weaker (IsLiveResidual old) (IsLiveResidual new) residual_stays rests are
 
-  same_exchange : (mover : Mover) {x x' y y' : Variable} {v v' w w' : Value} → x' ≡ x → y' ≡ y → v' ≡ v → w' ≡ w → UndoExchange mover x' y' v' w' ≡ UndoExchange mover x y v w
+  same_exchange : (mover : Mover) {x x' y y' : Variable} {v v' w w' : Value} → x' ≡ x → y' ≡ y → v' ≡ v → w' ≡ w
+      → UndoExchange mover x' y' v' w' ≡ UndoExchange mover x y v w
   same_exchange mover a b c d = cc
 
   same_residual_by : (rest : HeldResidual) → ResidualBy old rest → residual_in new.extent rest ≡ residual_in old.extent rest
@@ -83,16 +84,19 @@ module _ {old new : Reach} (keeps : KeepsItems old new) where
   same_residual_by (HeldRecordFields rec place) is = refl
   same_residual_by HeldInputLines is = refl
   same_residual_by (HeldUndoAssign variable val) is =
-      ap (λ v. UndoAssign v (value_in new.extent val)) (variable_kept keeps variable is.live_variable) ∙ ap (UndoAssign (variable_in old.extent variable)) (keeps.extent.value val is.live_value)
+      ap (λ v. UndoAssign v (value_in new.extent val)) (variable_kept keeps variable is.live_variable)
+      ∙ ap (UndoAssign (variable_in old.extent variable)) (keeps.extent.value val is.live_value)
   same_residual_by (HeldUndoExchange mover left right old_left old_right) is =
-      same_exchange (mover_of mover) (variable_kept keeps left is.0.live_variable) (variable_kept keeps right is.1.live_variable) (keeps.extent.value old_left is.0.live_value) (keeps.extent.value old_right is.1.live_value)
+      same_exchange (mover_of mover) (variable_kept keeps left is.0.live_variable) (variable_kept keeps right is.1.live_variable)
+      (keeps.extent.value old_left is.0.live_value) (keeps.extent.value old_right is.1.live_value)
   same_residual_by (HeldUndoPosition place) is = refl
   same_residual_by (HeldCounting given last step) is = refl
   same_residual_by (HeldSequence given step) is = refl
   same_residual_by (HeldBalanced wanted opening closing text place last) is =
       ap (λ bytes. Balanced (members_of wanted) (members_of opening) (members_of closing) bytes place last) (keeps.extent.bytes text is.of)
   same_residual_by (HeldFound wanted text place last) is =
-      ap (λ bytes. Found bytes (text_in new.extent text) place last) (keeps.extent.bytes wanted is.0) ∙ ap (λ bytes. Found (text_in old.extent wanted) bytes place last) (keeps.extent.bytes text is.1.of)
+      ap (λ bytes. Found bytes (text_in new.extent text) place last) (keeps.extent.bytes wanted is.0)
+      ∙ ap (λ bytes. Found (text_in old.extent wanted) bytes place last) (keeps.extent.bytes text is.1.of)
   same_residual_by (HeldAmong wanted text place last) is = ap (λ bytes. Among (members_of wanted) bytes place last) (keeps.extent.bytes text is.of)
 
   pub residual_kept : (rest : HeldResidual) → IsLiveResidual old rest → residual_in new.extent rest ≡ residual_in old.extent rest
@@ -102,7 +106,8 @@ module _ {old new : Reach} (keeps : KeepsItems old new) where
   residuals_kept [] are = refl
   residuals_kept (first ∷ rests) are =
       let one : residual_in new.extent first ≡ residual_in old.extent first = residual_kept first (All-head (IsLiveResidual old) first rests are) in
-      let more : map (residual_in new.extent) rests ≡ map (residual_in old.extent) rests = residuals_kept rests (All-tail (IsLiveResidual old) first rests are) in
+      let more : map (residual_in new.extent) rests
+      ≡ map (residual_in old.extent) rests = residuals_kept rests (All-tail (IsLiveResidual old) first rests are) in
       cc
 
   outcome_by : (outcome : HeldOutcome) → OutcomeBy old outcome → OutcomeBy new outcome
@@ -113,13 +118,16 @@ module _ {old new : Reach} (keeps : KeepsItems old new) where
   pub outcome_stays : (outcome : HeldOutcome) → IsLiveOutcome old outcome → IsLiveOutcome new outcome
   outcome_stays outcome is = record { live = outcome_by outcome is.live }
 
-  same_outcome_by : (setting : Setting) (outcome : HeldOutcome) → OutcomeBy old outcome → outcome_in new.extent outcome setting ≡ outcome_in old.extent outcome setting
+  same_outcome_by : (setting : Setting) (outcome : HeldOutcome) → OutcomeBy old outcome
+      → outcome_in new.extent outcome setting ≡ outcome_in old.extent outcome setting
   same_outcome_by setting HeldFails is = refl
   same_outcome_by setting (HeldGives item) is = ap (λ one. Gives one setting) (item_kept keeps item is)
   same_outcome_by setting (HeldSuspends item rest) is =
-      ap (λ one. Suspends one (residual_in new.extent rest) setting) (item_kept keeps item is.0) ∙ ap (λ one. Suspends (item_in old.extent item) one setting) (residual_kept rest is.1)
+      ap (λ one. Suspends one (residual_in new.extent rest) setting) (item_kept keeps item is.0)
+      ∙ ap (λ one. Suspends (item_in old.extent item) one setting) (residual_kept rest is.1)
 
-  pub outcome_kept : (setting : Setting) (outcome : HeldOutcome) → IsLiveOutcome old outcome → outcome_in new.extent outcome setting ≡ outcome_in old.extent outcome setting
+  pub outcome_kept : (setting : Setting) (outcome : HeldOutcome) → IsLiveOutcome old outcome
+      → outcome_in new.extent outcome setting ≡ outcome_in old.extent outcome setting
   outcome_kept setting outcome is = same_outcome_by setting outcome is.live
 
   optional_stays : (offending : Option Val) → IfSome offending (IsLive old.extent) → IfSome offending (IsLive new.extent)
@@ -138,5 +146,6 @@ module _ {old new : Reach} (keeps : KeepsItems old new) where
   stop_stays NoMemory is = tt
 
   -- the value that an error is about stands for the same
-  pub offending_kept : (offending : Option Val) → IfSome offending (IsLive old.extent) → option_map (value_in new.extent) offending ≡ option_map (value_in old.extent) offending
+  pub offending_kept : (offending : Option Val) → IfSome offending (IsLive old.extent)
+      → option_map (value_in new.extent) offending ≡ option_map (value_in old.extent) offending
   offending_kept offending is = optional_kept keeps.extent offending is

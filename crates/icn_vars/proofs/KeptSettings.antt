@@ -12,7 +12,8 @@ use Rattle.icn_vars.specs.Worlds.{IsLiveItem, KeepsFields, KeepsItems, field_cou
 use Rattle.icn_vars.proofs.Growing.{locals_grow}
 use Rattle.icn_vars.proofs.KeptItems.{item_stays, keeps_items}
 
-pub setting_stays : (old new : World) (before after : List Val) (items : List Item) → KeepsItems (reach_of old before) (reach_of new after) → All (IsLive (extent_of new.heap)) after
+pub setting_stays : (old new : World) (before after : List Val) (items : List Item) → KeepsItems (reach_of old before) (reach_of new after)
+    → All (IsLive (extent_of new.heap)) after
     → IsSoundSetting old before items → IsSoundSetting new after items
 setting_stays old new before after items keeps live is = record {
   sound = new.sound;
@@ -21,7 +22,8 @@ setting_stays old new before after items keeps live is = record {
 }
 
 -- where the heap grows, and there are as many globals and statics
-pub setting_grows : (old new : World) (locals : List Val) (items : List Item) → Keeps (extent_of old.heap) (extent_of new.heap) → KeepsFields (field_counts (heap_of old.heap)) (field_counts (heap_of new.heap))
+pub setting_grows : (old new : World) (locals : List Val) (items : List Item) → Keeps (extent_of old.heap) (extent_of new.heap)
+    → KeepsFields (field_counts (heap_of old.heap)) (field_counts (heap_of new.heap))
     → length new.globals.items ≡ length old.globals.items → length new.statics.items ≡ length old.statics.items
     → IsSoundSetting old locals items → IsSoundSetting new locals items
 setting_grows old new locals items extent fields globals statics is =

@@ -23,13 +23,15 @@ use Rattle.icn_vars.specs.Stops.{StopsFinding}
 
 -- Places
 
-value_here : (all : Extent) (vals : List HeldVal) (place : ℕ) (val : HeldVal) → place < length vals → value_at (map (value_in all) vals) place ≡ value_in all (get_or vals place val)
+value_here : (all : Extent) (vals : List HeldVal) (place : ℕ) (val : HeldVal) → place < length vals
+    → value_at (map (value_in all) vals) place ≡ value_in all (get_or vals place val)
 value_here all [] place val within = absurd (omega arith)
 value_here all (first ∷ vals) zero val within = refl
 value_here all (first ∷ vals) (suc place) val within = value_here all vals place val (omega arith)
 
 -- the value at a place of globals, statics or locals
-pub value_read : (all : Extent) (vals : List HeldVal) (place : ℕ) (val other : HeldVal) → place < length vals → val ≡ get_or vals place other → Some (value_at (map (value_in all) vals) place) ≡ Some (value_in all val)
+pub value_read : (all : Extent) (vals : List HeldVal) (place : ℕ) (val other : HeldVal) → place < length vals → val ≡ get_or vals place other
+    → Some (value_at (map (value_in all) vals) place) ≡ Some (value_in all val)
 value_read all vals place val other within is = ap Some (value_here all vals place other within ∙ ap (value_in all) (sym is))
 
 -- a field's place is one of its record
@@ -62,26 +64,36 @@ whole_gone setting root is next = ap (λ found. present found 205 None next sett
 after_text : ℕ → ℕ → (List ℕ → Row) → Value → Row
 after_text place size next value = present (held_text value) 103 (Some value) (λ text. check (nat_le (place - 1 + size) (length text)) 205 None (next text))
 
-text_by : (setting : Setting) (root : Root) (place size : ℕ) (value : Value) → root_value setting root ≡ Some value → (next : List ℕ → Row) → reads_text root place size next setting ≡ after_text place size next value setting
+text_by : (setting : Setting) (root : Root) (place size : ℕ) (value : Value) → root_value setting root ≡ Some value → (next : List ℕ → Row)
+    → reads_text root place size next setting ≡ after_text place size next value setting
 unfolding after_text
-text_by setting root place size value is next = ap (λ found. present found 205 None (λ held. present (held_text held) 103 (Some held) (λ text. check (nat_le (place - 1 + size) (length text)) 205 None (next text))) setting) is
+text_by setting root place size value is next = ap (λ found. present found 205 None
+    (λ held. present (held_text held) 103 (Some held) (λ text. check (nat_le (place - 1 + size) (length text)) 205 None (next text))) setting) is
 
-pub text_read : (setting : Setting) (root : Root) (place size : ℕ) (text : List ℕ) → root_value setting root ≡ Some (Text text) → place - 1 + size ≤ length text → GoesOn (reads_text root place size) setting text setting
+pub text_read : (setting : Setting) (root : Root) (place size : ℕ) (text : List ℕ) → root_value setting root ≡ Some (Text text) → place - 1 + size ≤ length text
+    → GoesOn (reads_text root place size) setting text setting
 unfolding after_text
-text_read setting root place size text is fits next = text_by setting root place size (Text text) is next ∙ ap (λ b. check b 205 None (next text) setting) (le-leb (place - 1 + size) (length text) fits)
+text_read setting root place size text is fits next =
+    text_by setting root place size (Text text) is next ∙ ap (λ b. check b 205 None (next text) setting) (le-leb (place - 1 + size) (length text) fits)
 
-pub text_short : (setting : Setting) (root : Root) (place size : ℕ) (text : List ℕ) → root_value setting root ≡ Some (Text text) → length text < place - 1 + size → ComesTo (reads_text root place size) setting (Error 205 None setting)
+pub text_short : (setting : Setting) (root : Root) (place size : ℕ) (text : List ℕ) → root_value setting root ≡ Some (Text text)
+    → length text < place - 1 + size → ComesTo (reads_text root place size) setting (Error 205 None setting)
 unfolding after_text
-text_short setting root place size text is past next = text_by setting root place size (Text text) is next ∙ ap (λ b. check b 205 None (next text) setting) (lt-leb (place - 1 + size) (length text) past)
+text_short setting root place size text is past next =
+    text_by setting root place size (Text text) is next ∙ ap (λ b. check b 205 None (next text) setting) (lt-leb (place - 1 + size) (length text) past)
 
-pub text_other : (setting : Setting) (root : Root) (place size : ℕ) (value : Value) → root_value setting root ≡ Some value → held_text value ≡ None → ComesTo (reads_text root place size) setting (Error 103 (Some value) setting)
+pub text_other : (setting : Setting) (root : Root) (place size : ℕ) (value : Value) → root_value setting root ≡ Some value → held_text value ≡ None
+    → ComesTo (reads_text root place size) setting (Error 103 (Some value) setting)
 unfolding after_text
 text_other setting root place size value is other next =
-    text_by setting root place size value is next ∙ ap (λ found. present found 103 (Some value) (λ text. check (nat_le (place - 1 + size) (length text)) 205 None (next text)) setting) other
+    text_by setting root place size value is next
+    ∙ ap (λ found. present found 103 (Some value) (λ text. check (nat_le (place - 1 + size) (length text)) 205 None (next text)) setting) other
 
-pub text_gone : (setting : Setting) (root : Root) (place size : ℕ) → root_value setting root ≡ None → ComesTo (reads_text root place size) setting (Error 205 None setting)
+pub text_gone : (setting : Setting) (root : Root) (place size : ℕ) → root_value setting root ≡ None
+    → ComesTo (reads_text root place size) setting (Error 205 None setting)
 text_gone setting root place size is next =
-    ap (λ found. present found 205 None (λ held. present (held_text held) 103 (Some held) (λ text. check (nat_le (place - 1 + size) (length text)) 205 None (next text))) setting) is
+    ap (λ found. present found 205 None
+    (λ held. present (held_text held) 103 (Some held) (λ text. check (nat_le (place - 1 + size) (length text)) 205 None (next text))) setting) is
 
 -- Parts
 
@@ -89,33 +101,40 @@ pub part_read : (setting : Setting) (root : Root) (place size : ℕ) (text part 
     → part ≡ take size (drop (place - 1) text) → GoesOn (reads (Part root place size)) setting (Text part) setting
 part_read setting root place size text part h is next =
     let count : place - 1 + size - (place - 1) ≡ size = omega arith in
-    h (λ whole. next (Text (slice_range whole (place - 1) (place - 1 + size)))) ∙ ap (λ bytes. next (Text bytes) setting) (ap (λ n. take n (drop (place - 1) text)) count ∙ sym is)
+    h (λ whole. next (Text (slice_range whole (place - 1) (place - 1 + size))))
+    ∙ ap (λ bytes. next (Text bytes) setting) (ap (λ n. take n (drop (place - 1) text)) count ∙ sym is)
 
 part_by : (all : Extent) (setting : Setting) (root : Root) (place size : ℕ) (stop : Stop) → StopsFinding all (reads_text root place size) setting setting stop
     → StopsFinding all (reads (Part root place size)) setting setting stop
 part_by all setting root place size (StopError number offending) h = λ next. h (λ whole. next (Text (slice_range whole (place - 1) (place - 1 + size))))
 part_by all setting root place size NoMemory h = tt
 
-pub part_stops : (all : Extent) (setting : Setting) (root : Root) (place size : ℕ) (stop : Stop) (result : Result HeldVal Stop) → IsErrAnd result (λ other. other ≡ stop)
+pub part_stops : (all : Extent) (setting : Setting) (root : Root) (place size : ℕ) (stop : Stop) (result : Result HeldVal Stop)
+    → IsErrAnd result (λ other. other ≡ stop)
     → StopsFinding all (reads_text root place size) setting setting stop
-    → MatchResult result (λ val. GoesOn (reads (Part root place size)) setting (value_in all val) setting) (StopsFinding all (reads (Part root place size)) setting setting)
+    → MatchResult result (λ val. GoesOn (reads (Part root place size)) setting (value_in all val) setting)
+    (StopsFinding all (reads (Part root place size)) setting setting)
 part_stops all setting root place size stop (Ok val) same h = absurd same
-part_stops all setting root place size stop (Err other) same h = subst (StopsFinding all (reads (Part root place size)) setting setting) (sym same) (part_by all setting root place size stop h)
+part_stops all setting root place size stop (Err other) same h =
+    subst (StopsFinding all (reads (Part root place size)) setting setting) (sym same) (part_by all setting root place size stop h)
 
 -- Elements
 
-numbered : (all : Extent) (list : Numbered HeldVal) (number : ℤ) → option_map (value_in all) (item_numbered list number) ≡ item_numbered (list_in all list) number
+numbered : (all : Extent) (list : Numbered HeldVal) (number : ℤ)
+    → option_map (value_in all) (item_numbered list number) ≡ item_numbered (list_in all list) number
 numbered all list number = by (number -ℤ list.number)
   where
     by : (place : ℤ) → option_map (value_in all) (item_at list.items place) ≡ item_at (map (value_in all) list.items) place
     by (pos place) = sym (slice_get-map (value_in all) list.items place)
     by (negsuc place) = refl
 
-pub element_read : (all : Extent) (list : Numbered HeldVal) (held : Numbered Value) (number : ℤ) (found : Option HeldVal) → list_in all list ≡ held → found ≡ item_numbered list number
+pub element_read : (all : Extent) (list : Numbered HeldVal) (held : Numbered Value) (number : ℤ) (found : Option HeldVal) → list_in all list ≡ held
+    → found ≡ item_numbered list number
     → option_map (value_in all) found ≡ item_numbered held number
 element_read all list held number found is same = ap (option_map (value_in all)) same ∙ (numbered all list number ∙ ap (λ one. item_numbered one number) is)
 
-pub element_live : (all : Extent) (list : Numbered HeldVal) (number : ℤ) (found : Option HeldVal) → All (IsLive all) list.items → found ≡ item_numbered list number → IfSome found (IsLive all)
+pub element_live : (all : Extent) (list : Numbered HeldVal) (number : ℤ) (found : Option HeldVal) → All (IsLive all) list.items
+    → found ≡ item_numbered list number → IfSome found (IsLive all)
 element_live all list number found live is = subst (λ one. IfSome one (IsLive all)) (sym is) (by (number -ℤ list.number))
   where
     by : (place : ℤ) → IfSome (item_at list.items place) (IsLive all)

@@ -28,7 +28,8 @@ use Rattle.icn_vars.proofs.Growing.{heap_changed, setting_over}
 
 -- Globals, statics and locals
 
-pub global_kept : (all : Extent) (pair : Pair) (random : ℕ) (globals statics : List Val) (place : ℕ) (val : Val) → IsLive all val → IsSoundWorld all pair random globals statics
+pub global_kept : (all : Extent) (pair : Pair) (random : ℕ) (globals statics : List Val) (place : ℕ) (val : Val) → IsLive all val
+    → IsSoundWorld all pair random globals statics
     → IsSoundWorld all pair random (set globals place val) statics
 global_kept all pair random globals statics place val live sound = record {
   live_globals = All-set (IsLive all) globals place val live sound.live_globals;
@@ -39,7 +40,8 @@ global_kept all pair random globals statics place val live sound = record {
   state = sound.state;
 }
 
-pub static_kept : (all : Extent) (pair : Pair) (random : ℕ) (globals statics : List Val) (place : ℕ) (val : Val) → IsLive all val → IsSoundWorld all pair random globals statics
+pub static_kept : (all : Extent) (pair : Pair) (random : ℕ) (globals statics : List Val) (place : ℕ) (val : Val) → IsLive all val
+    → IsSoundWorld all pair random globals statics
     → IsSoundWorld all pair random globals (set statics place val)
 static_kept all pair random globals statics place val live sound = record {
   live_globals = sound.live_globals;
@@ -51,20 +53,25 @@ static_kept all pair random globals statics place val live sound = record {
 }
 
 module _ (outside : Outside) (heap : HeldHeap) (pair : Pair) (random : ℕ) (globals statics locals : List Val) (place : ℕ) (val : Val) where
-  pub global_assigned : (refused next : Row) → assigns_root refused (Global place) (value_in (extent_of heap) val) next (setting_over outside heap pair random globals statics locals)
+  pub global_assigned : (refused next : Row)
+      → assigns_root refused (Global place) (value_in (extent_of heap) val) next (setting_over outside heap pair random globals statics locals)
       ≡ next (setting_over outside heap pair random (set globals place val) statics locals)
   global_assigned refused next =
-      ap (λ (vals : List Value). next (record (setting_over outside heap pair random globals statics locals) { world = record (setting_over outside heap pair random globals statics locals).world { globals = vals } }))
+      ap (λ (vals : List Value). next (record (setting_over outside heap pair random globals statics
+      locals) { world = record (setting_over outside heap pair random globals statics locals).world { globals = vals } }))
       (sym (map-set (value_in (extent_of heap)) globals place val))
 
-  pub static_assigned : (refused next : Row) → assigns_root refused (Static place) (value_in (extent_of heap) val) next (setting_over outside heap pair random globals statics locals)
+  pub static_assigned : (refused next : Row)
+      → assigns_root refused (Static place) (value_in (extent_of heap) val) next (setting_over outside heap pair random globals statics locals)
       ≡ next (setting_over outside heap pair random globals (set statics place val) locals)
   static_assigned refused next =
-      ap (λ (vals : List Value). next (record (setting_over outside heap pair random globals statics locals) { world = record (setting_over outside heap pair random globals statics locals).world { statics = vals } }))
+      ap (λ (vals : List Value). next (record (setting_over outside heap pair random globals statics
+      locals) { world = record (setting_over outside heap pair random globals statics locals).world { statics = vals } }))
       (sym (map-set (value_in (extent_of heap)) statics place val))
 
   pub local_assigned : (after : List Val) → after ≡ set locals place val → (refused next : Row)
-      → assigns_root refused (Local place) (value_in (extent_of heap) val) next (setting_over outside heap pair random globals statics locals) ≡ next (setting_over outside heap pair random globals statics after)
+      → assigns_root refused (Local place) (value_in (extent_of heap) val) next (setting_over outside heap pair random globals statics locals)
+      ≡ next (setting_over outside heap pair random globals statics after)
   local_assigned after is refused next =
       ap (λ (vals : List Value). next (record (setting_over outside heap pair random globals statics locals) { locals = vals }))
       (sym (ap (map (value_in (extent_of heap))) is ∙ map-set (value_in (extent_of heap)) locals place val))
@@ -93,30 +100,40 @@ numbered_gone list number value gone =
 pub element_gone : (heap : Heap) (id : ℕ) (number : ℤ) (value : Value) → is_some (item_numbered (list_at heap id) number) ≡ false
     → with_list id (with_numbered (list_at heap id) number value) heap ≡ heap
 element_gone heap id number value gone =
-    ap (λ list. with_list id list heap) (numbered_gone (list_at heap id) number value gone) ∙ ap (λ lists. let one : Heap = record heap { lists = lists } in one) (put_back heap.lists id (new_list []))
+    ap (λ list. with_list id list heap) (numbered_gone (list_at heap id) number value gone)
+    ∙ ap (λ lists. let one : Heap = record heap { lists = lists } in one) (put_back heap.lists id (new_list []))
 
 module _ (outside : Outside) (old new : HeldHeap) (pair : Pair) (random : ℕ) (globals statics locals : List Val) (keeps : Keeps (extent_of old) (extent_of new))
     (sound : IsSoundWorld (extent_of old) pair random globals statics) (live : All (IsLive (extent_of old)) locals) (id : ℕ) where
-  pub element_assigned : (number : ℤ) (value : Value) → is_some (item_numbered (list_at (heap_of old) id) number) ≡ true → heap_of new ≡ with_list id (with_numbered (list_at (heap_of old) id) number value) (heap_of old)
-      → (refused next : Row) → assigns_root refused (Element id number) value next (setting_over outside old pair random globals statics locals) ≡ next (setting_over outside new pair random globals statics locals)
+  pub element_assigned : (number : ℤ) (value : Value) → is_some (item_numbered (list_at (heap_of old) id) number) ≡ true
+      → heap_of new ≡ with_list id (with_numbered (list_at (heap_of old) id) number value) (heap_of old)
+      → (refused next : Row) → assigns_root refused (Element id number) value next (setting_over outside old pair random globals statics locals)
+      ≡ next (setting_over outside new pair random globals statics locals)
   element_assigned number value there is refused next =
-      ap (λ t. check t 205 None (changes_heap (with_list id (with_numbered (list_at (heap_of old) id) number value)) next) (setting_over outside old pair random globals statics locals)) there
+      ap (λ t. check t 205 None (changes_heap (with_list id (with_numbered (list_at (heap_of old) id) number value)) next)
+      (setting_over outside old pair random globals statics locals)) there
       ∙ ap next (heap_changed outside old new pair random globals statics locals keeps is sound live)
 
-  pub element_missing : (all : Extent) (number : ℤ) (value : Value) → is_some (item_numbered (list_at (heap_of old) id) number) ≡ false → heap_of new ≡ with_list id (with_numbered (list_at (heap_of old) id) number value) (heap_of old)
-      → (refused next : Row) → assigns_root refused (Element id number) value next (setting_over outside old pair random globals statics locals) ≡ Error 205 None (setting_over outside new pair random globals statics locals)
+  pub element_missing : (all : Extent) (number : ℤ) (value : Value) → is_some (item_numbered (list_at (heap_of old) id) number) ≡ false
+      → heap_of new ≡ with_list id (with_numbered (list_at (heap_of old) id) number value) (heap_of old)
+      → (refused next : Row) → assigns_root refused (Element id number) value next (setting_over outside old pair random globals statics locals)
+      ≡ Error 205 None (setting_over outside new pair random globals statics locals)
   element_missing all number value gone is refused next =
-      ap (λ t. check t 205 None (changes_heap (with_list id (with_numbered (list_at (heap_of old) id) number value)) next) (setting_over outside old pair random globals statics locals)) gone
-      ∙ ap (Error 205 None) (heap_changed outside old new pair random globals statics locals keeps (is ∙ element_gone (heap_of old) id number value gone) sound live)
+      ap (λ t. check t 205 None (changes_heap (with_list id (with_numbered (list_at (heap_of old) id) number value)) next)
+      (setting_over outside old pair random globals statics locals)) gone
+      ∙ ap (Error 205 None)
+      (heap_changed outside old new pair random globals statics locals keeps (is ∙ element_gone (heap_of old) id number value gone) sound live)
 
   pub field_assigned : (place : ℕ) (value : Value) → heap_of new ≡ with_field id place value (heap_of old)
-      → (refused next : Row) → assigns_root refused (Field id place) value next (setting_over outside old pair random globals statics locals) ≡ next (setting_over outside new pair random globals statics locals)
+      → (refused next : Row) → assigns_root refused (Field id place) value next (setting_over outside old pair random globals statics locals)
+      ≡ next (setting_over outside new pair random globals statics locals)
   field_assigned place value is refused next = ap next (heap_changed outside old new pair random globals statics locals keeps is sound live)
 
   -- Keys
 
   pub key_assigned : (key value : Value) → stored_in (heap_of old) id key value ≡ Ok (heap_of new)
-      → (refused next : Row) → assigns_root refused (Key id key) value next (setting_over outside old pair random globals statics locals) ≡ next (setting_over outside new pair random globals statics locals)
+      → (refused next : Row) → assigns_root refused (Key id key) value next (setting_over outside old pair random globals statics locals)
+      ≡ next (setting_over outside new pair random globals statics locals)
   key_assigned key value step refused next =
       let setting : Setting = setting_over outside old pair random globals statics locals in
       let nothing : Bool = is_some (value_at_key (heap_of old) id key) in
@@ -125,10 +142,13 @@ module _ (outside : Outside) (old new : HeldHeap) (pair : Pair) (random : ℕ) (
       let put : Table → Row = λ one. changes_heap (with_table id (record one { pairs = stored same one.pairs key value })) next in
       let none : Table = record { default = Null; pairs = [] } in
       (unless_change nothing).ok setting made.0 made.1 (put table)
-      ∙ (ap (λ (tables : List Table). put (unwrap_or (slice_get tables id) none) (having_heap (λ heap. made.0) setting)) (sym ((unless_change nothing).charged (heap_of old) made.0 made.1).tables)
-      ∙ ap next (ap (λ (heap : Heap). having_heap (λ other. heap) setting) made.2 ∙ heap_changed outside old new pair random globals statics locals keeps refl sound live))
+      ∙ (ap (λ (tables : List Table). put (unwrap_or (slice_get tables id) none) (having_heap (λ heap. made.0) setting))
+      (sym ((unless_change nothing).charged (heap_of old) made.0 made.1).tables)
+      ∙ ap next (ap (λ (heap : Heap). having_heap (λ other. heap) setting) made.2
+      ∙ heap_changed outside old new pair random globals statics locals keeps refl sound live))
 
-refused_first : (f : Heap → Heap) (charged : ChangedHeap) (full : Full) → and_then charged (λ paid. let r : ChangedHeap = Ok (f paid) in r) ≡ Err full → charged ≡ Err full
+refused_first : (f : Heap → Heap) (charged : ChangedHeap) (full : Full) → and_then charged (λ paid. let r : ChangedHeap = Ok (f paid) in r) ≡ Err full
+    → charged ≡ Err full
 refused_first f (Ok paid) full is = cc
 refused_first f (Err why) full is = cc
 
@@ -136,24 +156,34 @@ refused_first f (Err why) full is = cc
 key_refused : (all : Extent) (setting : Setting) (id : ℕ) (key value : Value) (full : Full) → stored_in setting.world.heap id key value ≡ Err full
     → (refused : Row) → StopsPassing all (assigns_root refused (Key id key) value) setting setting (stop_of full)
 key_refused all setting id key value full step refused =
-    by full ((unless_change (is_some (value_at_key setting.world.heap id key))).err all setting full (refused_first (with_pair id key value) (charged_unless (is_some (value_at_key setting.world.heap id key)) setting.world.heap) full step))
+    by full ((unless_change (is_some (value_at_key setting.world.heap id key))).err all setting full
+    (refused_first (with_pair id key value) (charged_unless (is_some (value_at_key setting.world.heap id key)) setting.world.heap) full step))
   where
-    by : (full : Full) → StopsPassing all (costs_unless (is_some (value_at_key setting.world.heap id key))) setting setting (stop_of full) → StopsPassing all (assigns_root refused (Key id key) value) setting setting (stop_of full)
-    by (Strings sum limit) is = λ next. is (changes_heap (with_table id (record (table_at setting.world.heap id) { pairs = stored same (table_at setting.world.heap id).pairs key value })) next)
-    by (Cells sum limit) is = λ next. is (changes_heap (with_table id (record (table_at setting.world.heap id) { pairs = stored same (table_at setting.world.heap id).pairs key value })) next)
+    by : (full : Full) → StopsPassing all (costs_unless (is_some (value_at_key setting.world.heap id key))) setting setting (stop_of full)
+        → StopsPassing all (assigns_root refused (Key id key) value) setting setting (stop_of full)
+    by (Strings sum limit) is = λ next. is
+        (changes_heap (with_table id (record (table_at setting.world.heap id) { pairs = stored same (table_at setting.world.heap id).pairs key value })) next)
+    by (Cells sum limit) is = λ next. is
+        (changes_heap (with_table id (record (table_at setting.world.heap id) { pairs = stored same (table_at setting.world.heap id).pairs key value })) next)
     by NoMemory is = tt
 
-pub key_stops : (outside : Outside) (old new : HeldHeap) (pair : Pair) (random : ℕ) (globals statics locals : List Val) → Keeps (extent_of old) (extent_of new) → IsSoundWorld (extent_of old) pair random globals statics
-    → All (IsLive (extent_of old)) locals → (all : Extent) (id : ℕ) (key value : Value) (full : Full) → heap_of new ≡ heap_of old → Refuses (stored_in (heap_of old) id key value) full
-    → (refused : Row) → StopsPassing all (assigns_root refused (Key id key) value) (setting_over outside old pair random globals statics locals) (setting_over outside new pair random globals statics locals) (stop_of full)
+pub key_stops : (outside : Outside) (old new : HeldHeap) (pair : Pair) (random : ℕ) (globals statics locals : List Val) → Keeps (extent_of old) (extent_of new)
+    → IsSoundWorld (extent_of old) pair random globals statics
+    → All (IsLive (extent_of old)) locals → (all : Extent) (id : ℕ) (key value : Value) (full : Full) → heap_of new ≡ heap_of old
+    → Refuses (stored_in (heap_of old) id key value) full
+    → (refused : Row) → StopsPassing all (assigns_root refused (Key id key) value) (setting_over outside old pair random globals statics locals)
+    (setting_over outside new pair random globals statics locals) (stop_of full)
 key_stops outside old new pair random globals statics locals keeps sound live all id key value full unchanged why refused =
     let before : Setting = setting_over outside old pair random globals statics locals in
     let part : Row → Row = assigns_root refused (Key id key) value in
-    subst (λ (setting : Setting). StopsPassing all part before setting (stop_of full)) (heap_changed outside old new pair random globals statics locals keeps unchanged sound live)
-    (⊎_elim (λ (e : full ≡ NoMemory). subst (λ f. StopsPassing all part before before (stop_of f)) (sym e) tt) (λ (e : stored_in (heap_of old) id key value ≡ Err full). key_refused all before id key value full e refused) why)
+    subst (λ (setting : Setting). StopsPassing all part before setting (stop_of full))
+    (heap_changed outside old new pair random globals statics locals keeps unchanged sound live)
+    (⊎_elim (λ (e : full ≡ NoMemory). subst (λ f. StopsPassing all part before before (stop_of f)) (sym e) tt)
+    (λ (e : stored_in (heap_of old) id key value ≡ Err full). key_refused all before id key value full e refused) why)
 
 -- where the assignment of a root stopped, that is the answer
-pub root_err : (all : Extent) (assigns : Row → Row → Row) (before after : Setting) (stop : Stop) (result : Result Bool Stop) → IsErrAnd result (λ other. other ≡ stop)
+pub root_err : (all : Extent) (assigns : Row → Row → Row) (before after : Setting) (stop : Stop) (result : Result Bool Stop)
+    → IsErrAnd result (λ other. other ≡ stop)
     → ((refused : Row) → StopsPassing all (assigns refused) before after stop) → RootAssigned all assigns before after result
 root_err all assigns before after stop (Ok done) same is = absurd same
 root_err all assigns before after stop (Err other) same is = λ refused. subst (StopsPassing all (assigns refused) before after) (sym same) (is refused)

@@ -28,15 +28,18 @@ new_sound all subject globals statics text live live' = record {
 }
 
 -- the subject is empty
-pub new_is : (heap : HeldHeap) (subject : Span) (globals statics : List Val) → text_in (extent_of heap) subject ≡ [] → world_over heap (record { subject = subject; position = 1 }) 0 globals statics ≡ new_world heap globals statics
+pub new_is : (heap : HeldHeap) (subject : Span) (globals statics : List Val) → text_in (extent_of heap) subject ≡ []
+    → world_over heap (record { subject = subject; position = 1 }) 0 globals statics ≡ new_world heap globals statics
 new_is heap subject globals statics is = ap (λ bytes. let w : StoreWorld = record (new_world heap globals statics) { subject = bytes } in w) is
 
 nulls : (all : Extent) (count : ℕ) → map (value_in all) (replicate count NullVal) ≡ replicate count Null
 nulls all zero = refl
 nulls all (suc count) = ap (λ rest. Null ∷ rest) (nulls all count)
 
-pub first_is : (heap : HeldHeap) (globals statics : List Val) (bounds : Bounds) (count : ℕ) → heap_of heap ≡ first_heap bounds → statics ≡ replicate count NullVal
+pub first_is : (heap : HeldHeap) (globals statics : List Val) (bounds : Bounds) (count : ℕ) → heap_of heap ≡ first_heap bounds
+    → statics ≡ replicate count NullVal
     → new_world heap globals statics ≡ first_world bounds (map (value_in (extent_of heap)) globals) count
 first_is heap globals statics bounds count empty null =
     ap (λ (h : Heap). let w : StoreWorld = record (new_world heap globals statics) { heap = h } in w) empty
-    ∙ ap (λ (vals : List Value). let w : StoreWorld = record (first_world bounds (map (value_in (extent_of heap)) globals) count) { statics = vals } in w) (ap (map (value_in (extent_of heap))) null ∙ nulls (extent_of heap) count)
+    ∙ ap (λ (vals : List Value). let w : StoreWorld = record (first_world bounds (map (value_in (extent_of heap)) globals) count) { statics = vals } in w)
+    (ap (map (value_in (extent_of heap))) null ∙ nulls (extent_of heap) count)

@@ -58,12 +58,15 @@ last_count a b c d e f g h = right (a && b && c && d && e && f) g h
 
 few_kept : (tables : Tables) → keeps_rules tables ≡ true → length tables.procs ≤ 65535
 few_kept tables h =
-    at_most (length tables.procs) 65535 (last_count (is_count (length tables.strings)) (is_count (length tables.csets)) (is_count (length tables.integers)) (is_count (length tables.fields)) (is_count (length tables.records)) (is_count (length tables.globals)) (is_count (length tables.procs)) (counts_kept tables h))
+    at_most (length tables.procs) 65535
+    (last_count (is_count (length tables.strings)) (is_count (length tables.csets)) (is_count (length tables.integers)) (is_count (length tables.fields))
+    (is_count (length tables.records)) (is_count (length tables.globals)) (is_count (length tables.procs)) (counts_kept tables h))
 
 head_short : (strings : ℕ) (proc : Proc) → is_head strings proc ≡ true → length proc.instrs < 2 ^ 32
 head_short strings proc h =
     below (length proc.instrs) (2 ^ 32)
-    (right (nat_lt proc.name strings && (not proc.collects || nat_lt 0 proc.parameters) && is_count (proc.parameters + proc.locals) && is_count proc.statics) (nat_lt (length proc.instrs) (2 ^ 32)) h)
+    (right (nat_lt proc.name strings && (not proc.collects || nat_lt 0 proc.parameters) && is_count (proc.parameters + proc.locals) && is_count proc.statics)
+    (nat_lt (length proc.instrs) (2 ^ 32)) h)
 
 pub bounded : (tables : Tables) → IsTrue (keeps_rules tables) → AreBounded tables.procs
 bounded tables kept = record { few = few_kept tables kept; short = short; labels = labels }
@@ -75,9 +78,11 @@ bounded tables kept = record { few = few_kept tables kept; short = short; labels
     proc_kept number proc at = all_at (is_proc tables) tables.procs number proc (procs_kept tables holds) at
 
     short : (number : ℕ) (proc : Proc) → slice_get tables.procs number ≡ Some proc → length proc.instrs < 2 ^ 32
-    short number proc at = head_short (length tables.strings) proc (left (is_head (length tables.strings) proc) (list_all (is_instr tables proc) proc.instrs) (proc_kept number proc at))
+    short number proc at = head_short (length tables.strings) proc
+        (left (is_head (length tables.strings) proc) (list_all (is_instr tables proc) proc.instrs) (proc_kept number proc at))
 
     labels : (number : ℕ) (proc : Proc) → slice_get tables.procs number ≡ Some proc → AreWithin proc.instrs
     labels number proc at = record {
-      each = λ place instr stands. label_within tables proc instr (all_at (is_instr tables proc) proc.instrs place instr (right (is_head (length tables.strings) proc) (list_all (is_instr tables proc) proc.instrs) (proc_kept number proc at)) stands);
+      each = λ place instr stands. label_within tables proc instr (all_at (is_instr tables proc) proc.instrs place instr
+          (right (is_head (length tables.strings) proc) (list_all (is_instr tables proc) proc.instrs) (proc_kept number proc at)) stands);
     }

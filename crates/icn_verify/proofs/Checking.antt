@@ -16,7 +16,8 @@ use Rattle.icn_verify.proofs.Giving.{found_means}
 some_same : {A : Type 0} (a b : A) → Some a ≡ Some b → a ≡ b
 some_same a b h = cc
 
-pub proc_at : (procs : List Procedure) (number : ℕ) (proc : Procedure) → number < length procs → proc ≡ slice_index_or procs number proc → slice_get (procs_of procs) number ≡ Some (proc_of proc)
+pub proc_at : (procs : List Procedure) (number : ℕ) (proc : Procedure) → number < length procs → proc ≡ slice_index_or procs number proc
+    → slice_get (procs_of procs) number ≡ Some (proc_of proc)
 proc_at [] number proc lt is = absurd (omega arith)
 proc_at (first ∷ procs) zero proc lt is = ap (λ p. Some (proc_of p)) (sym is)
 proc_at (first ∷ procs) (suc number) proc lt is = proc_at procs number proc (omega arith) is
@@ -31,7 +32,8 @@ breaks_within instrs labels place V4 b = reaches_within instrs labels place b.sh
 breaks_within instrs labels place V5 b = reaches_within instrs labels place b.shape b.reaches
 breaks_within instrs labels place _ b = absurd b
 
-pub found_within : {E : Type 0} (instrs : List Instr) → AreWithin instrs → (result : Result (Option (Rule × ℕ)) E) → IfOk result (λ found. found ≡ fault_of instrs) → IfOk result (λ found. IfSome found (λ f. f.1 ≤ length instrs))
+pub found_within : {E : Type 0} (instrs : List Instr) → AreWithin instrs → (result : Result (Option (Rule × ℕ)) E)
+    → IfOk result (λ found. found ≡ fault_of instrs) → IfOk result (λ found. IfSome found (λ f. f.1 ≤ length instrs))
 found_within instrs labels (Err e) is = tt
 found_within instrs labels (Ok None) is = tt
 found_within instrs labels (Ok (Some f)) is = breaks_within instrs labels f.1 f.0 (found_means instrs labels (Some f) is).breaks

@@ -24,7 +24,8 @@ sound_before proc procs first others zero other stands = subst (λ p. IsSound p.
 sound_before proc procs first others (suc number) other stands = others number other stands
 
 -- a sound procedure before those that have a first fault
-fault_behind : (proc : Proc) (procs : List Proc) (rule : Rule) (number place : ℕ) → IsSound proc.instrs → IsFirstFault procs rule number place → IsFirstFault (proc ∷ procs) rule (suc number) place
+fault_behind : (proc : Proc) (procs : List Proc) (rule : Rule) (number place : ℕ) → IsSound proc.instrs → IsFirstFault procs rule number place
+    → IsFirstFault (proc ∷ procs) rule (suc number) place
 fault_behind proc procs rule number place first fault = record { proc = fault.proc; stands = fault.stands; here = fault.here; earlier = earlier }
   where
     earlier : (before : ℕ) (other : Proc) → before < suc number → slice_get (proc ∷ procs) before ≡ Some other → IsSound other.instrs
@@ -35,14 +36,16 @@ fault_behind proc procs rule number place first fault = record { proc = fault.pr
 fault_here : (proc : Proc) (procs : List Proc) (rule : Rule) (place : ℕ) → IsFirstOf proc.instrs rule place → IsFirstFault (proc ∷ procs) rule zero place
 fault_here proc procs rule place here = record { proc = proc; stands = refl; here = here; earlier = λ before other lt stands. absurd (omega (arith, lt)) }
 
-decided_on : (proc : Proc) (procs : List Proc) (found : Option (Rule × ℕ)) → MatchOption found (IsSound proc.instrs) (λ f. IsFirstOf proc.instrs f.0 f.1) → IsSoundOrBroken procs → IsSoundOrBroken (proc ∷ procs)
+decided_on : (proc : Proc) (procs : List Proc) (found : Option (Rule × ℕ)) → MatchOption found (IsSound proc.instrs) (λ f. IsFirstOf proc.instrs f.0 f.1)
+    → IsSoundOrBroken procs → IsSoundOrBroken (proc ∷ procs)
 decided_on proc procs (Some f) first rest = inr (f.0, zero, f.1, fault_here proc procs f.0 f.1 first)
 decided_on proc procs None sound (inl others) = inl (sound_before proc procs sound others)
 decided_on proc procs None sound (inr broken) = inr (broken.0, suc broken.1, broken.2, fault_behind proc procs broken.0 broken.1 broken.2 sound broken.3)
 
 decided : (procs : List Proc) → ((number : ℕ) (proc : Proc) → slice_get procs number ≡ Some proc → AreWithin proc.instrs) → IsSoundOrBroken procs
 decided [] labels = inl none_sound
-decided (proc ∷ procs) labels = decided_on proc procs (fault_of proc.instrs) (found_means proc.instrs (labels zero proc refl) (fault_of proc.instrs) refl) (decided procs (λ number other stands. labels (suc number) other stands))
+decided (proc ∷ procs) labels = decided_on proc procs (fault_of proc.instrs) (found_means proc.instrs (labels zero proc refl) (fault_of proc.instrs) refl)
+    (decided procs (λ number other stands. labels (suc number) other stands))
 
 pub sound_or_broken : AreSoundOrBroken
 sound_or_broken tables kept = decided tables.procs (bounded tables kept).labels

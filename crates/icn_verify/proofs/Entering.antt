@@ -37,10 +37,12 @@ and_assoc true b c = refl
 and_assoc false b c = refl
 
 pub level_tested : (a b : Level) → (sameb the_type a.kind b.kind && (nat_eq a.operands b.operands && nat_eq a.scans b.scans)) ≡ same_level a b
-level_tested a b = ap (λ k. k && (nat_eq a.operands b.operands && nat_eq a.scans b.scans)) (kind_tested a.kind b.kind) ∙ and_assoc (same_kind a.kind b.kind) (nat_eq a.operands b.operands) (nat_eq a.scans b.scans)
+level_tested a b = ap (λ k. k && (nat_eq a.operands b.operands && nat_eq a.scans b.scans)) (kind_tested a.kind b.kind)
+    ∙ and_assoc (same_kind a.kind b.kind) (nat_eq a.operands b.operands) (nat_eq a.scans b.scans)
 
 abbrev pub entry_eq : Entry → Entry → Bool
-entry_eq a b = (sameb the_type a.level.kind b.level.kind && (nat_eq a.level.operands b.level.operands && nat_eq a.level.scans b.level.scans)) && nat_eq a.outer b.outer
+entry_eq a b =
+    (sameb the_type a.level.kind b.level.kind && (nat_eq a.level.operands b.level.operands && nat_eq a.level.scans b.level.scans)) && nat_eq a.outer b.outer
 
 and_both : (a b : Bool) → a ≡ true → b ≡ true → (a && b) ≡ true
 and_both true b h k = k
@@ -48,7 +50,8 @@ and_both false b h k = absurd (true≢false (sym h))
 
 pub entry_tells : (a b : Entry) → entry_eq a b ≡ true → a ≡ b
 entry_tells a b h =
-    let parts = both (sameb the_type a.level.kind b.level.kind && (nat_eq a.level.operands b.level.operands && nat_eq a.level.scans b.level.scans)) (nat_eq a.outer b.outer) h in
+    let parts = both (sameb the_type a.level.kind b.level.kind && (nat_eq a.level.operands b.level.operands && nat_eq a.level.scans b.level.scans))
+    (nat_eq a.outer b.outer) h in
     let level = same_level_tells a.level b.level (sym (level_tested a.level b.level) ∙ parts.0) in
     let outer = eqb-true a.outer b.outer parts.1 in
     λ i. record { level = level i; outer = outer i }
@@ -66,7 +69,8 @@ or_true false b h = h
 
 any_at : (entries : List Entry) (k : ℕ) (entry : Entry) → slice_get entries k ≡ Some entry → list_any (entry_eq entry) entries ≡ true
 any_at [] k entry h = absurd (none_some entry h)
-any_at (first ∷ entries) zero entry h = or_left (entry_eq entry first) (list_any (entry_eq entry) entries) (ap (entry_eq entry) (some_same first entry h) ∙ entry_itself entry)
+any_at (first ∷ entries) zero entry h =
+    or_left (entry_eq entry first) (list_any (entry_eq entry) entries) (ap (entry_eq entry) (some_same first entry h) ∙ entry_itself entry)
 any_at (first ∷ entries) (suc k) entry h = or_true (entry_eq entry first) (list_any (entry_eq entry) entries) (any_at entries k entry h)
 
 pub entered_by : (old : List Entry) (entry : Entry) (new : List Entry) → new ≡ insert_key entry_eq old entry → IsEntered old entry new
@@ -76,12 +80,14 @@ entered_by old entry new h = by (list_any (entry_eq entry) old) refl
     by true is = record { is = inl (h ∙ ap (λ b. if b then old else old ++ entry ∷ []) is) }
     by false is = record { is = inr (h ∙ ap (λ b. if b then old else old ++ entry ∷ []) is, λ k there. true≢false (sym (any_at old k entry there) ∙ is)) }
 
-pub stored_is : (new : List Entry) (index : ℕ) (entry : Entry) → (k : Entry) × (slice_get new index ≡ Some k) × (entry_eq entry k ≡ true) → slice_get new index ≡ Some entry
+pub stored_is : (new : List Entry) (index : ℕ) (entry : Entry) → (k : Entry) × (slice_get new index ≡ Some k) × (entry_eq entry k ≡ true)
+    → slice_get new index ≡ Some entry
 stored_is new index entry stored = stored.1 ∙ ap Some (sym (entry_tells entry stored.0 stored.2))
 
 -- the test of two shapes in a few words
 pub flat_tested : (create create' : Bool) (a b : Level) (numbers stacks : Bool) → numbers ≡ stacks
-    → (beq create create' && ((sameb the_type a.kind b.kind && (nat_eq a.operands b.operands && nat_eq a.scans b.scans)) && numbers)) ≡ (bool_eq create create' && same_level a b && stacks)
+    → (beq create create' && ((sameb the_type a.kind b.kind && (nat_eq a.operands b.operands && nat_eq a.scans b.scans)) && numbers))
+    ≡ (bool_eq create create' && same_level a b && stacks)
 flat_tested create create' a b numbers stacks h =
     (λ i. bools create create' i && (level_tested a b i && h i)) ∙ and_assoc (bool_eq create create') (same_level a b) stacks
   where

@@ -55,9 +55,11 @@ module _ (instrs : List Instr) where
     pub sums : SumUp (Arrives instrs place) (length instrs) table
     pub sound : (earlier : ℕ) → earlier < place → (rule : Rule) → Breaks instrs earlier rule → ⊥
 
-  known : (table : List Arrival) (place : ℕ) → IsSoFar table place → place ≤ length instrs → (label : ℕ) → label ≤ place → Sums (Reaches instrs label) (seen_at table label)
+  known : (table : List Arrival) (place : ℕ) → IsSoFar table place → place ≤ length instrs → (label : ℕ) → label ≤ place
+      → Sums (Reaches instrs label) (seen_at table label)
   known table place so within label le =
-      sums_as (Arrives instrs place label) (Reaches instrs label) (arrives_reaches instrs place label) (λ shape reaches. reaches_arrives instrs label shape reaches place le) (seen_at table label) (so.sums label (omega arith))
+      sums_as (Arrives instrs place label) (Reaches instrs label) (arrives_reaches instrs place label)
+      (λ shape reaches. reaches_arrives instrs label shape reaches place le) (seen_at table label) (so.sums label (omega arith))
 
   -- the least rule here is the first
   first_here : (table : List Arrival) (place : ℕ) → IsSoFar table place → (rule : Rule) → IsLeastRule instrs place rule → IsFirstOf instrs rule place
@@ -67,7 +69,8 @@ module _ (instrs : List Instr) where
       first place' rule' broken (inl lt) = so.sound place' lt rule' broken
       first place' rule' broken (inr h) = least.least rule' h.1 (subst (λ p. Breaks instrs p rule') h.0 broken)
 
-  sound_more : (place : ℕ) → ((earlier : ℕ) → earlier < place → (rule : Rule) → Breaks instrs earlier rule → ⊥) → ((rule : Rule) → Breaks instrs place rule → ⊥) → (earlier : ℕ) → earlier < place + 1 → (rule : Rule) → Breaks instrs earlier rule → ⊥
+  sound_more : (place : ℕ) → ((earlier : ℕ) → earlier < place → (rule : Rule) → Breaks instrs earlier rule → ⊥) → ((rule : Rule) → Breaks instrs place rule → ⊥)
+      → (earlier : ℕ) → earlier < place + 1 → (rule : Rule) → Breaks instrs earlier rule → ⊥
   sound_more place sound here earlier lt rule broken = by (cases_lt earlier place)
     where
       by : (earlier < place) ⊎ (place ≤ earlier) → ⊥
@@ -78,7 +81,8 @@ module _ (instrs : List Instr) where
     within : place ≤ length instrs
     within = let lt = some_within instrs place instr stands in omega arith
 
-    single : (only : PlainShape) → IsOnly (Reaches instrs place) only → (label : ℕ) → label ≤ place → (a b : PlainShape) → Reaches instrs label a → Reaches instrs label b → a ≢ b → ⊥
+    single : (only : PlainShape) → IsOnly (Reaches instrs place) only → (label : ℕ) → label ≤ place → (a b : PlainShape) → Reaches instrs label a
+        → Reaches instrs label b → a ≢ b → ⊥
     single only sums label le a b reaches_a reaches_b differ = by (cases_lt label place)
       where
         by : (label < place) ⊎ (place ≤ label) → ⊥
@@ -97,7 +101,8 @@ module _ (instrs : List Instr) where
       so_unseen : ((shape : PlainShape) → Reaches instrs place shape → ⊥) → IsSoFar table (place + 1)
       so_unseen never = record {
         long = so.long;
-        sums = λ q le. sums_as (Arrives instrs place q) (Arrives instrs (place + 1) q) (arrives_more instrs place q) (λ shape arrives. back_to q shape (arrives_split instrs place q shape arrives)) (seen_at table q) (so.sums q le);
+        sums = λ q le. sums_as (Arrives instrs place q) (Arrives instrs (place + 1) q) (arrives_more instrs place q)
+            (λ shape arrives. back_to q shape (arrives_split instrs place q shape arrives)) (seen_at table q) (so.sums q le);
         sound = sound_more place so.sound none;
       }
         where
@@ -107,10 +112,12 @@ module _ (instrs : List Instr) where
 
       module _ (only : PlainShape) (sums : IsOnly (Reaches instrs place) only) where
         has_enough : lacks instr only ≡ false
-        has_enough = is_true_or_false (lacks instr only) (λ h. none V1 (record { instr = instr; shape = only; met = record { stands = stands; reaches = sums.came }; lacking = h }))
+        has_enough = is_true_or_false (lacks instr only)
+            (λ h. none V1 (record { instr = instr; shape = only; met = record { stands = stands; reaches = sums.came }; lacking = h }))
 
         goes_right : strays instr place ≡ false
-        goes_right = is_true_or_false (strays instr place) (λ h. none V3 (record { instr = instr; shape = only; met = record { stands = stands; reaches = sums.came }; straying = h }))
+        goes_right = is_true_or_false (strays instr place)
+            (λ h. none V3 (record { instr = instr; shape = only; met = record { stands = stands; reaches = sums.came }; straying = h }))
 
         is_met : (b : Bool) → meets (row_of instr).asks (look_of only) ≡ b → b ≡ true
         is_met true h = refl
@@ -126,17 +133,25 @@ module _ (instrs : List Instr) where
 
         carries_forward : (q : ℕ) (shape : PlainShape) → forward instr only ≡ Some (q, shape) → Carries instrs place only q shape
         carries_forward q shape h =
-            record { instr = instr; stands = stands; fit = fit; later = forward_past (row_of instr).way place only (after (row_of instr) only) q shape goes_right h; leads = inr h }
+            record {
+              instr = instr;
+              stands = stands;
+              fit = fit;
+              later = forward_past (row_of instr).way place only (after (row_of instr) only) q shape goes_right h;
+              leads = inr h;
+            }
 
         went : ℕ → PlainShape → Type 0
         went = Adds (Adds (Arrives instrs place) (next instr place only)) (forward instr only)
 
-        went_arrives : (q : ℕ) (shape : PlainShape) → Adds (Adds (Arrives instrs place) (next instr place only)) (forward instr only) q shape → Arrives instrs (place + 1) q shape
+        went_arrives : (q : ℕ) (shape : PlainShape) → Adds (Adds (Arrives instrs place) (next instr place only)) (forward instr only) q shape
+            → Arrives instrs (place + 1) q shape
         went_arrives q shape (inl (inl arrives)) = arrives_more instrs place q shape arrives
         went_arrives q shape (inl (inr h)) = arrives_sent instrs place q shape (only, sums.came, carries_next q shape h)
         went_arrives q shape (inr h) = arrives_sent instrs place q shape (only, sums.came, carries_forward q shape h)
 
-        arrives_went : (q : ℕ) (shape : PlainShape) → Arrives instrs place q shape ⊎ IsSent instrs place q shape → Adds (Adds (Arrives instrs place) (next instr place only)) (forward instr only) q shape
+        arrives_went : (q : ℕ) (shape : PlainShape) → Arrives instrs place q shape ⊎ IsSent instrs place q shape
+            → Adds (Adds (Arrives instrs place) (next instr place only)) (forward instr only) q shape
         arrives_went q shape (inl arrives) = inl (inl arrives)
         arrives_went q shape (inr sends) = leads sends.2.leads
           where
@@ -146,16 +161,19 @@ module _ (instrs : List Instr) where
             same : sends.0 ≡ only
             same = sums.alone sends.0 sends.1
 
-            leads : (next sends.2.instr place sends.0 ≡ Some (q, shape)) ⊎ (forward sends.2.instr sends.0 ≡ Some (q, shape)) → Adds (Adds (Arrives instrs place) (next instr place only)) (forward instr only) q shape
+            leads : (next sends.2.instr place sends.0 ≡ Some (q, shape)) ⊎ (forward sends.2.instr sends.0 ≡ Some (q, shape))
+                → Adds (Adds (Arrives instrs place) (next instr place only)) (forward instr only) q shape
             leads (inl h) = inl (inr (sym (λ i. next (is i) place (same i)) ∙ h))
             leads (inr h) = inr (sym (λ i. forward (is i) (same i)) ∙ h)
 
         so_one : IsSoFar (pass_on table place instr (one only)) (place + 1)
         so_one = record {
           long = length_arrived (with_arrival table (next instr place only)) (forward instr only) ∙ length_arrived table (next instr place only) ∙ so.long;
-          sums = λ q le. sums_as (Adds (Adds (Arrives instrs place) (next instr place only)) (forward instr only) q) (Arrives instrs (place + 1) q) (went_arrives q) (λ shape arrives. arrives_went q shape (arrives_split instrs place q shape arrives))
+          sums = λ q le. sums_as (Adds (Adds (Arrives instrs place) (next instr place only)) (forward instr only) q) (Arrives instrs (place + 1) q)
+              (went_arrives q) (λ shape arrives. arrives_went q shape (arrives_split instrs place q shape arrives))
               (seen_at (pass_on table place instr (one only)) q)
-              (sums_arrived (Adds (Arrives instrs place) (next instr place only)) (length instrs) (with_arrival table (next instr place only)) (forward instr only)
+              (sums_arrived (Adds (Arrives instrs place) (next instr place only)) (length instrs) (with_arrival table (next instr place only))
+              (forward instr only)
               (length_arrived table (next instr place only) ∙ so.long)
               (sums_arrived (Arrives instrs place) (length instrs) table (next instr place only) so.long so.sums) q le);
           sound = sound_more place so.sound none;
@@ -164,7 +182,8 @@ module _ (instrs : List Instr) where
       so_sent : (seen : Arrival) → Sums (Reaches instrs place) seen → IsSoFar (pass_on table place instr seen) (place + 1)
       so_sent unseen sums = so_unseen sums
       so_sent (one only) sums = so_one only sums
-      so_sent (several n) sums = absurd (none V2 (inl (record { one = sums.first; other = sums.other; reaches = sums.first_came; reaches_too = sums.other_came; differ = sums.differ })))
+      so_sent (several n) sums = absurd (none V2
+          (inl (record { one = sums.first; other = sums.other; reaches = sums.first_came; reaches_too = sums.other_came; differ = sums.differ })))
 
   module _ (labels : AreWithin instrs) where
     -- no shape comes past the end
@@ -177,11 +196,14 @@ module _ (instrs : List Instr) where
             let is = next_is (row_of carries.instr).way place (after (row_of carries.instr) shape) to carried h in
             let lt = some_within instrs place carries.instr carries.stands in
             omega arith
-        by (inr h) = forward_within (row_of carries.instr).way (length instrs) shape (after (row_of carries.instr) shape) to carried (labels.each place carries.instr carries.stands) h
+        by (inr h) = forward_within (row_of carries.instr).way (length instrs) shape (after (row_of carries.instr) shape) to carried
+            (labels.each place carries.instr carries.stands) h
 
-    sums_all : (table : List Arrival) → IsSoFar table (length instrs) → (place : ℕ) → (place ≤ length instrs) ⊎ (length instrs < place) → Sums (Reaches instrs place) (seen_at table place)
+    sums_all : (table : List Arrival) → IsSoFar table (length instrs) → (place : ℕ) → (place ≤ length instrs) ⊎ (length instrs < place)
+        → Sums (Reaches instrs place) (seen_at table place)
     sums_all table so place (inl le) = known table (length instrs) so (omega arith) place le
-    sums_all table so place (inr gt) = subst (Sums (Reaches instrs place)) (sym (past table place (omega (arith, so.long)))) (λ shape reaches. let le = reaches_within place shape reaches in omega arith)
+    sums_all table so place (inr gt) = subst (Sums (Reaches instrs place)) (sym (past table place (omega (arith, so.long))))
+        (λ shape reaches. let le = reaches_within place shape reaches in omega arith)
       where
         past : (table : List Arrival) (place : ℕ) → length table ≤ place → seen_at table place ≡ unseen
         past [] place h = refl
@@ -208,10 +230,12 @@ module _ (instrs : List Instr) where
             sound q rule broken (inl le) = sound_more place so.sound least q (omega arith) rule broken
             sound q rule broken (inr gt) = unreached instrs q (λ shape reaches. let le = reaches_within q shape reaches in absurd (omega arith)) rule broken
 
-    outcome_from : (rest done : List Instr) (table : List Arrival) → done ++ rest ≡ instrs → IsSoFar table (length done) → IsOutcome (first_fault table (length done) rest)
+    outcome_from : (rest done : List Instr) (table : List Arrival) → done ++ rest ≡ instrs → IsSoFar table (length done)
+        → IsOutcome (first_fault table (length done) rest)
     outcome_from [] done table all so = at_end table (length done) (ap length (sym (append-nil done) ∙ all)) so
     outcome_from (instr ∷ rest) done table all so =
-        by (outcome_from rest (done ++ instr ∷ []) (pass_on table (length done) instr (seen_at table (length done))) (append_assoc done (instr ∷ []) rest ∙ all))
+        by
+        (outcome_from rest (done ++ instr ∷ []) (pass_on table (length done) instr (seen_at table (length done))) (append_assoc done (instr ∷ []) rest ∙ all))
         (rule_at table (length done) instr (seen_at table (length done))) (least_at table (length done) instr stands so (seen_at table (length done)) sums)
       where
         stands : slice_get instrs (length done) ≡ Some instr
@@ -223,12 +247,15 @@ module _ (instrs : List Instr) where
         long : length (done ++ instr ∷ []) ≡ length done + 1
         long = length-append done (instr ∷ [])
 
-        by : (IsSoFar (pass_on table (length done) instr (seen_at table (length done))) (length (done ++ instr ∷ [])) → IsOutcome (first_fault (pass_on table (length done) instr (seen_at table (length done))) (length (done ++ instr ∷ [])) rest))
-            → (found : Option Rule) → IsLeast instrs (length done) found → IsOutcome (first_placed (length done) found (first_fault (pass_on table (length done) instr (seen_at table (length done))) (length done + 1) rest))
+        by : (IsSoFar (pass_on table (length done) instr (seen_at table (length done))) (length (done ++ instr ∷ []))
+            → IsOutcome (first_fault (pass_on table (length done) instr (seen_at table (length done))) (length (done ++ instr ∷ [])) rest))
+            → (found : Option Rule) → IsLeast instrs (length done) found → IsOutcome (first_placed (length done) found
+            (first_fault (pass_on table (length done) instr (seen_at table (length done))) (length done + 1) rest))
         by goes_on (Some rule) least = first_here table (length done) so rule least
         by goes_on None least =
             subst (λ n. IsOutcome (first_fault (pass_on table (length done) instr (seen_at table (length done))) n rest)) long
-            (goes_on (subst (IsSoFar (pass_on table (length done) instr (seen_at table (length done)))) (sym long) (so_sent table (length done) instr stands so least (seen_at table (length done)) sums)))
+            (goes_on (subst (IsSoFar (pass_on table (length done) instr (seen_at table (length done)))) (sym long)
+            (so_sent table (length done) instr stands so least (seen_at table (length done)) sums)))
 
     start_sums : SumUp (Arrives instrs 0) (length instrs) (first_table (length instrs))
     start_sums zero le = record { came = inl (refl, refl); alone = alone }

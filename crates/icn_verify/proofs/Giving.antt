@@ -50,7 +50,8 @@ module _ (instrs : List Instr) (labels : AreWithin instrs) (passed : IsPassed in
   unfolding shape_seen
   shows place shape reaches unseen sums = absurd (sums shape reaches)
   shows place shape reaches (one only) sums = λ i. Some (sym (sums.alone shape reaches) i)
-  shows place shape reaches (several n) sums = absurd (passed.sound place V2 (inl (record { one = sums.first; other = sums.other; reaches = sums.first_came; reaches_too = sums.other_came; differ = sums.differ })))
+  shows place shape reaches (several n) sums = absurd (passed.sound place V2
+      (inl (record { one = sums.first; other = sums.other; reaches = sums.first_came; reaches_too = sums.other_came; differ = sums.differ })))
 
   shown : (place : ℕ) (shape : PlainShape) (seen : Arrival) → Sums (Reaches instrs place) seen → shape_seen seen ≡ Some shape → Reaches instrs place shape
   unfolding shape_seen
@@ -65,14 +66,16 @@ module _ (instrs : List Instr) (labels : AreWithin instrs) (passed : IsPassed in
   -- whether a shape reaches can be told
   told : (place : ℕ) (shape : PlainShape) (seen : Arrival) → Sums (Reaches instrs place) seen → Reaches instrs place shape ⊎ (Reaches instrs place shape → ⊥)
   told place shape unseen sums = inr (sums shape)
-  told place shape (several n) sums = absurd (passed.sound place V2 (inl (record { one = sums.first; other = sums.other; reaches = sums.first_came; reaches_too = sums.other_came; differ = sums.differ })))
+  told place shape (several n) sums = absurd (passed.sound place V2
+      (inl (record { one = sums.first; other = sums.other; reaches = sums.first_came; reaches_too = sums.other_came; differ = sums.differ })))
   told place shape (one only) sums = by (same_shape only shape) refl
     where
       by : (t : Bool) → same_shape only shape ≡ t → Reaches instrs place shape ⊎ (Reaches instrs place shape → ⊥)
       by true is = inl (subst (Reaches instrs place) (same_shape_tells only shape is) sums.came)
       by false is = inr (λ reaches. differ_by_test only shape is (sym (sums.alone shape reaches)))
 
-  stands : (place : ℕ) (shape : PlainShape) → Reaches instrs place shape → (found : Option Instr) → slice_get instrs place ≡ found → (instr : Instr) × (slice_get instrs place ≡ Some instr)
+  stands : (place : ℕ) (shape : PlainShape) → Reaches instrs place shape → (found : Option Instr) → slice_get instrs place ≡ found
+      → (instr : Instr) × (slice_get instrs place ≡ Some instr)
   stands place shape reaches (Some instr) h = (instr, h)
   stands place shape reaches None h = absurd (passed.sound place V5 (record { shape = shape; reaches = reaches; ends = ends (cases_lt place (length instrs)) }))
     where
@@ -85,10 +88,12 @@ module _ (instrs : List Instr) (labels : AreWithin instrs) (passed : IsPassed in
 
   module _ (place : ℕ) (shape : PlainShape) (reaches : Reaches instrs place shape) (instr : Instr) (here : slice_get instrs place ≡ Some instr) where
     has_enough : lacks instr shape ≡ false
-    has_enough = is_true_or_false (lacks instr shape) (λ h. passed.sound place V1 (record { instr = instr; shape = shape; met = record { stands = here; reaches = reaches }; lacking = h }))
+    has_enough = is_true_or_false (lacks instr shape)
+        (λ h. passed.sound place V1 (record { instr = instr; shape = shape; met = record { stands = here; reaches = reaches }; lacking = h }))
 
     goes_right : strays instr place ≡ false
-    goes_right = is_true_or_false (strays instr place) (λ h. passed.sound place V3 (record { instr = instr; shape = shape; met = record { stands = here; reaches = reaches }; straying = h }))
+    goes_right = is_true_or_false (strays instr place)
+        (λ h. passed.sound place V3 (record { instr = instr; shape = shape; met = record { stands = here; reaches = reaches }; straying = h }))
 
     is_met : (b : Bool) → meets (row_of instr).asks (look_of shape) ≡ b → b ≡ true
     is_met true h = refl
@@ -118,7 +123,16 @@ module _ (instrs : List Instr) (labels : AreWithin instrs) (passed : IsPassed in
 
         by : Reaches instrs to.0 to.1 ⊎ (Reaches instrs to.0 to.1 → ⊥) → (to.0 ≤ place) × (shapes to.0 ≡ Some to.1)
         by (inl there') = (earlier, has to.0 to.1 there')
-        by (inr absent) = absurd (passed.sound place V2 (inr (record { instr = instr; shape = shape; met = record { stands = here; reaches = reaches }; label = to.0; wanted = to.1; leads = h; earlier = earlier; absent = absent })))
+        by (inr absent) = absurd (passed.sound place V2 (inr (record {
+          instr = instr;
+          shape = shape;
+          met = record { stands = here; reaches = reaches };
+          label = to.0;
+          wanted = to.1;
+          leads = h;
+          earlier = earlier;
+          absent = absent;
+        })))
 
     fine : IsFine instrs shapes place shape
     fine = record {
@@ -149,13 +163,15 @@ sound_shapes instrs labels sound = by (fault_of instrs) (outcome instrs labels)
     by (Some found) first = absurd (sound found.1 found.0 first.breaks)
 
 -- what the pass finds, said of the instructions
-pub found_means : (instrs : List Instr) → AreWithin instrs → (found : Option (Rule × ℕ)) → found ≡ fault_of instrs → MatchOption found (IsSound instrs) (λ f. IsFirstOf instrs f.0 f.1)
+pub found_means : (instrs : List Instr) → AreWithin instrs → (found : Option (Rule × ℕ)) → found ≡ fault_of instrs
+    → MatchOption found (IsSound instrs) (λ f. IsFirstOf instrs f.0 f.1)
 found_means instrs labels found is = by found (subst (IsOutcome instrs) (sym is) (outcome instrs labels))
   where
     by : (f : Option (Rule × ℕ)) → IsOutcome instrs f → MatchOption f (IsSound instrs) (λ g. IsFirstOf instrs g.0 g.1)
     by None passed = passed.sound
     by (Some g) first = first
 
-pub found_answer : {E : Type 0} (instrs : List Instr) → AreWithin instrs → (result : Result (Option (Rule × ℕ)) E) → IfOk result (λ found. found ≡ fault_of instrs) → IfOk result (λ found. MatchOption found (IsSound instrs) (λ f. IsFirstOf instrs f.0 f.1))
+pub found_answer : {E : Type 0} (instrs : List Instr) → AreWithin instrs → (result : Result (Option (Rule × ℕ)) E)
+    → IfOk result (λ found. found ≡ fault_of instrs) → IfOk result (λ found. MatchOption found (IsSound instrs) (λ f. IsFirstOf instrs f.0 f.1))
 found_answer instrs labels (Ok found) is = found_means instrs labels found is
 found_answer instrs labels (Err e) is = tt

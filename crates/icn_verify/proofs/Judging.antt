@@ -63,7 +63,8 @@ module _ (instrs : List Instr) (place : ℕ) where
   IsLeast (Some rule) = IsLeastRule rule
 
   -- no rule whose number is below a bound is broken
-  none_below : (bound : ℕ) → (1 < bound → LacksOperand instrs place → ⊥) → (2 < bound → HasTwoShapes instrs place ⊎ LacksShape instrs place → ⊥) → (3 < bound → Strays instrs place → ⊥) → (4 < bound → LacksWhatItAsks instrs place → ⊥) → (5 < bound → EndIsReached instrs place → ⊥)
+  none_below : (bound : ℕ) → (1 < bound → LacksOperand instrs place → ⊥) → (2 < bound → HasTwoShapes instrs place ⊎ LacksShape instrs place → ⊥)
+      → (3 < bound → Strays instrs place → ⊥) → (4 < bound → LacksWhatItAsks instrs place → ⊥) → (5 < bound → EndIsReached instrs place → ⊥)
       → (rule : Rule) → number_of rule < bound → Breaks instrs place rule → ⊥
   none_below bound a b c d e V1 lt broken = a lt broken
   none_below bound a b c d e V2 lt broken = b lt broken
@@ -72,7 +73,8 @@ module _ (instrs : List Instr) (place : ℕ) where
   none_below bound a b c d e V5 lt broken = e lt broken
   none_below bound a b c d e _ lt broken = broken
 
-  none : (LacksOperand instrs place → ⊥) → (HasTwoShapes instrs place ⊎ LacksShape instrs place → ⊥) → (Strays instrs place → ⊥) → (LacksWhatItAsks instrs place → ⊥) → (EndIsReached instrs place → ⊥)
+  none : (LacksOperand instrs place → ⊥) → (HasTwoShapes instrs place ⊎ LacksShape instrs place → ⊥) → (Strays instrs place → ⊥)
+      → (LacksWhatItAsks instrs place → ⊥) → (EndIsReached instrs place → ⊥)
       → (rule : Rule) → Breaks instrs place rule → ⊥
   none a b c d e V1 broken = a broken
   none a b c d e V2 broken = b broken
@@ -108,11 +110,13 @@ module _ (instrs : List Instr) (place : ℕ) where
             met = record { stands = stands; reaches = sums.lowest_came };
             lacking = lowest_lacks n sums.lowest.inner.operands (row_of instr).takes sums.is h;
           };
-          least = none_below 1 (λ lt b. absurd (omega arith)) (λ lt b. absurd (omega arith)) (λ lt b. absurd (omega arith)) (λ lt b. absurd (omega arith)) (λ lt b. absurd (omega arith));
+          least = none_below 1 (λ lt b. absurd (omega arith)) (λ lt b. absurd (omega arith)) (λ lt b. absurd (omega arith)) (λ lt b. absurd (omega arith))
+              (λ lt b. absurd (omega arith));
         }
         by false h = record {
           breaks = inl (record { one = sums.first; other = sums.other; reaches = sums.first_came; reaches_too = sums.other_came; differ = sums.differ });
-          least = none_below 2 (λ lt b. no_lack b) (λ lt b. absurd (omega arith)) (λ lt b. absurd (omega arith)) (λ lt b. absurd (omega arith)) (λ lt b. absurd (omega arith));
+          least = none_below 2 (λ lt b. no_lack b) (λ lt b. absurd (omega arith)) (λ lt b. absurd (omega arith)) (λ lt b. absurd (omega arith))
+              (λ lt b. absurd (omega arith));
         }
           where
             no_lack : LacksOperand instrs place → ⊥
@@ -150,7 +154,8 @@ module _ (instrs : List Instr) (place : ℕ) where
       held label wanted le h = holds (Reaches instrs label) (seen_at table label) wanted (known label le) h
 
       absent : (label : ℕ) (wanted : PlainShape) → label ≤ place → is_one (seen_at table label) wanted ≡ false → Reaches instrs label wanted → ⊥
-      absent label wanted le h reaches = not_both (is_one (seen_at table label) wanted) (is_held (Reaches instrs label) (seen_at table label) wanted (known label le) (single label le) reaches) h
+      absent label wanted le h reaches = not_both (is_one (seen_at table label) wanted)
+          (is_held (Reaches instrs label) (seen_at table label) wanted (known label le) (single label le) reaches) h
 
       not_missing : misses table place (back instr only) ≡ false → LacksShape instrs place → ⊥
       not_missing h b =
@@ -158,7 +163,8 @@ module _ (instrs : List Instr) (place : ℕ) where
           let same = sums.alone b.shape b.met.reaches in
           let leads : back instr only ≡ Some (b.label, b.wanted) = sym (λ i. back (is i) (same i)) ∙ b.leads in
           let misses_not : misses table place (Some (b.label, b.wanted)) ≡ false = ap (misses table place) (sym leads) ∙ h in
-          b.absent (held b.label b.wanted b.earlier (and_false (nat_le b.label place) (is_one (seen_at table b.label) b.wanted) misses_not (at_most b.label place b.earlier)))
+          b.absent (held b.label b.wanted b.earlier
+          (and_false (nat_le b.label place) (is_one (seen_at table b.label) b.wanted) misses_not (at_most b.label place b.earlier)))
 
       missing : (to : Option (ℕ × PlainShape)) → back instr only ≡ to → misses table place to ≡ true → LacksShape instrs place
       missing None leads h = absurd (true≢false (sym h))
@@ -180,17 +186,21 @@ module _ (instrs : List Instr) (place : ℕ) where
       not_twice h (inl b) = not_two b
       not_twice h (inr b) = not_missing h b
 
-      meets_by : lacks instr only ≡ false → misses table place (back instr only) ≡ false → strays instr place ≡ false → (b : Bool) → meets (row_of instr).asks (look_of only) ≡ b → IsLeast (if b then None else Some V4)
+      meets_by : lacks instr only ≡ false → misses table place (back instr only) ≡ false → strays instr place ≡ false → (b : Bool)
+          → meets (row_of instr).asks (look_of only) ≡ b → IsLeast (if b then None else Some V4)
       meets_by h k l true m = none (not_lacking h) (not_twice k) (not_straying l) (not_unmet m) not_ended
       meets_by h k l false m = record {
         breaks = record { instr = instr; shape = only; met = record { stands = stands; reaches = sums.came }; unmet = m };
-        least = none_below 4 (λ lt b. not_lacking h b) (λ lt b. not_twice k b) (λ lt b. not_straying l b) (λ lt b. absurd (omega arith)) (λ lt b. absurd (omega arith));
+        least = none_below 4 (λ lt b. not_lacking h b) (λ lt b. not_twice k b) (λ lt b. not_straying l b) (λ lt b. absurd (omega arith))
+            (λ lt b. absurd (omega arith));
       }
 
-      strays_as : lacks instr only ≡ false → misses table place (back instr only) ≡ false → (b : Bool) → strays instr place ≡ b → IsLeast (if b then Some V3 else if meets (row_of instr).asks (look_of only) then None else Some V4)
+      strays_as : lacks instr only ≡ false → misses table place (back instr only) ≡ false → (b : Bool) → strays instr place ≡ b
+          → IsLeast (if b then Some V3 else if meets (row_of instr).asks (look_of only) then None else Some V4)
       strays_as h k true l = record {
         breaks = record { instr = instr; shape = only; met = record { stands = stands; reaches = sums.came }; straying = l };
-        least = none_below 3 (λ lt b. not_lacking h b) (λ lt b. not_twice k b) (λ lt b. absurd (omega arith)) (λ lt b. absurd (omega arith)) (λ lt b. absurd (omega arith));
+        least = none_below 3 (λ lt b. not_lacking h b) (λ lt b. not_twice k b) (λ lt b. absurd (omega arith)) (λ lt b. absurd (omega arith))
+            (λ lt b. absurd (omega arith));
       }
       strays_as h k false l = meets_by h k l (meets (row_of instr).asks (look_of only)) refl
 
@@ -198,15 +208,18 @@ module _ (instrs : List Instr) (place : ℕ) where
           → IsLeast (if b then Some V2 else if strays instr place then Some V3 else if meets (row_of instr).asks (look_of only) then None else Some V4)
       misses_as h true k = record {
         breaks = inr (missing (back instr only) refl k);
-        least = none_below 2 (λ lt b. not_lacking h b) (λ lt b. absurd (omega arith)) (λ lt b. absurd (omega arith)) (λ lt b. absurd (omega arith)) (λ lt b. absurd (omega arith));
+        least = none_below 2 (λ lt b. not_lacking h b) (λ lt b. absurd (omega arith)) (λ lt b. absurd (omega arith)) (λ lt b. absurd (omega arith))
+            (λ lt b. absurd (omega arith));
       }
       misses_as h false k = strays_as h k (strays instr place) refl
 
       lacks_as : (b : Bool) → lacks instr only ≡ b
-          → IsLeast (if b then Some V1 else if misses table place (back instr only) then Some V2 else if strays instr place then Some V3 else if meets (row_of instr).asks (look_of only) then None else Some V4)
+          → IsLeast (if b then Some V1 else if misses table place (back instr only) then Some V2 else if strays instr place then Some V3
+          else if meets (row_of instr).asks (look_of only) then None else Some V4)
       lacks_as true h = record {
         breaks = record { instr = instr; shape = only; met = record { stands = stands; reaches = sums.came }; lacking = h };
-        least = none_below 1 (λ lt b. absurd (omega arith)) (λ lt b. absurd (omega arith)) (λ lt b. absurd (omega arith)) (λ lt b. absurd (omega arith)) (λ lt b. absurd (omega arith));
+        least = none_below 1 (λ lt b. absurd (omega arith)) (λ lt b. absurd (omega arith)) (λ lt b. absurd (omega arith)) (λ lt b. absurd (omega arith))
+            (λ lt b. absurd (omega arith));
       }
       lacks_as false h = misses_as h (misses table place (back instr only)) refl
 
@@ -218,7 +231,8 @@ module _ (instrs : List Instr) (place : ℕ) where
   least_end ends unseen sums = unreached sums
   least_end ends (one only) sums = record {
     breaks = record { shape = only; reaches = sums.came; ends = ends };
-    least = none_below 5 (λ lt b. past_end instrs place b.instr ends b.met.stands) (λ lt b. two b) (λ lt b. past_end instrs place b.instr ends b.met.stands) (λ lt b. past_end instrs place b.instr ends b.met.stands) (λ lt b. absurd (omega arith));
+    least = none_below 5 (λ lt b. past_end instrs place b.instr ends b.met.stands) (λ lt b. two b) (λ lt b. past_end instrs place b.instr ends b.met.stands)
+        (λ lt b. past_end instrs place b.instr ends b.met.stands) (λ lt b. absurd (omega arith));
   }
     where
       two : HasTwoShapes instrs place ⊎ LacksShape instrs place → ⊥
@@ -226,5 +240,6 @@ module _ (instrs : List Instr) (place : ℕ) where
       two (inr b) = past_end instrs place b.instr ends b.met.stands
   least_end ends (several n) sums = record {
     breaks = inl (record { one = sums.first; other = sums.other; reaches = sums.first_came; reaches_too = sums.other_came; differ = sums.differ });
-    least = none_below 2 (λ lt b. past_end instrs place b.instr ends b.met.stands) (λ lt b. absurd (omega arith)) (λ lt b. absurd (omega arith)) (λ lt b. absurd (omega arith)) (λ lt b. absurd (omega arith));
+    least = none_below 2 (λ lt b. past_end instrs place b.instr ends b.met.stands) (λ lt b. absurd (omega arith)) (λ lt b. absurd (omega arith))
+        (λ lt b. absurd (omega arith)) (λ lt b. absurd (omega arith));
   }

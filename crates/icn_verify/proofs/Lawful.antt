@@ -17,7 +17,8 @@ have_one_shape = one_shape
 
 pub are_least : AreLeast
 are_least instrs holds closed _ _ starts = closed.start
-are_least instrs holds closed _ _ (goes place shape to carried reaches carries) = closed.on place shape to carried (are_least instrs holds closed place shape reaches) carries
+are_least instrs holds closed _ _ (goes place shape to carried reaches carries) =
+    closed.on place shape to carried (are_least instrs holds closed place shape reaches) carries
 
 -- the rules of verified code, by their numbers
 pub data Numbered : Rule → Type 0 where
@@ -72,14 +73,17 @@ same_number m n a b = by (cases_lt m n) (cases_lt n m)
     by (inr ge) (inr le) = omega arith
 
 -- one first rule in one procedure
-same_place : (instrs : List Instr) (rule : Rule) (place : ℕ) (rule' : Rule) (place' : ℕ) → IsFirstOf instrs rule place → IsFirstOf instrs rule' place' → place ≡ place'
+same_place : (instrs : List Instr) (rule : Rule) (place : ℕ) (rule' : Rule) (place' : ℕ) → IsFirstOf instrs rule place → IsFirstOf instrs rule' place'
+    → place ≡ place'
 same_place instrs rule place rule' place' one other =
     same_number place place' (λ lt. other.first place rule one.breaks (inl lt)) (λ lt. one.first place' rule' other.breaks (inl lt))
 
-same_first : (instrs : List Instr) (rule : Rule) (place : ℕ) (rule' : Rule) (place' : ℕ) → IsFirstOf instrs rule place → IsFirstOf instrs rule' place' → rule ≡ rule'
+same_first : (instrs : List Instr) (rule : Rule) (place : ℕ) (rule' : Rule) (place' : ℕ) → IsFirstOf instrs rule place → IsFirstOf instrs rule' place'
+    → rule ≡ rule'
 same_first instrs rule place rule' place' one other =
     same_rule rule rule' (numbered instrs place rule one.breaks) (numbered instrs place' rule' other.breaks)
-    (same_number (number_of rule) (number_of rule') (λ lt. other.first place rule one.breaks (inr (is, lt))) (λ lt. one.first place' rule' other.breaks (inr (sym is, lt))))
+    (same_number (number_of rule) (number_of rule') (λ lt. other.first place rule one.breaks (inr (is, lt)))
+    (λ lt. one.first place' rule' other.breaks (inr (sym is, lt))))
   where
     is : place ≡ place'
     is = same_place instrs rule place rule' place' one other
@@ -92,7 +96,8 @@ have_one_fault procs rule number place rule' number' place' one other = record {
 }
   where
     numbers : number ≡ number'
-    numbers = same_number number number' (λ lt. other.earlier number one.proc lt one.stands place rule one.here.breaks) (λ lt. one.earlier number' other.proc lt other.stands place' rule' other.here.breaks)
+    numbers = same_number number number' (λ lt. other.earlier number one.proc lt one.stands place rule one.here.breaks)
+        (λ lt. one.earlier number' other.proc lt other.stands place' rule' other.here.breaks)
 
     same : other.proc ≡ one.proc
     same = some_same other.proc one.proc (sym other.stands ∙ ap (slice_get procs) (sym numbers) ∙ one.stands)

@@ -44,7 +44,8 @@ low_at most [] place low = tt
 low_at most (seen ∷ table) zero low = low.0
 low_at most (seen ∷ table) (suc place) low = low_at most table place low.1
 
-low_set : (most : ℕ) (table : List Arrival) (place : ℕ) (seen : Arrival) → IsLowTable most table → IsLowSeen most seen → IsLowTable most (slice_set table place seen)
+low_set : (most : ℕ) (table : List Arrival) (place : ℕ) (seen : Arrival) → IsLowTable most table → IsLowSeen most seen
+    → IsLowTable most (slice_set table place seen)
 low_set most [] place seen low h = tt
 low_set most (other ∷ table) zero seen low h = (h, low.1)
 low_set most (other ∷ table) (suc place) seen low h = (low.0, low_set most table place seen low.1 h)
@@ -63,9 +64,11 @@ abbrev IsLowSent : ℕ → Option (ℕ × PlainShape) → Type 0
 IsLowSent most None = Unit {0}
 IsLowSent most (Some to) = IsLowShape most to.1
 
-low_arrived : (most : ℕ) (table : List Arrival) (to : Option (ℕ × PlainShape)) → IsLowTable most table → IsLowSent most to → IsLowTable most (with_arrival table to)
+low_arrived : (most : ℕ) (table : List Arrival) (to : Option (ℕ × PlainShape)) → IsLowTable most table → IsLowSent most to
+    → IsLowTable most (with_arrival table to)
 low_arrived most table None low h = low
-low_arrived most table (Some to) low h = low_set most table to.0 (with_shape (seen_at table to.0) to.1) low (low_joined most (seen_at table to.0) to.1 (low_at most table to.0 low) h)
+low_arrived most table (Some to) low h =
+    low_set most table to.0 (with_shape (seen_at table to.0) to.1) low (low_joined most (seen_at table to.0) to.1 (low_at most table to.0 low) h)
 
 low_start : (most : ℕ) (in_create : Bool) → IsLowShape most (start_shape in_create)
 low_start most in_create = record { inner = record { operands = omega arith; scans = omega arith }; outer = tt }
@@ -167,19 +170,28 @@ module _ (n takes leaves : ℕ) (more : leaves ≤ takes + 1) (in_create : Bool)
   low_left : (change : Change) → (change ≡ Keeps) ⊎ (leaves ≤ 1) → (outer : List Level) → AreLow n outer → IsLowShape (n + 1) (left_by change outer)
   low_left Keeps few outer held = record { inner = on_inner inner.scans (omega (arith, low.scans)); outer = all_raised n (n + 1) (omega arith) outer held }
   low_left OpensPlain few outer held =
-      record { inner = on_empty _ refl refl (keeps_differ OpensPlain opens_keeps leaves few); outer = (raised n (n + 1) (omega arith) _ taken, all_raised n (n + 1) (omega arith) outer held) }
+      record {
+        inner = on_empty _ refl refl (keeps_differ OpensPlain opens_keeps leaves few);
+        outer = (raised n (n + 1) (omega arith) _ taken, all_raised n (n + 1) (omega arith) outer held);
+      }
   low_left OpensLimit few outer held =
-      record { inner = on_empty _ refl refl (keeps_differ OpensLimit limit_keeps leaves few); outer = (raised n (n + 1) (omega arith) _ taken, all_raised n (n + 1) (omega arith) outer held) }
+      record {
+        inner = on_empty _ refl refl (keeps_differ OpensLimit limit_keeps leaves few);
+        outer = (raised n (n + 1) (omega arith) _ taken, all_raised n (n + 1) (omega arith) outer held);
+      }
   low_left Drops few [] held = record { inner = on_inner inner.scans (omega (arith, low.scans)); outer = tt }
   low_left Drops few (level ∷ outer) held =
       record { inner = on_outer level held.0 (keeps_differ Drops drops_keeps leaves few); outer = all_raised n (n + 1) (omega arith) outer held.1 }
-  low_left OpensScan few outer held = record { inner = on_inner (inner.scans + 1) (omega (arith, low.scans)); outer = all_raised n (n + 1) (omega arith) outer held }
-  low_left ClosesScan few outer held = record { inner = on_inner (inner.scans - 1) (omega (arith, low.scans)); outer = all_raised n (n + 1) (omega arith) outer held }
+  low_left OpensScan few outer held =
+      record { inner = on_inner (inner.scans + 1) (omega (arith, low.scans)); outer = all_raised n (n + 1) (omega arith) outer held }
+  low_left ClosesScan few outer held =
+      record { inner = on_inner (inner.scans - 1) (omega (arith, low.scans)); outer = all_raised n (n + 1) (omega arith) outer held }
 
 low_after : (n : ℕ) (instr : Instr) (shape : PlainShape) → lacks instr shape ≡ false → IsLowShape n shape → IsLowShape (n + 1) (after (row_of instr) shape)
 low_after n instr shape none low =
     let few = leaves_few instr in
-    low_left n (row_of instr).takes (row_of instr).leaves few.more shape.in_create shape.inner (below shape.inner.operands (row_of instr).takes none) low.inner (row_of instr).change few.changing shape.outer low.outer
+    low_left n (row_of instr).takes (row_of instr).leaves few.more shape.in_create shape.inner (below shape.inner.operands (row_of instr).takes none) low.inner
+    (row_of instr).change few.changing shape.outer low.outer
 
 -- What goes out of a place
 

@@ -42,14 +42,17 @@ kind_itself Base = refl
 kind_itself Plain = refl
 kind_itself Limit = refl
 
-level_of : (kind kind' : LevelKind) (operands operands' scans scans' : ℕ) → kind ≡ kind' → operands ≡ operands' → scans ≡ scans' → let one : Level = record { kind = kind; operands = operands; scans = scans } in let other : Level = record { kind = kind'; operands = operands'; scans = scans' } in one ≡ other
+level_of : (kind kind' : LevelKind) (operands operands' scans scans' : ℕ) → kind ≡ kind' → operands ≡ operands'
+    → scans ≡ scans' → let one : Level = record { kind = kind; operands = operands; scans = scans } in
+    let other : Level = record { kind = kind'; operands = operands'; scans = scans' } in one ≡ other
 level_of kind kind' operands operands' scans scans' h k l = λ i. record { kind = h i; operands = k i; scans = l i }
 
 pub same_level_tells : (a b : Level) → same_level a b ≡ true → a ≡ b
 same_level_tells a b h =
     let first = both (same_kind a.kind b.kind && nat_eq a.operands b.operands) (nat_eq a.scans b.scans) h in
     let second = both (same_kind a.kind b.kind) (nat_eq a.operands b.operands) first.0 in
-    level_of a.kind b.kind a.operands b.operands a.scans b.scans (kinds a.kind b.kind second.0) (eqb-true a.operands b.operands second.1) (eqb-true a.scans b.scans first.1)
+    level_of a.kind b.kind a.operands b.operands a.scans b.scans (kinds a.kind b.kind second.0) (eqb-true a.operands b.operands second.1)
+    (eqb-true a.scans b.scans first.1)
 
 pub level_itself : (a : Level) → same_level a a ≡ true
 level_itself a = both_hold _ _ (both_hold _ _ (kind_itself a.kind) (eq-eqb a.operands a.operands refl)) (eq-eqb a.scans a.scans refl)

@@ -28,7 +28,8 @@ Sums Came (one only) = IsOnly Came only
 Sums Came (several n) = AreSeveral Came n
 
 -- the same shapes, said otherwise
-pub sums_as : (Came Came' : PlainShape → Type 0) → ((shape : PlainShape) → Came shape → Came' shape) → ((shape : PlainShape) → Came' shape → Came shape) → (seen : Arrival) → Sums Came seen → Sums Came' seen
+pub sums_as : (Came Came' : PlainShape → Type 0) → ((shape : PlainShape) → Came shape → Came' shape) → ((shape : PlainShape) → Came' shape → Came shape)
+    → (seen : Arrival) → Sums Came seen → Sums Came' seen
 sums_as Came Came' on back unseen h = λ shape came. h shape (back shape came)
 sums_as Came Came' on back (one only) h = record { came = on only h.came; alone = λ shape came. h.alone shape (back shape came) }
 sums_as Came Came' on back (several n) h = record {
@@ -43,9 +44,11 @@ sums_as Came Came' on back (several n) h = record {
   fewest = λ shape came. h.fewest shape (back shape came);
 }
 
-module _ (Came Came' : PlainShape → Type 0) (new : PlainShape) (either' : (shape : PlainShape) → Came' shape → Came shape ⊎ (shape ≡ new)) (on : (shape : PlainShape) → Came shape → Came' shape) (comes : Came' new) where
+module _ (Came Came' : PlainShape → Type 0) (new : PlainShape) (either' : (shape : PlainShape) → Came' shape → Came shape ⊎ (shape ≡ new))
+    (on : (shape : PlainShape) → Came shape → Came' shape) (comes : Came' new) where
   -- the fewer of two
-  fewer : (m : ℕ) → (lowest : PlainShape) → Came' lowest → lowest.inner.operands ≡ m → (shape : PlainShape) × Came' shape × (shape.inner.operands ≡ min m new.inner.operands)
+  fewer : (m : ℕ) → (lowest : PlainShape) → Came' lowest → lowest.inner.operands ≡ m
+      → (shape : PlainShape) × Came' shape × (shape.inner.operands ≡ min m new.inner.operands)
   fewer m lowest came is = by (cases_lt m new.inner.operands)
     where
       by : (m < new.inner.operands) ⊎ (new.inner.operands ≤ m) → (shape : PlainShape) × Came' shape × (shape.inner.operands ≡ min m new.inner.operands)
@@ -114,7 +117,8 @@ SumUp Came n table = (place : ℕ) → place ≤ n → Sums (Came place) (seen_a
 none_some : (to : ℕ × PlainShape) → let none : Option (ℕ × PlainShape) = None in (none ≡ Some to) → ⊥
 none_some to h = cc
 
-pub sums_arrived : (Came : ℕ → PlainShape → Type 0) (n : ℕ) (table : List Arrival) (to : Option (ℕ × PlainShape)) → length table ≡ n + 1 → SumUp Came n table → SumUp (Adds Came to) n (with_arrival table to)
+pub sums_arrived : (Came : ℕ → PlainShape → Type 0) (n : ℕ) (table : List Arrival) (to : Option (ℕ × PlainShape)) → length table ≡ n + 1 → SumUp Came n table
+    → SumUp (Adds Came to) n (with_arrival table to)
 sums_arrived Came n table None long sums place within =
     sums_as (Came place) (Adds Came None place) (λ shape came. inl came) back (seen_at table place) (sums place within)
   where
@@ -142,11 +146,14 @@ sums_arrived Came n table (Some to) long sums place within = by (cases_eq place 
     by : (place ≡ to.0) ⊎ (place ≡ to.0 → ⊥) → Sums (Adds Came (Some to) place) (seen_at (with_arrival table (Some to)) place)
     by (inl is) =
         let at : seen_at (with_arrival table (Some to)) place ≡ with_shape (seen_at table place) to.1 =
-        ap (λ p. seen_at (slice_set table to.0 (with_shape (seen_at table to.0) to.1)) p) is ∙ get_or-set_same table to.0 (with_shape (seen_at table to.0) to.1) unseen (omega arith) ∙ ap (λ p. with_shape (seen_at table p) to.1) (sym is) in
+        ap (λ p. seen_at (slice_set table to.0 (with_shape (seen_at table to.0) to.1)) p) is
+        ∙ get_or-set_same table to.0 (with_shape (seen_at table to.0) to.1) unseen (omega arith) ∙ ap (λ p. with_shape (seen_at table p) to.1) (sym is) in
         subst (Sums (Adds Came (Some to) place)) (sym at)
-        (sums_joined (Came place) (Adds Came (Some to) place) to.1 (split is) (λ shape came. inl came) (inr (λ i. Some (sym is i, to.1))) (seen_at table place) (sums place within))
+        (sums_joined (Came place) (Adds Came (Some to) place) to.1 (split is) (λ shape came. inl came) (inr (λ i. Some (sym is i, to.1))) (seen_at table place)
+        (sums place within))
     by (inr ne) =
-        let at : seen_at (with_arrival table (Some to)) place ≡ seen_at table place = get_or-set_other table to.0 place (with_shape (seen_at table to.0) to.1) unseen ne in
+        let at : seen_at (with_arrival table (Some to)) place
+        ≡ seen_at table place = get_or-set_other table to.0 place (with_shape (seen_at table to.0) to.1) unseen ne in
         subst (Sums (Adds Came (Some to) place)) (sym at)
         (sums_as (Came place) (Adds Came (Some to) place) (λ shape came. inl came) (other ne) (seen_at table place) (sums place within))
 
@@ -161,7 +168,8 @@ holds Came (one only) shape sums h = subst Came (same_shape_tells only shape h) 
 holds Came (several n) shape sums h = absurd (true≢false (sym h))
 
 -- where no two came, the test of the one that came is right
-pub is_held : (Came : PlainShape → Type 0) (seen : Arrival) (shape : PlainShape) → Sums Came seen → ((a b : PlainShape) → Came a → Came b → a ≢ b → ⊥) → Came shape → is_one seen shape ≡ true
+pub is_held : (Came : PlainShape → Type 0) (seen : Arrival) (shape : PlainShape) → Sums Came seen → ((a b : PlainShape) → Came a → Came b → a ≢ b → ⊥)
+    → Came shape → is_one seen shape ≡ true
 is_held Came unseen shape sums alone came = absurd (sums shape came)
 is_held Came (one only) shape sums alone came = same_shapes only shape (sym (sums.alone shape came))
 is_held Came (several n) shape sums alone came = absurd (alone sums.first sums.other sums.first_came sums.other_came sums.differ)

@@ -20,7 +20,8 @@ some_same a b h = cc
 stack_of : List (List Level) → Entry → List Level
 stack_of stacks entry = entry.level ∷ stack_at stacks entry.outer
 
-pub stacked_push : (stacks : List (List Level)) (entries : List Entry) (entry : Entry) → stacked stacks (entries ++ entry ∷ []) ≡ stacked stacks entries ++ (entry.level ∷ stack_at (stacked stacks entries) entry.outer) ∷ []
+pub stacked_push : (stacks : List (List Level)) (entries : List Entry) (entry : Entry)
+    → stacked stacks (entries ++ entry ∷ []) ≡ stacked stacks entries ++ (entry.level ∷ stack_at (stacked stacks entries) entry.outer) ∷ []
 stacked_push stacks [] entry = refl
 stacked_push stacks (first ∷ entries) entry = stacked_push (stacks ++ (first.level ∷ stack_at stacks first.outer) ∷ []) entries entry
 
@@ -72,7 +73,8 @@ get_last [] x (suc place) is = absurd (omega arith)
 get_last (y ∷ xs) x zero is = absurd (omega arith)
 get_last (y ∷ xs) x (suc place) is = get_last xs x place (omega arith)
 
-module _ (entries : List Entry) (once : IsOnce entries) (entry : Entry) (held : entry.outer < length (stacks_of entries)) (new : (k : ℕ) → slice_get entries k ≡ Some entry → ⊥) where
+module _ (entries : List Entry) (once : IsOnce entries) (entry : Entry) (held : entry.outer < length (stacks_of entries))
+    (new : (k : ℕ) → slice_get entries k ≡ Some entry → ⊥) where
   pushed : stacks_of (entries ++ entry ∷ []) ≡ stacks_of entries ++ (entry.level ∷ stack_at (stacks_of entries) entry.outer) ∷ []
   pushed = stacked_push ([] ∷ []) entries entry
 
@@ -82,10 +84,12 @@ module _ (entries : List Entry) (once : IsOnce entries) (entry : Entry) (held : 
   grown : List (List Level)
   grown = stacks_of entries ++ (entry.level ∷ stack_at (stacks_of entries) entry.outer) ∷ []
 
-  before : (i : ℕ) → i < length (stacks_of entries) → stack_at (stacks_of entries ++ (entry.level ∷ stack_at (stacks_of entries) entry.outer) ∷ []) i ≡ stack_at (stacks_of entries) i
+  before : (i : ℕ) → i < length (stacks_of entries)
+      → stack_at (stacks_of entries ++ (entry.level ∷ stack_at (stacks_of entries) entry.outer) ∷ []) i ≡ stack_at (stacks_of entries) i
   before i lt = get_or_append_left (stacks_of entries) ((entry.level ∷ stack_at (stacks_of entries) entry.outer) ∷ []) [] i lt
 
-  last : (i : ℕ) → length (stacks_of entries) ≡ i → stack_at (stacks_of entries ++ (entry.level ∷ stack_at (stacks_of entries) entry.outer) ∷ []) i ≡ entry.level ∷ stack_at (stacks_of entries) entry.outer
+  last : (i : ℕ) → length (stacks_of entries) ≡ i
+      → stack_at (stacks_of entries ++ (entry.level ∷ stack_at (stacks_of entries) entry.outer) ∷ []) i ≡ entry.level ∷ stack_at (stacks_of entries) entry.outer
   last i is = get_or_push (stacks_of entries) (entry.level ∷ stack_at (stacks_of entries) entry.outer) [] i is
 
   -- no stack that is there is the new one
@@ -99,11 +103,13 @@ module _ (entries : List Entry) (once : IsOnce entries) (entry : Entry) (held : 
       let stacks = sym built.1 ∙ ap (stack_at (stacks_of entries)) (sym is) ∙ h in
       let level = head_same here.0.level entry.level (stack_at (stacks_of entries) here.0.outer) (stack_at (stacks_of entries) entry.outer) stacks in
       let earlier = built.0 in
-      let outer = once.differ here.0.outer entry.outer (omega arith) held (tail_same here.0.level entry.level (stack_at (stacks_of entries) here.0.outer) (stack_at (stacks_of entries) entry.outer) stacks) in
+      let outer = once.differ here.0.outer entry.outer (omega arith) held
+      (tail_same here.0.level entry.level (stack_at (stacks_of entries) here.0.outer) (stack_at (stacks_of entries) entry.outer) stacks) in
       new k (here.1 ∙ ap Some (same_entry here.0 entry level outer))
 
   differ : (i j : ℕ) → i < length (stacks_of entries) + 1 → j < length (stacks_of entries) + 1
-      → stack_at (stacks_of entries ++ (entry.level ∷ stack_at (stacks_of entries) entry.outer) ∷ []) i ≡ stack_at (stacks_of entries ++ (entry.level ∷ stack_at (stacks_of entries) entry.outer) ∷ []) j → i ≡ j
+      → stack_at (stacks_of entries ++ (entry.level ∷ stack_at (stacks_of entries) entry.outer) ∷ []) i
+      ≡ stack_at (stacks_of entries ++ (entry.level ∷ stack_at (stacks_of entries) entry.outer) ∷ []) j → i ≡ j
   differ i j within_i within_j h = by (cases_lt i (length (stacks_of entries))) (cases_lt j (length (stacks_of entries)))
     where
       by : (i < length (stacks_of entries)) ⊎ (length (stacks_of entries) ≤ i) → (j < length (stacks_of entries)) ⊎ (length (stacks_of entries) ≤ j) → i ≡ j
@@ -113,36 +119,45 @@ module _ (entries : List Entry) (once : IsOnce entries) (entry : Entry) (held : 
       by (inr ge_i) (inr ge_j) = omega arith
 
   built : (k : ℕ) (other : Entry) → slice_get (entries ++ entry ∷ []) k ≡ Some other
-      → (other.outer < k + 1) × (stack_at (stacks_of entries ++ (entry.level ∷ stack_at (stacks_of entries) entry.outer) ∷ []) (k + 1) ≡ other.level ∷ stack_at (stacks_of entries ++ (entry.level ∷ stack_at (stacks_of entries) entry.outer) ∷ []) other.outer)
+      → (other.outer < k + 1) × (stack_at (stacks_of entries ++ (entry.level ∷ stack_at (stacks_of entries) entry.outer) ∷ []) (k + 1) ≡ other.level
+      ∷ stack_at (stacks_of entries ++ (entry.level ∷ stack_at (stacks_of entries) entry.outer) ∷ []) other.outer)
   built k other h = by (cases_lt k (length entries))
     where
       inside : k < length (entries ++ entry ∷ [])
       inside = some_within (entries ++ entry ∷ []) k other h
 
       by : (k < length entries) ⊎ (length entries ≤ k)
-          → (other.outer < k + 1) × (stack_at (stacks_of entries ++ (entry.level ∷ stack_at (stacks_of entries) entry.outer) ∷ []) (k + 1) ≡ other.level ∷ stack_at (stacks_of entries ++ (entry.level ∷ stack_at (stacks_of entries) entry.outer) ∷ []) other.outer)
+          → (other.outer < k + 1) × (stack_at (stacks_of entries ++ (entry.level ∷ stack_at (stacks_of entries) entry.outer) ∷ []) (k + 1) ≡ other.level
+          ∷ stack_at (stacks_of entries ++ (entry.level ∷ stack_at (stacks_of entries) entry.outer) ∷ []) other.outer)
       by (inl lt) =
           let old = once.built k other (sym (get_before entries entry k lt) ∙ h) in
-          let earlier = old.0 in
-          (old.0, before (k + 1) (omega (arith, length-stacks_of entries)) ∙ old.1 ∙ ap (λ s. other.level ∷ s) (sym (before other.outer (omega (arith, length-stacks_of entries)))))
+          let earlier = old.0 in (
+            old.0,
+            before (k + 1) (omega (arith, length-stacks_of entries)) ∙ old.1
+                ∙ ap (λ s. other.level ∷ s) (sym (before other.outer (omega (arith, length-stacks_of entries)))),
+          )
       by (inr ge) =
           let all = length-append entries (entry ∷ []) in
           let within = inside in
           let is : length entries ≡ k = omega arith in
           let same : entry ≡ other = some_same entry other (sym (get_last entries entry k is) ∙ h) in
           let count = length-stacks_of entries in
-          subst (λ e. (e.outer < k + 1) × (stack_at (stacks_of entries ++ (entry.level ∷ stack_at (stacks_of entries) entry.outer) ∷ []) (k + 1) ≡ e.level ∷ stack_at (stacks_of entries ++ (entry.level ∷ stack_at (stacks_of entries) entry.outer) ∷ []) e.outer)) same
+          subst (λ e. (e.outer < k + 1) × (stack_at (stacks_of entries ++ (entry.level ∷ stack_at (stacks_of entries) entry.outer) ∷ []) (k + 1) ≡ e.level
+          ∷ stack_at (stacks_of entries ++ (entry.level ∷ stack_at (stacks_of entries) entry.outer) ∷ []) e.outer)) same
           (omega arith, last (k + 1) (omega arith) ∙ ap (λ s. entry.level ∷ s) (sym (before entry.outer held)))
 
   pub once_pushed : IsOnce (entries ++ entry ∷ [])
   once_pushed = record {
     differ = subst (λ stacks. (i j : ℕ) → i < length stacks → j < length stacks → stack_at stacks i ≡ stack_at stacks j → i ≡ j) (sym pushed)
-        (λ i j within_i within_j h. differ i j (let e = length-append (stacks_of entries) ((entry.level ∷ stack_at (stacks_of entries) entry.outer) ∷ []) in omega arith) (let e = length-append (stacks_of entries) ((entry.level ∷ stack_at (stacks_of entries) entry.outer) ∷ []) in omega arith) h);
-    built = subst (λ stacks. (k : ℕ) (other : Entry) → slice_get (entries ++ entry ∷ []) k ≡ Some other → (other.outer < k + 1) × (stack_at stacks (k + 1) ≡ other.level ∷ stack_at stacks other.outer)) (sym pushed) built;
+        (λ i j within_i within_j h. differ i j (let e = length-append (stacks_of entries) ((entry.level ∷ stack_at (stacks_of entries) entry.outer) ∷ []) in
+        omega arith) (let e = length-append (stacks_of entries) ((entry.level ∷ stack_at (stacks_of entries) entry.outer) ∷ []) in omega arith) h);
+    built = subst (λ stacks. (k : ℕ) (other : Entry) → slice_get (entries ++ entry ∷ []) k ≡ Some other
+        → (other.outer < k + 1) × (stack_at stacks (k + 1) ≡ other.level ∷ stack_at stacks other.outer)) (sym pushed) built;
   }
 
 -- what is entered keeps each stack once
-pub once_entered : (old : List Entry) (entry : Entry) (new : List Entry) → IsOnce old → entry.outer < length (stacks_of old) → IsEntered old entry new → IsOnce new
+pub once_entered : (old : List Entry) (entry : Entry) (new : List Entry) → IsOnce old → entry.outer < length (stacks_of old) → IsEntered old entry new
+    → IsOnce new
 once_entered old entry new once held entered = by entered.is
   where
     by : (new ≡ old) ⊎ ((new ≡ old ++ entry ∷ []) × ((k : ℕ) → slice_get old k ≡ Some entry → ⊥)) → IsOnce new
@@ -164,40 +179,48 @@ pub kept_held : (old new : List (List Level)) (number : ℕ) → Grows old new �
 kept_held old new number grows held = let e = ap length grows.is ∙ length-append old grows.more in omega arith
 
 -- the stack of an entry that is there
-pub entry_stack : (entries : List Entry) (index : ℕ) (entry : Entry) → IsOnce entries → slice_get entries index ≡ Some entry → stack_at (stacks_of entries) (index + 1) ≡ entry.level ∷ stack_at (stacks_of entries) entry.outer
+pub entry_stack : (entries : List Entry) (index : ℕ) (entry : Entry) → IsOnce entries → slice_get entries index ≡ Some entry
+    → stack_at (stacks_of entries) (index + 1) ≡ entry.level ∷ stack_at (stacks_of entries) entry.outer
 entry_stack entries index entry once h = (once.built index entry h).1
 
 pub entry_held : (entries : List Entry) (index : ℕ) (entry : Entry) → slice_get entries index ≡ Some entry → index + 1 < length (stacks_of entries)
 entry_held entries index entry h = let lt = some_within entries index entry h in let e = length-stacks_of entries in omega arith
 
 -- stacks are the same where their numbers are
-pub same_numbers : (entries : List Entry) → IsOnce entries → (i j : ℕ) → i < length (stacks_of entries) → j < length (stacks_of entries) → nat_eq i j ≡ same_levels (stack_at (stacks_of entries) i) (stack_at (stacks_of entries) j)
+pub same_numbers : (entries : List Entry) → IsOnce entries → (i j : ℕ) → i < length (stacks_of entries) → j < length (stacks_of entries)
+    → nat_eq i j ≡ same_levels (stack_at (stacks_of entries) i) (stack_at (stacks_of entries) j)
 same_numbers entries once i j held_i held_j = by (nat_eq i j) refl (same_levels (stack_at (stacks_of entries) i) (stack_at (stacks_of entries) j)) refl
   where
     by : (a : Bool) → nat_eq i j ≡ a → (b : Bool) → same_levels (stack_at (stacks_of entries) i) (stack_at (stacks_of entries) j) ≡ b → a ≡ b
     by true h true k = refl
     by false h false k = refl
-    by true h false k = absurd (true≢false (sym (levels_itself (stack_at (stacks_of entries) i)) ∙ ap (λ n. same_levels (stack_at (stacks_of entries) i) (stack_at (stacks_of entries) n)) (eqb-true i j h) ∙ k))
-    by false h true k = absurd (true≢false (sym (eq-eqb i j (once.differ i j held_i held_j (same_levels_tells (stack_at (stacks_of entries) i) (stack_at (stacks_of entries) j) k))) ∙ h))
+    by true h false k = absurd (true≢false (sym (levels_itself (stack_at (stacks_of entries) i))
+        ∙ ap (λ n. same_levels (stack_at (stacks_of entries) i) (stack_at (stacks_of entries) n)) (eqb-true i j h) ∙ k))
+    by false h true k = absurd (true≢false
+        (sym (eq-eqb i j (once.differ i j held_i held_j (same_levels_tells (stack_at (stacks_of entries) i) (stack_at (stacks_of entries) j) k))) ∙ h))
 
 -- the number of the empty stack has no mark, and each other one has
 pub no_mark : (entries : List Entry) (in_create : Bool) (outer : ℕ) → (1 ≤ outer → ⊥) → shape_outside in_create (stack_at (stacks_of entries) outer) ≡ None
 no_mark entries in_create zero h = ap (shape_outside in_create) (first_stack entries)
 no_mark entries in_create (suc outer) h = absurd (h (omega arith))
 
-pub mark_kept : (entries : List Entry) (outer index : ℕ) → outer < length (stacks_of entries) → 1 ≤ outer → index + 1 ≡ outer → let none : Option Entry = None in (none ≡ slice_get entries index) → ⊥
+pub mark_kept : (entries : List Entry) (outer index : ℕ) → outer < length (stacks_of entries) → 1 ≤ outer → index + 1 ≡ outer
+    → let none : Option Entry = None in (none ≡ slice_get entries index) → ⊥
 mark_kept entries outer index held one is h =
     let count = length-stacks_of entries in
     let here = there entries index (omega arith) in
     none_some here.0 (h ∙ here.1)
 
-pub mark_held : (entries : List Entry) (entry : Entry) (outer index : ℕ) → IsOnce entries → outer < length (stacks_of entries) → index + 1 ≡ outer → Some entry ≡ slice_get entries index → entry.outer < length (stacks_of entries)
+pub mark_held : (entries : List Entry) (entry : Entry) (outer index : ℕ) → IsOnce entries → outer < length (stacks_of entries) → index + 1 ≡ outer
+    → Some entry ≡ slice_get entries index → entry.outer < length (stacks_of entries)
 mark_held entries entry outer index once held is h =
     let earlier = (once.built index entry (sym h)).0 in
     omega arith
 
-pub mark_shape : (entries : List Entry) (entry : Entry) (in_create : Bool) (outer index : ℕ) → IsOnce entries → index + 1 ≡ outer → Some entry ≡ slice_get entries index
-    → Some (record { in_create = in_create; inner = entry.level; outer = stack_at (stacks_of entries) entry.outer }) ≡ shape_outside in_create (stack_at (stacks_of entries) outer)
+pub mark_shape : (entries : List Entry) (entry : Entry) (in_create : Bool) (outer index : ℕ) → IsOnce entries → index + 1 ≡ outer
+    → Some entry ≡ slice_get entries index
+    → Some (record { in_create = in_create; inner = entry.level; outer = stack_at (stacks_of entries) entry.outer })
+    ≡ shape_outside in_create (stack_at (stacks_of entries) outer)
 mark_shape entries entry in_create outer index once is h =
     let built = (once.built index entry (sym h)).1 in
     sym (ap (λ n. shape_outside in_create (stack_at (stacks_of entries) n)) (sym is) ∙ ap (shape_outside in_create) built)

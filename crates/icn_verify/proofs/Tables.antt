@@ -14,16 +14,20 @@ use Rattle.icn_verify.specs.Passing.{Arrival, unseen, one, with_shape, seen_at, 
 use Rattle.icn_verify.specs.Stacks.{Grows, shape_in, seen_in, IsHeld, IsKept, AreKept, table_in}
 use Rattle.icn_verify.proofs.Stacking.{kept_stack, kept_held}
 
-pub at_slot : (stacks : List (List Level)) (slots : List Slot) (place : ℕ) → seen_at (table_in stacks slots) place ≡ seen_in stacks (slice_index_or slots place Free)
+pub at_slot : (stacks : List (List Level)) (slots : List Slot) (place : ℕ)
+    → seen_at (table_in stacks slots) place ≡ seen_in stacks (slice_index_or slots place Free)
 at_slot stacks [] place = refl
 at_slot stacks (slot ∷ slots) zero = refl
 at_slot stacks (slot ∷ slots) (suc place) = at_slot stacks slots place
 
-pub at_slot_is : (stacks : List (List Level)) (slots : List Slot) (place : ℕ) (slot : Slot) → slot ≡ slice_index_or slots place Free → seen_at (table_in stacks slots) place ≡ seen_in stacks slot
+pub at_slot_is : (stacks : List (List Level)) (slots : List Slot) (place : ℕ) (slot : Slot) → slot ≡ slice_index_or slots place Free
+    → seen_at (table_in stacks slots) place ≡ seen_in stacks slot
 at_slot_is stacks slots place slot is = at_slot stacks slots place ∙ ap (seen_in stacks) (sym is)
 
-pub arrived_at : (stacks : List (List Level)) (slots : List Slot) (place : ℕ) (slot before : Slot) (flat : Flat) → before ≡ slice_index_or slots place Free → seen_in stacks slot ≡ with_shape (seen_in stacks before) (shape_in stacks flat)
-    → table_in stacks (slice_set slots place slot) ≡ slice_set (table_in stacks slots) place (with_shape (seen_at (table_in stacks slots) place) (shape_in stacks flat))
+pub arrived_at : (stacks : List (List Level)) (slots : List Slot) (place : ℕ) (slot before : Slot) (flat : Flat) → before ≡ slice_index_or slots place Free
+    → seen_in stacks slot ≡ with_shape (seen_in stacks before) (shape_in stacks flat)
+    → table_in stacks (slice_set slots place slot)
+    ≡ slice_set (table_in stacks slots) place (with_shape (seen_at (table_in stacks slots) place) (shape_in stacks flat))
 arrived_at stacks slots place slot before flat is h =
     map-set (seen_in stacks) slots place slot
     ∙ ap (slice_set (table_in stacks slots) place) (h ∙ ap (λ s. with_shape s (shape_in stacks flat)) (sym (at_slot_is stacks slots place before is)))
@@ -32,7 +36,8 @@ map_replicate : (stacks : List (List Level)) (count : ℕ) → table_in stacks (
 map_replicate stacks zero = refl
 map_replicate stacks (suc count) = ap (λ table. unseen ∷ table) (map_replicate stacks count)
 
-pub first_filled : (stacks : List (List Level)) (count more : ℕ) (flat : Flat) → more ≡ count + 1 → shape_in stacks flat ≡ start_shape false → table_in stacks (slice_set (replicate more Free) 0 (One flat)) ≡ first_table count
+pub first_filled : (stacks : List (List Level)) (count more : ℕ) (flat : Flat) → more ≡ count + 1 → shape_in stacks flat ≡ start_shape false
+    → table_in stacks (slice_set (replicate more Free) 0 (One flat)) ≡ first_table count
 first_filled stacks count zero flat is h = absurd (omega arith)
 first_filled stacks count (suc more) flat is h =
     let same : more ≡ count = omega arith in
@@ -63,7 +68,8 @@ module _ (old new : List (List Level)) (grows : Grows old new) where
       λ i. first i ∷ rest i
 
 -- what one shape sends out
-pub sent_by : (old new : List (List Level)) → Grows old new → (slots next_slots last_slots : List Slot) → AreKept old slots → (flat left : Flat) → IsHeld old flat → (row : Row) (instr : Instr) → row ≡ row_of instr → (place : ℕ)
+pub sent_by : (old new : List (List Level)) → Grows old new → (slots next_slots last_slots : List Slot) → AreKept old slots → (flat left : Flat)
+    → IsHeld old flat → (row : Row) (instr : Instr) → row ≡ row_of instr → (place : ℕ)
     → shape_in new left ≡ after row (shape_in old flat)
     → (to on : Option (ℕ × PlainShape)) → to ≡ next_by row.way place (shape_in new left) → on ≡ forward_by row.way (shape_in new flat) (shape_in new left)
     → table_in new next_slots ≡ with_arrival (table_in new slots) to
@@ -89,28 +95,36 @@ first_none : (place : ℕ) (found : Option Rule) (rest : Option (Rule × ℕ)) �
 first_none place found rest h = ap (λ f. first_placed place f rest) h
 
 -- one instruction on
-pub judged_on : (table table' : List Arrival) (place : ℕ) (all : List Instr) (instr : Instr) (rest : List Instr) (fault : Option (Rule × ℕ)) → first_fault table place all ≡ fault → all ≡ instr ∷ rest
-    → rule_at table place instr (seen_at table place) ≡ None → table' ≡ pass_on table place instr (seen_at table place) → first_fault table' (place + 1) rest ≡ fault
+pub judged_on : (table table' : List Arrival) (place : ℕ) (all : List Instr) (instr : Instr) (rest : List Instr) (fault : Option (Rule × ℕ))
+    → first_fault table place all ≡ fault → all ≡ instr ∷ rest
+    → rule_at table place instr (seen_at table place) ≡ None → table' ≡ pass_on table place instr (seen_at table place)
+    → first_fault table' (place + 1) rest ≡ fault
 judged_on table table' place all instr rest fault h is none sends =
     ap (λ t. first_fault t (place + 1) rest) sends
-    ∙ sym (first_none place (rule_at table place instr (seen_at table place)) (first_fault (pass_on table place instr (seen_at table place)) (place + 1) rest) none)
+    ∙ sym (first_none place (rule_at table place instr (seen_at table place))
+    (first_fault (pass_on table place instr (seen_at table place)) (place + 1) rest) none)
     ∙ sym (ap (first_fault table place) is) ∙ h
 
 -- a rule that is broken at an instruction
-pub judged_here : (table : List Arrival) (place : ℕ) (all : List Instr) (instr : Instr) (rest : List Instr) (fault : Option (Rule × ℕ)) (rule : Rule) → first_fault table place all ≡ fault → all ≡ instr ∷ rest
+pub judged_here : (table : List Arrival) (place : ℕ) (all : List Instr) (instr : Instr) (rest : List Instr) (fault : Option (Rule × ℕ)) (rule : Rule)
+    → first_fault table place all ≡ fault → all ≡ instr ∷ rest
     → rule_at table place instr (seen_at table place) ≡ Some rule → Some (rule, place) ≡ fault
 judged_here table place all instr rest fault rule h is found =
     sym (ap (λ f. first_placed place f (first_fault (pass_on table place instr (seen_at table place)) (place + 1) rest)) found)
     ∙ sym (ap (first_fault table place) is) ∙ h
 
 -- at the end
-pub judged_end : (table : List Arrival) (place : ℕ) (all : List Instr) (found : Option Rule) (fault : Option (Rule × ℕ)) → first_fault table place all ≡ fault → all ≡ [] → found ≡ rule_at_end (seen_at table place) → at_address place found ≡ fault
+pub judged_end : (table : List Arrival) (place : ℕ) (all : List Instr) (found : Option Rule) (fault : Option (Rule × ℕ)) → first_fault table place all ≡ fault
+    → all ≡ [] → found ≡ rule_at_end (seen_at table place) → at_address place found ≡ fault
 judged_end table place all found fault h is end =
     ap (at_address place) end ∙ sym (ap (first_fault table place) is) ∙ h
 
-pub judged_all : (stacks : List (List Level)) (slots : List Slot) (instrs : List Instr) (place : ℕ) (slot : Slot) (found : Option Rule) (fault : Option (Rule × ℕ)) → first_fault (table_in stacks slots) place (drop place instrs) ≡ fault
-    → length instrs ≤ place → place ≤ length instrs → slot ≡ slice_index_or slots (length instrs) Free → found ≡ rule_at_end (seen_in stacks slot) → at_address (length instrs) found ≡ fault
+pub judged_all : (stacks : List (List Level)) (slots : List Slot) (instrs : List Instr) (place : ℕ) (slot : Slot) (found : Option Rule)
+    (fault : Option (Rule × ℕ)) → first_fault (table_in stacks slots) place (drop place instrs) ≡ fault
+    → length instrs ≤ place → place ≤ length instrs → slot ≡ slice_index_or slots (length instrs) Free → found ≡ rule_at_end (seen_in stacks slot)
+    → at_address (length instrs) found ≡ fault
 judged_all stacks slots instrs place slot found fault h ge le is end =
     let same : length instrs ≡ place = omega arith in
     ap (λ n. at_address n found) same
-    ∙ judged_end (table_in stacks slots) place (drop place instrs) found fault h (drop_all place instrs ge) (end ∙ ap rule_at_end (sym (at_slot_is stacks slots (length instrs) slot is) ∙ ap (seen_at (table_in stacks slots)) same))
+    ∙ judged_end (table_in stacks slots) place (drop place instrs) found fault h (drop_all place instrs ge)
+    (end ∙ ap rule_at_end (sym (at_slot_is stacks slots (length instrs) slot is) ∙ ap (seen_at (table_in stacks slots)) same))

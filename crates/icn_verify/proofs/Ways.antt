@@ -14,7 +14,8 @@ place_of (Some to) = to.0
 none_some : {A : Type 0} (a : A) → let none : Option A = None in (none ≡ Some a) → ⊥
 none_some a h = cc
 
-label_is : (label to : ℕ) (shape carried : PlainShape) → let p : ℕ × PlainShape = (label, shape) in let q : ℕ × PlainShape = (to, carried) in (Some p ≡ Some q) → label ≡ to
+label_is : (label to : ℕ) (shape carried : PlainShape) → let p : ℕ × PlainShape = (label, shape) in let q : ℕ × PlainShape = (to, carried) in
+    (Some p ≡ Some q) → label ≡ to
 unfolding place_of
 label_is label to shape carried h = ap place_of h
 
@@ -39,7 +40,8 @@ past : (place label to : ℕ) → nat_le label place ≡ false → label ≡ to 
 past place label to h is = let lt = not_at_most label place h in omega arith
 
 -- a label that doesn't stray lies after, or doesn't
-pub forward_past : (way : Way) (place : ℕ) (shape left : PlainShape) (to : ℕ) (carried : PlainShape) → strays_by way place ≡ false → forward_by way shape left ≡ Some (to, carried) → place < to
+pub forward_past : (way : Way) (place : ℕ) (shape left : PlainShape) (to : ℕ) (carried : PlainShape) → strays_by way place ≡ false
+    → forward_by way shape left ≡ Some (to, carried) → place < to
 forward_past On place shape left to carried s h = absurd (none_some (to, carried) h)
 forward_past Ends place shape left to carried s h = absurd (none_some (to, carried) h)
 forward_past (Fails label) place shape left to carried s h = past place label to s (label_is label to shape carried h)
@@ -56,7 +58,8 @@ mapped_is label to (Some wanted) carried h = label_is label to wanted carried h
 upto : (place label to : ℕ) → nat_lt place label ≡ false → label ≡ to → to ≤ place
 upto place label to h is = let le = not_past place label h in omega arith
 
-pub back_upto : (way : Way) (place : ℕ) (shape : PlainShape) (to : ℕ) (wanted : PlainShape) → strays_by way place ≡ false → back_by way shape ≡ Some (to, wanted) → to ≤ place
+pub back_upto : (way : Way) (place : ℕ) (shape : PlainShape) (to : ℕ) (wanted : PlainShape) → strays_by way place ≡ false
+    → back_by way shape ≡ Some (to, wanted) → to ≤ place
 back_upto On place shape to wanted s h = absurd (none_some (to, wanted) h)
 back_upto Ends place shape to wanted s h = absurd (none_some (to, wanted) h)
 back_upto (Fails label) place shape to wanted s h = absurd (none_some (to, wanted) h)
@@ -70,7 +73,8 @@ within_as : (label to count : ℕ) → nat_le label count ≡ true → label ≡
 within_as label to count h is = let le : label ≤ count = grind (arith, nat_tests) in omega arith
 
 -- a label of a procedure is one of its places
-pub forward_within : (way : Way) (count : ℕ) (shape left : PlainShape) (to : ℕ) (carried : PlainShape) → is_within_by way count ≡ true → forward_by way shape left ≡ Some (to, carried) → to ≤ count
+pub forward_within : (way : Way) (count : ℕ) (shape left : PlainShape) (to : ℕ) (carried : PlainShape) → is_within_by way count ≡ true
+    → forward_by way shape left ≡ Some (to, carried) → to ≤ count
 forward_within On count shape left to carried s h = absurd (none_some (to, carried) h)
 forward_within Ends count shape left to carried s h = absurd (none_some (to, carried) h)
 forward_within (Fails label) count shape left to carried s h = within_as label to count s (label_is label to shape carried h)

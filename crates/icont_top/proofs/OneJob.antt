@@ -34,14 +34,16 @@ none_refused members answer n e = absurd (none-some answer (sym (ap (option_and_
 
 module _ (one : HaveOneFault) (none : HaveNoFault) (members : List Member) where
   same_unverified : (base other : List ℕ) (rule rule' : Rule) (number place number' place' : ℕ) → first_ucode members ≡ Some base
-      → first_ucode members ≡ Some other → IsFirstFault (linked_code members).procs rule number place → IsFirstFault (linked_code members).procs rule' number' place'
+      → first_ucode members ≡ Some other → IsFirstFault (linked_code members).procs rule number place
+      → IsFirstFault (linked_code members).procs rule' number' place'
       → ◌≡◌ {A = Result Tables Answer} (Err (BadUcode (first_name base) rule)) (Err (BadUcode (first_name other) rule'))
   same_unverified base other rule rule' number place number' place' e f x y =
       let bases : base ≡ other = same_Some base other (sym e ∙ f) in
       let rules : rule ≡ rule' = (one (linked_code members).procs rule number place rule' number' place' x y).rules in
       ap (λ name. Err (BadUcode (first_name name) rule)) bases ∙ ap (λ broken. Err (BadUcode (first_name other) broken)) rules
 
-  sound_fault : {T : Type 0} (rule : Rule) (number place : ℕ) → IsFirstFault (linked_code members).procs rule number place → IsVerified (linked_code members) → T
+  sound_fault : {T : Type 0} (rule : Rule) (number place : ℕ) → IsFirstFault (linked_code members).procs rule number place → IsVerified (linked_code members)
+      → T
   sound_fault rule number place x y = absurd (none (linked_code members).procs rule number place y x)
 
   pub one_links : (a b : Result Tables Answer) → Links members a → Links members b → a ≡ b

@@ -129,7 +129,8 @@ module _ (is_joinable : UnitRead → Bool) (laws : Laws is_joinable) where
 
     by_sources : first_ucode members ≡ None → Linking members
     by_sources e =
-        let sources = all_sources members e in runs_as fits keeps (laws.verified sources.0 (linked_code members) (sources_linked members sources.0 sound sources.1))
+        let sources = all_sources members e in
+        runs_as fits keeps (laws.verified sources.0 (linked_code members) (sources_linked members sources.0 sound sources.1))
 
     by_ucode : (first : Option (List ℕ)) → first_ucode members ≡ first → IsSoundOrBroken (linked_code members).procs → Linking members
     by_ucode first e (inl verified) = runs_as fits keeps verified
@@ -146,7 +147,8 @@ module _ (is_joinable : UnitRead → Bool) (laws : Laws is_joinable) where
 
   -- Runs
 
-  by_files : (members : List Member) (launch : Launch) → Each (IsSound is_joinable) members → keeps_rules (linked_code members) ≡ true → IsVerified (linked_code members)
+  by_files : (members : List Member) (launch : Launch) → Each (IsSound is_joinable) members → keeps_rules (linked_code members) ≡ true
+      → IsVerified (linked_code members)
       → (files : Option (List (List Declaration))) → files_of members ≡ files → (seen : Observed) × RunsBy files (linked_code members) launch seen
   by_files members launch sound rules verified (Some files) e = laws.means files (linked_code members) launch (sources_linked members files sound e) rules
   by_files members launch sound rules verified None e = (laws.ends (linked_code members) rules verified).flat launch
@@ -158,7 +160,8 @@ module _ (is_joinable : UnitRead → Bool) (laws : Laws is_joinable) where
   -- Jobs
 
   module _ (words : List (List ℕ)) (files : FileMap) (left : List ℕ) where
-    with_run : (plan : Plan) (members : List Member) → Each (IsSound is_joinable) members → keeps_rules (linked_code members) ≡ true → IsVerified (linked_code members)
+    with_run : (plan : Plan) (members : List Member) → Each (IsSound is_joinable) members → keeps_rules (linked_code members) ≡ true
+        → IsVerified (linked_code members)
         → IsPlanned words files plan members (linked_code members) → (run : Option Run) → plan.run ≡ run → (job : Job) × IsJob words files left job
     with_run plan members sound rules verified is None e = (_, IsJob.writes plan members (linked_code members) is e)
     with_run plan members sound rules verified is (Some run) e =

@@ -200,7 +200,8 @@ writes_part name bytes plan members b e sets =
     record { whole = []; torn = plan_file plan members; others = []; are = refl; follows = there.follows }
 
 -- the file that was written holds what was written
-written_there : {held held' : Option FileMap} (files : FileMap) (next : WrittenFile) → held ≡ Some files → WritesAll held held' (next ∷ []) → HoldsNow held' next
+written_there : {held held' : Option FileMap} (files : FileMap) (next : WrittenFile) → held ≡ Some files → WritesAll held held' (next ∷ [])
+    → HoldsNow held' next
 written_there files next e sets =
     let follows = rw e at sets.follows in
     (follows.0, follows.1, follows.2 next.name ∙ cond-true (bytes_eq next.name next.name) _ _ ((bytes_eq-Decides next.name next.name).1 refl))

@@ -131,7 +131,8 @@ module _ (words : List (List ℕ)) (fault : WordsFault) (answer given : Answer) 
       (words_no_image fault) (words_asked fault is) refl line_again
 
   pub words_end : (files absences input : ℕ) (left : Option (List ℕ)) (out : SinkState)
-      → EndsAtFirst given (IsAbsence given) (outside files absences (call_streams left input out before)) (outside files absences (call_streams left input out after))
+      → EndsAtFirst given (IsAbsence given) (outside files absences (call_streams left input out before))
+      (outside files absences (call_streams left input out after))
   words_end files absences input left out =
       refused_ends (words_answer fault) given (words_no_write fault) (words_no_read fault) (unmoved (words_no_file fault)) (no_cause (words_no_absence fault))
       (absence_of (words_answer fault) given line_again) line_again

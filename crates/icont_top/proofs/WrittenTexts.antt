@@ -131,7 +131,8 @@ update_alike : (a b : FileMap) (name : List ℕ) (content : Option (List ℕ)) (
     → update bytes_eq a name content q ≡ update bytes_eq b name content q
 update_alike a b name content q e = updated (bytes_eq name q) content (a q) (b q) e
 
-pub wrote_more : {before now after : Option FileMap} {all : List WrittenFile} (next : WrittenFile) (rest : List WrittenFile) → WritesSome before now all (next ∷ rest)
+pub wrote_more : {before now after : Option FileMap} {all : List WrittenFile} (next : WrittenFile) (rest : List WrittenFile)
+    → WritesSome before now all (next ∷ rest)
     → Sets now after next.name next.bytes → WritesSome before after all rest
 wrote_more {before = before} {now} {after} {all} next rest some sets = record {
   done = some.done ++ next ∷ [];
@@ -157,7 +158,8 @@ wrote_all {before = before} {now} {all} some = record {
       (sym (some.are ∙ append-nil some.done)) some.follows;
 }
 
-pub wrote_part : {before now after : Option FileMap} {all : List WrittenFile} (next : WrittenFile) (rest : List WrittenFile) → WritesSome before now all (next ∷ rest)
+pub wrote_part : {before now after : Option FileMap} {all : List WrittenFile} (next : WrittenFile) (rest : List WrittenFile)
+    → WritesSome before now all (next ∷ rest)
     → SetsPart now after next.name next.bytes → WritesPart before after all
 wrote_part {before = before} {now} {after} {all} next rest some sets = record {
   whole = some.done;

@@ -201,7 +201,8 @@ held_now : (files : FileMap) (unit : UnitRead) → TextsHeld (with_both files un
 held_now files unit = (
   cond-false (bytes_eq (second_name unit.name) (first_name unit.name)) (Some (decls_text unit.decls)) (with_first files unit (first_name unit.name))
       (second_first unit.name unit.name)
-      ∙ cond-true (bytes_eq (first_name unit.name) (first_name unit.name)) (Some (procs_text unit.procs)) (files (first_name unit.name)) (same_name (first_name unit.name)),
+      ∙ cond-true (bytes_eq (first_name unit.name) (first_name unit.name)) (Some (procs_text unit.procs)) (files (first_name unit.name))
+      (same_name (first_name unit.name)),
   cond-true (bytes_eq (second_name unit.name) (second_name unit.name)) (Some (decls_text unit.decls)) (with_first files unit (second_name unit.name))
       (same_name (second_name unit.name)),
 )
@@ -216,7 +217,8 @@ each_held (unit ∷ units) files h =
 
 -- Stores
 
-members_held : (members : List Member) (files after : FileMap) → EachHeld files (units_of members) → AllFit members → ((name : List ℕ) → after name ≡ files name)
+members_held : (members : List Member) (files after : FileMap) → EachHeld files (units_of members) → AllFit members
+    → ((name : List ℕ) → after name ≡ files name)
     → AreHeld after members
 members_held [] files after h fit same i d l = absurd (omega (arith, l))
 members_held (member ∷ members) files after h fit same zero d l = record {

@@ -20,7 +20,8 @@ use Rattle.icont_units.specs.Units.{Comes}
 
 -- Tokens
 
-pub are_checked : (tokens : List Token) (checked : Checked) (file : File) → IsOutcome tokens (IsTree (declarations_of file)) → checked.text ≡ file → IsFile tokens checked
+pub are_checked : (tokens : List Token) (checked : Checked) (file : File) → IsOutcome tokens (IsTree (declarations_of file)) → checked.text ≡ file
+    → IsFile tokens checked
 are_checked tokens checked file is same =
     is_file (declarations_of checked.text) (subst (λ text. IsOutcome tokens (IsTree (declarations_of text))) (sym same) is) checked.context
 
@@ -30,10 +31,12 @@ no_memory : (answer : Answer) → answer ≡ NoMemory → IsFault answer
 no_memory answer e = rw e refl
 
 broken : (files : FileMap) (base : List ℕ) (scan : Scan) (rule : Rule) (place : Place) (answer : Answer) → source_read files (source_name base) ≡ Ok scan
-    → TokensGive scan.tokens (Err (rule, place)) → answer ≡ refused_at scan.names rule place → let result : Result Checked Answer = Err answer in IsSource files base result
+    → TokensGive scan.tokens (Err (rule, place)) → answer ≡ refused_at scan.names rule place → let result : Result Checked Answer = Err answer in
+    IsSource files base result
 broken files base scan rule place answer e are same = inr (rw same (Comes.broken base scan rule place e are))
 
-pub is_source : (files : FileMap) (base name : List ℕ) (scan : Scan) (result : Result Checked Answer) → name ≡ source_name base → source_read files name ≡ Ok scan
+pub is_source : (files : FileMap) (base name : List ℕ) (scan : Scan) (result : Result Checked Answer) → name ≡ source_name base
+    → source_read files name ≡ Ok scan
     → AreFile scan result → IsSource files base result
 is_source files base name scan (Ok checked) same e are = Comes.translated base scan (declarations_of checked.text) (ap (source_read files) (sym same) ∙ e) are
 is_source files base name scan (Err answer) same e (inl none) = inl (no_memory answer none)

@@ -67,9 +67,11 @@ mutual
   tree_rules context (Not place operand) = tree_rules context operand
   tree_rules context (Binary place operator first second) = both _ _ (tree_rules context first) (tree_rules context second)
   tree_rules context (To place from to by) = both _ _ (tree_rules context from) (both _ _ (tree_rules context to) (maybe_rules context by))
-  tree_rules context (If place condition first second) = both _ _ (tree_rules context condition) (both _ _ (tree_rules context first) (maybe_rules context second))
+  tree_rules context (If place condition first second) =
+      both _ _ (tree_rules context condition) (both _ _ (tree_rules context first) (maybe_rules context second))
   tree_rules context (Case place subject clauses) = both _ _ (tree_rules context subject) (clauses_rules context false clauses)
-  tree_rules context (Loop place kind control body) = both _ _ (tree_rules (enter_loop (next_in_control kind) context) control) (maybe_rules (enter_loop true context) body)
+  tree_rules context (Loop place kind control body) =
+      both _ _ (tree_rules (enter_loop (next_in_control kind) context) control) (maybe_rules (enter_loop true context) body)
   tree_rules context (Repeat place body) = tree_rules (enter_loop true context) body
   tree_rules context (Create place body) = tree_rules create_context body
   tree_rules context (Next place) = next_of context.in_create context.loops place
@@ -88,7 +90,8 @@ mutual
 
   clauses_rules : (context : Context) (has_default : Bool) (clauses : Clauses) → AreOf (clauses_faults context has_default clauses)
   clauses_rules context has_default NoClauses = tt
-  clauses_rules context has_default (MoreClauses clause clauses) = both _ _ (clause_rules context has_default clause) (clauses_rules context (is_default has_default clause) clauses)
+  clauses_rules context has_default (MoreClauses clause clauses) =
+      both _ _ (clause_rules context has_default clause) (clauses_rules context (is_default has_default clause) clauses)
 
   clause_rules : (context : Context) (has_default : Bool) (clause : Clause) → AreOf (clause_faults context has_default clause)
   clause_rules context has_default (Default place value) = both _ _ (default_of has_default place) (tree_rules context value)
@@ -116,7 +119,8 @@ declaration_of : (met : NameTest) (declaration : Declaration) → AreOf (declara
 declaration_of met (Global place names) = tt
 declaration_of met (Link place items) = tt
 declaration_of met (Invocable place items) = tt
-declaration_of met (Record place name fields) = both _ _ (too_many_of (length fields) name) (both _ _ (repeated_of C8 met name tt) (all_repeated_of C6 none_met fields tt))
+declaration_of met (Record place name fields) =
+    both _ _ (too_many_of (length fields) name) (both _ _ (repeated_of C8 met name tt) (all_repeated_of C6 none_met fields tt))
 declaration_of met (ProcedureOf p) = procedure_of met p
 
 declarations_of : (met : NameTest) (declarations : List Declaration) → AreOf (declarations_faults met declarations)

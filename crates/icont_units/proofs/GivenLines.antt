@@ -41,7 +41,8 @@ breaks fault = record { lines = tt }
 abbrev IncludesBounded : IncludeStep → Type 0
 IncludesBounded includes = (name : List ℕ) (s : State) (place : Place) → Within s → Bounded of_outcome (includes name s place)
 
-then_bound : {A B : Type 0} {at : A → State} {state : B → State} (a : Result A PrepFault) (f : A → Result B PrepFault) → Bounded at a → ((x : A) → Within (at x) → Bounded state (f x)) → Bounded state (a >>= f)
+then_bound : {A B : Type 0} {at : A → State} {state : B → State} (a : Result A PrepFault) (f : A → Result B PrepFault) → Bounded at a
+    → ((x : A) → Within (at x) → Bounded state (f x)) → Bounded state (a >>= f)
 then_bound (Ok a) f h g = g a h.lines
 then_bound (Err e) f h g = record { lines = tt }
 
@@ -51,7 +52,8 @@ either false x y h g = g
 
 more_bound : (s : State) (literal : LiteralState) (lines : List SourceLine) → Bounded of_outcome (given_more s literal lines)
 more_bound s literal lines = by_test (nat_lt 16777216 (joined_len lines)) refl where
-  by_test : (b : Bool) → nat_lt 16777216 (joined_len lines) ≡ b → Bounded of_outcome (cond b (Err (Broken P9 (name_at s 0) 0)) (Ok (record s { lines = lines; literal = literal })))
+  by_test : (b : Bool) → nat_lt 16777216 (joined_len lines) ≡ b
+      → Bounded of_outcome (cond b (Err (Broken P9 (name_at s 0) 0)) (Ok (record s { lines = lines; literal = literal })))
   by_test true e = breaks _
   by_test false e = record { lines = grind (arith, nat_tests) }
 
@@ -76,7 +78,8 @@ undef_bound : (s : State) (place : Place) (name : Option (List ℕ)) → Bounded
 undef_bound s place None = breaks _
 undef_bound s place (Some name) = passed_bound (record s { texts = without_text s.texts name }) place (next_line place)
 
-include_bound : (includes : IncludeStep) → IncludesBounded includes → (s : State) (place : Place) (name : Option (List ℕ)) → Within s → Bounded of_step (include_line includes s place name)
+include_bound : (includes : IncludeStep) → IncludesBounded includes → (s : State) (place : Place) (name : Option (List ℕ)) → Within s
+    → Bounded of_step (include_line includes s place name)
 include_bound includes h s place None w = breaks _
 include_bound includes h s place (Some name) w = then_bound (includes name s place) _ (h name s place w) (λ s' v. record { lines = v })
 
@@ -94,13 +97,15 @@ endif_bound s place (innermost ∷ others) = passed_bound s place _
 
 renumbered_bound : (s : State) (place : Place) (number : ℕ) (name : Option (List ℕ)) → Bounded of_step (renumber s place number name)
 renumbered_bound s place number None = passed_bound s place (record place { line = number })
-renumbered_bound s place number (Some name) = passed_bound (record s { names = s.names ++ name ∷ [] }) place (record place { file = length s.names; line = number })
+renumbered_bound s place number (Some name) =
+    passed_bound (record s { names = s.names ++ name ∷ [] }) place (record place { file = length s.names; line = number })
 
 line_bound : (s : State) (place : Place) (numbered : Option (ℕ × Option (List ℕ))) → Bounded of_step (line_line s place numbered)
 line_bound s place None = breaks _
 line_bound s place (Some numbered) = renumbered_bound s place numbered.0 numbered.1
 
-directive_bound : (includes : IncludeStep) → IncludesBounded includes → (s : State) (place : Place) (keyword : Option Keyword) (text : List ℕ) → Within s → Bounded of_step (directive_line includes s place keyword text)
+directive_bound : (includes : IncludeStep) → IncludesBounded includes → (s : State) (place : Place) (keyword : Option Keyword) (text : List ℕ) → Within s
+    → Bounded of_step (directive_line includes s place keyword text)
 directive_bound includes h s place None text w = taken_bound s place _ (breaks _)
 directive_bound includes h s place (Some Define) text w = taken_bound s place _ (define_bound s place (define_operand text))
 directive_bound includes h s place (Some Undef) text w = taken_bound s place _ (undef_bound s place (name_operand text))
@@ -113,9 +118,11 @@ directive_bound includes h s place (Some Line) text w = taken_bound s place _ (l
 directive_bound includes h s place (Some Error) text w = taken_bound s place _ (breaks _)
 
 text_bound : (s : State) (place : Place) (read : ReplacedText) → Bounded of_step (text_line s place read)
-text_bound s place read = then_bound (give_line s place read.bytes (next_line_state read.state)) _ (given_bound s place read.bytes (next_line_state read.state)) (λ s' w. record { lines = w })
+text_bound s place read = then_bound (give_line s place read.bytes (next_line_state read.state)) _ (given_bound s place read.bytes (next_line_state read.state))
+    (λ s' w. record { lines = w })
 
-read_bound : (includes : IncludeStep) → IncludesBounded includes → (s : State) (place : Place) (line : List ℕ) → Within s → Bounded of_step (line_read includes s place line)
+read_bound : (includes : IncludeStep) → IncludesBounded includes → (s : State) (place : Place) (line : List ℕ) → Within s
+    → Bounded of_step (line_read includes s place line)
 read_bound includes h s place line w =
     either (is_directive s.literal line) _ _ (directive_bound includes h s place (keyword_of (directive_name line)) (operand line) w)
     (taken_bound s place _ (text_bound s place (replace_words s.texts.count s.texts.text_of s.literal line)))
@@ -124,20 +131,25 @@ ended_bound : (s : State) (conditionals : List Conditional) → Within s → Bou
 ended_bound s [] w = record { lines = w }
 ended_bound s (innermost ∷ others) w = breaks _
 
-lines_bound : (includes : IncludeStep) → IncludesBounded includes → (s : State) (place : Place) (lines : List (List ℕ)) → Within s → Bounded of_outcome (lines_read includes s place lines)
+lines_bound : (includes : IncludeStep) → IncludesBounded includes → (s : State) (place : Place) (lines : List (List ℕ)) → Within s
+    → Bounded of_outcome (lines_read includes s place lines)
 lines_bound includes h s place [] w = ended_bound s place.conditionals w
-lines_bound includes h s place (line ∷ rest) w = then_bound (line_read includes s place line) _ (read_bound includes h s place line w) (λ after v. lines_bound includes h after.0 after.1 rest v)
+lines_bound includes h s place (line ∷ rest) w =
+    then_bound (line_read includes s place line) _ (read_bound includes h s place line w) (λ after v. lines_bound includes h after.0 after.1 rest v)
 
-file_bound : (includes : IncludeStep) → IncludesBounded includes → (name : List ℕ) (s : State) (bytes : List ℕ) → Within s → Bounded of_outcome (file_read includes name s bytes)
+file_bound : (includes : IncludeStep) → IncludesBounded includes → (name : List ℕ) (s : State) (bytes : List ℕ) → Within s
+    → Bounded of_outcome (file_read includes name s bytes)
 file_bound includes h name s bytes w = lines_bound includes h (record s { names = s.names ++ name ∷ [] }) (start_of (length s.names)) (lines_of bytes) w
 
 deep_bound : (name : List ℕ) (s : State) (place : Place) (content : Option (List ℕ)) → Bounded of_outcome (too_deep name s place content)
 deep_bound name s place None = breaks _
 deep_bound name s place (Some bytes) = breaks _
 
-found_bound : (includes : IncludeStep) → IncludesBounded includes → (name : List ℕ) (s : State) (place : Place) (content : Option (List ℕ)) → Bounded of_outcome (include_found includes name s place content)
+found_bound : (includes : IncludeStep) → IncludesBounded includes → (name : List ℕ) (s : State) (place : Place) (content : Option (List ℕ))
+    → Bounded of_outcome (include_found includes name s place content)
 found_bound includes h name s place None = breaks _
-found_bound includes h name s place (Some bytes) = either _ _ _ (breaks _) (then_bound (left_empty s place) _ (given_bound s place [] _) (λ s' w. file_bound includes h name s' bytes w))
+found_bound includes h name s place (Some bytes) =
+    either _ _ _ (breaks _) (then_bound (left_empty s place) _ (given_bound s place [] _) (λ s' w. file_bound includes h name s' bytes w))
 
 included_bound : (files : FileMap) (n : ℕ) → IncludesBounded (include_file files n)
 included_bound files zero name s place w = deep_bound name s place (files name)
@@ -145,11 +157,13 @@ included_bound files (suc n) name s place w = found_bound (include_file files n)
 
 named_bound : (files : FileMap) (name : List ℕ) (content : Option (List ℕ)) → Bounded of_outcome (named_file files name content)
 named_bound files name None = breaks _
-named_bound files name (Some bytes) = either _ _ _ (breaks _) (file_bound (include_file files 32) (included_bound files 32) name first_state bytes (omega arith))
+named_bound files name (Some bytes) =
+    either _ _ _ (breaks _) (file_bound (include_file files 32) (included_bound files 32) name first_state bytes (omega arith))
 
 source_bound : (outcome : Outcome) (source : Source) → Bounded of_outcome outcome → source_of outcome ≡ Ok source → joined_len source.lines ≤ 16777216
 source_bound (Ok s) source h is = subst (λ (lines : List SourceLine). joined_len lines ≤ 16777216) (same_lines s source is) h.lines where
-  same_lines : (s : State) (source : Source) → ◌≡◌ {A = Result Source PrepFault} (Ok (record { names = s.names; lines = s.lines })) (Ok source) → s.lines ≡ source.lines
+  same_lines : (s : State) (source : Source) → ◌≡◌ {A = Result Source PrepFault} (Ok (record { names = s.names; lines = s.lines })) (Ok source)
+      → s.lines ≡ source.lines
   same_lines s source e = cc
 source_bound (Err e) source h is = absurd (let no = is in cc)
 

@@ -54,8 +54,10 @@ whole text bytes e h = e ∙ take_all (268435456 + 1) bytes (omega (arith, h))
 
 -- Judging
 
-same_judged : {base first second other again : List ℕ} {result : Result _ Answer} → other ≡ first → again ≡ second → AreJudged base other again result → AreJudged base first second result
-same_judged {base} {first} {second} {other} {again} {result} e f h = subst (λ t. AreJudged base t second result) e (subst (λ t. AreJudged base other t result) f h)
+same_judged : {base first second other again : List ℕ} {result : Result _ Answer} → other ≡ first → again ≡ second → AreJudged base other again result
+    → AreJudged base first second result
+same_judged {base} {first} {second} {other} {again} {result} e f h =
+    subst (λ t. AreJudged base t second result) e (subst (λ t. AreJudged base other t result) f h)
 
 -- what the first bytes of texts come to, the texts come to
 pub uncut : (base first second cut cut_second : List ℕ) (result : Result _ Answer) → cut ≡ first_bytes first → cut_second ≡ first_bytes second
@@ -78,7 +80,8 @@ pub first_long : (base first second given : List ℕ) (test : Bool) (answer : An
 first_long base first second given test answer same e t a =
     told base first second (first_name base) U8 answer (AreJudged.first_too_long (long first (ap is_too_long (sym same) ∙ (sym e ∙ t)))) a
 
-pub second_long : (base first second given given_second : List ℕ) (test again : Bool) (answer : Answer) → given ≡ first → test ≡ is_too_long given → test ≡ false
+pub second_long : (base first second given given_second : List ℕ) (test again : Bool) (answer : Answer) → given ≡ first → test ≡ is_too_long given
+    → test ≡ false
     → given_second ≡ second → again ≡ is_too_long given_second → again ≡ true
     → (answer ≡ BadUcode (faulty_name base true) U8) ⊎ (answer ≡ NoMemory) → (answer ≡ NoMemory) ⊎ AreJudged base first second (Err answer)
 second_long base first second given given_second test again answer same e t same_second f u a =
@@ -93,7 +96,8 @@ found base first second given given_second one two test again outcome same e t s
     subst (λ o. AreJudged base first second (unit_found base o)) (sym (is ∙ (ap (λ l. unit_read base l two) x ∙ ap (unit_read base first) y)))
     (AreJudged.read (short first (ap is_too_long (sym same) ∙ (sym e ∙ t))) (short second (ap is_too_long (sym same_second) ∙ (sym f ∙ u))))
 
-pub unit_is : (unit : HeldUnit) (outcome : UnitOutcome) → let result : Result HeldUnit UcodeFault = Ok unit in (result ≡ Err Ucode.NoMemory) ⊎ (outcome_of result ≡ Some outcome)
+pub unit_is : (unit : HeldUnit) (outcome : UnitOutcome) → let result : Result HeldUnit UcodeFault = Ok unit in
+    (result ≡ Err Ucode.NoMemory) ⊎ (outcome_of result ≡ Some outcome)
     → Whole (unit_seen unit) ≡ outcome
 unit_is unit outcome (inl e) = absurd (ok-err unit Ucode.NoMemory e)
 unit_is unit outcome (inr e) = same_Some (Whole (unit_seen unit)) outcome e
@@ -104,7 +108,8 @@ pub fault_is : (rule : Rule) (second : Bool) (outcome : UnitOutcome)
 fault_is rule second outcome (inl e) = let both : Ucode.Broken rule second ≡ Ucode.NoMemory = same_Err (Ucode.Broken rule second) Ucode.NoMemory e in cc
 fault_is rule second outcome (inr e) = same_Some (Faulty rule second) outcome e
 
-pub read_fault : (base first second : List ℕ) (rule : Rule) (in_second : Bool) (answer : Answer) → AreJudged base first second (Err (BadUcode (faulty_name base in_second) rule))
+pub read_fault : (base first second : List ℕ) (rule : Rule) (in_second : Bool) (answer : Answer)
+    → AreJudged base first second (Err (BadUcode (faulty_name base in_second) rule))
     → (answer ≡ BadUcode (faulty_name base in_second) rule) ⊎ (answer ≡ NoMemory) → (answer ≡ NoMemory) ⊎ AreJudged base first second (Err answer)
 read_fault base first second rule in_second answer h a = told base first second (faulty_name base in_second) rule answer h a
 
@@ -123,10 +128,12 @@ named files base texts (Err answer) held (inr judged) =
     inr (Comes.not_read base held.0 held.1.0 answer held.1.1.0
     (uncut base held.0 held.1.0 texts.first.items texts.second.items (Err answer) held.1.1.1.0 held.1.1.1.1 judged))
 
-not_there : (files : FileMap) (base name : List ℕ) (answer : Answer) → texts_held files base ≡ Err name → answer ≡ Missing name → Comes files (ucode base) (Err answer)
+not_there : (files : FileMap) (base name : List ℕ) (answer : Answer) → texts_held files base ≡ Err name → answer ≡ Missing name
+    → Comes files (ucode base) (Err answer)
 not_there files base name answer e same = rw same (Comes.not_there base name e)
 
-pub not_named : (files : FileMap) (base : List ℕ) (answer : Answer) → IsFault answer ⊎ ((name : List ℕ) × ((texts_held files base ≡ Err name) × (answer ≡ Missing name)))
+pub not_named : (files : FileMap) (base : List ℕ) (answer : Answer)
+    → IsFault answer ⊎ ((name : List ℕ) × ((texts_held files base ≡ Err name) × (answer ≡ Missing name)))
     → IsFault answer ⊎ Comes files (ucode base) (Err answer)
 not_named files base answer (inl fault) = inl fault
 not_named files base answer (inr absent) = inr (not_there files base absent.0 answer absent.1.0 absent.1.1)
@@ -143,8 +150,10 @@ not_text files base not = IsAbsent.no_text (no_utf8 base _ refl not)
 pub no_cause : (count : ℕ) (base : List ℕ) → (IsUtf8 base → ⊥) → HasCause count count (is_utf8 base ≡ true)
 no_cause count base not = record { later = omega arith; rose = λ e. absurd (not (IsUtf8-from_is_utf8 base e)) }
 
-pub linked : (files : FileMap) (base given : List ℕ) (texts : UnitTexts) (unit : HeldUnit) → given ≡ base → IsUtf8 base → AreTexts (texts_held files given) (Ok texts)
-    → AreJudged given texts.first.items texts.second.items (Ok (unit_seen unit)) → HeldAre files base (λ first second. AreJudged base first second (Ok (unit_seen unit)))
+pub linked : (files : FileMap) (base given : List ℕ) (texts : UnitTexts) (unit : HeldUnit) → given ≡ base → IsUtf8 base
+    → AreTexts (texts_held files given) (Ok texts)
+    → AreJudged given texts.first.items texts.second.items (Ok (unit_seen unit))
+    → HeldAre files base (λ first second. AreJudged base first second (Ok (unit_seen unit)))
 linked files base given texts unit same text held judged =
     subst (λ name. HeldAre files name (λ first second. AreJudged name first second (Ok (unit_seen unit)))) same (
       held.0,
@@ -157,7 +166,8 @@ linked files base given texts unit same text held judged =
       ),
     )
 
-pub not_linked : (files : FileMap) (base given : List ℕ) (texts : UnitTexts) (answer : Answer) → given ≡ base → IsUtf8 base → AreTexts (texts_held files given) (Ok texts)
+pub not_linked : (files : FileMap) (base given : List ℕ) (texts : UnitTexts) (answer : Answer) → given ≡ base → IsUtf8 base
+    → AreTexts (texts_held files given) (Ok texts)
     → (answer ≡ NoMemory) ⊎ AreJudged given texts.first.items texts.second.items (Err answer)
     → IsFault answer ⊎ HeldAre files base (λ first second. AreJudged base first second (Err answer))
 not_linked files base given texts answer same text held (inl e) = inl (no_memory answer e)

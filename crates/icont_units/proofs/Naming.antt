@@ -38,7 +38,8 @@ texts_behind : (keys : List (Bor (List ℕ))) (key : Bor (List ℕ)) → texts (
 texts_behind [] key = refl
 texts_behind (other ∷ keys) key = ap (λ more. other.now ∷ more) (texts_behind keys key)
 
-files_behind : (files : List HeldFile) (file : HeldFile) (rest : List File) → files_seen (files ++ file ∷ []) ++ rest ≡ files_seen files ++ file_seen file ∷ rest
+files_behind : (files : List HeldFile) (file : HeldFile) (rest : List File)
+    → files_seen (files ++ file ∷ []) ++ rest ≡ files_seen files ++ file_seen file ∷ rest
 files_behind [] file rest = refl
 files_behind (other ∷ files) file rest = ap (λ more. file_seen other ∷ more) (files_behind files file rest)
 
@@ -54,7 +55,8 @@ known_file keys new file files rest known e named is =
 
 pub new_file : (keys new : List (Bor (List ℕ))) (file : HeldFile) (files : List HeldFile) (rest : List File)
     → list_any (λ key. bytes_eq file.base.now key.now) keys ≡ false → new ≡ insert_key (λ a b. bytes_eq a.now b.now) keys file.base
-    → (named : File) → file_seen file ≡ named → files_seen (files ++ file ∷ []) ++ new_files (texts new) rest ≡ files_seen files ++ new_files (texts keys) (named ∷ rest)
+    → (named : File) → file_seen file ≡ named
+    → files_seen (files ++ file ∷ []) ++ new_files (texts new) rest ≡ files_seen files ++ new_files (texts keys) (named ∷ rest)
 new_file keys new file files rest unknown e named is =
     files_behind files file (new_files (texts new) rest)
     ∙ (ap (λ ks. files_seen files ++ file_seen file ∷ new_files ks rest)
@@ -114,7 +116,8 @@ one_more known a b =
 abbrev firsts_but : File → List File → List File
 firsts_but file files = filter (λ y. not (same_base file y)) (firsts same_base files)
 
-one_new : (known : List (List ℕ)) (file : File) (files : List File) → ((more : List (List ℕ)) → new_files more files ≡ filter (is_new more) (firsts same_base files))
+one_new : (known : List (List ℕ)) (file : File) (files : List File)
+    → ((more : List (List ℕ)) → new_files more files ≡ filter (is_new more) (firsts same_base files))
     → (there : Bool) → list_any (bytes_eq file.base) known ≡ there
     → cond there (new_files known files) (file ∷ new_files (known ++ file.base ∷ []) files)
     ≡ cond (not there) (file ∷ filter (is_new known) (firsts_but file files)) (filter (is_new known) (firsts_but file files))
@@ -153,7 +156,8 @@ was_known true there e t = absurd (false≢true (sym t))
 -- Sources
 
 pub source_behind : (found : List HeldFile) (file : HeldFile) (rest : List File) → is_source_file file.kind ≡ true
-    → files_seen (found ++ file ∷ []) ++ filter (λ f. is_source_file f.kind) rest ≡ files_seen found ++ filter (λ f. is_source_file f.kind) (file_seen file ∷ rest)
+    → files_seen (found ++ file ∷ []) ++ filter (λ f. is_source_file f.kind) rest
+    ≡ files_seen found ++ filter (λ f. is_source_file f.kind) (file_seen file ∷ rest)
 source_behind found file rest is =
     files_behind found file (filter (λ f. is_source_file f.kind) rest)
     ∙ ap (λ t. files_seen found ++ cond t (file_seen file ∷ filter (λ f. is_source_file f.kind) rest) (filter (λ f. is_source_file f.kind) rest)) (sym is)

@@ -25,7 +25,8 @@ no_scan_rule : (rule : Rule) → IsScanRule rule → rule ≡ P6 → ⊥
 no_scan_rule rule scan is = rw is at scan
 
 -- no rule of tokens speaks of a file that is not there
-pub not_absent : (rule : Rule) (name : List ℕ) (line : ℕ) (answer : Answer) → IsScanRule rule → (answer ≡ Refused name line rule) ⊎ (answer ≡ NoMemory) → IsAbsence answer → ⊥
+pub not_absent : (rule : Rule) (name : List ℕ) (line : ℕ) (answer : Answer) → IsScanRule rule → (answer ≡ Refused name line rule) ⊎ (answer ≡ NoMemory)
+    → IsAbsence answer → ⊥
 not_absent rule name line answer scan (inl e) is = no_scan_rule rule scan (rw e at is)
 not_absent rule name line answer scan (inr e) is = rw e at is
 
@@ -36,7 +37,8 @@ are_scanned lines tokens within e =
     record { few = omega arith; sized = all_sized tokens (tokens_sound lines tokens e); formed = all_formed tokens (tokens_sound lines tokens e) }
 
 -- the answer says that the files failed only where they did
-pub file_fault_from : (name : List ℕ) (fault : PrepFault) (answer : Answer) → (answer ≡ fault_answer name fault) ⊎ (answer ≡ NoMemory) → answer ≡ FileFault → fault ≡ Prep.FileFault
+pub file_fault_from : (name : List ℕ) (fault : PrepFault) (answer : Answer) → (answer ≡ fault_answer name fault) ⊎ (answer ≡ NoMemory) → answer ≡ FileFault
+    → fault ≡ Prep.FileFault
 file_fault_from name fault answer (inr none) e = let both : NoMemory ≡ FileFault = sym none ∙ e in cc
 file_fault_from name fault answer (inl is) e = of_fault name fault (sym is ∙ e) where
   of_fault : (name : List ℕ) (fault : PrepFault) → fault_answer name fault ≡ FileFault → fault ≡ Prep.FileFault
@@ -50,7 +52,8 @@ file_fault_from name fault answer (inl is) e = of_fault name fault (sym is ∙ e
 of_scan : (names : List (List ℕ)) (outcome : Outcome) (answer : Answer) → tokens_read names outcome ≡ Err answer → IsFault answer → ⊥
 of_scan names (Scanned tokens) answer e fault = ok-err (record { names = names; tokens = tokens }) answer e
 of_scan names (Fault rule file line) answer e fault =
-    let is : IsFault (refused_at names rule (record { line = line; file = file })) = subst IsFault (sym (same_Err (refused_at names rule (record { line = line; file = file })) answer e)) fault in
+    let is : IsFault (refused_at names rule (record { line = line; file = file })) = subst IsFault
+    (sym (same_Err (refused_at names rule (record { line = line; file = file })) answer e)) fault in
     let both : false ≡ true = is in cc
 
 text_answer : (name : List ℕ) (fault : PrepFault) → IsTextFault fault → IsFault (fault_answer name fault) → ⊥
@@ -59,6 +62,8 @@ text_answer name (Prep.Broken rule file line) text fault = let both : false ≡ 
 text_answer name Prep.FileFault text fault = text
 text_answer name Prep.NoMemory text fault = text
 
-pub answers_no_fault : (files : FileMap) (name : List ℕ) (read : Result Source PrepFault) (answer : Answer) → source_lines files name ≡ read → lines_read name read ≡ Err answer → IsFault answer → ⊥
+pub answers_no_fault : (files : FileMap) (name : List ℕ) (read : Result Source PrepFault) (answer : Answer) → source_lines files name ≡ read
+    → lines_read name read ≡ Err answer → IsFault answer → ⊥
 answers_no_fault files name (Ok source) answer is e fault = of_scan source.names (tokens_of source.lines) answer e fault
-answers_no_fault files name (Err wrong) answer is e fault = text_answer name wrong (fault_of_text files name wrong is) (rw (sym (same_Err (fault_answer name wrong) answer e)) at fault)
+answers_no_fault files name (Err wrong) answer is e fault =
+    text_answer name wrong (fault_of_text files name wrong is) (rw (sym (same_Err (fault_answer name wrong) answer e)) at fault)

@@ -26,7 +26,8 @@ pub parse_stops : (tokens : List Token) (fault : ParseFault) → Breaks (IsOutco
 parse_stops tokens (Parse.Broken rule file line) b = not_parsed b.0 rule (record { line = line; file = file }) b.1 b.2
 parse_stops tokens Parse.NoMemory b = tt
 
-pub context_stops : (tokens : List Token) (file : List Declaration) (fault : ContextFault) → IsOutcome tokens (IsTree file) → Checks (context_faults file) (Err fault) → Stops tokens (of_context fault)
+pub context_stops : (tokens : List Token) (file : List Declaration) (fault : ContextFault) → IsOutcome tokens (IsTree file)
+    → Checks (context_faults file) (Err fault) → Stops tokens (of_context fault)
 context_stops tokens file (Context.Broken rule f line) is e = out_of_context file (record { rule = rule; place = record { line = line; file = f } }) is (sym e)
 context_stops tokens file Context.NoMemory is e = tt
 
@@ -42,13 +43,16 @@ parse_rules (Faulty (UnknownKeyword p)) rule place e = rule_is _ rule _ place e 
 parse_rules (Faulty (NotInProfile p)) rule place e = rule_is _ rule _ place e tt
 parse_rules (IsTree file) rule place e = absurd (none-some (rule, place) e)
 
-found_rules : {tokens : List Token} (found : Result (List Declaration) (Rule × Place)) → TokensGive tokens found → (rule : Rule) (place : Place) → found ≡ Err (rule, place) → IsTreeRule rule
-found_rules _ (not_parsed outcome r p is e) rule place same = parse_rules outcome rule place (e ∙ ap (λ broken. Some broken) (same_Err (r, p) (rule, place) same))
+found_rules : {tokens : List Token} (found : Result (List Declaration) (Rule × Place)) → TokensGive tokens found → (rule : Rule) (place : Place)
+    → found ≡ Err (rule, place) → IsTreeRule rule
+found_rules _ (not_parsed outcome r p is e) rule place same =
+    parse_rules outcome rule place (e ∙ ap (λ broken. Some broken) (same_Err (r, p) (rule, place) same))
 found_rules _ (out_of_context file fault is e) rule place same =
     subst IsTreeRule (ap (λ (broken : Rule × Place). broken.0) (same_Err (fault.rule, fault.place) (rule, place) same)) (context_rules file fault e)
 found_rules _ (is_file file is e) rule place same = absurd (ok-err file (rule, place) same)
 
 -- a refusal, or want of memory
-pub refused_rules : (names : List (List ℕ)) (tokens : List Token) (rule : Rule) (place : Place) (answer : Answer) → TokensGive tokens (Err (rule, place)) → (answer ≡ refused_at names rule place) ⊎ (answer ≡ NoMemory) → IsOfTokens answer
+pub refused_rules : (names : List (List ℕ)) (tokens : List Token) (rule : Rule) (place : Place) (answer : Answer) → TokensGive tokens (Err (rule, place))
+    → (answer ≡ refused_at names rule place) ⊎ (answer ≡ NoMemory) → IsOfTokens answer
 refused_rules names tokens rule place answer are (inl e) = rw e (found_rules (Err (rule, place)) are rule place refl)
 refused_rules names tokens rule place answer are (inr e) = rw e tt

@@ -30,7 +30,8 @@ load_answered bounds name arguments FileFault e is = fault FileFault refl
 load_answered bounds name arguments NoMemory e is = fault NoMemory refl
 load_answered bounds name arguments _ e is = absurd is
 
-pub run_answered : {words : List (List ℕ)} {files : FileMap} (bounds : Bounds) (name : List ℕ) (arguments : List (List ℕ)) (verified : Verified) (answer : Answer)
+pub run_answered : {words : List (List ℕ)} {files : FileMap} (bounds : Bounds) (name : List ℕ) (arguments : List (List ℕ)) (verified : Verified)
+    (answer : Answer)
     → words_reading words ≡ Asks bounds name arguments → IsLoaded (files name) name (Ok verified) → IsOfRun answer
     → IsAnswered words files answer
 run_answered bounds name arguments verified (Ran ending) e is o = ran bounds name is.0 arguments (tables_of verified.code) ending e is.1.0 is.1.1

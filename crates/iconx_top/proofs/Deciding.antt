@@ -156,10 +156,12 @@ module _ (one : HaveOneFault) (none : HaveNoFault) where
   one_job words files left _ _ (wrong_words k e) (wrong_words j f) = ap (λ n. refusal files left [] (Command n)) (same_kind k j (words_reading words) e f)
   one_job words files left _ b (wrong_words k e) (missing c n x f _) = absurd (asks_faulty c n x k (words_reading words) f e)
   one_job words files left _ b (wrong_words k e) (bad c n _ x _ f _ _) = absurd (asks_faulty c n x k (words_reading words) f e)
-  one_job words files left _ b (wrong_words k e) (ran _ launch _ is _) = absurd (asks_faulty launch.bounds is.name launch.words k (words_reading words) is.asks e)
+  one_job words files left _ b (wrong_words k e) (ran _ launch _ is _) =
+      absurd (asks_faulty launch.bounds is.name launch.words k (words_reading words) is.asks e)
   one_job words files left a _ (missing c n x f _) (wrong_words k e) = absurd (asks_faulty c n x k (words_reading words) f e)
   one_job words files left a _ (bad c n _ x _ f _ _) (wrong_words k e) = absurd (asks_faulty c n x k (words_reading words) f e)
-  one_job words files left a _ (ran _ launch _ is _) (wrong_words k e) = absurd (asks_faulty launch.bounds is.name launch.words k (words_reading words) is.asks e)
+  one_job words files left a _ (ran _ launch _ is _) (wrong_words k e) =
+      absurd (asks_faulty launch.bounds is.name launch.words k (words_reading words) is.asks e)
   one_job words files left _ _ (missing b n x e _) (missing c m y f _) =
       ap (λ name. refusal files left name (Missing name)) (same_name b c n m x y (words_reading words) e f)
   one_job words files left _ d (missing b n x e h) (bad c m z y _ f g _) = absurd (some_none files m n z (same_name c b m n y x (words_reading words) f e) g h)

@@ -57,7 +57,8 @@ module _ (laws : Laws) where
         → (job : Job) × IsJob words files left job
     observed_job tables launch is seen = (observation files seen.0, ran tables launch seen.0 is seen.1)
 
-    judged_job : (bounds : Bounds) (name bytes : List ℕ) (arguments : List (List ℕ)) → words_reading words ≡ Asks bounds name arguments → files name ≡ Some bytes
+    judged_job : (bounds : Bounds) (name bytes : List ℕ) (arguments : List (List ℕ)) → words_reading words ≡ Asks bounds name arguments
+        → files name ≡ Some bytes
         → Judges bytes → (job : Job) × IsJob words files left job
     judged_job bounds name bytes arguments asks there (refuses rule is) =
         (refusal files left name (BadImage rule), bad bounds name bytes arguments rule asks there is)
@@ -78,7 +79,8 @@ module _ (laws : Laws) where
     some_job : (job : Job) × IsJob words files left job
     some_job = asked_job (words_reading words) refl
 
-pub a_job : ((bytes : List ℕ) (tables : Tables) → All (λ byte. byte < 256) bytes → image_read bytes ≡ Ok tables → (keeps_rules tables ≡ true) × (bytes ≡ image_of tables))
+pub a_job : ((bytes : List ℕ) (tables : Tables) → All (λ byte. byte < 256) bytes → image_read bytes ≡ Ok tables
+    → (keeps_rules tables ≡ true) × (bytes ≡ image_of tables))
     → AreSoundOrBroken → ((tables : Tables) → keeps_rules tables ≡ true → IsVerified tables → AreOver tables)
     → (words : List (List ℕ)) (files : FileMap) (left : List ℕ) → HoldBytes files → (job : Job) × IsJob words files left job
 a_job spelled judged ends words files left hold = some_job (record { spelled = spelled; judged = judged; ends = ends }) words files left hold

@@ -15,7 +15,8 @@ after_option bounds next word value words which e f =
     ∙ ap (λ (o : Option Bounds). or_faulty o (λ next. options next words)) f
 
 -- an option with its value was read
-pub option_read : {Z : Type 0} (limits next : Limits) (rest others behind : List (String Z)) (word value : String Z) (which : Limit) (all : Reading) (found : Option Limits) → rest ≡ word ∷ others → others ≡ value ∷ behind
+pub option_read : {Z : Type 0} (limits next : Limits) (rest others behind : List (String Z)) (word value : String Z) (which : Limit) (all : Reading)
+    (found : Option Limits) → rest ≡ word ∷ others → others ≡ value ∷ behind
     → option_of (string_bytes word) ≡ Some which → option_map limits_of found ≡ with_limit which (limits_of limits) (string_bytes value) → found ≡ Some next
     → options (limits_of limits) (map string_bytes rest) ≡ all → options (limits_of next) (map string_bytes behind) ≡ all
 option_read limits next rest others behind word value which all found r o w l f h =

@@ -96,7 +96,8 @@ ran_outcome {files = files} tables launch ending held e is (seen, (ended, (runs,
     })
 
 pub broke_outcome : {words : List (List ℕ)} {files : FileMap} {left : List ℕ} {before : CallStreams} {left' : Option (List ℕ)} {input : ℕ}
-    {out : SinkState} (between after : SinkState) (tables : Tables) (launch : Launch) (stopped : RunFault) (held : Option FileMap) → IsRun words files left tables launch → RunEnds {A = Ending} (Err stopped) before (call_streams left' input out between)
+    {out : SinkState} (between after : SinkState) (tables : Tables) (launch : Launch) (stopped : RunFault) (held : Option FileMap)
+    → IsRun words files left tables launch → RunEnds {A = Ending} (Err stopped) before (call_streams left' input out between)
     → IsBrokenOff tables launch stopped before (call_streams left' input out between) → PutsOwn (of_run stopped) between after
     → Outcome words files left (of_run stopped) (told held before) (told held (call_streams left' input out after))
 broke_outcome {before = before} between after tables launch stopped held is first broken puts =
@@ -146,7 +147,8 @@ absence_of answer _ (want n between leads puts) is = absurd is
 -- faulty words
 pub command_ends : {files absences input : ℕ} {left : Option (List ℕ)} {out before after : SinkState} (kind : ℕ) (given : Answer)
     → Refuses usage [] (Command kind) before after given
-    → EndsAtFirst given (IsAbsence given) (outside files absences (call_streams left input out before)) (outside files absences (call_streams left input out after))
+    → EndsAtFirst given (IsAbsence given) (outside files absences (call_streams left input out before))
+    (outside files absences (call_streams left input out after))
 command_ends kind given refuses =
     refused_ends (Command kind) given no_write no_read (unmoved no_file) (no_cause (λ (a : IsAbsence (Command kind)). a))
     (absence_of (Command kind) given refuses) refuses where

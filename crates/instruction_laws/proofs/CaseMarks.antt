@@ -64,20 +64,24 @@ module _ (tables : Tables) (have : HaveShapes tables) (ok : TablesOk tables) (ke
   abbrev sh : ℕ → ℕ → Option PlainShape
   sh = shapes_of tables have
 
-  marked : (w : Known) (s p : ℕ) (cr : Bool) (kind : LevelKind) (ls : List Level) (o : Outer) → OuterOk tables sh w s p cr kind ls o → (ls ≡ [] → ⊥) → (m : Linked) → is_some (unmark_from m o) ≡ true
+  marked : (w : Known) (s p : ℕ) (cr : Bool) (kind : LevelKind) (ls : List Level) (o : Outer) → OuterOk tables sh w s p cr kind ls o → (ls ≡ [] → ⊥)
+      → (m : Linked) → is_some (unmark_from m o) ≡ true
   marked w s p cr kind ls (base proc a) h d m = absurd (d h.3)
   marked w s p cr kind ls (call proc a level place caller) h d m = absurd (d h.3)
   marked w s p cr kind ls (mark label (chain items q scans o)) h d m = refl
   marked w s p cr kind ls (limit n (chain items q scans o)) h d m = refl
 
-  chain_marked : (w : Known) (s p : ℕ) (S : PlainShape) (c : Chain) → ChainOk tables sh w s p S c → (S.outer ≡ [] → ⊥) → (m : Linked) → is_some (unmark_from m (outer_of c)) ≡ true
+  chain_marked : (w : Known) (s p : ℕ) (S : PlainShape) (c : Chain) → ChainOk tables sh w s p S c → (S.outer ≡ [] → ⊥) → (m : Linked)
+      → is_some (unmark_from m (outer_of c)) ≡ true
   chain_marked w s p S (chain items q scans o) h d m = marked w s p S.in_create S.inner.kind S.outer o h.4 d m
 
-  linked_marked : (m : Linked) (st : Store Parked) (safe : Safe tables sh (running m st)) → slice_get (instrs_of tables (marks.proc m)) m.place ≡ Some Instrs.Ccase → is_some (marks.unmark m) ≡ true
+  linked_marked : (m : Linked) (st : Store Parked) (safe : Safe tables sh (running m st))
+      → slice_get (instrs_of tables (marks.proc m)) m.place ≡ Some Instrs.Ccase → is_some (marks.unmark m) ≡ true
   linked_marked m st safe at =
       let same = here_proc tables sh safe.0 st.active safe.1 safe.2 m safe.3 in
       let there : sh (marks.proc m) m.place ≡ Some safe.2 = ap (λ p. sh p m.place) same ∙ safe.4 in
-      let fine : IsFine (instrs_of tables (marks.proc m)) (sh (marks.proc m)) m.place safe.2 = (given tables have ok keep).fine (marks.proc m) m.place safe.2 there in
+      let fine : IsFine (instrs_of tables (marks.proc m)) (sh (marks.proc m)) m.place safe.2 = (given tables have ok keep).fine
+      (marks.proc m) m.place safe.2 there in
       let is : fine.instr ≡ Instrs.Ccase = same_Some _ _ (sym fine.stands ∙ at) in
       let fit : fits safe.2 Instrs.Ccase ≡ true = subst (λ (i : Instr). fits safe.2 i ≡ true) is fine.fit in
       chain_marked safe.0 st.active safe.1 safe.2 m.chain safe.3.has (λ e. no_outer safe.2 fit e) m
@@ -88,7 +92,8 @@ module _ (tables : Tables) (have : HaveShapes tables) (ok : TablesOk tables) (ke
       let proc = G.proc h.world st.active m' m h.here in
       let place = G.place h.world st.active m' m h.here in
       λ at. some_both _ (marks.unmark m') (flat.unmark m) (G.unmark h.world st.active m' m h.here)
-      (linked_marked m' (lift st ks') safe (ap (λ p. slice_get (instrs_of tables p) m'.place) proc ∙ ap (slice_get (instrs_of tables (flat.proc m))) place ∙ at))
+      (linked_marked m' (lift st ks') safe (ap (λ p. slice_get (instrs_of tables p) m'.place) proc ∙ ap (slice_get (instrs_of tables (flat.proc m))) place
+      ∙ at))
   near_case l f (same_failing st ks' h) safe = tt
   near_case l f (same_hopping st ks' h) safe = tt
   near_case l f same_over safe = tt
@@ -107,8 +112,13 @@ module _ (tables : Tables) (have : HaveShapes tables) (ok : TablesOk tables) (ke
   case_of f (inr x) = due_case f x.0
 
   pub cases_stand : (launch : Launch) → CasesStandOver tables (Flat.start tables launch)
-  cases_stand launch outsides = case_of (run_over tables outsides (Flat.start tables launch)) (follows_run tables have ok keep outsides (Flat.start tables launch)
-      (inl (record { state = Marks.start repeats_anywhere tables launch; safe = start_safe tables (shapes_of tables have) (given tables have ok keep) keep ok launch; same = starts_so rows_keep repeats_anywhere tables launch (Unit {0}) })))
+  cases_stand launch outsides =
+      case_of (run_over tables outsides (Flat.start tables launch)) (follows_run tables have ok keep outsides (Flat.start tables launch)
+      (inl (record {
+        state = Marks.start repeats_anywhere tables launch;
+        safe = start_safe tables (shapes_of tables have) (given tables have ok keep) keep ok launch;
+        same = starts_so rows_keep repeats_anywhere tables launch (Unit {0});
+      })))
 
 -- What follows from it
 
@@ -122,7 +132,8 @@ case_over tables outside stuck h = tt
 pub case_now : (tables : Tables) (s : State Frames Frames) → CasesStandOver tables s → CaseStands tables s
 case_now tables s h = h []
 
-pub cases_behind : (tables : Tables) (outside : Outside) (s : State Frames Frames) → CasesStandOver tables s → CasesStandOver tables (step flat tables (over_outside outside s))
+pub cases_behind : (tables : Tables) (outside : Outside) (s : State Frames Frames) → CasesStandOver tables s
+    → CasesStandOver tables (step flat tables (over_outside outside s))
 cases_behind tables outside s h = λ outsides. h (outside ∷ outsides)
 
 pub cases_next : (tables : Tables) (s : State Frames Frames) → CasesStandOver tables s → CasesStandOver tables (step flat tables s)
@@ -134,7 +145,8 @@ cases_after tables (suc n) s h = cases_after tables n (step flat tables s) (case
 
 pub cases_elsewhere : (tables : Tables) (outside : Outside) (s : State Frames Frames) → CasesStandOver tables s → CasesStandOver tables (over_outside outside s)
 cases_elsewhere tables outside s h [] = case_over tables outside s (h [])
-cases_elsewhere tables outside s h (now ∷ later) = subst (λ (x : State Frames Frames). CaseStands tables (run_over tables later (step flat tables x))) (sym (over_twice outside now s)) (h (now ∷ later))
+cases_elsewhere tables outside s h (now ∷ later) =
+    subst (λ (x : State Frames Frames). CaseStands tables (run_over tables later (step flat tables x))) (sym (over_twice outside now s)) (h (now ∷ later))
 
 -- What the instruction asks for, at the place behind it
 
@@ -155,5 +167,6 @@ has_mark : (instr : Instr) (m : Frames) → (instr ≡ Instrs.Ccase → IsSome (
 has_mark Instrs.Ccase m h = h refl
 has_mark instr m h = tt
 
-pub case_mark : (tables : Tables) (m : Frames) (st : Store Frames) (instr : Instr) → CaseStands tables (running m st) → instruction_at flat tables m ≡ Some instr → HasCaseMark instr (flats.go (suc m.place) m)
+pub case_mark : (tables : Tables) (m : Frames) (st : Store Frames) (instr : Instr) → CaseStands tables (running m st)
+    → instruction_at flat tables m ≡ Some instr → HasCaseMark instr (flats.go (suc m.place) m)
 case_mark tables m st instr h at = has_mark instr (flats.go (suc m.place) m) (λ e. go_marked m (suc m.place) (h (at ∙ ap Some e)))

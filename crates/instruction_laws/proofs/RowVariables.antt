@@ -81,7 +81,8 @@ module _ (b : World) where
   w_check true k v next a h f = f
   w_check false k v next a h f = o_error k v a h
 
-  w_present : {A : Type 0} (o : Option A) (k : ℕ) (v : Option Value) (next : A → Row) (a : Setting) → S b a → ((x : A) → O b (next x a)) → O b (present o k v next a)
+  w_present : {A : Type 0} (o : Option A) (k : ℕ) (v : Option Value) (next : A → Row) (a : Setting) → S b a → ((x : A) → O b (next x a))
+      → O b (present o k v next a)
   w_present (Some x) k v next a h f = f x
   w_present None k v next a h f = o_error k v a h
 
@@ -101,7 +102,24 @@ module _ (b : World) where
   w_natural (pos k) v next a h f = f k
   w_natural (negsuc k) v next a h f = record { globals = h.globals; statics = h.statics }
 
-ruleset first_words = (setting, of_globals, of_statics, globals_set, statics_set, o_error, o_ends, o_gives, o_suspends, o_fails, w_check, w_present, w_computed, w_passing, w_found, w_natural)
+ruleset first_words = (
+  setting,
+  of_globals,
+  of_statics,
+  globals_set,
+  statics_set,
+  o_error,
+  o_ends,
+  o_gives,
+  o_suspends,
+  o_fails,
+  w_check,
+  w_present,
+  w_computed,
+  w_passing,
+  w_found,
+  w_natural,
+)
 
 module _ (b : World) where
   w_made : (o : Option (List ℕ)) (next : Row) (a : Setting) → S b a → ((s : Setting) → S b s → O b (next s)) → O b (costs_made o next a)
@@ -133,11 +151,13 @@ ruleset words = (first_words, w_made, w_unless, w_reads, w_value, w_variable)
 module _ (b : World) where
   -- Assigning
 
-  w_keyword : (refused : Row) (word : KeywordVariable) (value : Value) (next : Row) (a : Setting) → S b a → ((s : Setting) → S b s → O b (refused s)) → ((s : Setting) → S b s → O b (next s)) → O b (assigns_keyword refused word value next a)
+  w_keyword : (refused : Row) (word : KeywordVariable) (value : Value) (next : Row) (a : Setting) → S b a → ((s : Setting) → S b s → O b (refused s))
+      → ((s : Setting) → S b s → O b (next s)) → O b (assigns_keyword refused word value next a)
   w_keyword refused Subject value next a h r f = search (words, f)
   w_keyword refused Position value next a h r f = by_number (integer_of value) refl
     where
-      by_place : (k : ℤ) → integer_of value ≡ Some k → (o : Option ℕ) → place_of k (length a.world.subject) ≡ o → O b (assigns_keyword refused Position value next a)
+      by_place : (k : ℤ) → integer_of value ≡ Some k → (o : Option ℕ) → place_of k (length a.world.subject) ≡ o
+          → O b (assigns_keyword refused Position value next a)
       by_place k e None g = rw e (rw g (r a h))
       by_place k e (Some place) g = rw e (rw g (f (having_position place a) (record { globals = h.globals; statics = h.statics })))
 
@@ -146,7 +166,8 @@ module _ (b : World) where
       by_number (Some k) e = by_place k e (place_of k (length a.world.subject)) refl
   w_keyword refused Random value next a h r f = search (words, f)
 
-  w_root : (refused : Row) (root : Root) (value : Value) (next : Row) (a : Setting) → S b a → ((s : Setting) → S b s → O b (refused s)) → ((s : Setting) → S b s → O b (next s)) → O b (assigns_root refused root value next a)
+  w_root : (refused : Row) (root : Root) (value : Value) (next : Row) (a : Setting) → S b a → ((s : Setting) → S b s → O b (refused s))
+      → ((s : Setting) → S b s → O b (next s)) → O b (assigns_root refused root value next a)
   w_root refused (Global place) value next a h r f = search (words, f)
   w_root refused (Static place) value next a h r f = search (words, f)
   w_root refused (Local place) value next a h r f = search (words, f)
@@ -155,7 +176,8 @@ module _ (b : World) where
   w_root refused (Key table key) value next a h r f = search (words, f) depth 12
   w_root refused (Keyword word) value next a h r f = w_keyword refused word value next a h r f
 
-  w_assigns : (refused : Row) (x : Variable) (value : Value) (next : Variable → Row) (a : Setting) → S b a → ((s : Setting) → S b s → O b (refused s)) → ((y : Variable) (s : Setting) → S b s → O b (next y s)) → O b (assigns_or refused x value next a)
+  w_assigns : (refused : Row) (x : Variable) (value : Value) (next : Variable → Row) (a : Setting) → S b a → ((s : Setting) → S b s → O b (refused s))
+      → ((y : Variable) (s : Setting) → S b s → O b (next y s)) → O b (assigns_or refused x value next a)
   w_assigns refused (Whole root) value next a h r f = w_root refused root value (next (Whole root)) a h r (f (Whole root))
   w_assigns refused (Part root place size) value next a h r f = search (words, w_root, r, f) depth 14
 
@@ -163,20 +185,24 @@ module _ (b : World) where
   w_moved old new (Whole root) next a h f = f (Whole root)
   w_moved old new (Part root place size) next a h f = search (words, f)
 
-  w_moved_left : (m : Mover) (old new : ℕ) (x : Variable) (next : Variable → Row) (a : Setting) → S b a → ((y : Variable) → O b (next y a)) → O b (moved_by_left m old new x next a)
+  w_moved_left : (m : Mover) (old new : ℕ) (x : Variable) (next : Variable → Row) (a : Setting) → S b a → ((y : Variable) → O b (next y a))
+      → O b (moved_by_left m old new x next a)
   w_moved_left Neither old new x next a h f = f x
   w_moved_left Left old new x next a h f = w_moved old new x next a h f
   w_moved_left Right old new x next a h f = f x
 
-  w_moved_right : (m : Mover) (old new : ℕ) (x : Variable) (next : Variable → Row) (a : Setting) → S b a → ((y : Variable) → O b (next y a)) → O b (moved_by_right m old new x next a)
+  w_moved_right : (m : Mover) (old new : ℕ) (x : Variable) (next : Variable → Row) (a : Setting) → S b a → ((y : Variable) → O b (next y a))
+      → O b (moved_by_right m old new x next a)
   w_moved_right Neither old new x next a h f = f x
   w_moved_right Left old new x next a h f = f x
   w_moved_right Right old new x next a h f = w_moved old new x next a h f
 
-  w_both : (refused : Row) (m : Mover) (x y : Variable) (v w : Value) (next : Variable × Variable → Row) (a : Setting) → S b a → ((s : Setting) → S b s → O b (refused s))
+  w_both : (refused : Row) (m : Mover) (x y : Variable) (v w : Value) (next : Variable × Variable → Row) (a : Setting) → S b a
+      → ((s : Setting) → S b s → O b (refused s))
       → ((p : Variable × Variable) (s : Setting) → S b s → O b (next p s)) → O b (assigns_both refused m x y v w next a)
   w_both refused m x y v w next a h r f =
-      w_assigns refused x v _ a h r (λ now s k. w_moved_left m _ _ y _ s k (λ y'. w_assigns refused y' w _ s k r (λ now' s' k'. w_moved_right m _ _ now _ s' k' (λ x'. f (x', now') s' k'))))
+      w_assigns refused x v _ a h r
+      (λ now s k. w_moved_left m _ _ y _ s k (λ y'. w_assigns refused y' w _ s k r (λ now' s' k'. w_moved_right m _ _ now _ s' k' (λ x'. f (x', now') s' k'))))
 
   -- Rows by what they take
 
@@ -184,7 +210,8 @@ module _ (b : World) where
   w_count last step None a h = o_fails b a h
   w_count last step (Some k) a h = search words
 
-  w_sets : (f : List Value → List Value → List Value) (g : Bool → Bool → Bool) (v w : Value) (o : Option (ℕ × ℕ)) (a : Setting) → S b a → O b (sets_or_csets f g v w o a)
+  w_sets : (f : List Value → List Value → List Value) (g : Bool → Bool → Bool) (v w : Value) (o : Option (ℕ × ℕ)) (a : Setting) → S b a
+      → O b (sets_or_csets f g v w o a)
   w_sets f g v w (Some ids) a h = search words depth 12
   w_sets f g v w None a h = search words
 
@@ -262,7 +289,8 @@ module _ (b : World) where
   s_without a (SetKeeper id) x h = record { globals = h.globals; statics = h.statics }
   s_without a (TableKeeper id) x h = record { globals = h.globals; statics = h.statics }
 
-  w_pairs : (ps : List (Value × Value)) (next : List Value → Row) (a : Setting) → S b a → ((vs : List Value) (s : Setting) → S b s → O b (next vs s)) → O b (pair_lists ps next a)
+  w_pairs : (ps : List (Value × Value)) (next : List Value → Row) (a : Setting) → S b a → ((vs : List Value) (s : Setting) → S b s → O b (next vs s))
+      → O b (pair_lists ps next a)
   w_pairs [] next a h f = f [] a h
   w_pairs (p ∷ ps) next a h f = search (words, w_pairs ps, f) depth 14
 

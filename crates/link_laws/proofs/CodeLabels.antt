@@ -58,7 +58,8 @@ place_later label other behind labels h n = by (nat_eq label other) (eqb_tells l
 Known : Scope → ℕ → List ℕ → (ℕ → ℕ) → Type 0
 Known S p labels address = (label : ℕ) → has_label labels label ≡ true → S.label label ≡ p + address label
 
-placed_from : (S : Scope) (p : ℕ) (is : List UnitInstr) → labels_differ (placed_labels is) ≡ true → Known S p (placed_labels is) (λ label. label_address label is)
+placed_from : (S : Scope) (p : ℕ) (is : List UnitInstr) → labels_differ (placed_labels is) ≡ true
+    → Known S p (placed_labels is) (λ label. label_address label is)
     → Placed S p is
 unfolding Known
 placed_from S p [] d h = tt
@@ -81,6 +82,7 @@ placed_from S p (i ∷ is) d h = by (own_label i) (length (resolved_one S i)) (o
               omega arith),
         )
 
-pub all_placed : (S : Scope) (is : List UnitInstr) → labels_differ (placed_labels is) ≡ true → ((label : ℕ) → S.label label ≡ label_address label is) → Placed S 0 is
+pub all_placed : (S : Scope) (is : List UnitInstr) → labels_differ (placed_labels is) ≡ true → ((label : ℕ) → S.label label ≡ label_address label is)
+    → Placed S 0 is
 unfolding Known
 all_placed S is d h = placed_from S 0 is d (λ label k. let at = h label in omega arith)

@@ -64,7 +64,8 @@ module _ {H M : Type 0} (C : Calls H M) (P : Program) (b : Lasting) where
   valued (Suspends x r s) m st go k f = k
   valued (Ends n s) m st go k f = k
 
-  made : (o : Outcome) (m : M) (st : Store H) (go : Value → M → Store H → State H M) → K st → LeavesOutside b.is o → ((v : Value) (m : M) (s : Store H) → K s → G (go v m s)) → G (S.with_made C o m st go)
+  made : (o : Outcome) (m : M) (st : Store H) (go : Value → M → Store H → State H M) → K st → LeavesOutside b.is o
+      → ((v : Value) (m : M) (s : Store H) → K s → G (go v m s)) → G (S.with_made C o m st go)
   made (Gives (Val v) s) m st go k l f = f v (C.set_locals s.locals m) (S.with_at s st) l
   made (Gives (Var x) s) m st go k l f = k
   made (Error n v s) m st go k l f = errs n v (S.with_at s st) l
@@ -86,16 +87,19 @@ module _ {H M : Type 0} (C : Calls H M) (P : Program) (b : Lasting) where
   values [] m st go k f = f []
   values (x ∷ xs) m st go k f = value x m st (λ v. S.with_values C xs m st (λ vs. go (v ∷ vs))) k (λ v. values xs m st (λ vs. go (v ∷ vs)) k (λ vs. f (v ∷ vs)))
 
-  list_made : (vs : List Value) (m : M) (st : Store H) (go : Value → M → Store H → State H M) → K st → ((v : Value) (m : M) (s : Store H) → K s → G (go v m s)) → G (S.list_made C vs m st go)
+  list_made : (vs : List Value) (m : M) (st : Store H) (go : Value → M → Store H → State H M) → K st → ((v : Value) (m : M) (s : Store H) → K s → G (go v m s))
+      → G (S.list_made C vs m st go)
   list_made vs m st go k f = made (list_row vs (S.here C m st)) m st go k (list_leaves b vs (S.here C m st) k) f
 
   -- Scans
 
-  exchanged : (o : Option (Pair × M)) (go : M → Store H → State H M) (st : Store H) → K st → ((m : M) (s : Store H) → K s → G (go m s)) → G (S.with_exchange o go st)
+  exchanged : (o : Option (Pair × M)) (go : M → Store H → State H M) (st : Store H) → K st → ((m : M) (s : Store H) → K s → G (go m s))
+      → G (S.with_exchange o go st)
   exchanged (Some x) go st k f = f x.1 (S.with_pair x.0 st) k
   exchanged None go st k f = tt
 
-  maybe_exchanged : (o : Option (Pair × M)) (m : M) (st : Store H) (go : M → Store H → State H M) → K st → ((m : M) (s : Store H) → K s → G (go m s)) → G (S.maybe_exchanged o m st go)
+  maybe_exchanged : (o : Option (Pair × M)) (m : M) (st : Store H) (go : M → Store H → State H M) → K st → ((m : M) (s : Store H) → K s → G (go m s))
+      → G (S.maybe_exchanged o m st go)
   maybe_exchanged (Some x) m st go k f = f x.1 (S.with_pair x.0 st) k
   maybe_exchanged None m st go k f = f m st k
 
@@ -134,13 +138,16 @@ module _ {H M : Type 0} (C : Calls H M) (P : Program) (b : Lasting) where
   hop m st k = turn st (λ st. S.passed_failure C (S.activator_of st.active st) m st) k (λ st k. to_activator (S.activator_of st.active st) m st k)
 
   exhausted : (m : M) (st : Store H) → K st → G (S.exhaust_active C P m st)
-  exhausted m st k = turn st (λ st. S.passed_failure C (S.activator_of st.active st) m (S.with_status st.active Exhausted st)) k (λ st k. to_activator (S.activator_of st.active st) m (S.with_status st.active Exhausted st) k)
+  exhausted m st k = turn st (λ st. S.passed_failure C (S.activator_of st.active st) m (S.with_status st.active Exhausted st)) k
+      (λ st k. to_activator (S.activator_of st.active st) m (S.with_status st.active Exhausted st) k)
 
   result_given : (v : Value) (m : M) (st : Store H) → K st → G (S.result_given C v m st)
-  result_given v m st k = let s = S.counted_result st.active (S.with_status st.active (Waiting (C.kept m)) st) in let n = S.activator_of st.active st in give_by (S.status_of n s) n v m s k
+  result_given v m st k = let s = S.counted_result st.active (S.with_status st.active (Waiting (C.kept m)) st) in let n = S.activator_of st.active st in
+      give_by (S.status_of n s) n v m s k
 
   coexp_made : (vs : List Value) (proc place : ℕ) (m : M) (st : Store H) → K st → G (S.coexp_made C vs proc place m st)
-  coexp_made vs proc place m st k = made (coexpression_row (length vs) (S.here C m st)) m st (λ value m st. S.push_item C (Val value) m (S.with_new vs proc place st)) k (coexpression_leaves b (length vs) (S.here C m st) k) (λ v m s k. k)
+  coexp_made vs proc place m st k = made (coexpression_row (length vs) (S.here C m st)) m st
+      (λ value m st. S.push_item C (Val value) m (S.with_new vs proc place st)) k (coexpression_leaves b (length vs) (S.here C m st) k) (λ v m s k. k)
 
   refreshed_from : (o : Option (Coexp H)) (m : M) (st : Store H) → K st → G (S.refreshed_from C o m st)
   refreshed_from (Some co) m st k = coexp_made co.values co.proc co.place m st k
@@ -162,16 +169,20 @@ module _ {H M : Type 0} (C : Calls H M) (P : Program) (b : Lasting) where
 
   -- Procedures
 
-  collected : (t : Bool) (n : ℕ) (vs : List Value) (m : M) (st : Store H) (go : List Value → M → Store H → State H M) → K st → ((vs : List Value) (m : M) (s : Store H) → K s → G (go vs m s)) → G (S.collect_rest C t n vs m st go)
+  collected : (t : Bool) (n : ℕ) (vs : List Value) (m : M) (st : Store H) (go : List Value → M → Store H → State H M) → K st
+      → ((vs : List Value) (m : M) (s : Store H) → K s → G (go vs m s)) → G (S.collect_rest C t n vs m st go)
   collected false n vs m st go k f = f (S.fill_nulls n vs) m st k
-  collected true n vs m st go k f = list_made (drop (n - 1) vs) m st (λ rest m st. go (S.fill_nulls (n - 1) vs ++ rest ∷ []) m st) k (λ rest m st k. f (S.fill_nulls (n - 1) vs ++ rest ∷ []) m st k)
+  collected true n vs m st go k f = list_made (drop (n - 1) vs) m st (λ rest m st. go (S.fill_nulls (n - 1) vs ++ rest ∷ []) m st) k
+      (λ rest m st k. f (S.fill_nulls (n - 1) vs ++ rest ∷ []) m st k)
 
   called_if : (t : Bool) (n : ℕ) (entry : Procedure) (vs : List Value) (m : M) (st : Store H) → K st → G (S.called_if C t n entry vs m st)
-  called_if true n entry vs m st k = collected entry.collects entry.parameters vs m st (λ parameters m st. S.enter_procedure C n entry parameters m st) k (λ vs m st k. k)
+  called_if true n entry vs m st k =
+      collected entry.collects entry.parameters vs m st (λ parameters m st. S.enter_procedure C n entry parameters m st) k (λ vs m st k. k)
   called_if false n entry vs m st k = errs 301 None st k
 
   constructed : (n : ℕ) (entry : RecordType) (vs : List Value) (m : M) (st : Store H) → K st → G (S.construct_record C n entry vs m st)
-  constructed n entry vs m st k = let fs = S.fill_nulls (length entry.fields) vs in made (record_row n fs (S.here C m st)) m st (λ value m st. S.push_item C (Val value) m st) k (record_leaves b n fs (S.here C m st) k) (λ v m s k. k)
+  constructed n entry vs m st k = let fs = S.fill_nulls (length entry.fields) vs in
+      made (record_row n fs (S.here C m st)) m st (λ value m st. S.push_item C (Val value) m st) k (record_leaves b n fs (S.here C m st) k) (λ v m s k. k)
 
   pushed_or_fails : (o : Option Item) (m : M) (st : Store H) → K st → G (S.pushed_or_fails C o m st)
   pushed_or_fails (Some x) m st k = k
@@ -182,9 +193,12 @@ module _ {H M : Type 0} (C : Calls H M) (P : Program) (b : Lasting) where
   integer_called f None xs m st k = errs 106 (Some f) st k
 
   callee_called : (c : Callee) (n : ℕ) (xs : List Item) (m : M) (st : Store H) → K st → G (S.callee_called C c n xs m st)
-  callee_called (IsProc entry) n xs m st k = values xs m st (λ arguments. S.call_procedure C n entry arguments m st) k (λ vs. called_if (nat_le (suc (C.level m)) st.world.heap.bounds.levels) n entry vs m st k)
-  callee_called (IsRecord kind entry) n xs m st k = values xs m st (λ arguments. S.construct_record C kind entry arguments m st) k (λ vs. constructed kind entry vs m st k)
-  callee_called (IsFunc func) n xs m st k = outcome (apply st.names (Function func) xs (S.here C m st)) m st (function_leaves b st.names func xs (S.here C m st) k)
+  callee_called (IsProc entry) n xs m st k = values xs m st (λ arguments. S.call_procedure C n entry arguments m st) k
+      (λ vs. called_if (nat_le (suc (C.level m)) st.world.heap.bounds.levels) n entry vs m st k)
+  callee_called (IsRecord kind entry) n xs m st k =
+      values xs m st (λ arguments. S.construct_record C kind entry arguments m st) k (λ vs. constructed kind entry vs m st k)
+  callee_called (IsFunc func) n xs m st k =
+      outcome (apply st.names (Function func) xs (S.here C m st)) m st (function_leaves b st.names func xs (S.here C m st) k)
   callee_called IsNothing n xs m st k = errs 106 (Some (ProcedureValue n)) st k
 
   invoked : (f : Value) (xs : List Item) (m : M) (st : Store H) → K st → G (S.invoke_value C P f xs m st)
@@ -203,7 +217,8 @@ module _ {H M : Type 0} (C : Calls H M) (P : Program) (b : Lasting) where
   applied : (xs : List Item) (m : M) (st : Store H) → K st → G (S.applied_to_elements C P xs m st)
   applied [] m st k = tt
   applied (x ∷ []) m st k = tt
-  applied (x ∷ y ∷ []) m st k = value x m st (λ callee. S.with_value C y m st (λ from. S.elements_called C P callee from m st)) k (λ f. value y m st (λ from. S.elements_called C P f from m st) k (λ from. elements_called f from m st k))
+  applied (x ∷ y ∷ []) m st k = value x m st (λ callee. S.with_value C y m st (λ from. S.elements_called C P callee from m st)) k
+      (λ f. value y m st (λ from. S.elements_called C P f from m st) k (λ from. elements_called f from m st k))
   applied (x ∷ y ∷ z ∷ xs) m st k = tt
 
   field_taken : (o : Option ℕ) (n : ℕ) (m : M) (st : Store H) → K st → G (S.field_taken C o n m st)
@@ -247,10 +262,12 @@ module _ {H M : Type 0} (C : Calls H M) (P : Program) (b : Lasting) where
 
   resumed : (why : Why) (m : M) (st : Store H) → K st → G (S.resume_by C P why m st)
   resumed Alt m st k = k
-  resumed (Operating r) m st k = turn st (λ st. S.outcome C (again r (S.here C m st)) m st) k (λ st k. outcome (again r (S.here C m st)) m st (again_leaves b r (S.here C m st) k))
+  resumed (Operating r) m st k =
+      turn st (λ st. S.outcome C (again r (S.here C m st)) m st) k (λ st k. outcome (again r (S.here C m st)) m st (again_leaves b r (S.here C m st) k))
   resumed (Scan pair) m st k = k
   resumed Escan m st k = exchanged (C.swap_newest (S.pair_now st) m) failing st k (λ m s k. k)
-  resumed Proc m st k = turn st (λ st. S.maybe_exchanged (C.swap_oldest (S.pair_now st) m) m st running) k (λ st k. maybe_exchanged (C.swap_oldest (S.pair_now st) m) m st running k (λ m s k. k))
+  resumed Proc m st k = turn st (λ st. S.maybe_exchanged (C.swap_oldest (S.pair_now st) m) m st running) k
+      (λ st k. maybe_exchanged (C.swap_oldest (S.pair_now st) m) m st running k (λ m s k. k))
 
   back_or_dropped : (m : M) (st : Store H) (o : Option (Why × M)) → K st → G (S.resumed_or_dropped C P m st o)
   back_or_dropped m st None k = dropped m st (C.drop_mark m) k
@@ -285,7 +302,8 @@ module _ {H M : Type 0} (C : Calls H M) (P : Program) (b : Lasting) where
   activation_of : (xs : List Item) (m : M) (st : Store H) → K st → G (S.activation_of C xs m st)
   activation_of [] m st k = tt
   activation_of (x ∷ []) m st k = tt
-  activation_of (x ∷ y ∷ []) m st k = value x m st (λ value. S.with_value C y m st (λ other. S.activation C value other m st)) k (λ v. value y m st (λ other. S.activation C v other m st) k (λ to. activation v to m st k))
+  activation_of (x ∷ y ∷ []) m st k = value x m st (λ value. S.with_value C y m st (λ other. S.activation C value other m st)) k
+      (λ v. value y m st (λ other. S.activation C v other m st) k (λ to. activation v to m st k))
   activation_of (x ∷ y ∷ z ∷ xs) m st k = tt
 
   operated : (op : Op) (xs : List Item) (m : M) (st : Store H) → K st → G (S.operate C op xs m st)
@@ -307,46 +325,66 @@ module _ {H M : Type 0} (C : Calls H M) (P : Program) (b : Lasting) where
   instruction (I.Keywd word) m st k = pushed_or_fails (keyword_item (S.standing_of C m st) word) m st k
   instruction I.Pop m st k = popped m (λ item m. running m st) (λ x m. k)
   instruction I.Dup m st k = popped m (λ item below. S.push_item C item m st) (λ x m. k)
-  instruction (I.Op op) m st k = taken (arity op) m (λ items m. S.turn P st (S.operate C op items m)) (λ xs m. turn st (S.operate C op xs m) k (λ st k. operated op xs m st k))
-  instruction (I.Llist n) m st k = taken n m (λ items m. S.turn P st (λ st. S.with_values C items m st (λ values. S.list_made C values m st (λ list m st. S.push_item C (Val list) m st))))
+  instruction (I.Op op) m st k =
+      taken (arity op) m (λ items m. S.turn P st (S.operate C op items m)) (λ xs m. turn st (S.operate C op xs m) k (λ st k. operated op xs m st k))
+  instruction (I.Llist n) m st k =
+      taken n m (λ items m. S.turn P st (λ st. S.with_values C items m st (λ values. S.list_made C values m st (λ list m st. S.push_item C (Val list) m st))))
       (λ xs m. turn st (λ st. S.with_values C xs m st (λ values. S.list_made C values m st (λ list m st. S.push_item C (Val list) m st))) k
-      (λ st k. values xs m st (λ values. S.list_made C values m st (λ list m st. S.push_item C (Val list) m st)) k (λ vs. list_made vs m st (λ list m st. S.push_item C (Val list) m st) k (λ v m s k. k))))
-  instruction (I.Field n) m st k = taken 1 m (λ items m. S.turn P st (S.field_applied C P n items m)) (λ xs m. turn st (S.field_applied C P n xs m) k (λ st k. field_applied n xs m st k))
-  instruction (I.Invoke n) m st k = taken (suc n) m (λ items m. S.turn P st (S.invoked_with C P items m)) (λ xs m. turn st (S.invoked_with C P xs m) k (λ st k. invoked_with xs m st k))
-  instruction I.Appl m st k = taken 2 m (λ items m. S.turn P st (S.applied_to_elements C P items m)) (λ xs m. turn st (S.applied_to_elements C P xs m) k (λ st k. applied xs m st k))
+      (λ st k. values xs m st (λ values. S.list_made C values m st (λ list m st. S.push_item C (Val list) m st)) k
+      (λ vs. list_made vs m st (λ list m st. S.push_item C (Val list) m st) k (λ v m s k. k))))
+  instruction (I.Field n) m st k =
+      taken 1 m (λ items m. S.turn P st (S.field_applied C P n items m)) (λ xs m. turn st (S.field_applied C P n xs m) k (λ st k. field_applied n xs m st k))
+  instruction (I.Invoke n) m st k =
+      taken (suc n) m (λ items m. S.turn P st (S.invoked_with C P items m)) (λ xs m. turn st (S.invoked_with C P xs m) k (λ st k. invoked_with xs m st k))
+  instruction I.Appl m st k =
+      taken 2 m (λ items m. S.turn P st (S.applied_to_elements C P items m)) (λ xs m. turn st (S.applied_to_elements C P xs m) k (λ st k. applied xs m st k))
   instruction (I.Mark l) m st k = k
   instruction I.Mark0 m st k = k
   instruction I.Unmark m st k = unmarked m st running k (λ m s k. k)
   instruction I.Eret m st k = popped m (λ item m. S.with_value C item m st (λ value. S.unmark_then C m st (S.push_item C (Val value))))
       (λ x m. value x m st (λ value. S.unmark_then C m st (S.push_item C (Val value))) k (λ v. unmarked m st (S.push_item C (Val v)) k (λ m s k. k)))
-  instruction I.Esusp m st k = popped m (λ item m. S.with_found (C.suspend_mark m) (λ m. S.push_item C item m st)) (λ x m. found (C.suspend_mark m) (λ m. S.push_item C x m st) (λ m. k))
-  instruction I.Limit m st k = popped m (λ item m. S.with_value C item m st (λ value. S.limit_results C value (integer_of value) m st)) (λ x m. value x m st (λ value. S.limit_results C value (integer_of value) m st) k (λ v. limited v (integer_of v) m st k))
-  instruction I.Lsusp m st k = popped m (λ item m. S.with_found (C.count_down m) (S.on_pair (λ count m. S.limited_result C item count m st))) (λ x m. parted (C.count_down m) (λ count m. S.limited_result C x count m st) (λ n m. limited_result x n m st k))
+  instruction I.Esusp m st k =
+      popped m (λ item m. S.with_found (C.suspend_mark m) (λ m. S.push_item C item m st)) (λ x m. found (C.suspend_mark m) (λ m. S.push_item C x m st) (λ m. k))
+  instruction I.Limit m st k = popped m (λ item m. S.with_value C item m st (λ value. S.limit_results C value (integer_of value) m st))
+      (λ x m. value x m st (λ value. S.limit_results C value (integer_of value) m st) k (λ v. limited v (integer_of v) m st k))
+  instruction I.Lsusp m st k = popped m (λ item m. S.with_found (C.count_down m) (S.on_pair (λ count m. S.limited_result C item count m st)))
+      (λ x m. parted (C.count_down m) (λ count m. S.limited_result C x count m st) (λ n m. limited_result x n m st k))
   instruction I.Efail m st k = k
   instruction (I.Chfail l) m st k = found (C.relabel l m) (λ m. running m st) (λ m. k)
   instruction (I.Goto l) m st k = k
   instruction (I.Loop l) m st k = turn st (running (C.go l m)) k (λ s k. k)
   instruction I.Bscan m st k = popped m (λ item m. S.with_value C item m st (λ value. S.with_made C (text_row value (S.here C m st)) m st (S.scan_opened C)))
-      (λ x m. value x m st (λ value. S.with_made C (text_row value (S.here C m st)) m st (S.scan_opened C)) k (λ v. made (text_row v (S.here C m st)) m st (S.scan_opened C) k (text_leaves b v (S.here C m st) k) (λ v m s k. scan_opened v m s k)))
-  instruction I.Escan m st k = popped m (λ item m. S.with_exchange (C.swap_newest (S.pair_now st) m) (λ m. S.push_item C item (C.suspend Escan m)) st) (λ x m. exchanged (C.swap_newest (S.pair_now st) m) (λ m. S.push_item C x (C.suspend Escan m)) st k (λ m s k. k))
+      (λ x m. value x m st (λ value. S.with_made C (text_row value (S.here C m st)) m st (S.scan_opened C)) k
+      (λ v. made (text_row v (S.here C m st)) m st (S.scan_opened C) k (text_leaves b v (S.here C m st) k) (λ v m s k. scan_opened v m s k)))
+  instruction I.Escan m st k = popped m (λ item m. S.with_exchange (C.swap_newest (S.pair_now st) m) (λ m. S.push_item C item (C.suspend Escan m)) st)
+      (λ x m. exchanged (C.swap_newest (S.pair_now st) m) (λ m. S.push_item C x (C.suspend Escan m)) st k (λ m s k. k))
   instruction I.Ccase m st k = found (C.below m) (λ item. S.push_item C item m st) (λ x. k)
   instruction (I.Init l) m st k = initial (slice_index_or st.begun (C.proc m) true) l m st k
-  instruction I.Psusp m st k = popped m (λ item below. S.with_result C item m st (λ result. S.maybe_exchanged (C.swap_oldest (S.pair_now st) m) m st (λ m. S.return_to (C.suspend_proc m) (S.push_item C result))))
-      (λ x below. result x m st (λ result. S.maybe_exchanged (C.swap_oldest (S.pair_now st) m) m st (λ m. S.return_to (C.suspend_proc m) (S.push_item C result))) k
-      (λ x. maybe_exchanged (C.swap_oldest (S.pair_now st) m) m st (λ m. S.return_to (C.suspend_proc m) (S.push_item C x)) k (λ m s k. returned (C.suspend_proc m) (S.push_item C x) s k (λ m s k. k))))
+  instruction I.Psusp m st k = popped m (λ item below. S.with_result C item m st
+      (λ result. S.maybe_exchanged (C.swap_oldest (S.pair_now st) m) m st (λ m. S.return_to (C.suspend_proc m) (S.push_item C result))))
+      (λ x below.
+      result x m st (λ result. S.maybe_exchanged (C.swap_oldest (S.pair_now st) m) m st (λ m. S.return_to (C.suspend_proc m) (S.push_item C result))) k
+      (λ x. maybe_exchanged (C.swap_oldest (S.pair_now st) m) m st (λ m. S.return_to (C.suspend_proc m) (S.push_item C x)) k
+      (λ m s k. returned (C.suspend_proc m) (S.push_item C x) s k (λ m s k. k))))
   instruction I.Pret m st k = popped m (λ item m. S.with_result C item m st (λ result. S.return_to (C.leave m) (S.push_item C result) (S.all_left C m st)))
-      (λ x m. result x m st (λ result. S.return_to (C.leave m) (S.push_item C result) (S.all_left C m st)) k (λ x. returned (C.leave m) (S.push_item C x) (S.all_left C m st) (all_left m st k) (λ m s k. k)))
+      (λ x m. result x m st (λ result. S.return_to (C.leave m) (S.push_item C result) (S.all_left C m st)) k
+      (λ x. returned (C.leave m) (S.push_item C x) (S.all_left C m st) (all_left m st k) (λ m s k. k)))
   instruction I.Pfail m st k = either (S.is_create_body C m st) stuck (S.proc_fails C m st) tt (proc_fails m st k)
-  instruction (I.Create l) m st k = turn st (S.coexp_made C (C.locals m) (C.proc m) (C.place m) (C.go l m)) k (λ st k. coexp_made (C.locals m) (C.proc m) (C.place m) (C.go l m) st k)
-  instruction I.Coact m st k = taken 2 m (λ items m. S.turn P st (S.activation_of C items m)) (λ xs m. turn st (S.activation_of C xs m) k (λ st k. activation_of xs m st k))
-  instruction I.Coret m st k = either (S.is_create_body C m st) (S.with_popped C m (λ item m. S.turn P st (λ st. S.with_value C item m st (λ value. S.result_given C value m st)))) stuck
-      (popped m (λ item m. S.turn P st (λ st. S.with_value C item m st (λ value. S.result_given C value m st))) (λ x m. turn st (λ st. S.with_value C x m st (λ value. S.result_given C value m st)) k (λ st k. value x m st (λ value. S.result_given C value m st) k (λ v. result_given v m st k)))) tt
+  instruction (I.Create l) m st k =
+      turn st (S.coexp_made C (C.locals m) (C.proc m) (C.place m) (C.go l m)) k (λ st k. coexp_made (C.locals m) (C.proc m) (C.place m) (C.go l m) st k)
+  instruction I.Coact m st k =
+      taken 2 m (λ items m. S.turn P st (S.activation_of C items m)) (λ xs m. turn st (S.activation_of C xs m) k (λ st k. activation_of xs m st k))
+  instruction I.Coret m st k =
+      either (S.is_create_body C m st) (S.with_popped C m (λ item m. S.turn P st (λ st. S.with_value C item m st (λ value. S.result_given C value m st)))) stuck
+      (popped m (λ item m. S.turn P st (λ st. S.with_value C item m st (λ value. S.result_given C value m st))) (λ x m. turn st (λ st. S.with_value C x m st
+      (λ value. S.result_given C value m st)) k (λ st k. value x m st (λ value. S.result_given C value m st) k (λ v. result_given v m st k)))) tt
   instruction I.Cofail m st k = either (S.is_create_body C m st) (S.exhaust_active C P m st) stuck (exhausted m st k) tt
 
   -- Runs
 
   step : (s : State H M) → G s → G (S.step C P s)
-  step (running m st) k = found (S.instruction_at C P m) (λ instr. S.instruction C P instr (C.go (suc (C.place m)) m) st) (λ i. instruction i (C.go (suc (C.place m)) m) st k)
+  step (running m st) k =
+      found (S.instruction_at C P m) (λ instr. S.instruction C P instr (C.go (suc (C.place m)) m) st) (λ i. instruction i (C.go (suc (C.place m)) m) st k)
   step (failing m st) k = back_or_dropped m st (C.resume m) k
   step (hopping m st) k = hop m st k
   step (over ending outside) k = k
@@ -357,13 +395,16 @@ module _ {H M : Type 0} (C : Calls H M) (P : Program) (b : Lasting) where
   steps (suc n) s k = steps n (S.step C P s) (step s k)
 
   begun_if : (t : Bool) (n : ℕ) (entry : Procedure) (vs : List Value) (m : M) (st : Store H) → K st → G (S.begun_if C t n entry vs m st)
-  begun_if true n entry vs m st k = collected entry.collects entry.parameters vs m st (λ parameters m st. running (C.begin n (parameters ++ replicate entry.locals Null) 0 m) st) k (λ vs m st k. k)
+  begun_if true n entry vs m st k = collected entry.collects entry.parameters vs m st
+      (λ parameters m st. running (C.begin n (parameters ++ replicate entry.locals Null) 0 m) st) k (λ vs m st k. k)
   begun_if false n entry vs m st k = errs 301 None st k
 
   pub start_of : (lines : List (List ℕ)) (m : M) (st : Store H) (o : Option ℕ) → K st → G (S.start_of C P lines m st o)
   start_of lines m st None k = errs 117 None st k
-  start_of lines m st (Some main) k = found (slice_get P.procs main) (λ (entry : Procedure). S.with_made C (words_row lines (S.here C m st)) m st (λ list m st. S.begun_if C (nat_le 1 st.world.heap.bounds.levels) main entry (list ∷ []) m st))
-      (λ entry. made (words_row lines (S.here C m st)) m st (λ list m st. S.begun_if C (nat_le 1 st.world.heap.bounds.levels) main entry (list ∷ []) m st) k (words_leave b lines (S.here C m st) k)
+  start_of lines m st (Some main) k = found (slice_get P.procs main) (λ (entry : Procedure). S.with_made C (words_row lines (S.here C m st)) m st
+      (λ list m st. S.begun_if C (nat_le 1 st.world.heap.bounds.levels) main entry (list ∷ []) m st))
+      (λ entry. made (words_row lines (S.here C m st)) m st (λ list m st. S.begun_if C (nat_le 1 st.world.heap.bounds.levels) main entry (list ∷ []) m st) k
+      (words_leave b lines (S.here C m st) k)
       (λ list m st k. begun_if (nat_le 1 st.world.heap.bounds.levels) main entry (list ∷ []) m st k))
 
   abbrev record_of : Ending → Outside → Observed
@@ -377,5 +418,6 @@ module _ {H M : Type 0} (C : Calls H M) (P : Program) (b : Lasting) where
   seen_so stuck seen e k = absurd (cc e)
 
   -- it is so of the outside that a run comes to after so many steps
-  pub run_leaves : (m : M) (launch : Launch) (n : ℕ) (seen : Observed) → b.is launch.outside → S.observed (after_steps (S.step C P) n (S.start C m P launch)) ≡ Some seen → b.is seen.outside
+  pub run_leaves : (m : M) (launch : Launch) (n : ℕ) (seen : Observed) → b.is launch.outside
+      → S.observed (after_steps (S.step C P) n (S.start C m P launch)) ≡ Some seen → b.is seen.outside
   run_leaves m launch n seen k e = seen_so _ seen e (steps n (S.start C m P launch) (start_of launch.words m (S.first_store P launch) (S.main_of P) k))

@@ -74,7 +74,8 @@ module _ (b : Lasting) where
   valued (Suspends x m s) r st go k f = k
   valued (Ends n s) r st go k f = k
 
-  made : (o : Outcome) (a : ℕ) (r : Choices) (st : Store) (go : Value → Store → State) → K st → LeavesOutside b.is o → ((v : Value) (s : Store) → K s → G (go v s)) → G (U.with_made o a r st go)
+  made : (o : Outcome) (a : ℕ) (r : Choices) (st : Store) (go : Value → Store → State) → K st → LeavesOutside b.is o
+      → ((v : Value) (s : Store) → K s → G (go v s)) → G (U.with_made o a r st go)
   made (Gives (Val v) s) a r st go k l f = f v (U.after a s st) l
   made (Gives (Var x) s) a r st go k l f = k
   made (Error n v s) a r st go k l f = errs n v r (U.after a s st) l
@@ -94,7 +95,8 @@ module _ (b : Lasting) where
 
   values : (xs : List Item) (a : ℕ) (r : Choices) (st : Store) (go : List Value → State) → K st → ((vs : List Value) → G (go vs)) → G (U.values xs a r st go)
   values [] a r st go k f = f []
-  values (x ∷ xs) a r st go k f = value x a r st (λ v. U.values xs a r st (λ vs. go (v ∷ vs))) k (λ v. values xs a r st (λ vs. go (v ∷ vs)) k (λ vs. f (v ∷ vs)))
+  values (x ∷ xs) a r st go k f =
+      value x a r st (λ v. U.values xs a r st (λ vs. go (v ∷ vs))) k (λ v. values xs a r st (λ vs. go (v ∷ vs)) k (λ vs. f (v ∷ vs)))
 
   outgoing : (x : Item) (a : ℕ) (r : Choices) (st : Store) (go : Item → State) → K st → ((x : Item) → G (go x)) → G (U.outgoing x a r st go)
   outgoing (Var (Whole (Local n))) a r st go k f = value (Var (Whole (Local n))) a r st (λ v. go (Val v)) k (λ v. f (Val v))
@@ -156,7 +158,8 @@ module _ (b : Lasting) where
   -- Co-expressions
 
   fresh : (e : Tree) (n : ℕ) (vs : List Value) (a : ℕ) (w : Works) (r : Choices) (st : Store) → K st → G (X.fresh e n vs a w r st)
-  fresh e n vs a w r st k = made (coexpression_row (length vs) (U.setting_in a st)) a r st _ k (coexpression_leaves b (length vs) (U.setting_in a st) k) (λ v s k. k)
+  fresh e n vs a w r st k =
+      made (coexpression_row (length vs) (U.setting_in a st)) a r st _ k (coexpression_leaves b (length vs) (U.setting_in a st) k) (λ v s k. k)
 
   refreshed_from : (o : Option Coexpression) (a : ℕ) (w : Works) (r : Choices) (st : Store) → K st → G (X.refreshed_from o a w r st)
   refreshed_from (Some co) a w r st k = fresh co.body co.procedure co.values a w r st k
@@ -191,13 +194,15 @@ module _ (b : Lasting) where
   activate v to w r st k = errs 118 (Some to) r st k
 
   gives : (v : Value) (r : Choices) (st : Store) → K st → G (X.gives v r st)
-  gives v r st k = let s = X.count_result st.active (X.with_status st.active (AfterResult r) st) in let c = X.activator_of st.active st in entered_in (X.status_of c s) c v s k
+  gives v r st k = let s = X.count_result st.active (X.with_status st.active (AfterResult r) st) in let c = X.activator_of st.active st in
+      entered_in (X.status_of c s) c v s k
 
   result : (x : Item) (a : ℕ) (r : Choices) (st : Store) → K st → G (X.result x a r st)
   result x a r st k = turn st (λ st. U.value x a r st (λ v. X.gives v r st)) k (λ st k. value x a r st (λ v. X.gives v r st) k (λ v. gives v r st k))
 
   exhaust : (st : Store) → K st → G (X.exhaust st)
-  exhaust st k = turn st (λ st. X.fail_coexp (X.activator_of st.active st) (X.with_status st.active Exhausted st)) k (λ st k. let s = X.with_status st.active Exhausted st in let c = X.activator_of st.active st in failed_in (X.status_of c s) c s k)
+  exhaust st k = turn st (λ st. X.fail_coexp (X.activator_of st.active st) (X.with_status st.active Exhausted st)) k
+      (λ st k. let s = X.with_status st.active Exhausted st in let c = X.activator_of st.active st in failed_in (X.status_of c s) c s k)
 
   hopped : (c : ℕ) (st : Store) → K st → G (X.pass_failure c st)
   hopped c st k = turn st (λ st. X.fail_coexp (X.activator_of c st) st) k (λ st k. let d = X.activator_of c st in failed_in (X.status_of d st) d st k)
@@ -212,12 +217,15 @@ module _ (b : Lasting) where
   enter : (n : ℕ) (routine : Routine) (vs : List Value) (level : ℕ) (w : Works) (r : Choices) (st : Store) → K st → G (L.enter n routine vs level w r st)
   enter n routine vs level w r st k = begun_if (slice_index_or st.begun n true) n routine.initial routine.body _ r _ k
 
-  collect : (t : Bool) (n : ℕ) (routine : Routine) (vs : List Value) (level a : ℕ) (w : Works) (r : Choices) (st : Store) → K st → G (L.collect t n routine vs level a w r st)
+  collect : (t : Bool) (n : ℕ) (routine : Routine) (vs : List Value) (level a : ℕ) (w : Works) (r : Choices) (st : Store) → K st
+      → G (L.collect t n routine vs level a w r st)
   collect false n routine vs level a w r st k = enter n routine (L.fit_count routine.parameters vs) level w r st k
-  collect true n routine vs level a w r st k = made (list_row (drop (routine.parameters - 1) vs) (U.setting_in a st)) a r st _ k (list_leaves b (drop (routine.parameters - 1) vs) (U.setting_in a st) k)
+  collect true n routine vs level a w r st k =
+      made (list_row (drop (routine.parameters - 1) vs) (U.setting_in a st)) a r st _ k (list_leaves b (drop (routine.parameters - 1) vs) (U.setting_in a st) k)
       (λ list st k. enter n routine (L.fit_count (routine.parameters - 1) vs ++ list ∷ []) level w r st k)
 
-  call_if : (t : Bool) (n : ℕ) (routine : Routine) (vs : List Value) (level a : ℕ) (w : Works) (r : Choices) (st : Store) → K st → G (L.call_if t n routine vs level a w r st)
+  call_if : (t : Bool) (n : ℕ) (routine : Routine) (vs : List Value) (level a : ℕ) (w : Works) (r : Choices) (st : Store) → K st
+      → G (L.call_if t n routine vs level a w r st)
   call_if true n routine vs level a w r st k = collect routine.collects n routine vs level a w r st k
   call_if false n routine vs level a w r st k = errs 301 None r st k
 
@@ -225,12 +233,15 @@ module _ (b : Lasting) where
   call n routine vs level a w r st k = call_if (nat_le level st.world.heap.bounds.levels) n routine vs level a w r st k
 
   construct : (n : ℕ) (kind : Kind) (vs : List Value) (a : ℕ) (w : Works) (r : Choices) (st : Store) → K st → G (L.construct n kind vs a w r st)
-  construct n kind vs a w r st k = let fs = L.fit_count (length kind.fields) vs in made (record_row n fs (U.setting_in a st)) a r st _ k (record_leaves b n fs (U.setting_in a st) k) (λ v s k. k)
+  construct n kind vs a w r st k = let fs = L.fit_count (length kind.fields) vs in
+      made (record_row n fs (U.setting_in a st)) a r st _ k (record_leaves b n fs (U.setting_in a st) k) (λ v s k. k)
 
   invoke_callee : (c : Callee) (n : ℕ) (xs : List Item) (s : Surroundings) (w : Works) (r : Choices) (st : Store) → K st → G (L.invoke_callee c n xs s w r st)
-  invoke_callee (IsRoutine routine) n xs s w r st k = values xs (activation_of s) r st _ k (λ vs. call n routine vs (suc (frame_of s).level) (activation_of s) w r st k)
+  invoke_callee (IsRoutine routine) n xs s w r st k =
+      values xs (activation_of s) r st _ k (λ vs. call n routine vs (suc (frame_of s).level) (activation_of s) w r st k)
   invoke_callee (IsKind m kind) n xs s w r st k = values xs (activation_of s) r st _ k (λ vs. construct m kind vs (activation_of s) w r st k)
-  invoke_callee (IsFunction f) n xs s w r st k = answer (apply st.names (Function f) xs (U.setting_in (activation_of s) st)) (activation_of s) w r st (function_leaves b st.names f xs (U.setting_in (activation_of s) st) k)
+  invoke_callee (IsFunction f) n xs s w r st k = answer (apply st.names (Function f) xs (U.setting_in (activation_of s) st)) (activation_of s) w r st
+      (function_leaves b st.names f xs (U.setting_in (activation_of s) st) k)
   invoke_callee IsNothing n xs s w r st k = errs 106 (Some (Procedure n)) r st k
 
   chosen : (o : Option Item) (w : Works) (r : Choices) (st : Store) → K st → G (L.choose_item o w r st)
@@ -264,7 +275,8 @@ module _ (b : Lasting) where
 
     applied : (form : Form) (xs : List Item) (s : Surroundings) (w : Works) (r : Choices) (st : Store) → K st → G (L.apply_form p form xs s w r st)
     applied (Operating Ops.Refresh) (x ∷ xs) s w r st k = value x (activation_of s) r st _ k (λ v. refreshed v (activation_of s) w r st k)
-    applied (Operating o) xs s w r st k = answer (apply st.names (Operation o) xs (U.setting_in (activation_of s) st)) (activation_of s) w r st (operation_leaves b o xs (U.setting_in (activation_of s) st) k)
+    applied (Operating o) xs s w r st k = answer (apply st.names (Operation o) xs (U.setting_in (activation_of s) st)) (activation_of s) w r st
+        (operation_leaves b o xs (U.setting_in (activation_of s) st) k)
     applied Calling [] s w r st k = tt
     applied Calling (x ∷ xs) s w r st k = value x (activation_of s) r st _ k (λ v. invoke v xs s w r st k)
     applied Spreading [] s w r st k = tt
@@ -277,7 +289,8 @@ module _ (b : Lasting) where
     applied Activating (x ∷ []) s w r st k = tt
     applied Activating (x ∷ y ∷ xs) s w r st k = value x (activation_of s) r st _ k (λ v. value y (activation_of s) r st _ k (λ c. activate v c w r st k))
 
-    operands : (form : Form) (xs : List Item) (es : Trees) (s : Surroundings) (w : Works) (r : Choices) (st : Store) → K st → G (L.operands p form xs es s w r st)
+    operands : (form : Form) (xs : List Item) (es : Trees) (s : Surroundings) (w : Works) (r : Choices) (st : Store) → K st
+        → G (L.operands p form xs es s w r st)
     operands form xs (More e es) s w r st k = k
     operands form xs NoTrees s w r st k = turn st _ k (λ st k. applied form (reverse xs) s w r st k)
 
@@ -312,12 +325,14 @@ module _ (b : Lasting) where
     conjunction place (More e NoTrees) s w r st k = k
     conjunction place (More d (More e es)) s w r st k = k
 
-    subscripts : (place : Place) (x : Tree) (es : Trees) (s : Surroundings) (w : Works) (r : Choices) (st : Store) → K st → G (E.subscripts p place x es s w r st)
+    subscripts : (place : Place) (x : Tree) (es : Trees) (s : Surroundings) (w : Works) (r : Choices) (st : Store) → K st
+        → G (E.subscripts p place x es s w r st)
     subscripts place x NoTrees s w r st k = k
     subscripts place x (More i NoTrees) s w r st k = k
     subscripts place x (More i (More j js)) s w r st k = subscripts place _ (More j js) s w r st k
 
-    loops : (kind : LoopKind) (loop e : Tree) (m : MaybeTree) (s : Surroundings) (w : Works) (r : Choices) (st : Store) → K st → G (E.loops kind loop e m s w r st)
+    loops : (kind : LoopKind) (loop e : Tree) (m : MaybeTree) (s : Surroundings) (w : Works) (r : Choices) (st : Store) → K st
+        → G (E.loops kind loop e m s w r st)
     loops Loops.While loop e m s w r st k = k
     loops Loops.Until loop e m s w r st k = k
     loops Loops.Every loop e m s w r st k = k
@@ -382,7 +397,8 @@ module _ (b : Lasting) where
     scan_in q v e s w r st k = k
 
     scan : (x : Item) (e : Tree) (s : Surroundings) (w : Works) (r : Choices) (st : Store) → K st → G (W.scan x e s w r st)
-    scan x e s w r st k = value x (activation_of s) r st _ k (λ v. made (text_row v (U.setting_in (activation_of s) st)) (activation_of s) r st _ k (text_leaves b v (U.setting_in (activation_of s) st) k)
+    scan x e s w r st k = value x (activation_of s) r st
+        _ k (λ v. made (text_row v (U.setting_in (activation_of s) st)) (activation_of s) r st _ k (text_leaves b v (U.setting_in (activation_of s) st) k)
         (λ text st k. scan_in (S.new_cell st) text e s w r st k))
 
     update : (o : Operator) (x : Item) (e : Tree) (s : Surroundings) (w : Works) (r : Choices) (st : Store) → K st → G (W.update o x e s w r st)
@@ -409,7 +425,8 @@ module _ (b : Lasting) where
     on_succeed x (Each m s w0 r0 and_then w) r st k = each m s w0 r0 r st k
     on_succeed x (Select cs s w0 r0 and_then w) r st k = value x (activation_of s) r st _ k (λ v. act (Try v cs (W.default_of cs) s w0) r0 st k)
     on_succeed x (Returning s and_then w) r st k = outgoing x (activation_of s) r st _ k (λ x. returned x s st k)
-    on_succeed x (Suspending m s and_then w) r st k = outgoing x (activation_of s) r st _ k (λ x. suspended x m s s r (S.exchanged_oldest s st) (swapped s st k))
+    on_succeed x (Suspending m s and_then w) r st k =
+        outgoing x (activation_of s) r st _ k (λ x. suspended x m s s r (S.exchanged_oldest s st) (swapped s st k))
     on_succeed x (Result a and_then w) r st k = result x a r st k
 
     -- Choices
@@ -447,7 +464,8 @@ module _ (b : Lasting) where
     steps (suc n) s k = steps n (M.step p s) (step s k)
 
     main_in : (o : Option Routine) (n : ℕ) (lines : List (List ℕ)) (st : Store) → K st → G (M.main_in o n lines st)
-    main_in (Some routine) n lines st k = made (words_row lines (U.setting_in zero st)) zero NoChoice st _ k (words_leave b lines (U.setting_in zero st) k) (λ list st k. call n routine (list ∷ []) 1 zero Nothing NoChoice st k)
+    main_in (Some routine) n lines st k = made (words_row lines (U.setting_in zero st)) zero NoChoice st _ k (words_leave b lines (U.setting_in zero st) k)
+        (λ list st k. call n routine (list ∷ []) 1 zero Nothing NoChoice st k)
     main_in None n lines st k = errs 117 None NoChoice st k
 
     main_at : (o : Option ℕ) (lines : List (List ℕ)) (st : Store) → K st → G (M.main_at p o lines st)

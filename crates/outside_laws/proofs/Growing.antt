@@ -29,6 +29,8 @@ steps_extend tables (hopping m st) n = steps_have (from_outside st.outside) tabl
 steps_extend tables (over ending outside) n = steps_have (from_outside outside) tables n (over ending outside) (extends_itself outside)
 steps_extend tables stuck n = tt
 
-pub reached_extends : (tables : Tables) (launch : Launch) (n : ℕ) → HasOutside (Extends launch.outside) (after_steps (Flat.step tables) n (Flat.start tables launch))
+pub reached_extends : (tables : Tables) (launch : Launch) (n : ℕ)
+    → HasOutside (Extends launch.outside) (after_steps (Flat.step tables) n (Flat.start tables launch))
 reached_extends tables launch n = let b = from_outside launch.outside in
-    steps_have b tables n (Flat.start tables launch) (Runs.start_of flat tables b launch.words empty (S.first_store tables launch) (S.main_of tables) (extends_itself launch.outside))
+    steps_have b tables n (Flat.start tables launch)
+    (Runs.start_of flat tables b launch.words empty (S.first_store tables launch) (S.main_of tables) (extends_itself launch.outside))

@@ -22,7 +22,8 @@ of_input input = record { is = IsOutsideOf input; put = put_keeps input; read = 
 -- That the outside has become this one
 
 pub extends_itself : (was : Outside) → Extends was was
-extends_itself was = record { output_text = []; output = sym (append-nil _); errors_text = []; errors = sym (append-nil _); later = []; readings = refl; taken = 0; left = refl }
+extends_itself was =
+    record { output_text = []; output = sym (append-nil _); errors_text = []; errors = sym (append-nil _); later = []; readings = refl; taken = 0; left = refl }
 
 pub put_extends : (was outside : Outside) (file : File) (text : List ℕ) → Extends was outside → Extends was (put_on file text outside)
 put_extends was outside Input text e = e

@@ -63,7 +63,8 @@ pub k_check : (b : Lasting) (t : Bool) (n : ℕ) (v : Option Value) (next : Row)
 k_check b true n v next a k f = f
 k_check b false n v next a k f = record { is = k }
 
-pub k_present : {A : Type 0} (b : Lasting) (o : Option A) (n : ℕ) (v : Option Value) (next : A → Row) (a : Setting) → Keeps b a → ((x : A) → KI b (next x a)) → KI b (present o n v next a)
+pub k_present : {A : Type 0} (b : Lasting) (o : Option A) (n : ℕ) (v : Option Value) (next : A → Row) (a : Setting) → Keeps b a → ((x : A) → KI b (next x a))
+    → KI b (present o n v next a)
 k_present b (Some x) n v next a k f = f x
 k_present b None n v next a k f = record { is = k }
 
@@ -85,7 +86,8 @@ k_natural b (negsuc n) v next a k f = record { is = k }
 
 pub ruleset first_words = (k_error, k_ends, k_gives, k_suspends, k_fails, follows, k_check, k_present, k_computed, k_passing, k_found, k_natural)
 
-pub k_made : (b : Lasting) (o : Option (List ℕ)) (next : Row) (a : Setting) → Keeps b a → ((s : Setting) → Keeps b s → KI b (next s)) → KI b (costs_made o next a)
+pub k_made : (b : Lasting) (o : Option (List ℕ)) (next : Row) (a : Setting) → Keeps b a → ((s : Setting) → Keeps b s → KI b (next s))
+    → KI b (costs_made o next a)
 k_made b None next a k f = f a k
 k_made b (Some text) next a k f = search (first_words, f)
 
@@ -101,7 +103,8 @@ pub k_value : (b : Lasting) (x : Item) (next : Value → Row) (a : Setting) → 
 k_value b (Val v) next a k f = f v
 k_value b (Var x) next a k f = k_reads b x next a k f
 
-k_values : (b : Lasting) (xs : List Item) (next : List Value → Row) (a : Setting) → Keeps b a → ((vs : List Value) → KI b (next vs a)) → KI b (the_values xs next a)
+k_values : (b : Lasting) (xs : List Item) (next : List Value → Row) (a : Setting) → Keeps b a → ((vs : List Value) → KI b (next vs a))
+    → KI b (the_values xs next a)
 k_values b [] next a k f = f []
 k_values b (x ∷ xs) next a k f = k_value b x (λ v. the_values xs (λ vs. next (v ∷ vs))) a k (λ v. k_values b xs (λ vs. next (v ∷ vs)) a k (λ vs. f (v ∷ vs)))
 
@@ -113,11 +116,13 @@ pub ruleset words = (first_words, k_made, k_unless, k_reads, k_value, k_variable
 
 -- Assigning
 
-k_keyword : (b : Lasting) (refused : Row) (word : KeywordVariable) (value : Value) (next : Row) (a : Setting) → Keeps b a → ((s : Setting) → Keeps b s → KI b (refused s)) → ((s : Setting) → Keeps b s → KI b (next s)) → KI b (assigns_keyword refused word value next a)
+k_keyword : (b : Lasting) (refused : Row) (word : KeywordVariable) (value : Value) (next : Row) (a : Setting) → Keeps b a
+    → ((s : Setting) → Keeps b s → KI b (refused s)) → ((s : Setting) → Keeps b s → KI b (next s)) → KI b (assigns_keyword refused word value next a)
 k_keyword b refused Subject value next a k r f = search (words, f)
 k_keyword b refused Position value next a k r f = by_number (integer_of value) refl
   where
-    by_place : (n : ℤ) → integer_of value ≡ Some n → (o : Option ℕ) → place_of n (length a.world.subject) ≡ o → KI b (assigns_keyword refused Position value next a)
+    by_place : (n : ℤ) → integer_of value ≡ Some n → (o : Option ℕ) → place_of n (length a.world.subject) ≡ o
+        → KI b (assigns_keyword refused Position value next a)
     by_place n e None g = rw e (rw g (r a k))
     by_place n e (Some place) g = rw e (rw g (f (having_position place a) k))
 
@@ -129,40 +134,51 @@ k_keyword b refused Random value next a k r f = search (words, f)
 local_set : (a : Setting) (b : Lasting) (place : ℕ) (value : Value) → Keeps b a → Keeps b (record a { locals = slice_set a.locals place value })
 local_set a b place value k = k
 
-global_set : (a : Setting) (b : Lasting) (place : ℕ) (value : Value) → Keeps b a → Keeps b (record a { world = record a.world { globals = slice_set a.world.globals place value } })
+global_set : (a : Setting) (b : Lasting) (place : ℕ) (value : Value) → Keeps b a
+    → Keeps b (record a { world = record a.world { globals = slice_set a.world.globals place value } })
 global_set a b place value k = k
 
-static_set : (a : Setting) (b : Lasting) (place : ℕ) (value : Value) → Keeps b a → Keeps b (record a { world = record a.world { statics = slice_set a.world.statics place value } })
+static_set : (a : Setting) (b : Lasting) (place : ℕ) (value : Value) → Keeps b a
+    → Keeps b (record a { world = record a.world { statics = slice_set a.world.statics place value } })
 static_set a b place value k = k
 
-k_root : (b : Lasting) (refused : Row) (root : Root) (value : Value) (next : Row) (a : Setting) → Keeps b a → ((s : Setting) → Keeps b s → KI b (refused s)) → ((s : Setting) → Keeps b s → KI b (next s)) → KI b (assigns_root refused root value next a)
-k_root b refused (Global place) value next a k r f = f (record a { world = record a.world { globals = slice_set a.world.globals place value } }) (global_set a b place value k)
-k_root b refused (Static place) value next a k r f = f (record a { world = record a.world { statics = slice_set a.world.statics place value } }) (static_set a b place value k)
+k_root : (b : Lasting) (refused : Row) (root : Root) (value : Value) (next : Row) (a : Setting) → Keeps b a → ((s : Setting) → Keeps b s → KI b (refused s))
+    → ((s : Setting) → Keeps b s → KI b (next s)) → KI b (assigns_root refused root value next a)
+k_root b refused (Global place) value next a k r f =
+    f (record a { world = record a.world { globals = slice_set a.world.globals place value } }) (global_set a b place value k)
+k_root b refused (Static place) value next a k r f =
+    f (record a { world = record a.world { statics = slice_set a.world.statics place value } }) (static_set a b place value k)
 k_root b refused (Local place) value next a k r f = f (record a { locals = slice_set a.locals place value }) (local_set a b place value k)
 k_root b refused (Element id number) value next a k r f = search (words, f)
 k_root b refused (Field id place) value next a k r f = search (words, f)
 k_root b refused (Key table key) value next a k r f = search (words, f)
 k_root b refused (Keyword word) value next a k r f = k_keyword b refused word value next a k r f
 
-k_assigns : (b : Lasting) (refused : Row) (x : Variable) (value : Value) (next : Variable → Row) (a : Setting) → Keeps b a → ((s : Setting) → Keeps b s → KI b (refused s)) → ((v : Variable) (s : Setting) → Keeps b s → KI b (next v s)) → KI b (assigns_or refused x value next a)
+k_assigns : (b : Lasting) (refused : Row) (x : Variable) (value : Value) (next : Variable → Row) (a : Setting) → Keeps b a
+    → ((s : Setting) → Keeps b s → KI b (refused s)) → ((v : Variable) (s : Setting) → Keeps b s → KI b (next v s)) → KI b (assigns_or refused x value next a)
 k_assigns b refused (Whole root) value next a k r f = k_root b refused root value (next (Whole root)) a k r (f (Whole root))
 k_assigns b refused (Part root place size) value next a k r f = search (words, k_root, r, f) depth 12
 
-k_moved : (b : Lasting) (old new : ℕ) (x : Variable) (next : Variable → Row) (a : Setting) → Keeps b a → ((v : Variable) → KI b (next v a)) → KI b (move_part old new x next a)
+k_moved : (b : Lasting) (old new : ℕ) (x : Variable) (next : Variable → Row) (a : Setting) → Keeps b a → ((v : Variable) → KI b (next v a))
+    → KI b (move_part old new x next a)
 k_moved b old new (Whole root) next a k f = f (Whole root)
 k_moved b old new (Part root place size) next a k f = search (words, f)
 
-k_moved_left : (b : Lasting) (m : Mover) (old new : ℕ) (x : Variable) (next : Variable → Row) (a : Setting) → Keeps b a → ((v : Variable) → KI b (next v a)) → KI b (moved_by_left m old new x next a)
+k_moved_left : (b : Lasting) (m : Mover) (old new : ℕ) (x : Variable) (next : Variable → Row) (a : Setting) → Keeps b a → ((v : Variable) → KI b (next v a))
+    → KI b (moved_by_left m old new x next a)
 k_moved_left b Neither old new x next a k f = f x
 k_moved_left b Left old new x next a k f = k_moved b old new x next a k f
 k_moved_left b Right old new x next a k f = f x
 
-k_moved_right : (b : Lasting) (m : Mover) (old new : ℕ) (x : Variable) (next : Variable → Row) (a : Setting) → Keeps b a → ((v : Variable) → KI b (next v a)) → KI b (moved_by_right m old new x next a)
+k_moved_right : (b : Lasting) (m : Mover) (old new : ℕ) (x : Variable) (next : Variable → Row) (a : Setting) → Keeps b a → ((v : Variable) → KI b (next v a))
+    → KI b (moved_by_right m old new x next a)
 k_moved_right b Neither old new x next a k f = f x
 k_moved_right b Left old new x next a k f = f x
 k_moved_right b Right old new x next a k f = k_moved b old new x next a k f
 
-k_both : (b : Lasting) (refused : Row) (m : Mover) (x y : Variable) (v w : Value) (next : Variable × Variable → Row) (a : Setting) → Keeps b a → ((s : Setting) → Keeps b s → KI b (refused s)) → ((p : Variable × Variable) (s : Setting) → Keeps b s → KI b (next p s)) → KI b (assigns_both refused m x y v w next a)
+k_both : (b : Lasting) (refused : Row) (m : Mover) (x y : Variable) (v w : Value) (next : Variable × Variable → Row) (a : Setting) → Keeps b a
+    → ((s : Setting) → Keeps b s → KI b (refused s)) → ((p : Variable × Variable) (s : Setting) → Keeps b s → KI b (next p s))
+    → KI b (assigns_both refused m x y v w next a)
 k_both b refused m x y v w next a k r f = search (k_assigns, k_moved_left, k_moved_right, r, f)
 
 -- Reading and writing
@@ -178,7 +194,8 @@ at_end b asked o e k = subst b.is (ap (λ l. record (with_reading asked o) { lef
 k_cost : (b : Lasting) (n : ℕ) (next : Row) (a : Setting) → Keeps b a → ((s : Setting) → Keeps b s → KI b (next s)) → KI b (costs_bytes n next a)
 k_cost b n next a k f = search (first_words, f)
 
-pub k_line : (b : Lasting) (next : List ℕ → Row) (a : Setting) → Keeps b a → ((line : List ℕ) (s : Setting) → Keeps b s → KI b (next line s)) → KI b (next_line next a)
+pub k_line : (b : Lasting) (next : List ℕ → Row) (a : Setting) → Keeps b a → ((line : List ℕ) (s : Setting) → Keeps b s → KI b (next line s))
+    → KI b (next_line next a)
 k_line b next a k f = by_test (nat_lt 0 (length a.outside.left)) refl
   where
     line : List ℕ
@@ -191,7 +208,8 @@ k_line b next a k f = by_test (nat_lt 0 (length a.outside.left)) refl
     by_test false e = rw e (k_fails b read (at_end b ALine a.outside e k))
     by_test true e = rw e (k_cost b (length line) (next line) (having_left (drop (length line + 1) a.outside.left) read) (b.read a.outside ALine k) (f line))
 
-pub k_bytes : (b : Lasting) (count : ℕ) (next : List ℕ → Row) (a : Setting) → Keeps b a → ((bytes : List ℕ) (s : Setting) → Keeps b s → KI b (next bytes s)) → KI b (next_bytes count next a)
+pub k_bytes : (b : Lasting) (count : ℕ) (next : List ℕ → Row) (a : Setting) → Keeps b a → ((bytes : List ℕ) (s : Setting) → Keeps b s → KI b (next bytes s))
+    → KI b (next_bytes count next a)
 k_bytes b count next a k f = by_test (nat_lt 0 (length bytes)) refl
   where
     bytes : List ℕ
@@ -210,16 +228,19 @@ k_bytes b count next a k f = by_test (nat_lt 0 (length bytes)) refl
         no_bytes n e = let le = ltb-false 0 n e in omega arith
 
     by_test : (t : Bool) → nat_lt 0 (length bytes) ≡ t → KI b (next_bytes count next a)
-    by_test false e = rw e (k_fails b read (subst b.is (ap (λ l. record (with_reading (SomeBytes count) a.outside) { left = l }) (taken ∙ none_taken e)) (b.read a.outside (SomeBytes count) k)))
+    by_test false e = rw e (k_fails b read
+        (subst b.is (ap (λ l. record (with_reading (SomeBytes count) a.outside) { left = l }) (taken ∙ none_taken e)) (b.read a.outside (SomeBytes count) k)))
     by_test true e = rw e (k_cost b (length bytes) (next bytes) (having_left (drop (length bytes) a.outside.left) read)
         (subst b.is (ap (λ l. record (with_reading (SomeBytes count) a.outside) { left = l }) taken) (b.read a.outside (SomeBytes count) k)) (f bytes))
 
-put_all : (b : Lasting) (between : List ℕ) (is_first : Bool) (ps : List Piece) (file : File) (o : Outside) → b.is o → b.is (put_pieces between is_first ps file o).1
+put_all : (b : Lasting) (between : List ℕ) (is_first : Bool) (ps : List Piece) (file : File) (o : Outside) → b.is o
+    → b.is (put_pieces between is_first ps file o).1
 put_all b between is_first [] file o k = k
 put_all b between is_first (Puts text ∷ ps) file o k = put_all b between false ps file (put_on file text o) (b.put o file text k)
 put_all b between is_first (Selects other ∷ ps) file o k = put_all b between false ps other (put_on file _ o) (b.put o file _ k)
 
-pub k_puts : (b : Lasting) (line_end : List ℕ) (file : File) (ps : List Piece) (next : Row) (a : Setting) → Keeps b a → ((s : Setting) → Keeps b s → KI b (next s)) → KI b (puts_line line_end file ps next a)
+pub k_puts : (b : Lasting) (line_end : List ℕ) (file : File) (ps : List Piece) (next : Row) (a : Setting) → Keeps b a
+    → ((s : Setting) → Keeps b s → KI b (next s)) → KI b (puts_line line_end file ps next a)
 k_puts b line_end file ps next a k f = f _ (b.put _ _ line_end (put_all b line_end true ps file a.outside k))
 
 k_lines_again : (b : Lasting) (a : Setting) → Keeps b a → KI b (lines_again a)
@@ -231,7 +252,8 @@ k_count : (b : Lasting) (last step : ℤ) (o : Option ℤ) (a : Setting) → Kee
 k_count b last step None a k = record { is = k }
 k_count b last step (Some n) a k = search words
 
-k_sets : (b : Lasting) (f : List Value → List Value → List Value) (g : Bool → Bool → Bool) (v w : Value) (o : Option (ℕ × ℕ)) (a : Setting) → Keeps b a → KI b (sets_or_csets f g v w o a)
+k_sets : (b : Lasting) (f : List Value → List Value → List Value) (g : Bool → Bool → Bool) (v w : Value) (o : Option (ℕ × ℕ)) (a : Setting) → Keeps b a
+    → KI b (sets_or_csets f g v w o a)
 k_sets b f g v w (Some ids) a k = search (words)
 k_sets b f g v w None a k = search words
 
@@ -277,7 +299,8 @@ k_subscript b x v w (Filed file) a k = search (words) depth 12
 k_subscript b x v w (Activated id) a k = search (words) depth 12
 k_subscript b x v w Single a k = search (words) depth 12
 
-k_section : (b : Lasting) (f : ℤ → ℤ → Result ℤ Arith) (x : Item) (v : Value) (u : Value) (w : Value) (g : Group) (a : Setting) → Keeps b a → KI b (section_of f x v u w g a)
+k_section : (b : Lasting) (f : ℤ → ℤ → Result ℤ Arith) (x : Item) (v : Value) (u : Value) (w : Value) (g : Group) (a : Setting) → Keeps b a
+    → KI b (section_of f x v u w g a)
 k_section b f x v u w (Textual text) a k = search (words) depth 12
 k_section b f x v u w (Listed id) a k = search (words) depth 12
 k_section b f x v u w (Collected id) a k = search (words) depth 12
@@ -301,18 +324,21 @@ k_new_set : (b : Lasting) (v : Value) (o : Option ℕ) (a : Setting) → Keeps b
 k_new_set b v (Some id) a k = search (words)
 k_new_set b v None a k = search (words)
 
-k_inserts : (b : Lasting) (c : Keeper) (x y : Value) (next : Row) (a : Setting) → Keeps b a → ((s : Setting) → Keeps b s → KI b (next s)) → KI b (inserts c x y next a)
+k_inserts : (b : Lasting) (c : Keeper) (x y : Value) (next : Row) (a : Setting) → Keeps b a → ((s : Setting) → Keeps b s → KI b (next s))
+    → KI b (inserts c x y next a)
 k_inserts b (SetKeeper id) x y next a k f = search (words, f)
 k_inserts b (TableKeeper id) x y next a k f = search (words, f)
 
 k_without : (b : Lasting) (a : Setting) (c : Keeper) (x : Value) → Keeps b a → Keeps b (having_heap (without_key c x) a)
 k_without b a c x k = k
 
-k_pairs : (b : Lasting) (xs : List (Value × Value)) (next : List Value → Row) (a : Setting) → Keeps b a → ((vs : List Value) (s : Setting) → Keeps b s → KI b (next vs s)) → KI b (pair_lists xs next a)
+k_pairs : (b : Lasting) (xs : List (Value × Value)) (next : List Value → Row) (a : Setting) → Keeps b a
+    → ((vs : List Value) (s : Setting) → Keeps b s → KI b (next vs s)) → KI b (pair_lists xs next a)
 k_pairs b [] next a k f = f [] a k
 k_pairs b (x ∷ xs) next a k f = search (words, k_pairs b xs, f)
 
-k_table_sorted : (b : Lasting) (names : Names) (h : Heap) (xs : List (Value × Value)) (n : ℤ) (v : Value) (a : Setting) → Keeps b a → KI b (table_sorted names h xs n v a)
+k_table_sorted : (b : Lasting) (names : Names) (h : Heap) (xs : List (Value × Value)) (n : ℤ) (v : Value) (a : Setting) → Keeps b a
+    → KI b (table_sorted names h xs n v a)
 k_table_sorted b names h xs (pos (suc zero)) v a k = search (words, k_pairs)
 k_table_sorted b names h xs (pos (suc (suc zero))) v a k = search (words, k_pairs)
 k_table_sorted b names h xs (pos (suc (suc (suc zero)))) v a k = search (words)
@@ -329,7 +355,8 @@ k_sorted b names v n w (Filed file) a k = search words depth 12
 k_sorted b names v n w (Activated id) a k = search words depth 12
 k_sorted b names v n w Single a k = search words depth 12
 
-k_pieces : (b : Lasting) (vs : List Value) (next : List Piece → Row) (a : Setting) → Keeps b a → ((ps : List Piece) → KI b (next ps a)) → KI b (pieces vs next a)
+k_pieces : (b : Lasting) (vs : List Value) (next : List Piece → Row) (a : Setting) → Keeps b a → ((ps : List Piece) → KI b (next ps a))
+    → KI b (pieces vs next a)
 k_pieces b [] next a k f = f []
 k_pieces b (v ∷ vs) next a k f = search (words, k_pieces b vs, f)
 
@@ -356,17 +383,20 @@ k_reads_row b vs a k =
     (k_bytes b count (λ bytes. gives_value (Text bytes)) a k (λ bytes s k. k_gives b (Val (Text bytes)) s k))))))
 
 k_write : (b : Lasting) (vs : List Value) (a : Setting) → Keeps b a → KI b (write_row vs a)
-k_write b vs a k = k_pieces b vs (λ ps. puts_line newline Output ps (gives_value (last_of vs))) a k (λ ps. k_puts b newline Output ps (gives_value (last_of vs)) a k (λ s k. k_gives b (Val (last_of vs)) s k))
+k_write b vs a k = k_pieces b vs (λ ps. puts_line newline Output ps (gives_value (last_of vs))) a k
+    (λ ps. k_puts b newline Output ps (gives_value (last_of vs)) a k (λ s k. k_gives b (Val (last_of vs)) s k))
 
 k_writes : (b : Lasting) (vs : List Value) (a : Setting) → Keeps b a → KI b (writes_row vs a)
-k_writes b vs a k = k_pieces b vs (λ ps. puts_line [] Output ps (gives_value (last_of vs))) a k (λ ps. k_puts b [] Output ps (gives_value (last_of vs)) a k (λ s k. k_gives b (Val (last_of vs)) s k))
+k_writes b vs a k = k_pieces b vs (λ ps. puts_line [] Output ps (gives_value (last_of vs))) a k
+    (λ ps. k_puts b [] Output ps (gives_value (last_of vs)) a k (λ s k. k_gives b (Val (last_of vs)) s k))
 
 k_stop : (b : Lasting) (vs : List Value) (a : Setting) → Keeps b a → KI b (stop_row vs a)
 k_stop b vs a k = k_pieces b vs (λ ps. puts_line newline Errout ps (ends 1)) a k (λ ps. k_puts b newline Errout ps (ends 1) a k (λ s k. k_ends b 1 s k))
 
 -- All rows
 
-ruleset rows = (words, k_assigns, k_both, k_count, k_sets, k_elements, k_random_by, k_subscript, k_section, k_copy, k_new_set, k_inserts, k_without, k_sorted, k_pieces)
+ruleset rows =
+    (words, k_assigns, k_both, k_count, k_sets, k_elements, k_random_by, k_subscript, k_section, k_copy, k_new_set, k_inserts, k_without, k_sorted, k_pieces)
 
 k_operation : (b : Lasting) (op : Op) (x y z : Item) (a : Setting) → Keeps b a → KI b (operation_on op x y z a)
 k_operation b Ops.IsNull x y z a k = search rows depth 16

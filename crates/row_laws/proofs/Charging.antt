@@ -66,7 +66,8 @@ l_bytes_kept n next a f = by (nat_le (a.world.heap.strings + n) a.world.heap.bou
     by true e = rw e (f _ refl)
     by false e = rw e (record { is = inl refl })
 
-l_made_kept : (o : Option (List ℕ)) (next : Row) (a : Setting) → ((s : Setting) → s.world.heap.lists ≡ a.world.heap.lists → Later (next s)) → Later (costs_made o next a)
+l_made_kept : (o : Option (List ℕ)) (next : Row) (a : Setting) → ((s : Setting) → s.world.heap.lists ≡ a.world.heap.lists → Later (next s))
+    → Later (costs_made o next a)
 l_made_kept None next a f = f a refl
 l_made_kept (Some text) next a f = l_bytes_kept (length text) next a f
 
@@ -106,7 +107,8 @@ c_check : (b : Setting) (t : Bool) (n : ℕ) (v : Option Value) (next : Row) →
 c_check b true n v next f = f
 c_check b false n v next f = record { is = inr refl }
 
-c_present : {A : Type 0} (b : Setting) (o : Option A) (n : ℕ) (v : Option Value) (next : A → Row) → ((x : A) → Clean b (next x b)) → Clean b (present o n v next b)
+c_present : {A : Type 0} (b : Setting) (o : Option A) (n : ℕ) (v : Option Value) (next : A → Row) → ((x : A) → Clean b (next x b))
+    → Clean b (present o n v next b)
 c_present b (Some x) n v next f = f x
 c_present b None n v next f = record { is = inr refl }
 
@@ -179,11 +181,13 @@ l_check : (t : Bool) (n : ℕ) (v : Option Value) (next : Row) (a : Setting) →
 l_check true n v next a e f = f
 l_check false n v next a e f = absurd (true≢false (sym e))
 
-c_keyword : (b : Setting) (refused : Row) (word : KeywordVariable) (value : Value) (next : Row) → Clean b (refused b) → ((s : Setting) → Later (next s)) → Clean b (assigns_keyword refused word value next b)
+c_keyword : (b : Setting) (refused : Row) (word : KeywordVariable) (value : Value) (next : Row) → Clean b (refused b) → ((s : Setting) → Later (next s))
+    → Clean b (assigns_keyword refused word value next b)
 c_keyword b refused Subject value next r f = search (words, f)
 c_keyword b refused Position value next r f = by_number (integer_of value) refl
   where
-    by_place : (n : ℤ) → integer_of value ≡ Some n → (o : Option ℕ) → place_of n (length b.world.subject) ≡ o → Clean b (assigns_keyword refused Position value next b)
+    by_place : (n : ℤ) → integer_of value ≡ Some n → (o : Option ℕ) → place_of n (length b.world.subject) ≡ o
+        → Clean b (assigns_keyword refused Position value next b)
     by_place n e None g = rw e (rw g r)
     by_place n e (Some place) g = rw e (rw g (c_later b _ (f (having_position place b))))
 
@@ -192,7 +196,8 @@ c_keyword b refused Position value next r f = by_number (integer_of value) refl
     by_number (Some n) e = by_place n e (place_of n (length b.world.subject)) refl
 c_keyword b refused Random value next r f = search (words, f)
 
-c_root : (b : Setting) (refused : Row) (root : Root) (value : Value) (next : Row) → Clean b (refused b) → ((s : Setting) → Later (next s)) → Clean b (assigns_root refused root value next b)
+c_root : (b : Setting) (refused : Row) (root : Root) (value : Value) (next : Row) → Clean b (refused b) → ((s : Setting) → Later (next s))
+    → Clean b (assigns_root refused root value next b)
 c_root b refused (Global place) value next r f = search (words, f)
 c_root b refused (Static place) value next r f = search (words, f)
 c_root b refused (Local place) value next r f = search (words, f)
@@ -207,24 +212,34 @@ l_element : (b s : Setting) (refused : Row) (id : ℕ) (number : ℤ) (held valu
 l_element b s refused id number held value next is same f =
     l_check _ 205 None _ s (ap (λ lists. is_some (item_numbered (unwrap_or (slice_get lists id) (new_list [])) number)) same ∙ ap is_some is) (f _)
 
-c_spend : (b : Setting) (value : Value) (n : ℕ) (next : Row) → ((s : Setting) → s.world.heap.lists ≡ b.world.heap.lists → Later (next s)) → Clean b (costs_text value (costs_bytes n next) b)
-c_spend b value n next f = c_later b (costs_text value (costs_bytes n next) b) (l_made_kept (text_made (form_of value)) (costs_bytes n next) b (λ s same. l_bytes_kept n next s (λ t again. f t (again ∙ same))))
+c_spend : (b : Setting) (value : Value) (n : ℕ) (next : Row) → ((s : Setting) → s.world.heap.lists ≡ b.world.heap.lists → Later (next s))
+    → Clean b (costs_text value (costs_bytes n next) b)
+c_spend b value n next f = c_later b (costs_text value (costs_bytes n next) b)
+    (l_made_kept (text_made (form_of value)) (costs_bytes n next) b (λ s same. l_bytes_kept n next s (λ t again. f t (again ∙ same))))
 
-c_element_by : (b : Setting) (refused : Row) (id : ℕ) (number : ℤ) (place size : ℕ) (value : Value) (next : Variable → Row) → ((v : Variable) (s : Setting) → Later (next v s))
+c_element_by : (b : Setting) (refused : Row) (id : ℕ) (number : ℤ) (place size : ℕ) (value : Value) (next : Variable → Row)
+    → ((v : Variable) (s : Setting) → Later (next v s))
     → (new : List ℕ) (o : Option Value) → item_numbered (list_at b.world.heap id) number ≡ o
-    → Clean b (reads_text (Element id number) place size (λ text. costs_text value (costs_bytes (length (replaced text place size new)) (assigns_root refused (Element id number) (Text (replaced text place size new)) (next (Part (Element id number) place (length new)))))) b)
+    → Clean b (reads_text (Element id number) place size (λ text. costs_text value (costs_bytes (length (replaced text place size new))
+    (assigns_root refused (Element id number) (Text (replaced text place size new)) (next (Part (Element id number) place (length new)))))) b)
 c_element_by b refused id number place size value next f new None e = rw e (record { is = inr refl })
 c_element_by b refused id number place size value next f new (Some held) e =
     rw e (c_present b (held_text held) 103 (Some held) _ (λ text. c_check b (nat_le (place - 1 + size) (length text)) 205 None
-    (costs_text value (costs_bytes (length (replaced text place size new)) (assigns_root refused (Element id number) (Text (replaced text place size new)) (next (Part (Element id number) place (length new))))))
-    (c_spend b value (length (replaced text place size new)) (assigns_root refused (Element id number) (Text (replaced text place size new)) (next (Part (Element id number) place (length new)))) (λ s same. l_element b s refused id number held (Text (replaced text place size new)) (next (Part (Element id number) place (length new))) e same (f _)))))
+    (costs_text value (costs_bytes (length (replaced text place size new))
+    (assigns_root refused (Element id number) (Text (replaced text place size new)) (next (Part (Element id number) place (length new))))))
+    (c_spend b value (length (replaced text place size new))
+    (assigns_root refused (Element id number) (Text (replaced text place size new)) (next (Part (Element id number) place (length new))))
+    (λ s same. l_element b s refused id number held (Text (replaced text place size new)) (next (Part (Element id number) place (length new))) e same (f _)))))
 
-c_element : (b : Setting) (refused : Row) (id : ℕ) (number : ℤ) (place size : ℕ) (value : Value) (next : Variable → Row) → ((v : Variable) (s : Setting) → Later (next v s))
+c_element : (b : Setting) (refused : Row) (id : ℕ) (number : ℤ) (place size : ℕ) (value : Value) (next : Variable → Row)
+    → ((v : Variable) (s : Setting) → Later (next v s))
     → Clean b (assigns_or refused (Part (Element id number) place size) value next b)
 c_element b refused id number place size value next f =
-    c_present b (text_of value) 103 (Some value) _ (λ new. c_element_by b refused id number place size value next f new (item_numbered (list_at b.world.heap id) number) refl)
+    c_present b (text_of value) 103
+    (Some value) _ (λ new. c_element_by b refused id number place size value next f new (item_numbered (list_at b.world.heap id) number) refl)
 
-c_assigns : (b : Setting) (refused : Row) (x : Variable) (value : Value) (next : Variable → Row) → Clean b (refused b) → ((v : Variable) (s : Setting) → Later (next v s)) → Clean b (assigns_or refused x value next b)
+c_assigns : (b : Setting) (refused : Row) (x : Variable) (value : Value) (next : Variable → Row) → Clean b (refused b)
+    → ((v : Variable) (s : Setting) → Later (next v s)) → Clean b (assigns_or refused x value next b)
 c_assigns b refused (Whole root) value next r f = c_root b refused root value (next (Whole root)) r (f (Whole root))
 c_assigns b refused (Part (Global at) place size) value next r f = search (words, f) depth 12
 c_assigns b refused (Part (Static at) place size) value next r f = search (words, f) depth 12
@@ -242,7 +257,8 @@ c_count : (b : Setting) (last step : ℤ) (o : Option ℤ) → Clean b (count_fr
 c_count b last step None = record { is = tt }
 c_count b last step (Some n) = search words
 
-c_sets : (b : Setting) (f : List Value → List Value → List Value) (g : Bool → Bool → Bool) (v w : Value) (o : Option (ℕ × ℕ)) → Clean b (sets_or_csets f g v w o b)
+c_sets : (b : Setting) (f : List Value → List Value → List Value) (g : Bool → Bool → Bool) (v w : Value) (o : Option (ℕ × ℕ))
+    → Clean b (sets_or_csets f g v w o b)
 c_sets b f g v w (Some ids) = search words
 c_sets b f g v w None = search words
 
@@ -316,7 +332,8 @@ c_inserts : (b : Setting) (c : Keeper) (x y : Value) (next : Row) → ((s : Sett
 c_inserts b (SetKeeper id) x y next f = search (words, f)
 c_inserts b (TableKeeper id) x y next f = search (words, f)
 
-l_pairs : (xs : List (Value × Value)) (next : List Value → Row) (a : Setting) → ((vs : List Value) (s : Setting) → Later (next vs s)) → Later (pair_lists xs next a)
+l_pairs : (xs : List (Value × Value)) (next : List Value → Row) (a : Setting) → ((vs : List Value) (s : Setting) → Later (next vs s))
+    → Later (pair_lists xs next a)
 l_pairs [] next a f = f [] a
 l_pairs (x ∷ xs) next a f = search (later, l_pairs xs, f)
 

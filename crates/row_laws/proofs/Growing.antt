@@ -85,7 +85,8 @@ g_check : (b : Setting) (t : Bool) (n : ℕ) (v : Option Value) (next : Row) (a 
 g_check b true n v next a f = f
 g_check b false n v next a f = record { is = tt }
 
-g_present : {A : Type 0} (b : Setting) (o : Option A) (n : ℕ) (v : Option Value) (next : A → Row) (a : Setting) → ((x : A) → GI b (next x a)) → GI b (present o n v next a)
+g_present : {A : Type 0} (b : Setting) (o : Option A) (n : ℕ) (v : Option Value) (next : A → Row) (a : Setting) → ((x : A) → GI b (next x a))
+    → GI b (present o n v next a)
 g_present b (Some x) n v next a f = f x
 g_present b None n v next a f = record { is = tt }
 
@@ -105,7 +106,25 @@ g_natural : (b : Setting) (n : ℤ) (v : Value) (next : ℕ → Row) (a : Settin
 g_natural b (pos n) v next a f = f n
 g_natural b (negsuc n) v next a f = record { is = tt }
 
-ruleset first_words = (g_error, g_ends, g_gives, g_suspends, g_fails, same_heap, follows, le_self, le_plus, le_set, le_join, g_check, g_present, g_computed, g_passing, g_found, g_natural)
+ruleset first_words = (
+  g_error,
+  g_ends,
+  g_gives,
+  g_suspends,
+  g_fails,
+  same_heap,
+  follows,
+  le_self,
+  le_plus,
+  le_set,
+  le_join,
+  g_check,
+  g_present,
+  g_computed,
+  g_passing,
+  g_found,
+  g_natural,
+)
 
 g_made : (b : Setting) (o : Option (List ℕ)) (next : Row) (a : Setting) → Grows b a → ((s : Setting) → Grows b s → GI b (next s)) → GI b (costs_made o next a)
 g_made b None next a k f = f a k
@@ -135,11 +154,13 @@ ruleset words = (first_words, g_made, g_unless, g_reads, g_value, g_variable)
 
 -- Assigning
 
-g_keyword : (b : Setting) (refused : Row) (word : KeywordVariable) (value : Value) (next : Row) (a : Setting) → Grows b a → ((s : Setting) → Grows b s → GI b (refused s)) → ((s : Setting) → Grows b s → GI b (next s)) → GI b (assigns_keyword refused word value next a)
+g_keyword : (b : Setting) (refused : Row) (word : KeywordVariable) (value : Value) (next : Row) (a : Setting) → Grows b a
+    → ((s : Setting) → Grows b s → GI b (refused s)) → ((s : Setting) → Grows b s → GI b (next s)) → GI b (assigns_keyword refused word value next a)
 g_keyword b refused Subject value next a k r f = search (words, f)
 g_keyword b refused Position value next a k r f = by_number (integer_of value) refl
   where
-    by_place : (n : ℤ) → integer_of value ≡ Some n → (o : Option ℕ) → place_of n (length a.world.subject) ≡ o → GI b (assigns_keyword refused Position value next a)
+    by_place : (n : ℤ) → integer_of value ≡ Some n → (o : Option ℕ) → place_of n (length a.world.subject) ≡ o
+        → GI b (assigns_keyword refused Position value next a)
     by_place n e None g = rw e (rw g (r a k))
     by_place n e (Some place) g = rw e (rw g (f (having_position place a) (same_heap b _ a k refl)))
 
@@ -148,34 +169,43 @@ g_keyword b refused Position value next a k r f = by_number (integer_of value) r
     by_number (Some n) e = by_place n e (place_of n (length a.world.subject)) refl
 g_keyword b refused Random value next a k r f = search (words, f)
 
-g_root : (b : Setting) (refused : Row) (root : Root) (value : Value) (next : Row) (a : Setting) → Grows b a → ((s : Setting) → Grows b s → GI b (refused s)) → ((s : Setting) → Grows b s → GI b (next s)) → GI b (assigns_root refused root value next a)
-g_root b refused (Global place) value next a k r f = f (record a { world = record a.world { globals = slice_set a.world.globals place value } }) (same_heap b _ a k refl)
-g_root b refused (Static place) value next a k r f = f (record a { world = record a.world { statics = slice_set a.world.statics place value } }) (same_heap b _ a k refl)
+g_root : (b : Setting) (refused : Row) (root : Root) (value : Value) (next : Row) (a : Setting) → Grows b a → ((s : Setting) → Grows b s → GI b (refused s))
+    → ((s : Setting) → Grows b s → GI b (next s)) → GI b (assigns_root refused root value next a)
+g_root b refused (Global place) value next a k r f =
+    f (record a { world = record a.world { globals = slice_set a.world.globals place value } }) (same_heap b _ a k refl)
+g_root b refused (Static place) value next a k r f =
+    f (record a { world = record a.world { statics = slice_set a.world.statics place value } }) (same_heap b _ a k refl)
 g_root b refused (Local place) value next a k r f = f (record a { locals = slice_set a.locals place value }) (same_heap b _ a k refl)
 g_root b refused (Element id number) value next a k r f = search (words, f)
 g_root b refused (Field id place) value next a k r f = search (words, f)
 g_root b refused (Key table key) value next a k r f = search (words, f)
 g_root b refused (Keyword word) value next a k r f = g_keyword b refused word value next a k r f
 
-g_assigns : (b : Setting) (refused : Row) (x : Variable) (value : Value) (next : Variable → Row) (a : Setting) → Grows b a → ((s : Setting) → Grows b s → GI b (refused s)) → ((v : Variable) (s : Setting) → Grows b s → GI b (next v s)) → GI b (assigns_or refused x value next a)
+g_assigns : (b : Setting) (refused : Row) (x : Variable) (value : Value) (next : Variable → Row) (a : Setting) → Grows b a
+    → ((s : Setting) → Grows b s → GI b (refused s)) → ((v : Variable) (s : Setting) → Grows b s → GI b (next v s)) → GI b (assigns_or refused x value next a)
 g_assigns b refused (Whole root) value next a k r f = g_root b refused root value (next (Whole root)) a k r (f (Whole root))
 g_assigns b refused (Part root place size) value next a k r f = search (words, g_root, r, f) depth 12
 
-g_moved : (b : Setting) (old new : ℕ) (x : Variable) (next : Variable → Row) (a : Setting) → ((v : Variable) → GI b (next v a)) → GI b (move_part old new x next a)
+g_moved : (b : Setting) (old new : ℕ) (x : Variable) (next : Variable → Row) (a : Setting) → ((v : Variable) → GI b (next v a))
+    → GI b (move_part old new x next a)
 g_moved b old new (Whole root) next a f = f (Whole root)
 g_moved b old new (Part root place size) next a f = search (words, f)
 
-g_moved_left : (b : Setting) (m : Mover) (old new : ℕ) (x : Variable) (next : Variable → Row) (a : Setting) → ((v : Variable) → GI b (next v a)) → GI b (moved_by_left m old new x next a)
+g_moved_left : (b : Setting) (m : Mover) (old new : ℕ) (x : Variable) (next : Variable → Row) (a : Setting) → ((v : Variable) → GI b (next v a))
+    → GI b (moved_by_left m old new x next a)
 g_moved_left b Neither old new x next a f = f x
 g_moved_left b Left old new x next a f = g_moved b old new x next a f
 g_moved_left b Right old new x next a f = f x
 
-g_moved_right : (b : Setting) (m : Mover) (old new : ℕ) (x : Variable) (next : Variable → Row) (a : Setting) → ((v : Variable) → GI b (next v a)) → GI b (moved_by_right m old new x next a)
+g_moved_right : (b : Setting) (m : Mover) (old new : ℕ) (x : Variable) (next : Variable → Row) (a : Setting) → ((v : Variable) → GI b (next v a))
+    → GI b (moved_by_right m old new x next a)
 g_moved_right b Neither old new x next a f = f x
 g_moved_right b Left old new x next a f = f x
 g_moved_right b Right old new x next a f = g_moved b old new x next a f
 
-g_both : (b : Setting) (refused : Row) (m : Mover) (x y : Variable) (v w : Value) (next : Variable × Variable → Row) (a : Setting) → Grows b a → ((s : Setting) → Grows b s → GI b (refused s)) → ((p : Variable × Variable) (s : Setting) → Grows b s → GI b (next p s)) → GI b (assigns_both refused m x y v w next a)
+g_both : (b : Setting) (refused : Row) (m : Mover) (x y : Variable) (v w : Value) (next : Variable × Variable → Row) (a : Setting) → Grows b a
+    → ((s : Setting) → Grows b s → GI b (refused s)) → ((p : Variable × Variable) (s : Setting) → Grows b s → GI b (next p s))
+    → GI b (assigns_both refused m x y v w next a)
 g_both b refused m x y v w next a k r f = search (g_assigns, g_moved_left, g_moved_right, r, f)
 
 -- Rows by what they take
@@ -184,7 +214,8 @@ g_count : (b : Setting) (last step : ℤ) (o : Option ℤ) (a : Setting) → Gro
 g_count b last step None a k = record { is = k }
 g_count b last step (Some n) a k = search words
 
-g_sets : (b : Setting) (f : List Value → List Value → List Value) (g : Bool → Bool → Bool) (v w : Value) (o : Option (ℕ × ℕ)) (a : Setting) → Grows b a → GI b (sets_or_csets f g v w o a)
+g_sets : (b : Setting) (f : List Value → List Value → List Value) (g : Bool → Bool → Bool) (v w : Value) (o : Option (ℕ × ℕ)) (a : Setting) → Grows b a
+    → GI b (sets_or_csets f g v w o a)
 g_sets b f g v w (Some ids) a k = search (words)
 g_sets b f g v w None a k = search words
 
@@ -230,7 +261,8 @@ g_subscript b x v w (Filed file) a k = search (words) depth 12
 g_subscript b x v w (Activated id) a k = search (words) depth 12
 g_subscript b x v w Single a k = search (words) depth 12
 
-g_section : (b : Setting) (f : ℤ → ℤ → Result ℤ Arith) (x : Item) (v : Value) (u : Value) (w : Value) (g : Group) (a : Setting) → Grows b a → GI b (section_of f x v u w g a)
+g_section : (b : Setting) (f : ℤ → ℤ → Result ℤ Arith) (x : Item) (v : Value) (u : Value) (w : Value) (g : Group) (a : Setting) → Grows b a
+    → GI b (section_of f x v u w g a)
 g_section b f x v u w (Textual text) a k = search (words) depth 12
 g_section b f x v u w (Listed id) a k = search (words) depth 12
 g_section b f x v u w (Collected id) a k = search (words) depth 12
@@ -254,7 +286,8 @@ g_new_set : (b : Setting) (v : Value) (o : Option ℕ) (a : Setting) → Grows b
 g_new_set b v (Some id) a k = search (words)
 g_new_set b v None a k = search (words)
 
-g_inserts : (b : Setting) (c : Keeper) (x y : Value) (next : Row) (a : Setting) → Grows b a → ((s : Setting) → Grows b s → GI b (next s)) → GI b (inserts c x y next a)
+g_inserts : (b : Setting) (c : Keeper) (x y : Value) (next : Row) (a : Setting) → Grows b a → ((s : Setting) → Grows b s → GI b (next s))
+    → GI b (inserts c x y next a)
 g_inserts b (SetKeeper id) x y next a k f = search (words, f)
 g_inserts b (TableKeeper id) x y next a k f = search (words, f)
 
@@ -262,11 +295,13 @@ g_without : (b a : Setting) (c : Keeper) (x : Value) → Grows b a → Grows b (
 g_without b a (SetKeeper id) x k = search (follows, le_self, le_set, k)
 g_without b a (TableKeeper id) x k = search (follows, le_self, le_set, k)
 
-g_pairs : (b : Setting) (xs : List (Value × Value)) (next : List Value → Row) (a : Setting) → Grows b a → ((vs : List Value) (s : Setting) → Grows b s → GI b (next vs s)) → GI b (pair_lists xs next a)
+g_pairs : (b : Setting) (xs : List (Value × Value)) (next : List Value → Row) (a : Setting) → Grows b a
+    → ((vs : List Value) (s : Setting) → Grows b s → GI b (next vs s)) → GI b (pair_lists xs next a)
 g_pairs b [] next a k f = f [] a k
 g_pairs b (x ∷ xs) next a k f = search (words, g_pairs b xs, f)
 
-g_table_sorted : (b : Setting) (names : Names) (h : Heap) (xs : List (Value × Value)) (n : ℤ) (v : Value) (a : Setting) → Grows b a → GI b (table_sorted names h xs n v a)
+g_table_sorted : (b : Setting) (names : Names) (h : Heap) (xs : List (Value × Value)) (n : ℤ) (v : Value) (a : Setting) → Grows b a
+    → GI b (table_sorted names h xs n v a)
 g_table_sorted b names h xs (pos (suc zero)) v a k = search (words, g_pairs)
 g_table_sorted b names h xs (pos (suc (suc zero))) v a k = search (words, g_pairs)
 g_table_sorted b names h xs (pos (suc (suc (suc zero)))) v a k = search (words)
@@ -289,7 +324,8 @@ g_pieces b (v ∷ vs) next a f = search (words, g_pieces b vs, f)
 
 -- All rows
 
-ruleset rows = (words, g_assigns, g_both, g_count, g_sets, g_elements, g_random_by, g_subscript, g_section, g_copy, g_new_set, g_inserts, g_without, g_sorted, g_pieces)
+ruleset rows =
+    (words, g_assigns, g_both, g_count, g_sets, g_elements, g_random_by, g_subscript, g_section, g_copy, g_new_set, g_inserts, g_without, g_sorted, g_pieces)
 
 g_operation : (b : Setting) (op : Op) (x y z : Item) (a : Setting) → Grows b a → GI b (operation_on op x y z a)
 g_operation b Ops.IsNull x y z a k = search rows depth 16

@@ -52,7 +52,8 @@ search_from test kept place count = found (find test (range_with_len place count
 record IsSearch (test : ℕ → Bool) (kept : ℕ → Residual) (stop : ℕ) : Type 0 where
   resumed : (place : ℕ) (at : Setting) → again (kept place) at ≡ search_from test kept (place + 1) (stop - (place + 1)) at
 
-searched : (test : ℕ → Bool) (kept : ℕ → Residual) (stop : ℕ) → IsSearch test kept stop → (count place n : ℕ) (at : Setting) → place + count ≡ stop → count + 1 ≤ n
+searched : (test : ℕ → Bool) (kept : ℕ → Residual) (stop : ℕ) → IsSearch test kept stop → (count place n : ℕ) (at : Setting) → place + count ≡ stop
+    → count + 1 ≤ n
     → results n (search_from test kept place count at) ≡ map (λ p. Val (Integer (pos p))) (filter test (range_with_len place count))
 searched test kept stop is count place zero at ends enough = absurd (omega (arith, enough))
 searched test kept stop is zero place (suc n) at ends enough = refl
@@ -88,7 +89,8 @@ filtered_length test first count = rw (length-map (filter test (range_with_len f
 pub found_in_order : (wanted text : List ℕ) (place last : ℕ) (at : Setting) → place ≤ last + 1
     → GivesAll (found_from wanted text place last) at (map integer_item (places_that (λ p. stands wanted text p last) place (last + 1)))
 found_in_order wanted text place last at within =
-    given (found_from wanted text place last) at _ (last + 1 - place + 1) (searched _ _ (last + 1) (find_search wanted text last) (last + 1 - place) place _ at (omega (arith, within)) (omega arith))
+    given (found_from wanted text place last) at _ (last + 1 - place + 1)
+    (searched _ _ (last + 1) (find_search wanted text last) (last + 1 - place) place _ at (omega (arith, within)) (omega arith))
     (omega (arith, filtered_length (λ p. stands wanted text p last) place (last + 1 - place)))
 
 among_search : (bytes text : List ℕ) (last : ℕ) → IsSearch (λ place. contains bytes (byte_behind text place)) (λ place. Among bytes text place last) last
@@ -97,7 +99,8 @@ among_search bytes text last = record { resumed = λ place at. refl }
 pub among_in_order : (bytes text : List ℕ) (place last : ℕ) (at : Setting) → place ≤ last
     → GivesAll (among_from bytes text place last) at (map integer_item (places_that (λ p. contains bytes (byte_behind text p)) place last))
 among_in_order bytes text place last at within =
-    given (among_from bytes text place last) at _ (last - place + 1) (searched _ _ last (among_search bytes text last) (last - place) place _ at (omega (arith, within)) (omega arith))
+    given (among_from bytes text place last) at _ (last - place + 1)
+    (searched _ _ last (among_search bytes text last) (last - place) place _ at (omega (arith, within)) (omega arith))
     (omega (arith, filtered_length (λ p. contains bytes (byte_behind text p)) place (last - place)))
 
 -- Walks over what a list holds
@@ -127,7 +130,8 @@ drop_next [] (suc place) = refl
 drop_next (x ∷ xs) zero = refl
 drop_next (x ∷ xs) (suc place) = drop_next xs place
 
-walked : {A : Type 0} (xs : List A) (item : A → Item) (kept : ℕ → Residual) (at : Setting) → ((place : ℕ) → again (kept place) at ≡ walk_from xs item kept place at)
+walked : {A : Type 0} (xs : List A) (item : A → Item) (kept : ℕ → Residual) (at : Setting)
+    → ((place : ℕ) → again (kept place) at ≡ walk_from xs item kept place at)
     → (rest : List A) (place n : ℕ) → drop place xs ≡ rest → length rest < n → results n (walk_from xs item kept place at) ≡ map item rest
 unfolding first_of rest_of
 walked xs item kept at is rest place zero ends enough = absurd (omega (arith, enough))
@@ -140,22 +144,27 @@ walked xs item kept at is (x ∷ rest) place (suc n) ends enough =
     next : drop (place + 1) xs ≡ rest
     next = let same : place + 1 ≡ suc place = omega arith in ap (λ p. drop p xs) same ∙ (drop_next xs place ∙ ap rest_of ends)
 
-walk_given : {A : Type 0} (row : Row) (xs : List A) (item : A → Item) (at : Setting) → results (length xs + 1) (row at) ≡ map item xs → GivesAll row at (map item xs)
+walk_given : {A : Type 0} (row : Row) (xs : List A) (item : A → Item) (at : Setting) → results (length xs + 1) (row at) ≡ map item xs
+    → GivesAll row at (map item xs)
 walk_given row xs item at is = given row at (map item xs) (length xs + 1) is (rw (length-map xs item) (omega arith))
 
 pub bytes_in_order : (bytes : List ℕ) (at : Setting) → GivesAll (walk (Text bytes)) at (map byte_item bytes)
-bytes_in_order bytes at = walk_given (walk (Text bytes)) bytes byte_item at (walked bytes _ (TextBytes bytes) at (λ place. refl) bytes 0 (length bytes + 1) refl (omega arith))
+bytes_in_order bytes at =
+    walk_given (walk (Text bytes)) bytes byte_item at (walked bytes _ (TextBytes bytes) at (λ place. refl) bytes 0 (length bytes + 1) refl (omega arith))
 
 pub members_in_order : (id : ℕ) (at : Setting) → GivesAll (walk (ASet id)) at (map Val (set_at at.world.heap id))
-members_in_order id at = walk_given (walk (ASet id)) (set_at at.world.heap id) Val at (walked (set_at at.world.heap id) Val (SetMembers id) at (λ place. refl) _ 0 _ refl (omega arith))
+members_in_order id at = walk_given (walk (ASet id)) (set_at at.world.heap id) Val at
+    (walked (set_at at.world.heap id) Val (SetMembers id) at (λ place. refl) _ 0 _ refl (omega arith))
 
 pub keys_in_order : (names : Names) (id : ℕ) (at : Setting) → GivesAll (keys names id) at (map pair_key (table_at at.world.heap id).pairs)
 keys_in_order names id at =
-    walk_given (keys names id) (table_at at.world.heap id).pairs pair_key at (walked (table_at at.world.heap id).pairs pair_key (TableKeys id) at (λ place. refl) _ 0 _ refl (omega arith))
+    walk_given (keys names id) (table_at at.world.heap id).pairs pair_key at
+    (walked (table_at at.world.heap id).pairs pair_key (TableKeys id) at (λ place. refl) _ 0 _ refl (omega arith))
 
 pub values_in_order : (id : ℕ) (at : Setting) → GivesAll (walk (ATable id)) at (map (pair_variable id) (table_at at.world.heap id).pairs)
 values_in_order id at =
-    walk_given (walk (ATable id)) (table_at at.world.heap id).pairs (pair_variable id) at (walked (table_at at.world.heap id).pairs (pair_variable id) (TableValues id) at (λ place. refl) _ 0 _ refl (omega arith))
+    walk_given (walk (ATable id)) (table_at at.world.heap id).pairs (pair_variable id) at
+    (walked (table_at at.world.heap id).pairs (pair_variable id) (TableValues id) at (λ place. refl) _ 0 _ refl (omega arith))
 
 -- Walks by a place below a size
 
@@ -169,15 +178,20 @@ paced size item kept at is zero place (suc n) ends enough =
     ap (λ t. results (suc n) (passing t (suspends (item place) (kept (place + 1))) at)) (not_below place size (omega (arith, ends)))
 paced size item kept at is (suc count) place (suc n) ends enough =
     ap (λ t. results (suc n) (passing t (suspends (item place) (kept (place + 1))) at)) (lt-ltb place size (omega (arith, ends)))
-    ∙ ap (λ later. item place ∷ later) (ap (results n) (is (place + 1)) ∙ paced size item kept at is count (place + 1) n (omega (arith, ends)) (omega (arith, enough)))
+    ∙ ap (λ later. item place ∷ later)
+    (ap (results n) (is (place + 1)) ∙ paced size item kept at is count (place + 1) n (omega (arith, ends)) (omega (arith, enough)))
 
-places_given : (row : Row) (item : ℕ → Item) (first count : ℕ) (at : Setting) → results (count + 1) (row at) ≡ map item (range_with_len first count) → GivesAll row at (map item (range_with_len first count))
-places_given row item first count at is = given row at (map item (range_with_len first count)) (count + 1) is (rw (length-map-range_with_len item first count) (omega arith))
+places_given : (row : Row) (item : ℕ → Item) (first count : ℕ) (at : Setting) → results (count + 1) (row at) ≡ map item (range_with_len first count)
+    → GivesAll row at (map item (range_with_len first count))
+places_given row item first count at is =
+    given row at (map item (range_with_len first count)) (count + 1) is (rw (length-map-range_with_len item first count) (omega arith))
 
-pub items_in_order : (id : ℕ) (at : Setting) → GivesAll (walk (AList id)) at (map (element_item id (list_at at.world.heap id)) (places_of (list_at at.world.heap id).items))
+pub items_in_order : (id : ℕ) (at : Setting)
+    → GivesAll (walk (AList id)) at (map (element_item id (list_at at.world.heap id)) (places_of (list_at at.world.heap id).items))
 items_in_order id at =
     places_given (walk (AList id)) (element_item id (list_at at.world.heap id)) 0 (length (list_at at.world.heap id).items) at
-    (paced (length (list_at at.world.heap id).items) (element_item id (list_at at.world.heap id)) (ListItems id) at (λ place. refl) _ 0 _ (omega arith) (omega arith))
+    (paced (length (list_at at.world.heap id).items) (element_item id (list_at at.world.heap id)) (ListItems id) at (λ place. refl) _ 0 _ (omega arith)
+    (omega arith))
 
 pub fields_in_order : (id : ℕ) (at : Setting) → GivesAll (walk (ARecord id)) at (map (field_item id) (places_of (record_at at.world.heap id).fields))
 fields_in_order id at =
@@ -200,10 +214,13 @@ counted : (last : ℕ) (at : Setting) → last ≤ 9223372036854775807 → (coun
     → results n (count_up last first at) ≡ map (λ k. Val (Integer (pos k))) (range_with_len first count)
 counted last at small count first zero ends enough = absurd (omega (arith, enough))
 counted last at small zero first (suc n) ends enough =
-    ap (λ t. results (suc n) (passing t (suspends (Val (Integer (pos first))) (Counting (pos first) (pos last) (pos 1))) at)) (not_within first last (omega (arith, ends)))
+    ap (λ t. results (suc n) (passing t (suspends (Val (Integer (pos first))) (Counting (pos first) (pos last) (pos 1))) at))
+    (not_within first last (omega (arith, ends)))
 counted last at small (suc count) first (suc n) ends enough =
-    ap (λ t. results (suc n) (passing t (suspends (Val (Integer (pos first))) (Counting (pos first) (pos last) (pos 1))) at)) (le-leb first last (omega (arith, ends)))
-    ∙ ap (λ later. Val (Integer (pos first)) ∷ later) (by (fits_or (first + 1)) (counted last at small count (first + 1) n (omega (arith, ends)) (omega (arith, enough))))
+    ap (λ t. results (suc n) (passing t (suspends (Val (Integer (pos first))) (Counting (pos first) (pos last) (pos 1))) at))
+    (le-leb first last (omega (arith, ends)))
+    ∙ ap (λ later. Val (Integer (pos first)) ∷ later)
+    (by (fits_or (first + 1)) (counted last at small count (first + 1) n (omega (arith, ends)) (omega (arith, enough))))
   where
     none_left : (m : ℕ) → results m (Fails at) ≡ []
     none_left zero = refl
@@ -216,9 +233,11 @@ counted last at small (suc count) first (suc n) ends enough =
         → results n (count_up last (first + 1) at) ≡ map (λ k. Val (Integer (pos k))) (range_with_len (first + 1) count)
         → results n (count_from (pos last) (pos 1) (fitting (pos (first + 1))) at) ≡ map (λ k. Val (Integer (pos k))) (range_with_len (first + 1) count)
     by (inl is) later = ap (λ o. results n (count_from (pos last) (pos 1) o at)) is ∙ later
-    by (inr none) later = ap (λ o. results n (count_from (pos last) (pos 1) o at)) none.0 ∙ (none_left n ∙ nothing_left count (omega (arith, ends, none.1, small)))
+    by (inr none) later =
+        ap (λ o. results n (count_from (pos last) (pos 1) o at)) none.0 ∙ (none_left n ∙ nothing_left count (omega (arith, ends, none.1, small)))
 
 pub counted_in_order : (first last : ℕ) (at : Setting) → first ≤ last + 1 → last ≤ 9223372036854775807
     → GivesAll (counts first last) at (map integer_item (range_with_len first (last + 1 - first)))
 counted_in_order first last at within small =
-    places_given (counts first last) integer_item first (last + 1 - first) at (counted last at small (last + 1 - first) first _ (omega (arith, within)) (omega arith))
+    places_given (counts first last) integer_item first (last + 1 - first) at
+    (counted last at small (last + 1 - first) first _ (omega (arith, within)) (omega arith))

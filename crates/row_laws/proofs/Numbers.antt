@@ -12,11 +12,13 @@ found_if false n place is = absurd (none-some place is)
 pub low : (n : ℤ) (size place : ℕ) → place_of n size ≡ Some place → 1 ≤ place
 low (pos zero) size place is = let same : size + 1 ≡ place = same_Some _ _ is in omega (arith, same)
 low (pos (suc n)) size place is = let found = found_if (nat_le n size) (suc n) place is in omega (arith, found.1)
-low (negsuc n) size place is = let found = found_if (nat_lt n size) (size - n) place is in let within = ltb-true n size found.0 in omega (arith, found.1, within)
+low (negsuc n) size place is =
+    let found = found_if (nat_lt n size) (size - n) place is in let within = ltb-true n size found.0 in omega (arith, found.1, within)
 
 pub high : (n : ℤ) (size place : ℕ) → place_of n size ≡ Some place → place ≤ size + 1
 high (pos zero) size place is = let same : size + 1 ≡ place = same_Some _ _ is in omega (arith, same)
-high (pos (suc n)) size place is = let found = found_if (nat_le n size) (suc n) place is in let within = leb-true n size found.0 in omega (arith, found.1, within)
+high (pos (suc n)) size place is =
+    let found = found_if (nat_le n size) (suc n) place is in let within = leb-true n size found.0 in omega (arith, found.1, within)
 high (negsuc n) size place is = let found = found_if (nat_lt n size) (size - n) place is in omega (arith, found.1)
 
 pub from_the_start : (size place : ℕ) → 1 ≤ place → place ≤ size + 1 → place_of (pos place) size ≡ Some place

@@ -33,7 +33,8 @@ both Greater b is = (is, absurd (greater is))
     greater same = true≢false (sym (ap is_eq same))
 
 shape_by : {rank rank' : ℕ} {text text' : List ℕ} {number number' : ℤ} → rank ≡ rank' → text ≡ text' → number ≡ number'
-    → (let a : Shape = record { rank = rank; text = text; number = number } in a) ≡ (let b : Shape = record { rank = rank'; text = text'; number = number' } in b)
+    → (let a : Shape = record { rank = rank; text = text; number = number } in a) ≡ (let b : Shape = record { rank = rank'; text = text'; number = number' } in
+    b)
 shape_by rank text number = cc
 
 tied_shapes : (a b : Shape) → shape_cmp a b ≡ Equal → a ≡ b

@@ -51,7 +51,8 @@ not_lt : (o : Ordering) → is_lt o ≡ false → o ≡ Less → ⊥
 not_lt o is same = true≢false (sym (ap is_lt same) ∙ is)
 
 -- x is at or below y, and y at or below x
-tied : {A : Type 0} (cmp : A → A → Ordering) → IsTotalOrder cmp → (x y : A) → (cmp x y ≡ Equal → x ≡ y) → is_lt (cmp y x) ≡ false → is_lt (cmp x y) ≡ false → x ≡ y
+tied : {A : Type 0} (cmp : A → A → Ordering) → IsTotalOrder cmp → (x y : A) → (cmp x y ≡ Equal → x ≡ y) → is_lt (cmp y x) ≡ false → is_lt (cmp x y) ≡ false
+    → x ≡ y
 tied cmp total x y exact low high = by (cmp y x) refl
   where
     by : (o : Ordering) → cmp y x ≡ o → x ≡ y
@@ -75,15 +76,18 @@ no_ties : {A : Type 0} (cmp : A → A → Ordering) → IsTotalOrder cmp → (x 
 unfolding Above ties_with sums
 no_ties cmp total x y less [] all = refl
 no_ties cmp total x y less (z ∷ ys) (low, all) =
-    ap (λ o. (if is_eq o then 1 else 0) + sums (ties_with cmp x) ys) (below_all cmp total x y z less low) ∙ (nothing_more (sums (ties_with cmp x) ys) ∙ no_ties cmp total x y less ys all)
+    ap (λ o. (if is_eq o then 1 else 0) + sums (ties_with cmp x) ys) (below_all cmp total x y z less low)
+    ∙ (nothing_more (sums (ties_with cmp x) ys) ∙ no_ties cmp total x y less ys all)
 
 -- what begins a list that has the same is not below all of it
-not_below : {A : Type 0} (cmp : A → A → Ordering) → IsTotalOrder cmp → (x y : A) (xs ys : List A) → Above cmp y ys → SameSums (x ∷ xs) (y ∷ ys) → is_lt (cmp x y) ≡ false
+not_below : {A : Type 0} (cmp : A → A → Ordering) → IsTotalOrder cmp → (x y : A) (xs ys : List A) → Above cmp y ys → SameSums (x ∷ xs) (y ∷ ys)
+    → is_lt (cmp x y) ≡ false
 unfolding SameSums ties_with sums
 not_below cmp total x y xs ys all same = by (cmp x y) refl
   where
     none : cmp x y ≡ Less → sums (ties_with cmp x) (y ∷ ys) ≡ 0
-    none less = ap (λ o. (if is_eq o then 1 else 0) + sums (ties_with cmp x) ys) less ∙ (nothing_more (sums (ties_with cmp x) ys) ∙ no_ties cmp total x y less ys all)
+    none less =
+        ap (λ o. (if is_eq o then 1 else 0) + sums (ties_with cmp x) ys) less ∙ (nothing_more (sums (ties_with cmp x) ys) ∙ no_ties cmp total x y less ys all)
 
     one : sums (ties_with cmp x) (x ∷ xs) ≡ 1 + sums (ties_with cmp x) xs
     one = ap (λ o. (if is_eq o then 1 else 0) + sums (ties_with cmp x) xs) (tied_itself total x)
@@ -117,7 +121,8 @@ one_list P cmp total exact (x ∷ xs) (y ∷ ys) p q a b same =
 
 -- Sorting
 
-above_more : {A : Type 0} (cmp : A → A → Ordering) (x item : A) (xs : List A) → is_lt (cmp item x) ≡ false → Above cmp x xs → Above cmp x (sorted_in cmp item xs)
+above_more : {A : Type 0} (cmp : A → A → Ordering) (x item : A) (xs : List A) → is_lt (cmp item x) ≡ false → Above cmp x xs
+    → Above cmp x (sorted_in cmp item xs)
 unfolding Above
 above_more cmp x item [] low all = (low, tt)
 above_more cmp x item (y ∷ ys) low all = by (is_lt (cmp item y)) refl (above_more cmp x item ys low all.1)
@@ -153,22 +158,26 @@ unfolding sums
 sums_in cmp f item [] = refl
 sums_in cmp f item (y ∷ ys) = by (is_lt (cmp item y)) refl (sums_in cmp f item ys)
   where
-    by : (t : Bool) → is_lt (cmp item y) ≡ t → sums f (sorted_in cmp item ys) ≡ f item + sums f ys → sums f (sorted_in cmp item (y ∷ ys)) ≡ f item + (f y + sums f ys)
+    by : (t : Bool) → is_lt (cmp item y) ≡ t → sums f (sorted_in cmp item ys) ≡ f item + sums f ys
+        → sums f (sorted_in cmp item (y ∷ ys)) ≡ f item + (f y + sums f ys)
     by true e later = rw e refl
     by false e later = rw e (ap (λ n. f y + n) later ∙ omega arith)
 
-ascends_onto : {A : Type 0} (cmp : A → A → Ordering) → IsTotalOrder cmp → (placed items : List A) → Ascends cmp placed → Ascends cmp (sorted_onto cmp placed items)
+ascends_onto : {A : Type 0} (cmp : A → A → Ordering) → IsTotalOrder cmp → (placed items : List A) → Ascends cmp placed
+    → Ascends cmp (sorted_onto cmp placed items)
 ascends_onto cmp total placed [] up = up
 ascends_onto cmp total placed (item ∷ items) up = ascends_onto cmp total (sorted_in cmp item placed) items (ascends_in cmp total item placed up)
 
 sums_onto : {A : Type 0} (cmp : A → A → Ordering) (f : A → ℕ) (placed items : List A) → sums f (sorted_onto cmp placed items) ≡ sums f placed + sums f items
 unfolding sums
 sums_onto cmp f placed [] = omega arith
-sums_onto cmp f placed (item ∷ items) = sums_onto cmp f (sorted_in cmp item placed) items ∙ (ap (λ n. n + sums f items) (sums_in cmp f item placed) ∙ omega arith)
+sums_onto cmp f placed (item ∷ items) =
+    sums_onto cmp f (sorted_in cmp item placed) items ∙ (ap (λ n. n + sums f items) (sums_in cmp f item placed) ∙ omega arith)
 
 -- By place, and by moves
 
-above_by : {A : Type 0} (cmp : A → A → Ordering) (x : A) (xs : List A) → ((j : ℕ) (d : A) → j < length xs → is_lt (cmp (slice_index_or xs j d) x) ≡ false) → Above cmp x xs
+above_by : {A : Type 0} (cmp : A → A → Ordering) (x : A) (xs : List A) → ((j : ℕ) (d : A) → j < length xs → is_lt (cmp (slice_index_or xs j d) x) ≡ false)
+    → Above cmp x xs
 unfolding Above
 above_by cmp x [] far = tt
 above_by cmp x (y ∷ ys) far = (far zero y (omega arith), above_by cmp x ys (λ j d below. far (suc j) d (omega (arith, below))))
@@ -182,7 +191,8 @@ ascends_by cmp (x ∷ xs) far = (
   ascends_by cmp xs (λ i j d low below. far (suc i) (suc j) d (omega (arith, low)) (omega (arith, below))),
 )
 
-next_by : {A : Type 0} (cmp : A → A → Ordering) (xs : List A) → Ascends cmp xs → (k m : ℕ) (d : A) → m ≡ suc k → m < length xs → is_lt (cmp (slice_index_or xs m d) (slice_index_or xs k d)) ≡ false
+next_by : {A : Type 0} (cmp : A → A → Ordering) (xs : List A) → Ascends cmp xs → (k m : ℕ) (d : A) → m ≡ suc k → m < length xs
+    → is_lt (cmp (slice_index_or xs m d) (slice_index_or xs k d)) ≡ false
 unfolding Ascends Above
 next_by cmp [] up k m d same below = absurd (omega (arith, below))
 next_by cmp (x ∷ []) up k m d same below = absurd (omega (arith, same, below))
@@ -201,7 +211,8 @@ moved_in cmp item (y ∷ ys) = by (is_lt (cmp item y)) refl (moved_in cmp item y
     by : (t : Bool) → is_lt (cmp item y) ≡ t → IsPermutation (item ∷ ys) (sorted_in cmp item ys) → IsPermutation (item ∷ (y ∷ ys)) (sorted_in cmp item (y ∷ ys))
     by true e later = rw e (IsPermutation-refl (item ∷ (y ∷ ys)))
     by false e later = rw e (IsPermutation-trans (item ∷ (y ∷ ys)) (y ∷ (item ∷ ys)) (y ∷ sorted_in cmp item ys)
-        (IsPermutation-sym (y ∷ (item ∷ ys)) (item ∷ (y ∷ ys)) (IsPermutation-middle (y ∷ []) item ys)) (IsPermutation-cons y (item ∷ ys) (sorted_in cmp item ys) later))
+        (IsPermutation-sym (y ∷ (item ∷ ys)) (item ∷ (y ∷ ys)) (IsPermutation-middle (y ∷ []) item ys))
+        (IsPermutation-cons y (item ∷ ys) (sorted_in cmp item ys) later))
 
 moved_onto : {A : Type 0} (cmp : A → A → Ordering) (placed items : List A) → IsPermutation (placed ++ items) (sorted_onto cmp placed items)
 moved_onto cmp placed [] = rw (append-nil placed) (IsPermutation-refl placed)
@@ -233,7 +244,8 @@ alone_of : {A : Type 0} (P : A → Type 0) (cmp : A → A → Ordering) → IsTo
 unfolding Ascends SameSums sums
 alone_of P cmp total exact xs ys all moves up =
     one_list P cmp total exact ys (sorted cmp xs)
-    (by_rest P ys (All-permutation P xs ys moves (by_place P xs all))) (by_rest P (sorted cmp xs) (All-permutation P xs (sorted cmp xs) (moved cmp xs) (by_place P xs all)))
+    (by_rest P ys (All-permutation P xs ys moves (by_place P xs all)))
+    (by_rest P (sorted cmp xs) (All-permutation P xs (sorted cmp xs) (moved cmp xs) (by_place P xs all)))
     (ascends_by cmp ys (sorted_far (λ x y. is_lt (cmp x y)) (ranks_by total (λ x. x)) ys up)) (ascends_onto cmp total [] xs tt)
     (λ f. sym (summed f ys) ∙ (sum_by-IsPermutation f xs ys moves ∙ (summed f xs ∙ (sym (nothing_more (sums f xs)) ∙ sym (sums_onto cmp f [] xs)))))
 
@@ -242,7 +254,8 @@ unfolding AllOf
 all_pass [] = tt
 all_pass (x ∷ xs) = (tt, all_pass xs)
 
-pub alone : {A : Type 0} (cmp : A → A → Ordering) → IsTotalOrder cmp → CmpEqualImpliesEq cmp → (xs ys : List A) → IsPermutation xs ys → IsSorted cmp ys → ys ≡ sorted cmp xs
+pub alone : {A : Type 0} (cmp : A → A → Ordering) → IsTotalOrder cmp → CmpEqualImpliesEq cmp → (xs ys : List A) → IsPermutation xs ys → IsSorted cmp ys
+    → ys ≡ sorted cmp xs
 alone cmp total exact xs ys = alone_of (λ x. Unit {0}) cmp total (λ x y p q. exact x y) xs ys (all_pass xs)
 
 -- Pairs whose keys differ, by key
@@ -254,8 +267,10 @@ fits_more : (first : Value × Value) (pairs others : List (Value × Value)) → 
     → AllOf (Fits pairs) others → AllOf (Fits (first ∷ pairs)) others
 unfolding AllOf Fits
 fits_more first pairs [] apart all = tt
-fits_more first pairs (pair ∷ others) apart all =
-    (ap (λ t. cond t (Some first.1) (value_of same pairs pair.0)) (same_equiv.symm pair.0 first.0 ∙ apart.0) ∙ all.0, fits_more first pairs others apart.1 all.1)
+fits_more first pairs (pair ∷ others) apart all = (
+  ap (λ t. cond t (Some first.1) (value_of same pairs pair.0)) (same_equiv.symm pair.0 first.0 ∙ apart.0) ∙ all.0,
+  fits_more first pairs others apart.1 all.1,
+)
 
 fits_all : (pairs : List (Value × Value)) → KeysDiffer same pairs → AllOf (Fits pairs) pairs
 unfolding AllOf Fits

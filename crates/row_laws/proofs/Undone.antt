@@ -38,7 +38,8 @@ taken (suc n) (x ∷ xs) h = ap suc (taken n xs (omega (arith, h)))
 put_back : (p : ℕ) (a new z m : List ℕ) → length a ≡ p → take p (a ++ (new ++ z)) ++ (m ++ drop (p + length new) (a ++ (new ++ z))) ≡ a ++ (m ++ z)
 put_back p a new z m is =
     ap (λ front. front ++ (m ++ drop (p + length new) (a ++ (new ++ z)))) (ap (λ n. take n (a ++ (new ++ z))) (sym is) ∙ take-append_seam a (new ++ z))
-    ∙ ap (λ back. a ++ (m ++ back)) (ap (drop (p + length new)) (sym (append_assoc a new z)) ∙ (ap (λ n. drop n ((a ++ new) ++ z)) same ∙ drop-append_seam (a ++ new) z))
+    ∙ ap (λ back. a ++ (m ++ back))
+    (ap (drop (p + length new)) (sym (append_assoc a new z)) ∙ (ap (λ n. drop n ((a ++ new) ++ z)) same ∙ drop-append_seam (a ++ new) z))
   where
     same : p + length new ≡ length (a ++ new)
     same = ap (λ n. n + length new) (sym is) ∙ sym (length-append a new)
@@ -51,7 +52,8 @@ front_and_back (suc p) (x ∷ text) = ap (λ rest. x ∷ rest) (front_and_back p
 pub part_back : (text new : List ℕ) (place size : ℕ) → 1 ≤ place → place - 1 + size ≤ length text
     → replaced (replaced text place size new) place (length new) (slice_range text (place - 1) (place - 1 + size)) ≡ text
 part_back text new place size some within =
-    put_back (place - 1) (take (place - 1) text) new (drop (place - 1 + size) text) (slice_range text (place - 1) (place - 1 + size)) (taken (place - 1) text (omega (arith, within)))
+    put_back (place - 1) (take (place - 1) text) new (drop (place - 1 + size) text) (slice_range text (place - 1) (place - 1 + size))
+    (taken (place - 1) text (omega (arith, within)))
     ∙ (ap (λ back. take (place - 1) text ++ back) (sym (drop_split text (place - 1) (place - 1 + size) (omega arith))) ∙ front_and_back (place - 1) text)
 
 -- Keys of tables
@@ -60,7 +62,8 @@ stored_read : (pairs : List (Value × Value)) (key value : Value) → value_of s
 stored_read [] key value = ap (λ t. cond t (Some value) None) (same_self key)
 stored_read (pair ∷ pairs) key value = by (same key pair.0) refl (stored_read pairs key value)
   where
-    by : (t : Bool) → same key pair.0 ≡ t → value_of same (stored same pairs key value) key ≡ Some value → value_of same (stored same (pair ∷ pairs) key value) key ≡ Some value
+    by : (t : Bool) → same key pair.0 ≡ t → value_of same (stored same pairs key value) key ≡ Some value
+        → value_of same (stored same (pair ∷ pairs) key value) key ≡ Some value
     by true e later = rw e (ap (λ t. cond t (Some value) (value_of same pairs key)) e)
     by false e later = rw e (ap (λ t. cond t (Some pair.1) (value_of same (stored same pairs key value) key)) e ∙ later)
 
@@ -69,13 +72,16 @@ key_back table key value = ap (λ found. unwrap_or found table.default) (stored_
 
 -- Whole variables
 
-global_back : (place : ℕ) (value old : Value) (next : Row) (at : Setting) → value_at at.world.globals place ≡ old → assigns (Whole (Global place)) value (λ now. undoes now old next) at ≡ next at
+global_back : (place : ℕ) (value old : Value) (next : Row) (at : Setting) → value_at at.world.globals place ≡ old
+    → assigns (Whole (Global place)) value (λ now. undoes now old next) at ≡ next at
 global_back place value old next at is = ap (λ values. next (having_globals values at)) (values_back at.world.globals place value old is)
 
-static_back : (place : ℕ) (value old : Value) (next : Row) (at : Setting) → value_at at.world.statics place ≡ old → assigns (Whole (Static place)) value (λ now. undoes now old next) at ≡ next at
+static_back : (place : ℕ) (value old : Value) (next : Row) (at : Setting) → value_at at.world.statics place ≡ old
+    → assigns (Whole (Static place)) value (λ now. undoes now old next) at ≡ next at
 static_back place value old next at is = ap (λ values. next (having_statics values at)) (values_back at.world.statics place value old is)
 
-local_back : (place : ℕ) (value old : Value) (next : Row) (at : Setting) → value_at at.locals place ≡ old → assigns (Whole (Local place)) value (λ now. undoes now old next) at ≡ next at
+local_back : (place : ℕ) (value old : Value) (next : Row) (at : Setting) → value_at at.locals place ≡ old
+    → assigns (Whole (Local place)) value (λ now. undoes now old next) at ≡ next at
 local_back place value old next at is = ap (λ values. next (record at { locals = values })) (values_back at.locals place value old is)
 
 record_in : List Record → ℕ → Record
@@ -96,7 +102,8 @@ records_back (first ∷ records) (suc id) place value old is = ap (λ rest. firs
 field_back : (id place : ℕ) (value old : Value) (next : Row) (at : Setting) → value_at (record_at at.world.heap id).fields place ≡ old
     → assigns (Whole (Field id place)) value (λ now. undoes now old next) at ≡ next at
 unfolding record_in with_field
-field_back id place value old next at is = ap (λ records. next (having_heap (λ heap. record heap { records = records }) at)) (records_back at.world.heap.records id place value old is)
+field_back id place value old next at is =
+    ap (λ records. next (having_heap (λ heap. record heap { records = records }) at)) (records_back at.world.heap.records id place value old is)
 
 -- an element that is there
 items_back : (items : List Value) (z : ℤ) (value old : Value) → item_at items z ≡ Some old
@@ -142,8 +149,10 @@ unfolding list_in
 element_back id number value old next at is =
     let both = lists_back at.world.heap.lists id number value old is in
     let after = having_heap (with_list id (with_numbered (list_at at.world.heap id) number value)) at in
-    ap (λ t. check t 205 None (λ seen. assigns_root (wrong 205 None) (Element id number) old next (having_heap (with_list id (with_numbered (list_at at.world.heap id) number value)) seen)) at) (ap is_some is)
-    ∙ (ap (λ t. check t 205 None (λ seen. next (having_heap (with_list id (with_numbered (list_at after.world.heap id) number old)) seen)) after) (ap is_some both.0)
+    ap (λ t. check t 205 None (λ seen. assigns_root (wrong 205 None) (Element id number) old next
+    (having_heap (with_list id (with_numbered (list_at at.world.heap id) number value)) seen)) at) (ap is_some is)
+    ∙ (ap (λ t. check t 205 None (λ seen. next (having_heap (with_list id (with_numbered (list_at after.world.heap id) number old)) seen)) after)
+    (ap is_some both.0)
     ∙ ap (λ lists. next (having_heap (λ heap. record heap { lists = lists }) at)) both.1)
 
 pub gives_back : (root : Root) (value old : Value) (next : Row) (at : Setting) → is_kept root ≡ true → root_value at root ≡ Some old

@@ -132,27 +132,66 @@ structures_hold = (
                                                                                                                           (
                                                                                                                             record { saw = refl; facts = refl },
                                                                                                                             (
-                                                                                                                              record { saw = refl; facts = refl },
+                                                                                                                              record {
+                                                                                                                                saw = refl;
+                                                                                                                                facts = refl;
+                                                                                                                              },
                                                                                                                               (
-                                                                                                                                record { saw = refl; facts = refl },
+                                                                                                                                record {
+                                                                                                                                  saw = refl;
+                                                                                                                                  facts = refl;
+                                                                                                                                },
                                                                                                                                 (
-                                                                                                                                  record { saw = refl; facts = refl },
+                                                                                                                                  record {
+                                                                                                                                    saw = refl;
+                                                                                                                                    facts = refl;
+                                                                                                                                  },
                                                                                                                                   (
-                                                                                                                                    record { saw = refl; facts = refl },
+                                                                                                                                    record {
+                                                                                                                                      saw = refl;
+                                                                                                                                      facts = refl;
+                                                                                                                                    },
                                                                                                                                     (
-                                                                                                                                      record { saw = refl; facts = refl },
+                                                                                                                                      record {
+                                                                                                                                        saw = refl;
+                                                                                                                                        facts = refl;
+                                                                                                                                      },
                                                                                                                                       (
-                                                                                                                                        record { saw = refl; facts = refl },
+                                                                                                                                        record {
+                                                                                                                                          saw = refl;
+                                                                                                                                          facts = refl;
+                                                                                                                                        },
                                                                                                                                         (
-                                                                                                                                          record { saw = refl; facts = refl },
+                                                                                                                                          record {
+                                                                                                                                            saw = refl;
+                                                                                                                                            facts = refl;
+                                                                                                                                          },
                                                                                                                                           (
-                                                                                                                                            record { saw = refl; facts = refl },
+                                                                                                                                            record {
+                                                                                                                                              saw = refl;
+                                                                                                                                              facts = refl;
+                                                                                                                                            },
                                                                                                                                             (
-                                                                                                                                              record { saw = refl; facts = refl },
+                                                                                                                                              record {
+                                                                                                                                                saw =
+                                                                                                                                                    refl;
+                                                                                                                                                facts =
+                                                                                                                                                    refl;
+                                                                                                                                              },
                                                                                                                                               (
-                                                                                                                                                record { saw = refl; facts = refl },
+                                                                                                                                                record {
+                                                                                                                                                  saw =
+                                                                                                                                                      refl;
+                                                                                                                                                  facts =
+                                                                                                                                                      refl;
+                                                                                                                                                },
                                                                                                                                                 (
-                                                                                                                                                  record { saw = refl; facts = refl },
+                                                                                                                                                  record {
+                                                                                                                                                    saw =
+                                                                                                                                                        refl;
+                                                                                                                                                    facts =
+                                                                                                                                                        refl;
+                                                                                                                                                  },
                                                                                                                                                   (
                                                                                                                                                     record { saw = refl; facts = refl },
                                                                                                                                                     (

@@ -7,7 +7,8 @@ use Rattle.icn_value.specs.declared.val.Val.{Val}
 use Rattle.icn_heap.specs.Extents.{Extent, IsLive}
 use Rattle.icn_vars.specs.Facts.{IsSoundWorld}
 
-pub global_added : (all : Extent) (pair : Pair) (random : ℕ) (globals statics items : List Val) (val : Val) (pushed : Bool) → IsSoundWorld all pair random globals statics → IsLive all val
+pub global_added : (all : Extent) (pair : Pair) (random : ℕ) (globals statics items : List Val) (val : Val) (pushed : Bool)
+    → IsSoundWorld all pair random globals statics → IsLive all val
     → items ≡ (if pushed then globals ++ val ∷ [] else globals) → IsSoundWorld all pair random items statics
 global_added all pair random globals statics items val true sound live is = rw is (record {
   live_globals = All-push (IsLive all) globals val sound.live_globals live;

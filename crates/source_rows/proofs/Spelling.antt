@@ -9,7 +9,12 @@ use Rattle.icn_tree.proofs.Scanning.{all_formed, all_sized, tokens_counted, toke
 use Rattle.icn_parse.specs.Outcomes.{IsTree, IsOutcome}
 use Rattle.icn_decls.specs.Spelled.{IsSpelled}
 
-pub spelled_by : (lines : List SourceLine) (tokens : List Token) (file : List Declaration) → joined_len lines ≤ 16777216 → tokens_of lines ≡ Scanned tokens → IsOutcome tokens (IsTree file) → IsSpelled file
+pub spelled_by : (lines : List SourceLine) (tokens : List Token) (file : List Declaration) → joined_len lines ≤ 16777216 → tokens_of lines ≡ Scanned tokens
+    → IsOutcome tokens (IsTree file) → IsSpelled file
 spelled_by lines tokens file within e tree =
     let count = tokens_counted lines tokens e in
-    record { tokens = tokens; scanned = record { few = omega arith; sized = all_sized tokens (tokens_sound lines tokens e); formed = all_formed tokens (tokens_sound lines tokens e) }; tree = tree }
+    record {
+      tokens = tokens;
+      scanned = record { few = omega arith; sized = all_sized tokens (tokens_sound lines tokens e); formed = all_formed tokens (tokens_sound lines tokens e) };
+      tree = tree;
+    }

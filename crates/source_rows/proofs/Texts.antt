@@ -19,11 +19,13 @@ all_push : (p : SourceLine → Bool) (xs : List SourceLine) (x : SourceLine) →
 all_push p [] x h g = rw g refl
 all_push p (y ∷ xs) x h g = both (p y) (list_all p xs) (list_all p (xs ++ x ∷ [])) h (λ rest. all_push p xs x rest g)
 
-pub joined_by : (ok : Bool) (old new : List SourceLine) (x : SourceLine) (n : ℕ) → new ≡ cond ok (old ++ x ∷ []) old → joined_len old ≤ n → joined_len new ≤ n + length x.bytes + 1
+pub joined_by : (ok : Bool) (old new : List SourceLine) (x : SourceLine) (n : ℕ) → new ≡ cond ok (old ++ x ∷ []) old → joined_len old ≤ n
+    → joined_len new ≤ n + length x.bytes + 1
 joined_by true old new x n e h = rw e (omega (arith, joined_push old x))
 joined_by false old new x n e h = rw e (omega arith)
 
-pub named_by : (ok : Bool) (old new : List SourceLine) (x : SourceLine) (names : List (List ℕ)) → new ≡ cond ok (old ++ x ∷ []) old → names_files names old ≡ true → x.file < length names
+pub named_by : (ok : Bool) (old new : List SourceLine) (x : SourceLine) (names : List (List ℕ)) → new ≡ cond ok (old ++ x ∷ []) old
+    → names_files names old ≡ true → x.file < length names
     → names_files names new ≡ true
 named_by true old new x names e h g = rw e (all_push (λ line. nat_lt line.file (length names)) old x h (grind (arith, nat_tests)))
 named_by false old new x names e h g = rw e h

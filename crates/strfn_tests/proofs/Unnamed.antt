@@ -8,10 +8,14 @@ use Rattle.icn_convert.specs.Naming.{AreRecordsNamed, IsNamed}
 
 -- no record is without a name where there is none
 pub records_named : (names : Names) (heap : Heap) → heap.records ≡ [] → AreRecordsNamed names heap
-records_named names heap none = record { kinds = subst (All (λ (structure : Record). structure.kind < length names.records)) (sym none) (All-nil (λ (structure : Record). structure.kind < length names.records)) }
+records_named names heap none = record {
+  kinds = subst (All (λ (structure : Record). structure.kind < length names.records)) (sym none)
+      (All-nil (λ (structure : Record). structure.kind < length names.records));
+}
 
 pub no_values_named : (names : Names) (vals : List Val) → vals ≡ [] → All (IsNamed names) vals
 no_values_named names vals none = subst (All (IsNamed names)) (sym none) (All-nil (IsNamed names))
 
-pub values_named : (names : Names) (vals rest : List Val) (first : Val) → vals ≡ first ∷ rest → IsNamed names first → All (IsNamed names) rest → All (IsNamed names) vals
+pub values_named : (names : Names) (vals rest : List Val) (first : Val) → vals ≡ first ∷ rest → IsNamed names first → All (IsNamed names) rest
+    → All (IsNamed names) vals
 values_named names vals rest first is named others = subst (All (IsNamed names)) (sym is) (All-cons (IsNamed names) first rest named others)

@@ -27,7 +27,8 @@ use Rattle.icn_vars.specs.declared.world.World.{World}
 use Rattle.structfn_tests.specs.OneRecord.{AllNamed, ComesNamed, one_record}
 
 -- what was answered, where all that the row comes to has a name
-pub comes_named : (names : Names) (row : Row) (all : Extent) (before after : Setting) (result : Result Outcome Halt) → OutcomeNamed names (row before) → ComesToAnswer all row before after result
+pub comes_named : (names : Names) (row : Row) (all : Extent) (before after : Setting) (result : Result Outcome Halt) → OutcomeNamed names (row before)
+    → ComesToAnswer all row before after result
     → IfOk result (λ outcome. OutcomeNamed names (outcome_in all outcome after))
 comes_named names row all before after (Ok outcome) named is = subst (OutcomeNamed names) is named
 comes_named names row all before after (Err halt) named is = tt
@@ -52,22 +53,29 @@ live_there heap (SetVal id) is = tt
 live_there heap (TableVal id) is = tt
 live_there heap (CoexpVal id) is = tt
 
-pub first_there : (heap : HeldHeap) (vals : List Val) → All (IsLive (extent_of heap)) vals → IsThere (heap_of heap) (arg (map (value_in (extent_of heap)) vals) 0)
+pub first_there : (heap : HeldHeap) (vals : List Val) → All (IsLive (extent_of heap)) vals
+    → IsThere (heap_of heap) (arg (map (value_in (extent_of heap)) vals) 0)
 first_there heap [] are = tt
 first_there heap (val ∷ vals) are = live_there heap val (All-head (IsLive (extent_of heap)) val vals are)
 
 -- a function over structures
-pub function_comes : (func : Func) (old new : World) (locals vals : List Val) (result : Result Outcome Halt) → AllNamed old locals → All (ValueNamed one_record) (map (value_in (extent_of old.heap)) vals)
+pub function_comes : (func : Func) (old new : World) (locals vals : List Val) (result : Result Outcome Halt) → AllNamed old locals
+    → All (ValueNamed one_record) (map (value_in (extent_of old.heap)) vals)
     → All (IsLive (extent_of old.heap)) vals
-    → ComesToAnswer (extent_of new.heap) (function_of one_record func (map (value_in (extent_of old.heap)) vals)) (setting_of (outside_of []) old locals) (setting_of (outside_of []) new locals) result
+    → ComesToAnswer (extent_of new.heap) (function_of one_record func (map (value_in (extent_of old.heap)) vals)) (setting_of (outside_of []) old locals)
+    (setting_of (outside_of []) new locals) result
     → IfOk result (ComesNamed new locals)
 function_comes func old new locals vals result named are live row =
-    comes_named one_record (function_of one_record func (map (value_in (extent_of old.heap)) vals)) (extent_of new.heap) (setting_of (outside_of []) old locals) (setting_of (outside_of []) new locals) result
-    (rows_keep_names.functions one_record func (map (value_in (extent_of old.heap)) vals) (setting_of (outside_of []) old locals) named are (λ is_copy. first_there old.heap vals live)) row
+    comes_named one_record (function_of one_record func (map (value_in (extent_of old.heap)) vals)) (extent_of new.heap) (setting_of (outside_of []) old locals)
+    (setting_of (outside_of []) new locals) result
+    (rows_keep_names.functions one_record func (map (value_in (extent_of old.heap)) vals) (setting_of (outside_of []) old locals) named are
+    (λ is_copy. first_there old.heap vals live)) row
 
 -- a walk over keys that goes on
 pub key_comes : (world : World) (locals : List Val) (table place : ℕ) (outcome : Outcome) → AllNamed world locals
-    → table_keys_from table place (setting_of (outside_of []) world locals) ≡ outcome_in (extent_of world.heap) outcome (setting_of (outside_of []) world locals)
+    → table_keys_from table place (setting_of (outside_of []) world locals)
+    ≡ outcome_in (extent_of world.heap) outcome (setting_of (outside_of []) world locals)
     → ComesNamed world locals outcome
 key_comes world locals table place outcome named row =
-    subst (OutcomeNamed one_record) row (rows_keep_names.resumed one_record (TableKeys table place) (setting_of (outside_of []) world locals) named (record { named = tt }))
+    subst (OutcomeNamed one_record) row
+    (rows_keep_names.resumed one_record (TableKeys table place) (setting_of (outside_of []) world locals) named (record { named = tt }))

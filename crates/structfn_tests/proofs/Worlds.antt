@@ -21,7 +21,8 @@ use Rattle.structfn_tests.specs.OneRecord.{AllNamed, one_record}
 
 -- What each world keeps
 
-pub static_added : (all : Extent) (pair : Pair) (random : ℕ) (globals statics items : List Val) (val : Val) (pushed : Bool) → IsSoundWorld all pair random globals statics → IsLive all val
+pub static_added : (all : Extent) (pair : Pair) (random : ℕ) (globals statics items : List Val) (val : Val) (pushed : Bool)
+    → IsSoundWorld all pair random globals statics → IsLive all val
     → items ≡ (if pushed then statics ++ val ∷ [] else statics) → IsSoundWorld all pair random globals items
 static_added all pair random globals statics items val true sound live is = rw is (record {
   live_globals = sound.live_globals;
@@ -33,7 +34,8 @@ static_added all pair random globals statics items val true sound live is = rw i
 })
 static_added all pair random globals statics items val false sound live is = rw is sound
 
-pub global_added : (all : Extent) (pair : Pair) (random : ℕ) (globals statics items : List Val) (val : Val) (pushed : Bool) → IsSoundWorld all pair random globals statics → IsLive all val
+pub global_added : (all : Extent) (pair : Pair) (random : ℕ) (globals statics items : List Val) (val : Val) (pushed : Bool)
+    → IsSoundWorld all pair random globals statics → IsLive all val
     → items ≡ (if pushed then globals ++ val ∷ [] else globals) → IsSoundWorld all pair random items statics
 global_added all pair random globals statics items val true sound live is = rw is (record {
   live_globals = All-push (IsLive all) globals val sound.live_globals live;
@@ -59,9 +61,11 @@ statics_cleared all pair random globals statics items sound is = rw is (record {
 -- That all has a name
 
 empty_named : (names : Names) (bounds : Bounds) → HeapNamed names (empty_heap bounds)
-empty_named names bounds = record { lists = All-nil (ListNamed names); sets = All-nil (SetNamed names); tables = All-nil (TableNamed names); records = All-nil (RecordNamed names) }
+empty_named names bounds =
+    record { lists = All-nil (ListNamed names); sets = All-nil (SetNamed names); tables = All-nil (TableNamed names); records = All-nil (RecordNamed names) }
 
-pub new_named : (world : World) (bounds : Bounds) → heap_of world.heap ≡ empty_heap bounds → world.globals.items ≡ [] → world.statics.items ≡ [] → AllNamed world []
+pub new_named : (world : World) (bounds : Bounds) → heap_of world.heap ≡ empty_heap bounds → world.globals.items ≡ [] → world.statics.items ≡ []
+    → AllNamed world []
 new_named world bounds heap globals statics = record {
   world = record {
     heap = subst (HeapNamed one_record) (sym heap) (empty_named one_record bounds);
@@ -71,12 +75,15 @@ new_named world bounds heap globals statics = record {
   locals = All-nil (ValueNamed one_record);
 }
 
-more : (all : Extent) (vals items : List Val) (val : Val) → All (ValueNamed one_record) (map (value_in all) vals) → ValueNamed one_record (value_in all val) → items ≡ vals ++ val ∷ []
+more : (all : Extent) (vals items : List Val) (val : Val) → All (ValueNamed one_record) (map (value_in all) vals) → ValueNamed one_record (value_in all val)
+    → items ≡ vals ++ val ∷ []
     → All (ValueNamed one_record) (map (value_in all) items)
-more all vals items val are is same = rw same (rw (map-append (value_in all) vals (val ∷ [])) (All-push (ValueNamed one_record) (map (value_in all) vals) (value_in all val) are is))
+more all vals items val are is same =
+    rw same (rw (map-append (value_in all) vals (val ∷ [])) (All-push (ValueNamed one_record) (map (value_in all) vals) (value_in all val) are is))
 
 module _ (old new : World) (locals : List Val) (heap : new.heap ≡ old.heap) (named : AllNamed old locals) where
-  pub static_named : (val : Val) → new.globals.items ≡ old.globals.items → new.statics.items ≡ old.statics.items ++ val ∷ [] → ValueNamed one_record (value_in (extent_of old.heap) val) → AllNamed new locals
+  pub static_named : (val : Val) → new.globals.items ≡ old.globals.items → new.statics.items ≡ old.statics.items ++ val ∷ []
+      → ValueNamed one_record (value_in (extent_of old.heap) val) → AllNamed new locals
   static_named val globals statics is = record {
     world = record {
       heap = rw heap named.world.heap;
@@ -86,7 +93,8 @@ module _ (old new : World) (locals : List Val) (heap : new.heap ≡ old.heap) (n
     locals = rw heap named.locals;
   }
 
-  pub global_named : (val : Val) → new.globals.items ≡ old.globals.items ++ val ∷ [] → new.statics.items ≡ old.statics.items → ValueNamed one_record (value_in (extent_of old.heap) val) → AllNamed new locals
+  pub global_named : (val : Val) → new.globals.items ≡ old.globals.items ++ val ∷ [] → new.statics.items ≡ old.statics.items
+      → ValueNamed one_record (value_in (extent_of old.heap) val) → AllNamed new locals
   global_named val globals statics is = record {
     world = record {
       heap = rw heap named.world.heap;
@@ -107,7 +115,8 @@ module _ (old new : World) (locals : List Val) (heap : new.heap ≡ old.heap) (n
   }
 
 -- texts become more, and no structure changes
-pub held_named : (old : World) (heap : HeldHeap) (locals : List Val) → AllNamed old locals → Keeps (extent_of old.heap) (extent_of heap) → heap_of heap ≡ heap_of old.heap
+pub held_named : (old : World) (heap : HeldHeap) (locals : List Val) → AllNamed old locals → Keeps (extent_of old.heap) (extent_of heap)
+    → heap_of heap ≡ heap_of old.heap
     → All (IsLive (extent_of old.heap)) old.globals.items → All (IsLive (extent_of old.heap)) old.statics.items → locals ≡ []
     → SettingNamed one_record (setting_over (outside_of []) heap old.pair old.random old.globals.items old.statics.items locals)
 held_named old heap locals named keeps same live_globals live_statics none = record {
@@ -126,15 +135,18 @@ live_at all [] k are = record { live = tt }
 live_at all (val ∷ vals) zero are = All-head (IsLive all) val vals are
 live_at all (val ∷ vals) (suc k) are = live_at all vals k (All-tail (IsLive all) val vals are)
 
-named_at : (all : Extent) (vals : List Val) (k : ℕ) → All (ValueNamed one_record) (map (value_in all) vals) → ValueNamed one_record (value_in all (slice_index_or vals k NullVal))
+named_at : (all : Extent) (vals : List Val) (k : ℕ) → All (ValueNamed one_record) (map (value_in all) vals)
+    → ValueNamed one_record (value_in all (slice_index_or vals k NullVal))
 named_at all [] k are = tt
 named_at all (val ∷ vals) zero are = All-head (ValueNamed one_record) (value_in all val) (map (value_in all) vals) are
 named_at all (val ∷ vals) (suc k) are = named_at all vals k (All-tail (ValueNamed one_record) (value_in all val) (map (value_in all) vals) are)
 
-pub got_live : (all : Extent) (vals slice : List Val) (k : ℕ) (val : Val) → slice ≡ vals → val ≡ slice_index_or slice k NullVal → All (IsLive all) vals → IsLive all val
+pub got_live : (all : Extent) (vals slice : List Val) (k : ℕ) (val : Val) → slice ≡ vals → val ≡ slice_index_or slice k NullVal → All (IsLive all) vals
+    → IsLive all val
 got_live all vals slice k val same is are = rw is (rw same (live_at all vals k are))
 
-pub got_named : (all : Extent) (vals slice : List Val) (k : ℕ) (val : Val) → slice ≡ vals → val ≡ slice_index_or slice k NullVal → All (ValueNamed one_record) (map (value_in all) vals)
+pub got_named : (all : Extent) (vals slice : List Val) (k : ℕ) (val : Val) → slice ≡ vals → val ≡ slice_index_or slice k NullVal
+    → All (ValueNamed one_record) (map (value_in all) vals)
     → ValueNamed one_record (value_in all val)
 got_named all vals slice k val same is are = rw is (rw same (named_at all vals k are))
 

@@ -31,7 +31,8 @@ right : (a b : Bool) → (a && b) ≡ true → b ≡ true
 right true b h = h
 right false b h = absurd (true≢false (sym h))
 
-known_instr : (tables : Tables) (proc : Proc) (count : ℕ) → AreSized tables → length proc.instrs ≡ count → (instr : Instr) → is_known count instr ≡ true → is_instr tables proc instr ≡ true
+known_instr : (tables : Tables) (proc : Proc) (count : ℕ) → AreSized tables → length proc.instrs ≡ count → (instr : Instr) → is_known count instr ≡ true
+    → is_instr tables proc instr ≡ true
 known_instr tables proc count sized long (Int place) h = ap (nat_lt place) sized.integers ∙ h
 known_instr tables proc count sized long (Str place) h = ap (nat_lt place) sized.strings ∙ h
 known_instr tables proc count sized long (Cset place) h = absurd (true≢false (sym h))
@@ -49,7 +50,8 @@ known_instr tables proc count sized long (Init label) h = ap (nat_le label) long
 known_instr tables proc count sized long (Create label) h = ap (nat_le label) long ∙ h
 known_instr tables proc count sized long _ h = refl
 
-known_instrs : (tables : Tables) (proc : Proc) (count : ℕ) → AreSized tables → length proc.instrs ≡ count → (instrs : List Instr) → list_all (is_known count) instrs ≡ true → list_all (is_instr tables proc) instrs ≡ true
+known_instrs : (tables : Tables) (proc : Proc) (count : ℕ) → AreSized tables → length proc.instrs ≡ count → (instrs : List Instr)
+    → list_all (is_known count) instrs ≡ true → list_all (is_instr tables proc) instrs ≡ true
 known_instrs tables proc count sized long [] h = refl
 known_instrs tables proc count sized long (instr ∷ instrs) h =
     both (is_instr tables proc instr) (list_all (is_instr tables proc) instrs)
@@ -65,28 +67,34 @@ is_at_most m n h = grind (arith, nat_tests)
 plain_proc : List Instr → Proc
 plain_proc instrs = record { name = 0; parameters = 0; collects = false; locals = 0; statics = 0; instrs = instrs }
 
-pub known_proc : (instrs : List Instr) → length instrs < 2 ^ 32 → list_all (is_known (length instrs)) instrs ≡ true → let proc : Proc = record { name = 0; parameters = 0; collects = false; locals = 0; statics = 0; instrs = instrs } in IsKnown proc
+pub known_proc : (instrs : List Instr) → length instrs < 2 ^ 32 → list_all (is_known (length instrs)) instrs ≡ true
+    → let proc : Proc = record { name = 0; parameters = 0; collects = false; locals = 0; statics = 0; instrs = instrs } in IsKnown proc
 known_proc instrs short h = record {
   is = λ tables sized.
       both _ _ (both _ _ (ap (λ n. nat_lt 0 n && true && true && true) sized.strings) (is_below (length instrs) (2 ^ 32) short))
-      (known_instrs tables (record { name = 0; parameters = 0; collects = false; locals = 0; statics = 0; instrs = instrs }) (length instrs) sized refl instrs h);
+      (known_instrs tables (record { name = 0; parameters = 0; collects = false; locals = 0; statics = 0; instrs = instrs })
+      (length instrs) sized refl instrs h);
 }
 
-all_known : (tables : Tables) → AreSized tables → (procs : List Proc) → ((number : ℕ) (proc : Proc) → slice_get procs number ≡ Some proc → IsKnown proc) → list_all (is_proc tables) procs ≡ true
+all_known : (tables : Tables) → AreSized tables → (procs : List Proc) → ((number : ℕ) (proc : Proc) → slice_get procs number ≡ Some proc → IsKnown proc)
+    → list_all (is_proc tables) procs ≡ true
 all_known tables sized [] each = refl
 all_known tables sized (proc ∷ procs) each =
-    both (is_proc tables proc) (list_all (is_proc tables) procs) ((each 0 proc refl).is tables sized) (all_known tables sized procs (λ number other at. each (suc number) other at))
+    both (is_proc tables proc) (list_all (is_proc tables) procs) ((each 0 proc refl).is tables sized)
+    (all_known tables sized procs (λ number other at. each (suc number) other at))
 
 pub known_none : AreKnown []
 known_none = record { few = omega arith; each = λ number proc at. absurd (none_some proc at) }
 
-get_push : {A : Type 0} (xs : List A) (x y : A) (place : ℕ) → (P : A → Type 0) → ((k : ℕ) (z : A) → slice_get xs k ≡ Some z → P z) → P x → slice_get (xs ++ x ∷ []) place ≡ Some y → P y
+get_push : {A : Type 0} (xs : List A) (x y : A) (place : ℕ) → (P : A → Type 0) → ((k : ℕ) (z : A) → slice_get xs k ≡ Some z → P z) → P x
+    → slice_get (xs ++ x ∷ []) place ≡ Some y → P y
 get_push [] x y zero P each here at = subst P (some_same x y at) here
 get_push [] x y (suc place) P each here at = absurd (none_some y at)
 get_push (z ∷ xs) x y zero P each here at = each 0 y at
 get_push (z ∷ xs) x y (suc place) P each here at = get_push xs x y place P (λ k w h. each (suc k) w h) here at
 
-pub known_push : (procs : List Procedure) (proc : Procedure) → AreKnown (procs_of procs) → (length procs ≡ 65535 → ⊥) → IsKnown (proc_of proc) → AreKnown (procs_of (procs ++ proc ∷ []))
+pub known_push : (procs : List Procedure) (proc : Procedure) → AreKnown (procs_of procs) → (length procs ≡ 65535 → ⊥) → IsKnown (proc_of proc)
+    → AreKnown (procs_of (procs ++ proc ∷ []))
 known_push procs proc known room here =
     subst AreKnown (sym (map-append proc_of procs (proc ∷ []))) (record {
       few = (let long = length-append (procs_of procs) (proc_of proc ∷ []) in let count = length-map procs proc_of in let few = known.few in omega arith);
@@ -111,5 +119,6 @@ four a b c d h k l m = both (a && b && c) d (both (a && b) c (both a b h k) l) m
 pub test_rules : (start : Start) (procs : List Proc) → is_start 0 (length procs) start ≡ true → AreKnown procs → keeps_rules (test_tables start procs) ≡ true
 unfolding keeps_rules
 test_rules start procs starts known =
-    both _ _ (both _ _ (both _ _ (both _ _ (both _ _ (both _ _ (both _ _ (both _ _ (is_at_most (length procs) 65535 known.few) refl) refl) refl) refl) refl) (both _ _ starts refl)) refl)
+    both _ _ (both _ _ (both _ _ (both _ _ (both _ _ (both _ _ (both _ _ (both _ _ (is_at_most (length procs) 65535 known.few) refl) refl) refl) refl) refl)
+    (both _ _ starts refl)) refl)
     (all_known (test_tables start procs) (record { strings = refl; integers = refl; fields = refl; globals = refl }) procs known.each)

@@ -8,4 +8,5 @@ pub returns-clause-shaped : goal.returns-clause-shaped
 returns-clause-shaped c = λ tables rules have launch. never_over tables have (tables_ok tables rules) rows_stay_within launch
 
 pub returns-clause-verified : goal.returns-clause-verified
-returns-clause-verified c = λ tables rules verified launch. never_over tables (shapes_given tables rules verified) (tables_ok tables rules) rows_stay_within launch
+returns-clause-verified c =
+    λ tables rules verified launch. never_over tables (shapes_given tables rules verified) (tables_ok tables rules) rows_stay_within launch

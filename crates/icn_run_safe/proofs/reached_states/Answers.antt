@@ -9,4 +9,5 @@ pub returns-clause-shaped : goal.returns-clause-shaped
 returns-clause-shaped c = λ tables rules have. are_shaped tables have (tables_ok tables rules) rows_stay_within
 
 pub returns-clause-verified : goal.returns-clause-verified
-returns-clause-verified c = λ tables rules verified. (shapes_of tables (shapes_given tables rules verified), are_shaped tables (shapes_given tables rules verified) (tables_ok tables rules) rows_stay_within)
+returns-clause-verified c = λ tables rules verified.
+    (shapes_of tables (shapes_given tables rules verified), are_shaped tables (shapes_given tables rules verified) (tables_ok tables rules) rows_stay_within)

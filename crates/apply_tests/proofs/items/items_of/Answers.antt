@@ -8,5 +8,6 @@ pub loop-word-preserved : goal.loop-word-preserved
 loop-word-preserved g c = record {
   live = All-same (IsLiveItem (reach_of c.args.w.now c.args.l.now.vals.items)) _ _ c.in_ok-add_item.ensures
       (All-push (IsLiveItem (reach_of c.args.w.now c.args.l.now.vals.items)) _ _ c.loop-word.invariant.live c.item_of-item.ensures.live);
-  named = items_more (g.N.Names.known c.args.names.now) (extent_of c.args.w.now.heap) c.loop-word.items.items _ c.item_of-item.result c.loop-word.invariant.named c.item_of-item.ensures.named c.in_ok-add_item.ensures;
+  named = items_more (g.N.Names.known c.args.names.now) (extent_of c.args.w.now.heap) c.loop-word.items.items
+      _ c.item_of-item.result c.loop-word.invariant.named c.item_of-item.ensures.named c.in_ok-add_item.ensures;
 }

@@ -9,4 +9,5 @@ returns-in_err-make_rec-clause-named c = same_named (heap_of c.args.heap.now) (h
 
 pub returns-clause-named : goal.returns-clause-named
 returns-clause-named c =
-    record_named (heap_of c.args.heap.now) (heap_of c.make_rec.new.self) c.args.kind (map (value_in (extent_of c.args.heap.now)) c.args.fields.now) c.requires.known c.in_ok-make_rec.ensures.step c.requires.named
+    record_named (heap_of c.args.heap.now) (heap_of c.make_rec.new.self) c.args.kind
+    (map (value_in (extent_of c.args.heap.now)) c.args.fields.now) c.requires.known c.in_ok-make_rec.ensures.step c.requires.named

@@ -7,6 +7,7 @@ use Rattle.convert_rows.proofs.values.values.Goals as goal
 pub loop-word-preserved : goal.loop-word-preserved
 loop-word-preserved c = record {
   live = All-same (IsLive (extent_of c.value_of.new.heap)) _ _ c.in_ok-add.ensures
-      (All-push (IsLive (extent_of c.value_of.new.heap)) _ _ (live_kept c.value_of.ensures.kept c.loop-word.vals.items c.loop-word.invariant.live) c.in_ok-val.ensures.live);
+      (All-push (IsLive (extent_of c.value_of.new.heap)) _ _ (live_kept c.value_of.ensures.kept c.loop-word.vals.items c.loop-word.invariant.live)
+      c.in_ok-val.ensures.live);
   records = c.value_of.ensures.records;
 }

@@ -2,4 +2,14 @@ use Rattle.grammar_rows.proofs.Holding.{atoms_hold, suffixes_hold, forms_hold, l
 use Rattle.grammar_rows.proofs.table.rows.Goals as goal
 
 pub returns : goal.returns
-returns c = record { atoms = atoms_hold; suffixes = suffixes_hold; forms = forms_hold; levels = levels_hold; groups = groups_hold; prefixes = prefixes_hold; nearest = nearest_hold; operands = operands_hold; files = files_hold }
+returns c = record {
+  atoms = atoms_hold;
+  suffixes = suffixes_hold;
+  forms = forms_hold;
+  levels = levels_hold;
+  groups = groups_hold;
+  prefixes = prefixes_hold;
+  nearest = nearest_hold;
+  operands = operands_hold;
+  files = files_hold;
+}

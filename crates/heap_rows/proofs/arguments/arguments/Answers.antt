@@ -7,4 +7,5 @@ use Rattle.heap_rows.proofs.arguments.arguments.Goals as goal
 pub loop-word-preserved : goal.loop-word-preserved
 loop-word-preserved c =
     All-same (IsLive (extent_of c.value_of.new.w.heap)) _ _ c.in_ok-add.ensures
-    (All-push (IsLive (extent_of c.value_of.new.w.heap)) _ _ (live_kept c.value_of.ensures.kept c.loop-word.vals.items c.loop-word.invariant) c.in_ok-val.ensures.live)
+    (All-push (IsLive (extent_of c.value_of.new.w.heap)) _ _ (live_kept c.value_of.ensures.kept c.loop-word.vals.items c.loop-word.invariant)
+    c.in_ok-val.ensures.live)

@@ -14,13 +14,19 @@ use Rattle.icn_apply.proofs.applying.resume.Goals as goal
 
 pub returns-in-TableKeys-clause-applies : goal.returns-in-TableKeys-clause-applies
 returns-in-TableKeys-clause-applies g c = rw c.in-TableKeys.is
-    (faultless_applies (table_keys_from c.in-TableKeys.table c.in-TableKeys.place) c.args.w.now c.args.w.now (g.L.Locals.items c.args.l.now) (g.L.Locals.items c.args.l.now) (call_streams (g.I.Source.left c.args.input.now) (g.I.Source.faults c.args.input.now) (g.O.Sink.state c.args.out.now) (g.E.Sink.state c.args.err.now))
-    (Ok c.key_again.result) (λ was. c.key_again.ensures.row was) c.key_again.ensures.live c.requires.locals (items_all (reach_of c.args.w.now (g.L.Locals.items c.args.l.now))))
+    (faultless_applies (table_keys_from c.in-TableKeys.table c.in-TableKeys.place) c.args.w.now c.args.w.now
+    (g.L.Locals.items c.args.l.now) (g.L.Locals.items c.args.l.now)
+    (call_streams (g.I.Source.left c.args.input.now) (g.I.Source.faults c.args.input.now) (g.O.Sink.state c.args.out.now) (g.E.Sink.state c.args.err.now))
+    (Ok c.key_again.result) (λ was. c.key_again.ensures.row was) c.key_again.ensures.live c.requires.locals
+    (items_all (reach_of c.args.w.now (g.L.Locals.items c.args.l.now))))
 
 pub returns-in-UndoAssign-clause-applies : goal.returns-in-UndoAssign-clause-applies
 returns-in-UndoAssign-clause-applies g c = rw c.in-UndoAssign.is
-    (faultless_applies (undo_assign_again (variable_in (extent_of c.args.w.now.heap) c.in-UndoAssign.variable) (value_in (extent_of c.args.w.now.heap) c.in-UndoAssign.old))
-    c.args.w.now c.undo_assign_again.new.w (g.L.Locals.items c.args.l.now) (g.L.Locals.items c.undo_assign_again.new.l) (call_streams (g.I.Source.left c.args.input.now) (g.I.Source.faults c.args.input.now) (g.O.Sink.state c.args.out.now) (g.E.Sink.state c.args.err.now)) c.undo_assign_again.result
+    (faultless_applies (undo_assign_again (variable_in (extent_of c.args.w.now.heap) c.in-UndoAssign.variable)
+    (value_in (extent_of c.args.w.now.heap) c.in-UndoAssign.old))
+    c.args.w.now c.undo_assign_again.new.w (g.L.Locals.items c.args.l.now) (g.L.Locals.items c.undo_assign_again.new.l)
+    (call_streams (g.I.Source.left c.args.input.now) (g.I.Source.faults c.args.input.now) (g.O.Sink.state c.args.out.now) (g.E.Sink.state c.args.err.now))
+    c.undo_assign_again.result
     (λ was. c.undo_assign_again.ensures.row was) c.undo_assign_again.ensures.live c.undo_assign_again.ensures.locals c.undo_assign_again.ensures.kept)
 
 pub returns-in-UndoAssign-clause-memory : goal.returns-in-UndoAssign-clause-memory
@@ -31,7 +37,9 @@ again-requires g c = rw c.in-Sequence.is refl
 
 pub returns-in-Sequence-clause-applies : goal.returns-in-Sequence-clause-applies
 returns-in-Sequence-clause-applies g c =
-    faultless_applies (again (residual_in (extent_of c.args.w.now.heap) c.args.rest)) c.args.w.now c.args.w.now (g.L.Locals.items c.args.l.now) (g.L.Locals.items c.args.l.now) (call_streams (g.I.Source.left c.args.input.now) (g.I.Source.faults c.args.input.now) (g.O.Sink.state c.args.out.now) (g.E.Sink.state c.args.err.now))
+    faultless_applies (again (residual_in (extent_of c.args.w.now.heap) c.args.rest)) c.args.w.now c.args.w.now
+    (g.L.Locals.items c.args.l.now) (g.L.Locals.items c.args.l.now)
+    (call_streams (g.I.Source.left c.args.input.now) (g.I.Source.faults c.args.input.now) (g.O.Sink.state c.args.out.now) (g.E.Sink.state c.args.err.now))
     c.again.result (λ was. c.again.ensures.row was) c.again.ensures.live c.requires.locals (items_all (reach_of c.args.w.now (g.L.Locals.items c.args.l.now)))
 
 pub again-requires-in-Balanced-clause-scanning : goal.again-requires-in-Balanced-clause-scanning
@@ -39,24 +47,33 @@ again-requires-in-Balanced-clause-scanning g c = rw c.in-Balanced.is refl
 
 pub returns-in-Balanced-clause-applies : goal.returns-in-Balanced-clause-applies
 returns-in-Balanced-clause-applies g c =
-    faultless_applies (again (residual_in (extent_of c.args.w.now.heap) c.args.rest)) c.args.w.now c.again-in-Balanced.new.w (g.L.Locals.items c.args.l.now) (g.L.Locals.items c.args.l.now) (call_streams (g.I.Source.left c.args.input.now) (g.I.Source.faults c.args.input.now) (g.O.Sink.state c.args.out.now) (g.E.Sink.state c.args.err.now))
-    c.again-in-Balanced.result (λ was. c.again-in-Balanced.ensures.row was) c.again-in-Balanced.ensures.live c.again-in-Balanced.ensures.locals c.again-in-Balanced.ensures.kept
+    faultless_applies (again (residual_in (extent_of c.args.w.now.heap) c.args.rest)) c.args.w.now c.again-in-Balanced.new.w
+    (g.L.Locals.items c.args.l.now) (g.L.Locals.items c.args.l.now)
+    (call_streams (g.I.Source.left c.args.input.now) (g.I.Source.faults c.args.input.now) (g.O.Sink.state c.args.out.now) (g.E.Sink.state c.args.err.now))
+    c.again-in-Balanced.result
+    (λ was. c.again-in-Balanced.ensures.row was) c.again-in-Balanced.ensures.live c.again-in-Balanced.ensures.locals c.again-in-Balanced.ensures.kept
 
 pub again-requires-in-Found-clause-scanning : goal.again-requires-in-Found-clause-scanning
 again-requires-in-Found-clause-scanning g c = rw c.in-Found.is refl
 
 pub returns-in-Found-clause-applies : goal.returns-in-Found-clause-applies
 returns-in-Found-clause-applies g c =
-    faultless_applies (again (residual_in (extent_of c.args.w.now.heap) c.args.rest)) c.args.w.now c.again-in-Found.new.w (g.L.Locals.items c.args.l.now) (g.L.Locals.items c.args.l.now) (call_streams (g.I.Source.left c.args.input.now) (g.I.Source.faults c.args.input.now) (g.O.Sink.state c.args.out.now) (g.E.Sink.state c.args.err.now))
-    c.again-in-Found.result (λ was. c.again-in-Found.ensures.row was) c.again-in-Found.ensures.live c.again-in-Found.ensures.locals c.again-in-Found.ensures.kept
+    faultless_applies (again (residual_in (extent_of c.args.w.now.heap) c.args.rest)) c.args.w.now c.again-in-Found.new.w
+    (g.L.Locals.items c.args.l.now) (g.L.Locals.items c.args.l.now)
+    (call_streams (g.I.Source.left c.args.input.now) (g.I.Source.faults c.args.input.now) (g.O.Sink.state c.args.out.now) (g.E.Sink.state c.args.err.now))
+    c.again-in-Found.result
+    (λ was. c.again-in-Found.ensures.row was) c.again-in-Found.ensures.live c.again-in-Found.ensures.locals c.again-in-Found.ensures.kept
 
 pub again-requires-in-Among-clause-scanning : goal.again-requires-in-Among-clause-scanning
 again-requires-in-Among-clause-scanning g c = rw c.in-Among.is refl
 
 pub returns-in-Among-clause-applies : goal.returns-in-Among-clause-applies
 returns-in-Among-clause-applies g c =
-    faultless_applies (again (residual_in (extent_of c.args.w.now.heap) c.args.rest)) c.args.w.now c.again-in-Among.new.w (g.L.Locals.items c.args.l.now) (g.L.Locals.items c.args.l.now) (call_streams (g.I.Source.left c.args.input.now) (g.I.Source.faults c.args.input.now) (g.O.Sink.state c.args.out.now) (g.E.Sink.state c.args.err.now))
-    c.again-in-Among.result (λ was. c.again-in-Among.ensures.row was) c.again-in-Among.ensures.live c.again-in-Among.ensures.locals c.again-in-Among.ensures.kept
+    faultless_applies (again (residual_in (extent_of c.args.w.now.heap) c.args.rest)) c.args.w.now c.again-in-Among.new.w
+    (g.L.Locals.items c.args.l.now) (g.L.Locals.items c.args.l.now)
+    (call_streams (g.I.Source.left c.args.input.now) (g.I.Source.faults c.args.input.now) (g.O.Sink.state c.args.out.now) (g.E.Sink.state c.args.err.now))
+    c.again-in-Among.result
+    (λ was. c.again-in-Among.ensures.row was) c.again-in-Among.ensures.live c.again-in-Among.ensures.locals c.again-in-Among.ensures.kept
 
 pub again-requires-in-TextBytes-clause-operation : goal.again-requires-in-TextBytes-clause-operation
 again-requires-in-TextBytes-clause-operation g c = rw c.in-TextBytes.is refl

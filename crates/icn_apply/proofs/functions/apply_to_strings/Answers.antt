@@ -16,8 +16,10 @@ use Rattle.icn_apply.proofs.functions.apply_to_strings.Goals as goal
 
 pub returns-in_err-vals-clause-applies : goal.returns-in_err-vals-clause-applies
 returns-in_err-vals-clause-applies g c = λ handed.
-    stops_there (the_values (map (item_in (extent_of c.args.w.now.heap)) c.args.args.now)) (λ values. function_of (g.N.Names.known c.args.names.now) c.args.func values) (call_state c.args.w.now (g.L.Locals.items c.args.l.now) handed)
-    c.in_err-vals.field-0.0 c.from_residual.result c.from_residual.ensures.1 (λ was. c.in_err-vals.ensures.found was) c.in_err-vals.ensures.stops c.requires.locals
+    stops_there (the_values (map (item_in (extent_of c.args.w.now.heap)) c.args.args.now))
+    (λ values. function_of (g.N.Names.known c.args.names.now) c.args.func values) (call_state c.args.w.now (g.L.Locals.items c.args.l.now) handed)
+    c.in_err-vals.field-0.0 c.from_residual.result c.from_residual.ensures.1
+    (λ was. c.in_err-vals.ensures.found was) c.in_err-vals.ensures.stops c.requires.locals
 
 pub returns-in_err-vals-clause-named : goal.returns-in_err-vals-clause-named
 returns-in_err-vals-clause-named g c =
@@ -25,34 +27,45 @@ returns-in_err-vals-clause-named g c =
     c.in_err-vals.field-0.0 c.from_residual.result c.requires.named c.requires.args_named c.from_residual.ensures.1 (λ was. c.in_err-vals.ensures.found was)
 
 pub first-requires-clause-args : goal.first-requires-clause-args
-first-requires-clause-args g c = subst (λ (vals : List Val). All (IsLive (extent_of c.args.w.now.heap)) vals) (sym c.deref.ensures.value) c.in_ok-vals.ensures.live
+first-requires-clause-args g c =
+    subst (λ (vals : List Val). All (IsLive (extent_of c.args.w.now.heap)) vals) (sym c.deref.ensures.value) c.in_ok-vals.ensures.live
 
 pub first-requires-clause-named : goal.first-requires-clause-named
 first-requires-clause-named g c =
     vals_named (g.N.Names.known c.args.names.now) (extent_of c.args.w.now.heap) c.deref.result.now
-    (values_named (g.N.Names.known c.args.names.now) (map (item_in (extent_of c.args.w.now.heap)) c.args.args.now) (setting_of (outside_of []) c.args.w.now (g.L.Locals.items c.args.l.now)) (map (value_in (extent_of c.args.w.now.heap)) c.deref.result.now) c.requires.named c.requires.args_named
+    (values_named (g.N.Names.known c.args.names.now) (map (item_in (extent_of c.args.w.now.heap)) c.args.args.now) (setting_of (outside_of []) c.args.w.now
+    (g.L.Locals.items c.args.l.now)) (map (value_in (extent_of c.args.w.now.heap)) c.deref.result.now) c.requires.named c.requires.args_named
     (λ next. c.in_ok-vals.ensures.found (outside_of []) next
-    ∙ ap (λ (vals : List Val). next (map (value_in (extent_of c.args.w.now.heap)) vals) (setting_of (outside_of []) c.args.w.now (g.L.Locals.items c.args.l.now))) (sym c.deref.ensures.value)))
+    ∙ ap (λ (vals : List Val). next (map (value_in (extent_of c.args.w.now.heap)) vals)
+    (setting_of (outside_of []) c.args.w.now (g.L.Locals.items c.args.l.now))) (sym c.deref.ensures.value)))
 
 pub first-requires-clause-records : goal.first-requires-clause-records
-first-requires-clause-records g c = records_named (g.N.Names.known c.args.names.now) c.args.w.now (g.L.Locals.items c.args.l.now) (outside_of []) c.requires.named
+first-requires-clause-records g c =
+    records_named (g.N.Names.known c.args.names.now) c.args.w.now (g.L.Locals.items c.args.l.now) (outside_of []) c.requires.named
 
 pub returns-clause-applies : goal.returns-clause-applies
 returns-clause-applies g c = λ handed.
-    applies_same (function_row (g.N.Names.known c.args.names.now) c.args.func (map (item_in (extent_of c.args.w.now.heap)) c.args.args.now)) (function_of (g.N.Names.known c.args.names.now) c.args.func (map (value_in (extent_of c.args.w.now.heap)) c.deref.result.now))
+    applies_same (function_row (g.N.Names.known c.args.names.now) c.args.func (map (item_in (extent_of c.args.w.now.heap)) c.args.args.now))
+    (function_of (g.N.Names.known c.args.names.now) c.args.func (map (value_in (extent_of c.args.w.now.heap)) c.deref.result.now))
     (call_state c.args.w.now (g.L.Locals.items c.args.l.now) handed) (call_state c.first.new.w (g.L.Locals.items c.args.l.now) handed) c.first.result
     (λ was. c.in_ok-vals.ensures.found was (λ values. function_of (g.N.Names.known c.args.names.now) c.args.func values)
-    ∙ ap (λ (vals : List Val). function_of (g.N.Names.known c.args.names.now) c.args.func (map (value_in (extent_of c.args.w.now.heap)) vals) (setting_of was c.args.w.now (g.L.Locals.items c.args.l.now))) (sym c.deref.ensures.value))
-    (faultless_applies (function_of (g.N.Names.known c.args.names.now) c.args.func (map (value_in (extent_of c.args.w.now.heap)) c.deref.result.now)) c.args.w.now c.first.new.w (g.L.Locals.items c.args.l.now) (g.L.Locals.items c.args.l.now) handed c.first.result
+    ∙ ap (λ (vals : List Val). function_of (g.N.Names.known c.args.names.now) c.args.func (map (value_in (extent_of c.args.w.now.heap)) vals)
+    (setting_of was c.args.w.now (g.L.Locals.items c.args.l.now))) (sym c.deref.ensures.value))
+    (faultless_applies (function_of (g.N.Names.known c.args.names.now) c.args.func (map (value_in (extent_of c.args.w.now.heap)) c.deref.result.now))
+    c.args.w.now c.first.new.w (g.L.Locals.items c.args.l.now) (g.L.Locals.items c.args.l.now) handed c.first.result
     (λ was. c.first.ensures.row was) c.first.ensures.live c.first.ensures.locals c.first.ensures.kept)
 
 pub returns-clause-named : goal.returns-clause-named
 returns-clause-named g c =
-    answers_named (g.N.Names.known c.args.names.now) (function_of (g.N.Names.known c.args.names.now) c.args.func (map (value_in (extent_of c.args.w.now.heap)) c.deref.result.now)) c.args.w.now c.first.new.w (g.L.Locals.items c.args.l.now) c.first.result
-    (function_named (g.N.Names.known c.args.names.now) c.args.func c.args.w.now (g.L.Locals.items c.args.l.now) (outside_of []) c.deref.result.now c.requires.named
-    (values_named (g.N.Names.known c.args.names.now) (map (item_in (extent_of c.args.w.now.heap)) c.args.args.now) (setting_of (outside_of []) c.args.w.now (g.L.Locals.items c.args.l.now)) (map (value_in (extent_of c.args.w.now.heap)) c.deref.result.now) c.requires.named c.requires.args_named
+    answers_named (g.N.Names.known c.args.names.now) (function_of (g.N.Names.known c.args.names.now) c.args.func
+    (map (value_in (extent_of c.args.w.now.heap)) c.deref.result.now)) c.args.w.now c.first.new.w (g.L.Locals.items c.args.l.now) c.first.result
+    (function_named (g.N.Names.known c.args.names.now) c.args.func c.args.w.now (g.L.Locals.items c.args.l.now)
+    (outside_of []) c.deref.result.now c.requires.named
+    (values_named (g.N.Names.known c.args.names.now) (map (item_in (extent_of c.args.w.now.heap)) c.args.args.now) (setting_of (outside_of []) c.args.w.now
+    (g.L.Locals.items c.args.l.now)) (map (value_in (extent_of c.args.w.now.heap)) c.deref.result.now) c.requires.named c.requires.args_named
     (λ next. c.in_ok-vals.ensures.found (outside_of []) next
-    ∙ ap (λ (vals : List Val). next (map (value_in (extent_of c.args.w.now.heap)) vals) (setting_of (outside_of []) c.args.w.now (g.L.Locals.items c.args.l.now))) (sym c.deref.ensures.value)))
+    ∙ ap (λ (vals : List Val). next (map (value_in (extent_of c.args.w.now.heap)) vals)
+    (setting_of (outside_of []) c.args.w.now (g.L.Locals.items c.args.l.now))) (sym c.deref.ensures.value)))
     (subst (λ (vals : List Val). All (IsLive (extent_of c.args.w.now.heap)) vals) (sym c.deref.ensures.value) c.in_ok-vals.ensures.live))
     (λ was. c.first.ensures.row was)
 

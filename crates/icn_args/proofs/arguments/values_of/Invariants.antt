@@ -16,7 +16,8 @@ invariant-loop-first g l = record {
   left : All (IsLiveItem (reach_of l.w (g.L.Locals.items l.l))) l.rest;
   is : (outside : Outside) (next : List Value → Row)
       → the_values (map (item_in (extent_of l.w.heap)) l.items) next (setting_of outside l.w (g.L.Locals.items l.l))
-      ≡ values_behind (map (value_in (extent_of l.w.heap)) l.vals.items) (map (item_in (extent_of l.w.heap)) l.rest) next (setting_of outside l.w (g.L.Locals.items l.l));
+      ≡ values_behind (map (value_in (extent_of l.w.heap)) l.vals.items) (map (item_in (extent_of l.w.heap)) l.rest) next
+      (setting_of outside l.w (g.L.Locals.items l.l));
 }
 
 abbrev pub decreases-loop-first : goal.decreases-loop-first

@@ -7,18 +7,24 @@ use Rattle.icn_args.proofs.charges.join.Goals as goal
 
 pub returns-in_err-join-clause-step : goal.returns-in_err-join-clause-step
 returns-in_err-join-clause-step g c =
-    charge_stops c.args.w.now.heap c.join.new.self c.args.w.now.pair c.args.w.now.random c.args.w.now.globals.items c.args.w.now.statics.items (g.L.Locals.items c.args.l.now) c.in_err-join.field-0.0 c.from_residual.result c.join.ensures.kept
-    c.args.w.now.sound c.requires.locals (bytes_change (length (text_in (extent_of c.args.w.now.heap) c.args.a ++ text_in (extent_of c.args.w.now.heap) c.args.b))) c.in_err-join.ensures.unchanged c.in_err-join.ensures.step c.from_residual.ensures.1
+    charge_stops c.args.w.now.heap c.join.new.self c.args.w.now.pair c.args.w.now.random c.args.w.now.globals.items c.args.w.now.statics.items
+    (g.L.Locals.items c.args.l.now) c.in_err-join.field-0.0 c.from_residual.result c.join.ensures.kept
+    c.args.w.now.sound c.requires.locals
+    (bytes_change (length (text_in (extent_of c.args.w.now.heap) c.args.a ++ text_in (extent_of c.args.w.now.heap) c.args.b))) c.in_err-join.ensures.unchanged
+    c.in_err-join.ensures.step c.from_residual.ensures.1
 
 pub returns-clause-step : goal.returns-clause-step
 returns-clause-step g c =
-    passes c.args.w.now.heap c.join.new.self c.args.w.now.pair c.args.w.now.random c.args.w.now.globals.items c.args.w.now.statics.items (g.L.Locals.items c.args.l.now) c.join.ensures.kept
-    c.args.w.now.sound c.requires.locals (bytes_change (length (text_in (extent_of c.args.w.now.heap) c.args.a ++ text_in (extent_of c.args.w.now.heap) c.args.b))) c.in_ok-join.ensures.step
+    passes c.args.w.now.heap c.join.new.self c.args.w.now.pair c.args.w.now.random c.args.w.now.globals.items c.args.w.now.statics.items
+    (g.L.Locals.items c.args.l.now) c.join.ensures.kept
+    c.args.w.now.sound c.requires.locals
+    (bytes_change (length (text_in (extent_of c.args.w.now.heap) c.args.a ++ text_in (extent_of c.args.w.now.heap) c.args.b))) c.in_ok-join.ensures.step
 
 pub returns-clause-kept : goal.returns-clause-kept
 returns-clause-kept g c = record {
   extent = c.join.ensures.kept;
-  fields = fields_charged (bytes_change (length (text_in (extent_of c.args.w.now.heap) c.args.a ++ text_in (extent_of c.args.w.now.heap) c.args.b))) (heap_of c.args.w.now.heap) (heap_of c.join.new.self) c.in_ok-join.ensures.step;
+  fields = fields_charged (bytes_change (length (text_in (extent_of c.args.w.now.heap) c.args.a ++ text_in (extent_of c.args.w.now.heap) c.args.b)))
+      (heap_of c.args.w.now.heap) (heap_of c.join.new.self) c.in_ok-join.ensures.step;
   globals = refl;
   statics = refl;
   locals = refl;

@@ -33,8 +33,10 @@ returns-in_err-charge_coexp-clause-step g c tables outside =
     = ap (λ (x : Bounds). nat_lt m.turns x.turns) sound.bounds ∙ under m.turns m.limits.turns c.if-m.false in
     at_stopped c.from_residual.result c.in_err-charge_coexp.field-0.0 _ _ c.from_residual.ensures.1 tt
     (λ number offending e.
-    create_errs t tables w v f c.args.label c.local_count-count.result number offending c.in_err-charge_coexp.field-0.0 (all_names tables) outside m.turns (m.turns + 1) m.begun.items m.stacks.table
-    (record m.stacks.table { running = Some f }) c.frames.ensures.running more c.charge_coexp.ensures.kept live sound.stacks.coexps c.local_count-count.ensures.all
+    create_errs t tables w v f c.args.label c.local_count-count.result number offending c.in_err-charge_coexp.field-0.0 (all_names tables) outside m.turns
+    (m.turns + 1) m.begun.items m.stacks.table
+    (record m.stacks.table { running = Some f }) c.frames.ensures.running more c.charge_coexp.ensures.kept live sound.stacks.coexps
+    c.local_count-count.ensures.all
     (c.in_err-charge_coexp.ensures.row outside (held.locals f) (live_locals t (reach_of w []) f live)) e)
 
 pub add_here-requires-clause-few : goal.add_here-requires-clause-few
@@ -51,7 +53,8 @@ returns-in-Ok-clause-step g c tables outside =
     let live : IsLiveStack t (reach_of w []) f = running_live t (reach_of w []) m.stacks.table f c.frames.ensures.running sound.stacks in
     let more : nat_lt m.turns (heap_of w.heap).bounds.turns ≡ true
     = ap (λ (x : Bounds). nat_lt m.turns x.turns) sound.bounds ∙ under m.turns m.limits.turns c.if-m.false in
-    create_runs t tables w v f c.args.label c.local_count-count.result (length (heap_of w.heap).coexps) (all_names tables) outside m.turns (m.turns + 1) m.begun.items m.stacks.table c.add_here.new.stacks.table
+    create_runs t tables w v f c.args.label c.local_count-count.result (length (heap_of w.heap).coexps) (all_names tables) outside m.turns
+    (m.turns + 1) m.begun.items m.stacks.table c.add_here.new.stacks.table
     c.frames.ensures.running more c.charge_coexp.ensures.kept live sound.stacks.coexps c.local_count-count.ensures.same c.local_count-count.ensures.all
     (c.in_ok-charge_coexp.ensures.row outside (held.locals f) (live_locals t (reach_of w []) f live)) sound.counts c.in-Ok.ensures (add-one m.turns)
 
@@ -66,15 +69,19 @@ returns-in-Ok-clause-sound g c tables k =
     let cs = (heap_of m.world.heap).coexps in
     let ds = (heap_of c.charge_coexp.new.world.heap).coexps in
     record {
-      stacks = created_live tables (reach_of w []) (reach_of v []) table c.add_here.new.stacks.table f c.args.label refl c.in-Ok.ensures c.charge_coexp.ensures.kept
+      stacks = created_live tables (reach_of w [])
+          (reach_of v []) table c.add_here.new.stacks.table f c.args.label refl c.in-Ok.ensures c.charge_coexp.ensures.kept
           (sym c.local_count-count.ensures.count ∙ c.local_count-count.ensures.all)
           (subst (λ (n : ℕ). IsLive (extent_of v.heap) (HeldCoexp n)) k.counts c.in_ok-charge_coexp.ensures.live)
           (stacks_on tables (reach_of w []) m.stacks.table f f c.frames.ensures.running (λ l. l) k.stacks);
       bounds = c.in_ok-charge_coexp.ensures.bounds ∙ k.bounds;
-      counts = c.in_ok-charge_coexp.ensures.more ∙ ap (λ (n : ℕ). suc n) k.counts ∙ sym (created_length table c.add_here.new.stacks.table f c.args.label refl c.in-Ok.ensures);
+      counts = c.in_ok-charge_coexp.ensures.more ∙ ap (λ (n : ℕ). suc n) k.counts
+          ∙ sym (created_length table c.add_here.new.stacks.table f c.args.label refl c.in-Ok.ensures);
       counted = record {
-        results = same_counts (m.turns + 1) m.stacks.table.active u.active cs ds c.in_ok-charge_coexp.ensures.counts (ap (λ (x : Table). x.active) c.in-Ok.ensures) (turn_more m.turns m.stacks.table.active cs k.counted.results);
-        activators = subst (λ (x : Table). EnterOthers x.coexps) (sym c.in-Ok.ensures) (new_others m.stacks.table (held.locals f) (held.proc f) f.place k.counted.activators);
+        results = same_counts (m.turns + 1) m.stacks.table.active u.active cs ds c.in_ok-charge_coexp.ensures.counts
+            (ap (λ (x : Table). x.active) c.in-Ok.ensures) (turn_more m.turns m.stacks.table.active cs k.counted.results);
+        activators = subst (λ (x : Table). EnterOthers x.coexps) (sym c.in-Ok.ensures)
+            (new_others m.stacks.table (held.locals f) (held.proc f) f.place k.counted.activators);
       };
     }
 

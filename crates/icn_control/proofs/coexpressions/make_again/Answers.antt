@@ -28,7 +28,8 @@ returns-in_err-charge_coexp-clause-step g c tables outside =
     let live : IsLiveStack t (reach_of w []) f = running_live t (reach_of w []) m.stacks.table f c.frames.ensures.running sound.stacks in
     at_stopped c.from_residual.result c.in_err-charge_coexp.field-0.0 _ _ c.from_residual.ensures.1 tt
     (λ number offending e.
-    copy_errs t w v f c.args.id c.held-count.result number offending c.in_err-charge_coexp.field-0.0 (all_names tables) outside m.turns m.begun.items m.stacks.table (record m.stacks.table { running = Some f })
+    copy_errs t w v f c.args.id c.held-count.result number offending c.in_err-charge_coexp.field-0.0
+    (all_names tables) outside m.turns m.begun.items m.stacks.table (record m.stacks.table { running = Some f })
     c.frames.ensures.running c.requires.other c.requires.there c.charge_coexp.ensures.kept live sound.stacks.coexps c.held-count.ensures
     (c.in_err-charge_coexp.ensures.row outside (held.locals f) (live_locals t (reach_of w []) f live)) e)
 
@@ -44,8 +45,10 @@ returns-in-Ok-clause-step g c tables outside =
     let t = c.requires.sound.0 in
     let sound = c.requires.sound.1 in
     let live : IsLiveStack t (reach_of w []) f = running_live t (reach_of w []) m.stacks.table f c.frames.ensures.running sound.stacks in
-    copy_runs t w v f c.args.id c.held-count.result (length (heap_of w.heap).coexps) (all_names tables) outside m.turns m.begun.items m.stacks.table c.add_copy.new.stacks.table
-    c.frames.ensures.running c.requires.other c.requires.there c.charge_coexp.ensures.kept live sound.stacks.coexps c.local_count.ensures.same c.held-count.ensures
+    copy_runs t w v f c.args.id c.held-count.result (length (heap_of w.heap).coexps)
+    (all_names tables) outside m.turns m.begun.items m.stacks.table c.add_copy.new.stacks.table
+    c.frames.ensures.running c.requires.other c.requires.there c.charge_coexp.ensures.kept live sound.stacks.coexps c.local_count.ensures.same
+    c.held-count.ensures
     (c.in_ok-charge_coexp.ensures.row outside (held.locals f) (live_locals t (reach_of w []) f live)) sound.counts c.in-Ok.ensures
 
 pub returns-in-Ok-clause-sound : goal.returns-in-Ok-clause-sound
@@ -59,13 +62,16 @@ returns-in-Ok-clause-sound g c tables k =
     let cs = (heap_of m.world.heap).coexps in
     let ds = (heap_of c.charge_coexp.new.world.heap).coexps in
     record {
-      stacks = copied_live tables (reach_of w []) (reach_of v []) table c.add_copy.new.stacks.table f c.args.id refl c.in-Ok.ensures c.requires.other c.charge_coexp.ensures.kept
+      stacks = copied_live tables (reach_of w [])
+          (reach_of v []) table c.add_copy.new.stacks.table f c.args.id refl c.in-Ok.ensures c.requires.other c.charge_coexp.ensures.kept
           (subst (λ (n : ℕ). IsLive (extent_of v.heap) (HeldCoexp n)) k.counts c.in_ok-charge_coexp.ensures.live)
           (stacks_on tables (reach_of w []) m.stacks.table f f c.frames.ensures.running (λ l. l) k.stacks);
       bounds = c.in_ok-charge_coexp.ensures.bounds ∙ k.bounds;
-      counts = c.in_ok-charge_coexp.ensures.more ∙ ap (λ (n : ℕ). suc n) k.counts ∙ sym (copied_length table c.add_copy.new.stacks.table f c.args.id refl c.in-Ok.ensures c.requires.there);
+      counts = c.in_ok-charge_coexp.ensures.more ∙ ap (λ (n : ℕ). suc n) k.counts
+          ∙ sym (copied_length table c.add_copy.new.stacks.table f c.args.id refl c.in-Ok.ensures c.requires.there);
       counted = record {
-        results = same_counts m.turns m.stacks.table.active u.active cs ds c.in_ok-charge_coexp.ensures.counts (copied_active table u f c.args.id refl c.in-Ok.ensures) k.counted.results;
+        results = same_counts m.turns m.stacks.table.active u.active cs ds c.in_ok-charge_coexp.ensures.counts
+            (copied_active table u f c.args.id refl c.in-Ok.ensures) k.counted.results;
         activators = copied_others table u f c.args.id refl c.in-Ok.ensures k.counted.activators;
       };
     }

@@ -35,8 +35,10 @@ pub take_value-requires-clause-operand : goal.take_value-requires-clause-operand
 take_value-requires-clause-operand g c = subst (λ (x : FlatStack). IsSome (held.pop x)) (ap running_of c.frames.ensures.running) c.requires.operand
 
 pub take_value-requires-clause-stack : goal.take_value-requires-clause-stack
-take_value-requires-clause-stack g c =
-    (c.requires.sound.0, subst (λ (o : Option FlatStack). IsLiveRunning c.requires.sound.0 (reach_of c.args.m.now.world []) o) c.frames.ensures.running c.requires.sound.1.stacks.runs)
+take_value-requires-clause-stack g c = (
+  c.requires.sound.0,
+  subst (λ (o : Option FlatStack). IsLiveRunning c.requires.sound.0 (reach_of c.args.m.now.world []) o) c.frames.ensures.running c.requires.sound.1.stacks.runs,
+)
 
 pub returns-in_err-v-clause-step : goal.returns-in_err-v-clause-step
 returns-in_err-v-clause-step g c tables outside =
@@ -74,7 +76,8 @@ returns-then-id-eq0-clause-step g c tables outside =
     let st : Store Frames = store_in (all_names tables) outside (world_of w) (suc m.turns) m.begun.items (extent_of w.heap) m.stacks.table in
     let more : nat_lt m.turns (heap_of w.heap).bounds.turns ≡ true
     = ap (λ (x : Bounds). nat_lt m.turns x.turns) c.requires.sound.1.bounds ∙ under m.turns m.limits.turns c.if-m.false in
-    let is : c.in_ok-v.v ≡ Vals.Coexp 0 = number_is c.in_ok-v.v c.in-Some.id (sym c.in-Some.is ∙ c.coexp_of.ensures) ∙ ap (λ (k : ℕ). Vals.Coexp k) c.if-id-eq0.true in
+    let is : c.in_ok-v.v ≡ Vals.Coexp 0 = number_is c.in_ok-v.v c.in-Some.id (sym c.in-Some.is ∙ c.coexp_of.ensures)
+    ∙ ap (λ (k : ℕ). Vals.Coexp k) c.if-id-eq0.true in
     refresh_goes tables (all_names tables) outside w m.turns m.begun.items m.stacks.table f c.frames.ensures.running more
     ∙ c.in_ok-v.ensures.step st (λ value n. refresh flat value n st) refl
     ∙ main_refused (extent_of w.heap) c.in_ok-v.v (stack_in (extent_of w.heap) n) st is
@@ -95,10 +98,12 @@ make_again-requires-clause-sound g c =
     let k = c.requires.sound.1 in (
       t,
       record {
-        stacks = stacks_on t (reach_of m.world []) m.stacks.table c.frames.result.now.flat c.take_value.new.frames.flat c.frames.ensures.running (λ l. c.take_value.ensures.live t l) k.stacks;
+        stacks = stacks_on t (reach_of m.world []) m.stacks.table c.frames.result.now.flat c.take_value.new.frames.flat c.frames.ensures.running
+            (λ l. c.take_value.ensures.live t l) k.stacks;
         bounds = k.bounds;
         counts = k.counts;
-        counted = record { results = turn_more m.turns m.stacks.table.active (heap_of m.world.heap).coexps k.counted.results; activators = k.counted.activators };
+        counted =
+            record { results = turn_more m.turns m.stacks.table.active (heap_of m.world.heap).coexps k.counted.results; activators = k.counted.activators };
       },
     )
 
@@ -126,7 +131,8 @@ pub returns-clause-sound : goal.returns-clause-sound
 returns-clause-sound g c tables k =
     let m = c.args.m.now in
     c.make_again.ensures.sound tables (record {
-      stacks = stacks_on tables (reach_of m.world []) m.stacks.table c.frames.result.now.flat c.take_value.new.frames.flat c.frames.ensures.running (λ l. c.take_value.ensures.live tables l) k.stacks;
+      stacks = stacks_on tables (reach_of m.world []) m.stacks.table c.frames.result.now.flat c.take_value.new.frames.flat c.frames.ensures.running
+          (λ l. c.take_value.ensures.live tables l) k.stacks;
       bounds = k.bounds;
       counts = k.counts;
       counted = record { results = turn_more m.turns m.stacks.table.active (heap_of m.world.heap).coexps k.counted.results; activators = k.counted.activators };

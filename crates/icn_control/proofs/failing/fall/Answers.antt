@@ -14,7 +14,9 @@ use Rattle.icn_control.proofs.failing.fall.Goals as goal
 
 pub set_pair-requires : goal.set_pair-requires
 set_pair-requires g c =
-    (live_resume c.requires.live.0 (reach_of c.args.world.now []) c.args.frames.now.flat c.resume.new.self.flat (Scan c.in-Some-Scan.pair) (resumed_as c.args.frames.now.flat c.resume.new.self.flat c.in-Some-Scan.field-0 (Scan c.in-Some-Scan.pair) c.in-Some-Scan.ensures.flat c.in-Some-Scan.field-0-is) c.requires.live.1).why_live
+    (live_resume c.requires.live.0 (reach_of c.args.world.now []) c.args.frames.now.flat c.resume.new.self.flat (Scan c.in-Some-Scan.pair)
+    (resumed_as c.args.frames.now.flat c.resume.new.self.flat c.in-Some-Scan.field-0
+    (Scan c.in-Some-Scan.pair) c.in-Some-Scan.ensures.flat c.in-Some-Scan.field-0-is) c.requires.live.1).why_live
 
 pub swap_pairs-requires-clause-scan : goal.swap_pairs-requires-clause-scan
 swap_pairs-requires-clause-scan g c =
@@ -23,8 +25,11 @@ swap_pairs-requires-clause-scan g c =
     c.requires.goes_on.0 c.requires.goes_on.1.0 c.requires.goes_on.1.1
 
 pub swap_pairs-requires-clause-live : goal.swap_pairs-requires-clause-live
-swap_pairs-requires-clause-live g c =
-    (c.requires.live.0, (live_resume c.requires.live.0 (reach_of c.args.world.now []) c.args.frames.now.flat c.resume.new.self.flat Escan (resumed_as c.args.frames.now.flat c.resume.new.self.flat c.in-Some-Escan.field-0 Escan c.in-Some-Escan.ensures.flat c.in-Some-Escan.field-0-is) c.requires.live.1).rest)
+swap_pairs-requires-clause-live g c = (
+  c.requires.live.0,
+  (live_resume c.requires.live.0 (reach_of c.args.world.now []) c.args.frames.now.flat c.resume.new.self.flat Escan (resumed_as c.args.frames.now.flat
+      c.resume.new.self.flat c.in-Some-Escan.field-0 Escan c.in-Some-Escan.ensures.flat c.in-Some-Escan.field-0-is) c.requires.live.1).rest,
+)
 
 pub returns-in-None-clause-step : goal.returns-in-None-clause-step
 returns-in-None-clause-step g c =
@@ -41,7 +46,8 @@ returns-in-Some-Alt-clause-step g c =
 
 pub returns-in-Some-Alt-clause-live : goal.returns-in-Some-Alt-clause-live
 returns-in-Some-Alt-clause-live g c t k =
-    (live_resume t (reach_of c.args.world.now []) c.args.frames.now.flat c.resume.new.self.flat Alt (resumed_as c.args.frames.now.flat c.resume.new.self.flat c.in-Some-Alt.field-0 Alt c.in-Some-Alt.ensures.flat c.in-Some-Alt.field-0-is) k).rest
+    (live_resume t (reach_of c.args.world.now []) c.args.frames.now.flat c.resume.new.self.flat Alt
+    (resumed_as c.args.frames.now.flat c.resume.new.self.flat c.in-Some-Alt.field-0 Alt c.in-Some-Alt.ensures.flat c.in-Some-Alt.field-0-is) k).rest
 
 pub returns-in-Some-Op-clause-step : goal.returns-in-Some-Op-clause-step
 returns-in-Some-Op-clause-step g c =
@@ -50,21 +56,26 @@ returns-in-Some-Op-clause-step g c =
 
 pub returns-in-Some-Op-clause-live : goal.returns-in-Some-Op-clause-live
 returns-in-Some-Op-clause-live g c t k =
-    (live_resume t (reach_of c.args.world.now []) c.args.frames.now.flat c.resume.new.self.flat (Op c.in-Some-Op.rest) (resumed_as c.args.frames.now.flat c.resume.new.self.flat c.in-Some-Op.field-0 (Op c.in-Some-Op.rest) c.in-Some-Op.ensures.flat c.in-Some-Op.field-0-is) k).rest
+    (live_resume t (reach_of c.args.world.now []) c.args.frames.now.flat c.resume.new.self.flat (Op c.in-Some-Op.rest) (resumed_as c.args.frames.now.flat
+    c.resume.new.self.flat c.in-Some-Op.field-0 (Op c.in-Some-Op.rest) c.in-Some-Op.ensures.flat c.in-Some-Op.field-0-is) k).rest
 
 pub returns-in-Some-Op-clause-due : goal.returns-in-Some-Op-clause-due
 returns-in-Some-Op-clause-due g c =
-    (live_resume c.requires.live.0 (reach_of c.args.world.now []) c.args.frames.now.flat c.resume.new.self.flat (Op c.in-Some-Op.rest) (resumed_as c.args.frames.now.flat c.resume.new.self.flat c.in-Some-Op.field-0 (Op c.in-Some-Op.rest) c.in-Some-Op.ensures.flat c.in-Some-Op.field-0-is) c.requires.live.1).why_live
+    (live_resume c.requires.live.0 (reach_of c.args.world.now []) c.args.frames.now.flat c.resume.new.self.flat (Op c.in-Some-Op.rest)
+    (resumed_as c.args.frames.now.flat c.resume.new.self.flat c.in-Some-Op.field-0 (Op c.in-Some-Op.rest) c.in-Some-Op.ensures.flat c.in-Some-Op.field-0-is)
+    c.requires.live.1).why_live
 
 pub returns-in-Some-Scan-clause-step : goal.returns-in-Some-Scan-clause-step
 returns-in-Some-Scan-clause-step g c =
     fall_scan c.args.world.now c.set_pair.new.world c.args.frames.now.flat c.resume.new.self.flat c.in-Some-Scan.pair
-    (resumed_as c.args.frames.now.flat c.resume.new.self.flat c.in-Some-Scan.field-0 (Scan c.in-Some-Scan.pair) c.in-Some-Scan.ensures.flat c.in-Some-Scan.field-0-is) c.set_pair.ensures.world c.set_pair.ensures.heap
+    (resumed_as c.args.frames.now.flat c.resume.new.self.flat c.in-Some-Scan.field-0
+    (Scan c.in-Some-Scan.pair) c.in-Some-Scan.ensures.flat c.in-Some-Scan.field-0-is) c.set_pair.ensures.world c.set_pair.ensures.heap
 
 pub returns-in-Some-Scan-clause-live : goal.returns-in-Some-Scan-clause-live
 returns-in-Some-Scan-clause-live g c t k =
     subst (λ (r : Reach). IsLiveStack t r c.resume.new.self.flat) (sym c.set_pair.ensures.reach)
-    (live_resume t (reach_of c.args.world.now []) c.args.frames.now.flat c.resume.new.self.flat (Scan c.in-Some-Scan.pair) (resumed_as c.args.frames.now.flat c.resume.new.self.flat c.in-Some-Scan.field-0 (Scan c.in-Some-Scan.pair) c.in-Some-Scan.ensures.flat c.in-Some-Scan.field-0-is) k).rest
+    (live_resume t (reach_of c.args.world.now []) c.args.frames.now.flat c.resume.new.self.flat (Scan c.in-Some-Scan.pair) (resumed_as c.args.frames.now.flat
+    c.resume.new.self.flat c.in-Some-Scan.field-0 (Scan c.in-Some-Scan.pair) c.in-Some-Scan.ensures.flat c.in-Some-Scan.field-0-is) k).rest
 
 pub returns-in-Some-Escan-clause-step : goal.returns-in-Some-Escan-clause-step
 returns-in-Some-Escan-clause-step g c =
@@ -75,7 +86,8 @@ returns-in-Some-Escan-clause-step g c =
 pub returns-in-Some-Escan-clause-live : goal.returns-in-Some-Escan-clause-live
 returns-in-Some-Escan-clause-live g c t k =
     c.swap_pairs.ensures.live t
-    (live_resume t (reach_of c.args.world.now []) c.args.frames.now.flat c.resume.new.self.flat Escan (resumed_as c.args.frames.now.flat c.resume.new.self.flat c.in-Some-Escan.field-0 Escan c.in-Some-Escan.ensures.flat c.in-Some-Escan.field-0-is) k).rest
+    (live_resume t (reach_of c.args.world.now []) c.args.frames.now.flat c.resume.new.self.flat Escan
+    (resumed_as c.args.frames.now.flat c.resume.new.self.flat c.in-Some-Escan.field-0 Escan c.in-Some-Escan.ensures.flat c.in-Some-Escan.field-0-is) k).rest
 
 pub returns-in-Some-Proc-clause-step : goal.returns-in-Some-Proc-clause-step
 returns-in-Some-Proc-clause-step g c =
@@ -84,7 +96,8 @@ returns-in-Some-Proc-clause-step g c =
 
 pub returns-in-Some-Proc-clause-live : goal.returns-in-Some-Proc-clause-live
 returns-in-Some-Proc-clause-live g c t k =
-    (live_resume t (reach_of c.args.world.now []) c.args.frames.now.flat c.resume.new.self.flat Proc (resumed_as c.args.frames.now.flat c.resume.new.self.flat c.in-Some-Proc.field-0 Proc c.in-Some-Proc.ensures.flat c.in-Some-Proc.field-0-is) k).rest
+    (live_resume t (reach_of c.args.world.now []) c.args.frames.now.flat c.resume.new.self.flat Proc
+    (resumed_as c.args.frames.now.flat c.resume.new.self.flat c.in-Some-Proc.field-0 Proc c.in-Some-Proc.ensures.flat c.in-Some-Proc.field-0-is) k).rest
 
 pub returns-in-None-clause-less : goal.returns-in-None-clause-less
 returns-in-None-clause-less g c =
@@ -98,7 +111,8 @@ returns-in-Some-Alt-clause-less g c =
 pub returns-in-Some-Scan-clause-less : goal.returns-in-Some-Scan-clause-less
 returns-in-Some-Scan-clause-less g c =
     resume_less c.args.frames.now.flat c.resume.new.self.flat (Scan c.in-Some-Scan.pair)
-    (resumed_as c.args.frames.now.flat c.resume.new.self.flat c.in-Some-Scan.field-0 (Scan c.in-Some-Scan.pair) c.in-Some-Scan.ensures.flat c.in-Some-Scan.field-0-is)
+    (resumed_as c.args.frames.now.flat c.resume.new.self.flat c.in-Some-Scan.field-0
+    (Scan c.in-Some-Scan.pair) c.in-Some-Scan.ensures.flat c.in-Some-Scan.field-0-is)
 
 pub returns-in-Some-Escan-clause-less : goal.returns-in-Some-Escan-clause-less
 returns-in-Some-Escan-clause-less g c =
@@ -133,7 +147,8 @@ returns-in-Some-Op-clause-world_named g c names k = k
 pub returns-in-Some-Scan-clause-named : goal.returns-in-Some-Scan-clause-named
 returns-in-Some-Scan-clause-named g c =
     scan_falls (extent_of c.args.world.now.heap) c.args.frames.now.flat c.resume.new.self.flat c.in-Some-Scan.pair
-    (resumed_as c.args.frames.now.flat c.resume.new.self.flat c.in-Some-Scan.field-0 (Scan c.in-Some-Scan.pair) c.in-Some-Scan.ensures.flat c.in-Some-Scan.field-0-is)
+    (resumed_as c.args.frames.now.flat c.resume.new.self.flat c.in-Some-Scan.field-0
+    (Scan c.in-Some-Scan.pair) c.in-Some-Scan.ensures.flat c.in-Some-Scan.field-0-is)
 
 pub returns-in-Some-Scan-clause-world_named : goal.returns-in-Some-Scan-clause-world_named
 returns-in-Some-Scan-clause-world_named g c names =

@@ -20,8 +20,14 @@ pub fall-requires-clause-goes_on : goal.fall-requires-clause-goes_on
 fall-requires-clause-goes_on g c =
     let m = c.args.m.now in
     let t : Tables = c.requires.goes_on.0 in
-    let st : Store Frames = store_in (all_names t) c.requires.goes_on.1.0 (world_of m.world) m.turns m.begun.items (extent_of m.world.heap) m.stacks.table in
-    (t, (st, subst (λ (x : Option FlatStack). fails flat t (stack_in (extent_of m.world.heap) (running_of x)) st ≡ stuck → ⊥) c.frames.ensures.running c.requires.goes_on.1.1))
+    let st : Store Frames = store_in (all_names t) c.requires.goes_on.1.0 (world_of m.world) m.turns m.begun.items (extent_of m.world.heap) m.stacks.table in (
+      t,
+      (
+        st,
+        subst (λ (x : Option FlatStack). fails flat t (stack_in (extent_of m.world.heap) (running_of x)) st ≡ stuck → ⊥) c.frames.ensures.running
+            c.requires.goes_on.1.1,
+      ),
+    )
 
 pub returns-clause-step : goal.returns-clause-step
 returns-clause-step g c tables outside =
@@ -39,7 +45,10 @@ returns-clause-sound g c tables k =
       bounds = ap (λ (h : HeldHeap). (heap_of h).bounds) c.fall.ensures.heap ∙ k.bounds;
       counts = ap (λ (h : HeldHeap). length (heap_of h).coexps) c.fall.ensures.heap ∙ k.counts;
       counted =
-          record { results = heap_counts m.turns m.stacks.table.active m.world.heap c.fall.new.world.heap c.fall.ensures.heap k.counted.results; activators = k.counted.activators };
+          record {
+            results = heap_counts m.turns m.stacks.table.active m.world.heap c.fall.new.world.heap c.fall.ensures.heap k.counted.results;
+            activators = k.counted.activators;
+          };
     }
 
 pub returns-clause-less : goal.returns-clause-less

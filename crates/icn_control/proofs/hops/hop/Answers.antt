@@ -18,7 +18,8 @@ pub returns-clause-step : goal.returns-clause-step
 returns-clause-step g c tables outside old =
     let m = c.args.m.now in
     let t : Table = m.stacks.table in
-    let beside : Beside = record { names = all_names tables; outside = outside; world = world_of m.world; turns = m.turns; begun = m.begun.items; all = extent_of m.world.heap } in
+    let beside : Beside =
+    record { names = all_names tables; outside = outside; world = world_of m.world; turns = m.turns; begun = m.begun.items; all = extent_of m.world.heap } in
     subst (λ (s : State Frames Frames). StandsAt tables outside s c.pass_failure.new.m c.pass_failure.result)
     (sym (hop_exhausts tables beside t old (c.active.ensures.one.here ∙ ap active_status c.requires.due)))
     (c.pass_failure.ensures.step tables outside old)

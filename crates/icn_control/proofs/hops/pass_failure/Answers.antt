@@ -18,10 +18,12 @@ pub returns-then-is_moved-clause-step : goal.returns-then-is_moved-clause-step
 returns-then-is_moved-clause-step g c tables outside old =
     let m = c.args.m.now in
     let u : Table = c.exhaust-went.new.self.table in
-    let beside : Beside = record { names = all_names tables; outside = outside; world = world_of m.world; turns = m.turns; begun = m.begun.items; all = extent_of m.world.heap } in
+    let beside : Beside =
+    record { names = all_names tables; outside = outside; world = world_of m.world; turns = m.turns; begun = m.begun.items; all = extent_of m.world.heap } in
     let more : nat_lt m.turns (heap_of m.world.heap).bounds.turns ≡ true
     = ap (λ (x : Bounds). nat_lt m.turns x.turns) c.requires.bounds ∙ under m.turns m.limits.turns c.if-m.false in
-    let F : ℕ → State Frames Frames = λ n. failing (stack_in (extent_of m.world.heap) (running_of u.running)) (store_in (all_names tables) outside (world_of m.world) n m.begun.items (extent_of m.world.heap) u) in
+    let F : ℕ → State Frames Frames = λ n. failing (stack_in (extent_of m.world.heap) (running_of u.running))
+    (store_in (all_names tables) outside (world_of m.world) n m.begun.items (extent_of m.world.heap) u) in
     exhausts beside tables m.stacks.table u old more c.exhaust-went.ensures.table
     ∙ lands_failing (turned beside) old u c.exhaust-went.result c.exhaust-went.ensures.went (sym c.is_moved.ensures ∙ c.if-is_moved.true)
     ∙ ap F (sym (add-one m.turns))
@@ -31,7 +33,8 @@ returns-then-is_moved-clause-sound g c tables k =
     let m = c.args.m.now in
     let u : Table = c.exhaust-went.new.self.table in
     record {
-      stacks = exhaust_live tables (reach_of c.args.m.now.world []) c.args.m.now.stacks.table c.exhaust-went.new.self.table c.exhaust-went.ensures.table k.stacks;
+      stacks = exhaust_live tables
+          (reach_of c.args.m.now.world []) c.args.m.now.stacks.table c.exhaust-went.new.self.table c.exhaust-went.ensures.table k.stacks;
       bounds = k.bounds;
       counts = k.counts ∙ sym (exhaust_length c.args.m.now.stacks.table c.exhaust-went.new.self.table c.exhaust-went.ensures.table);
       counted = record {
@@ -44,7 +47,8 @@ pub returns-else-is_moved-clause-step : goal.returns-else-is_moved-clause-step
 returns-else-is_moved-clause-step g c tables outside old =
     let m = c.args.m.now in
     let u : Table = c.exhaust-went.new.self.table in
-    let beside : Beside = record { names = all_names tables; outside = outside; world = world_of m.world; turns = m.turns; begun = m.begun.items; all = extent_of m.world.heap } in
+    let beside : Beside =
+    record { names = all_names tables; outside = outside; world = world_of m.world; turns = m.turns; begun = m.begun.items; all = extent_of m.world.heap } in
     let more : nat_lt m.turns (heap_of m.world.heap).bounds.turns ≡ true
     = ap (λ (x : Bounds). nat_lt m.turns x.turns) c.requires.bounds ∙ under m.turns m.limits.turns c.if-m.false in
     let F : ℕ → State Frames Frames = λ n. hopping old (store_in (all_names tables) outside (world_of m.world) n m.begun.items (extent_of m.world.heap) u) in (
@@ -59,7 +63,8 @@ returns-else-is_moved-clause-sound g c tables k =
     let m = c.args.m.now in
     let u : Table = c.exhaust-went.new.self.table in
     record {
-      stacks = exhaust_live tables (reach_of c.args.m.now.world []) c.args.m.now.stacks.table c.exhaust-went.new.self.table c.exhaust-went.ensures.table k.stacks;
+      stacks = exhaust_live tables
+          (reach_of c.args.m.now.world []) c.args.m.now.stacks.table c.exhaust-went.new.self.table c.exhaust-went.ensures.table k.stacks;
       bounds = k.bounds;
       counts = k.counts ∙ sym (exhaust_length c.args.m.now.stacks.table c.exhaust-went.new.self.table c.exhaust-went.ensures.table);
       counted = record {

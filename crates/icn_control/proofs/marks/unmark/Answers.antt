@@ -11,16 +11,22 @@ use Rattle.icn_control.proofs.marks.unmark.Goals as goal
 pub returns-clause-step : goal.returns-clause-step
 returns-clause-step g c tables outside =
     let m = c.args.m.now in
-    leaves_on Instrs.Unmark tables outside m.world c.restore_pair.new.world m.turns m.begun.items m.stacks.table c.frames.result.now.flat c.drop_mark-pair.new.frames.flat c.drop_mark-pair.result c.frames.ensures.running c.drop_mark-pair.ensures.step
+    leaves_on Instrs.Unmark tables outside m.world c.restore_pair.new.world m.turns m.begun.items m.stacks.table c.frames.result.now.flat
+    c.drop_mark-pair.new.frames.flat c.drop_mark-pair.result c.frames.ensures.running c.drop_mark-pair.ensures.step
     c.restore_pair.ensures.heap c.restore_pair.ensures.world
 
 pub returns-clause-sound : goal.returns-clause-sound
 returns-clause-sound g c tables k =
     let m = c.args.m.now in
-    let on = stacks_on tables (reach_of m.world []) m.stacks.table c.frames.result.now.flat c.drop_mark-pair.new.frames.flat c.frames.ensures.running (c.drop_mark-pair.ensures.live tables (reach_of m.world [])) k.stacks in
+    let on = stacks_on tables (reach_of m.world []) m.stacks.table c.frames.result.now.flat c.drop_mark-pair.new.frames.flat c.frames.ensures.running
+    (c.drop_mark-pair.ensures.live tables (reach_of m.world [])) k.stacks in
     record {
-      stacks = subst (λ (r : Reach). AreLiveStacks tables r (record m.stacks.table { running = Some c.drop_mark-pair.new.frames.flat })) (sym c.restore_pair.ensures.reach) on;
+      stacks = subst (λ (r : Reach). AreLiveStacks tables r (record m.stacks.table { running = Some c.drop_mark-pair.new.frames.flat }))
+          (sym c.restore_pair.ensures.reach) on;
       bounds = ap (λ (h : HeldHeap). (heap_of h).bounds) c.restore_pair.ensures.heap ∙ k.bounds;
       counts = ap (λ (h : HeldHeap). length (heap_of h).coexps) c.restore_pair.ensures.heap ∙ k.counts;
-      counted = record { results = heap_counts m.turns m.stacks.table.active m.world.heap c.restore_pair.new.world.heap c.restore_pair.ensures.heap k.counted.results; activators = k.counted.activators };
+      counted = record {
+        results = heap_counts m.turns m.stacks.table.active m.world.heap c.restore_pair.new.world.heap c.restore_pair.ensures.heap k.counted.results;
+        activators = k.counted.activators;
+      };
     }

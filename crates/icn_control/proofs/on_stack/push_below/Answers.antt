@@ -12,4 +12,5 @@ returns-clause-step g c = below_runs c.args.frames.now.flat c.push.new.self.flat
 pub returns-clause-live : goal.returns-clause-live
 returns-clause-live g c t reach k =
     subst (λ (m : FlatStack). IsLiveStack t reach m) (sym c.in_ok-push.ensures.ok)
-    (live_push t reach c.args.frames.now.flat c.below-x.result k (live_below t reach c.args.frames.now.flat c.below-x.result c.below-x.ensures c.requires.mark k))
+    (live_push t reach c.args.frames.now.flat c.below-x.result k
+    (live_below t reach c.args.frames.now.flat c.below-x.result c.below-x.ensures c.requires.mark k))

@@ -16,27 +16,35 @@ use Rattle.icn_control.proofs.opening.open_scan.Goals as goal
 
 pub returns-in_err-v-clause-step : goal.returns-in_err-v-clause-step
 returns-in_err-v-clause-step g c =
-    bscan_err c.from_residual.result c.args.world.now c.args.frames.now.flat c.pop-x.new.self.flat c.value_of.new.frames.flat c.pop-x.result c.in_err-v.field-0.0 c.from_residual.ensures.1 c.pop-x.ensures.flat c.in_err-v.ensures.value
+    bscan_err c.from_residual.result c.args.world.now c.args.frames.now.flat c.pop-x.new.self.flat c.value_of.new.frames.flat c.pop-x.result
+    c.in_err-v.field-0.0 c.from_residual.ensures.1 c.pop-x.ensures.flat c.in_err-v.ensures.value
 
 pub returns-in_err-v-clause-kept : goal.returns-in_err-v-clause-kept
 returns-in_err-v-clause-kept g c = items_all (reach_of c.args.world.now [])
 
 pub subject_of-requires-clause-stack : goal.subject_of-requires-clause-stack
 subject_of-requires-clause-stack g c =
-    let t = c.requires.live.0 in
-    (t, subst (λ (x : FlatStack). IsLiveStack t (reach_of c.args.world.now []) x) (sym c.value_of.ensures.same) (live_pop t (reach_of c.args.world.now []) c.args.frames.now.flat c.pop-x.new.self.flat c.pop-x.result c.pop-x.ensures.flat c.requires.live.1).rest)
+    let t = c.requires.live.0 in (
+      t,
+      subst (λ (x : FlatStack). IsLiveStack t (reach_of c.args.world.now []) x) (sym c.value_of.ensures.same)
+          (live_pop t (reach_of c.args.world.now []) c.args.frames.now.flat c.pop-x.new.self.flat c.pop-x.result c.pop-x.ensures.flat c.requires.live.1).rest,
+    )
 
 pub returns-in_err-text-clause-step : goal.returns-in_err-text-clause-step
 returns-in_err-text-clause-step g c =
     let w = c.args.world.now in
-    bscan_unmade c.from_residual-in_err-text.result w c.subject_of.new.world c.args.frames.now.flat c.pop-x.new.self.flat c.subject_of.new.frames.flat c.pop-x.result c.in_ok-v.v c.in_err-text.field-0.0 c.from_residual-in_err-text.ensures.1 c.pop-x.ensures.flat
-    c.in_ok-v.ensures.value (made_at (text_row (value_in (extent_of w.heap) c.in_ok-v.v)) w c.subject_of.new.world c.pop-x.new.self.flat c.value_of.new.frames.flat (Err c.in_err-text.field-0.0) c.value_of.ensures.same c.in_err-text.ensures.made)
+    bscan_unmade c.from_residual-in_err-text.result w c.subject_of.new.world c.args.frames.now.flat c.pop-x.new.self.flat c.subject_of.new.frames.flat
+    c.pop-x.result c.in_ok-v.v c.in_err-text.field-0.0 c.from_residual-in_err-text.ensures.1 c.pop-x.ensures.flat
+    c.in_ok-v.ensures.value (made_at (text_row (value_in (extent_of w.heap) c.in_ok-v.v)) w c.subject_of.new.world c.pop-x.new.self.flat
+    c.value_of.new.frames.flat (Err c.in_err-text.field-0.0) c.value_of.ensures.same c.in_err-text.ensures.made)
 
 pub returns-in-Ok-clause-step : goal.returns-in-Ok-clause-step
 returns-in-Ok-clause-step g c =
     let w = c.args.world.now in
-    bscan_runs w c.subject_of.new.world c.open_over.new.world c.args.frames.now.flat c.pop-x.new.self.flat c.subject_of.new.frames.flat c.open_over.new.frames.flat c.pop-x.result c.in_ok-v.v c.in_ok-text.text c.pop-x.ensures.flat c.in_ok-v.ensures.value
-    (made_at (text_row (value_in (extent_of w.heap) c.in_ok-v.v)) w c.subject_of.new.world c.pop-x.new.self.flat c.value_of.new.frames.flat (Ok (TextVal c.in_ok-text.text)) c.value_of.ensures.same c.in_ok-text.ensures.made)
+    bscan_runs w c.subject_of.new.world c.open_over.new.world c.args.frames.now.flat c.pop-x.new.self.flat c.subject_of.new.frames.flat
+    c.open_over.new.frames.flat c.pop-x.result c.in_ok-v.v c.in_ok-text.text c.pop-x.ensures.flat c.in_ok-v.ensures.value
+    (made_at (text_row (value_in (extent_of w.heap) c.in_ok-v.v)) w c.subject_of.new.world c.pop-x.new.self.flat c.value_of.new.frames.flat
+    (Ok (TextVal c.in_ok-text.text)) c.value_of.ensures.same c.in_ok-text.ensures.made)
     (c.subject_of.ensures.same ∙ c.value_of.ensures.same) c.in-Ok.ensures.step
 
 pub returns-in-Ok-clause-live : goal.returns-in-Ok-clause-live

@@ -21,7 +21,8 @@ returns-in_err-check_text-clause-made g c =
     let w = c.args.world.now in
     let m = c.args.frames.now.flat in
     let row = text_row (value_in (extent_of w.heap) c.args.v) in
-    at_stop c.from_residual.result c.in_err-check_text.field-0.0 (λ span. MakesValue row w m w (Ok (TextVal span))) (λ stop. MakesValue row w m w (Err stop)) c.from_residual.ensures.1
+    at_stop c.from_residual.result c.in_err-check_text.field-0.0 (λ span. MakesValue row w m w (Ok (TextVal span)))
+    (λ stop. MakesValue row w m w (Err stop)) c.from_residual.ensures.1
     (text_unfit w m c.args.v c.in_err-check_text.field-0.0 (c.in_err-check_text.ensures.found (extent_of w.heap)))
 
 pub text_of-requires-clause-locals : goal.text_of-requires-clause-locals
@@ -31,13 +32,16 @@ pub returns-clause-kept : goal.returns-clause-kept
 returns-clause-kept g c = no_locals c.args.world.now c.text_of.new.w (held.locals c.args.frames.now.flat) c.text_of.ensures.kept
 
 pub returns-clause-counts : goal.returns-clause-counts
-returns-clause-counts g c = text_counted c.args.world.now c.text_of.new.w (held.locals c.args.frames.now.flat) c.args.v c.text_of.result (c.in_ok-check_text.ensures.found (extent_of c.args.world.now.heap)) c.text_of.ensures.step
+returns-clause-counts g c = text_counted c.args.world.now c.text_of.new.w (held.locals c.args.frames.now.flat) c.args.v c.text_of.result
+    (c.in_ok-check_text.ensures.found (extent_of c.args.world.now.heap)) c.text_of.ensures.step
 
 pub returns-clause-made : goal.returns-clause-made
 returns-clause-made g c =
-    text_result c.requires.stack.0 c.args.world.now c.text_of.new.w c.args.frames.now.flat c.args.v c.text_of.result c.text_of.ensures.kept c.requires.stack.1 c.local_count.ensures.same (c.in_ok-check_text.ensures.found (extent_of c.args.world.now.heap)) c.text_of.ensures.step
+    text_result c.requires.stack.0 c.args.world.now c.text_of.new.w c.args.frames.now.flat c.args.v c.text_of.result c.text_of.ensures.kept c.requires.stack.1
+    c.local_count.ensures.same (c.in_ok-check_text.ensures.found (extent_of c.args.world.now.heap)) c.text_of.ensures.step
     c.text_of.ensures.text
 
 pub returns-in_err-check_text-clause-stops : goal.returns-in_err-check_text-clause-stops
 returns-in_err-check_text-clause-stops g c =
-    stop_live c.from_residual.result c.in_err-check_text.field-0.0 (IsLiveStop (extent_of c.args.world.now.heap)) c.from_residual.ensures.1 (c.in_err-check_text.ensures.stops (extent_of c.args.world.now.heap) c.requires.value)
+    stop_live c.from_residual.result c.in_err-check_text.field-0.0 (IsLiveStop (extent_of c.args.world.now.heap)) c.from_residual.ensures.1
+    (c.in_err-check_text.ensures.stops (extent_of c.args.world.now.heap) c.requires.value)

@@ -23,7 +23,8 @@ loop-left-preserved g c =
       same = long ∙ c.loop-left.invariant.same;
       few = few;
       is = c.loop-left.invariant.is ∙ ap (λ (j : ℕ). taken_onto j c.loop-left.frames.flat (drop j c.loop-left.items)) e
-          ∙ one_taken (left - 1) c.loop-left.frames.flat c.pop.new.self.flat c.pop.result c.loop-left.items (omega (arith, c.loop-left-test.true, c.loop-left.invariant.few)) c.pop.ensures.flat;
+          ∙ one_taken (left - 1) c.loop-left.frames.flat c.pop.new.self.flat c.pop.result c.loop-left.items
+          (omega (arith, c.loop-left-test.true, c.loop-left.invariant.few)) c.pop.ensures.flat;
       spare = omega (arith, c.loop-left-test.true, c.pop.ensures.spare, c.loop-left.invariant.spare);
     }
 

@@ -12,7 +12,8 @@ use Rattle.icn_control.proofs.returns.give_back.Goals as goal
 
 pub returns-in_err-r-clause-step : goal.returns-in_err-r-clause-step
 returns-in_err-r-clause-step g c =
-    pret_err c.from_residual.result c.args.world.now c.args.frames.now.flat c.pop-x.new.self.flat c.result_of.new.frames.flat c.pop-x.result c.in_err-r.field-0.0 c.from_residual.ensures.1 c.pop-x.ensures.flat c.in_err-r.ensures.value
+    pret_err c.from_residual.result c.args.world.now c.args.frames.now.flat c.pop-x.new.self.flat c.result_of.new.frames.flat c.pop-x.result
+    c.in_err-r.field-0.0 c.from_residual.ensures.1 c.pop-x.ensures.flat c.in_err-r.ensures.value
 
 pub restore_pair-requires : goal.restore_pair-requires
 restore_pair-requires g c =
@@ -21,17 +22,21 @@ restore_pair-requires g c =
     let t = c.requires.live.0 in
     let rest = (live_pop t (reach_of w []) c.args.frames.now.flat c.pop-x.new.self.flat c.pop-x.result c.pop-x.ensures.flat c.requires.live.1).rest in
     let live : IsLiveStack t (reach_of w []) l = subst (λ (x : FlatStack). IsLiveStack t (reach_of w []) x) (sym c.result_of.ensures.same) rest in
-    subst (λ (p : Option Pair). MaybeLivePair (extent_of w.heap) p) (sym c.oldest_pair-pair.ensures) (live_pair_at t (reach_of w []) (own l) l.cells (oldest None l) live.cells)
+    subst (λ (p : Option Pair). MaybeLivePair (extent_of w.heap) p) (sym c.oldest_pair-pair.ensures)
+    (live_pair_at t (reach_of w []) (own l) l.cells (oldest None l) live.cells)
 
 pub returns-then-is_base-clause-step : goal.returns-then-is_base-clause-step
 returns-then-is_base-clause-step g c =
-    pret_over c.args.world.now c.restore_pair.new.world c.args.frames.now.flat c.pop-x.new.self.flat c.result_of.new.frames.flat c.pop-x.result c.in_ok-r.r c.oldest_pair-pair.result c.pop-x.ensures.flat c.in_ok-r.ensures.value
+    pret_over c.args.world.now c.restore_pair.new.world c.args.frames.now.flat c.pop-x.new.self.flat c.result_of.new.frames.flat c.pop-x.result c.in_ok-r.r
+    c.oldest_pair-pair.result c.pop-x.ensures.flat c.in_ok-r.ensures.value
     c.result_of.ensures.same c.oldest_pair-pair.ensures c.restore_pair.ensures.world (sym c.is_base.ensures ∙ c.if-is_base.true)
 
 pub returns-clause-step : goal.returns-clause-step
 returns-clause-step g c =
-    pret_runs c.args.world.now c.restore_pair.new.world c.args.frames.now.flat c.pop-x.new.self.flat c.result_of.new.frames.flat c.leave.new.self.flat c.put.new.frames.flat c.pop-x.result c.in_ok-r.r c.oldest_pair-pair.result
-    c.pop-x.ensures.flat c.in_ok-r.ensures.value c.result_of.ensures.same c.oldest_pair-pair.ensures c.restore_pair.ensures.world c.restore_pair.ensures.heap c.leave.ensures.flat c.put.ensures.flat
+    pret_runs c.args.world.now c.restore_pair.new.world c.args.frames.now.flat c.pop-x.new.self.flat c.result_of.new.frames.flat c.leave.new.self.flat
+    c.put.new.frames.flat c.pop-x.result c.in_ok-r.r c.oldest_pair-pair.result
+    c.pop-x.ensures.flat c.in_ok-r.ensures.value c.result_of.ensures.same c.oldest_pair-pair.ensures c.restore_pair.ensures.world c.restore_pair.ensures.heap
+    c.leave.ensures.flat c.put.ensures.flat
 
 pub returns-clause-live : goal.returns-clause-live
 returns-clause-live g c t k =
@@ -39,4 +44,5 @@ returns-clause-live g c t k =
     let rest = (live_pop t reach c.args.frames.now.flat c.pop-x.new.self.flat c.pop-x.result c.pop-x.ensures.flat k).rest in
     let live : IsLiveStack t reach c.result_of.new.frames.flat = subst (λ (x : FlatStack). IsLiveStack t reach x) (sym c.result_of.ensures.same) rest in
     let out : IsLiveStack t reach c.leave.new.self.flat = live_leave t reach c.result_of.new.frames.flat c.leave.new.self.flat c.leave.ensures.flat live in
-    subst (λ (r : Reach). IsLiveStack t r c.put.new.frames.flat) (sym c.restore_pair.ensures.reach) (given_free t reach c.leave.new.self.flat c.put.new.frames.flat c.in_ok-r.r c.put.ensures.flat out c.in_ok-r.ensures.live)
+    subst (λ (r : Reach). IsLiveStack t r c.put.new.frames.flat) (sym c.restore_pair.ensures.reach)
+    (given_free t reach c.leave.new.self.flat c.put.new.frames.flat c.in_ok-r.r c.put.ensures.flat out c.in_ok-r.ensures.live)

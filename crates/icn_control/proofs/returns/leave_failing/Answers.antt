@@ -14,16 +14,20 @@ pub restore_pair-requires : goal.restore_pair-requires
 restore_pair-requires g c =
     let m : FlatStack = c.args.frames.now.flat in
     let w = c.args.world.now in
-    subst (λ (p : Option Pair). MaybeLivePair (extent_of w.heap) p) (sym c.oldest_pair-pair.ensures) (live_pair_at c.requires.live.0 (reach_of w []) (own m) m.cells (oldest None m) c.requires.live.1.cells)
+    subst (λ (p : Option Pair). MaybeLivePair (extent_of w.heap) p) (sym c.oldest_pair-pair.ensures)
+    (live_pair_at c.requires.live.0 (reach_of w []) (own m) m.cells (oldest None m) c.requires.live.1.cells)
 
 pub returns-then-is_base-clause-step : goal.returns-then-is_base-clause-step
 returns-then-is_base-clause-step g c st same =
-    fails_over c.args.world.now c.restore_pair.new.world c.args.frames.now.flat c.oldest_pair-pair.result c.oldest_pair-pair.ensures c.restore_pair.ensures.world (sym c.is_base.ensures ∙ c.if-is_base.true) st same
+    fails_over c.args.world.now c.restore_pair.new.world c.args.frames.now.flat c.oldest_pair-pair.result c.oldest_pair-pair.ensures
+    c.restore_pair.ensures.world (sym c.is_base.ensures ∙ c.if-is_base.true) st same
 
 pub returns-clause-step : goal.returns-clause-step
 returns-clause-step g c st same =
-    fails_on c.args.world.now c.restore_pair.new.world c.args.frames.now.flat c.leave.new.self.flat c.oldest_pair-pair.result c.oldest_pair-pair.ensures c.restore_pair.ensures.world c.restore_pair.ensures.heap c.leave.ensures.flat st same
+    fails_on c.args.world.now c.restore_pair.new.world c.args.frames.now.flat c.leave.new.self.flat c.oldest_pair-pair.result c.oldest_pair-pair.ensures
+    c.restore_pair.ensures.world c.restore_pair.ensures.heap c.leave.ensures.flat st same
 
 pub returns-clause-live : goal.returns-clause-live
 returns-clause-live g c t k =
-    subst (λ (r : Reach). IsLiveStack t r c.leave.new.self.flat) (sym c.restore_pair.ensures.reach) (live_leave t (reach_of c.args.world.now []) c.args.frames.now.flat c.leave.new.self.flat c.leave.ensures.flat k)
+    subst (λ (r : Reach). IsLiveStack t r c.leave.new.self.flat) (sym c.restore_pair.ensures.reach)
+    (live_leave t (reach_of c.args.world.now []) c.args.frames.now.flat c.leave.new.self.flat c.leave.ensures.flat k)

@@ -8,13 +8,16 @@ use Rattle.icn_control.proofs.returns.suspend_with.Goals as goal
 
 pub returns-in_err-r-clause-step : goal.returns-in_err-r-clause-step
 returns-in_err-r-clause-step g c =
-    psusp_err c.from_residual.result c.args.world.now c.args.frames.now.flat c.pop-x.new.self.flat c.put.new.frames.flat c.result_of.new.frames.flat c.pop-x.result c.in_err-r.field-0.0 c.from_residual.ensures.1 c.pop-x.ensures.flat
+    psusp_err c.from_residual.result c.args.world.now c.args.frames.now.flat c.pop-x.new.self.flat c.put.new.frames.flat c.result_of.new.frames.flat
+    c.pop-x.result c.in_err-r.field-0.0 c.from_residual.ensures.1 c.pop-x.ensures.flat
     c.put.ensures.flat c.in_err-r.ensures.value
 
 pub returns-then-is_base-clause-step : goal.returns-then-is_base-clause-step
 returns-then-is_base-clause-step g c =
-    psusp_over c.args.world.now c.swap_if_scanning.new.world c.args.frames.now.flat c.pop-x.new.self.flat c.put.new.frames.flat c.result_of.new.frames.flat c.swap_if_scanning.new.frames.flat c.pop-x.result c.in_ok-r.r
-    c.pop-x.ensures.flat c.put.ensures.flat c.in_ok-r.ensures.value c.result_of.ensures.same c.swap_if_scanning.ensures.step c.swap_if_scanning.ensures.heap (sym c.is_base.ensures ∙ c.if-is_base.true)
+    psusp_over c.args.world.now c.swap_if_scanning.new.world c.args.frames.now.flat c.pop-x.new.self.flat c.put.new.frames.flat c.result_of.new.frames.flat
+    c.swap_if_scanning.new.frames.flat c.pop-x.result c.in_ok-r.r
+    c.pop-x.ensures.flat c.put.ensures.flat c.in_ok-r.ensures.value c.result_of.ensures.same c.swap_if_scanning.ensures.step c.swap_if_scanning.ensures.heap
+    (sym c.is_base.ensures ∙ c.if-is_base.true)
 
 pub returns-then-is_base-clause-live : goal.returns-then-is_base-clause-live
 returns-then-is_base-clause-live g c t k =
@@ -24,8 +27,10 @@ returns-then-is_base-clause-live g c t k =
 
 pub returns-in-Ok-clause-step : goal.returns-in-Ok-clause-step
 returns-in-Ok-clause-step g c =
-    psusp_runs c.args.world.now c.swap_if_scanning.new.world c.args.frames.now.flat c.pop-x.new.self.flat c.put.new.frames.flat c.result_of.new.frames.flat c.swap_if_scanning.new.frames.flat c.suspend.new.self.flat c.pop-x.result
-    c.in_ok-r.r c.pop-x.ensures.flat c.put.ensures.flat c.in_ok-r.ensures.value c.result_of.ensures.same c.swap_if_scanning.ensures.step c.swap_if_scanning.ensures.heap c.in-Ok.ensures.ok
+    psusp_runs c.args.world.now c.swap_if_scanning.new.world c.args.frames.now.flat c.pop-x.new.self.flat c.put.new.frames.flat c.result_of.new.frames.flat
+    c.swap_if_scanning.new.frames.flat c.suspend.new.self.flat c.pop-x.result
+    c.in_ok-r.r c.pop-x.ensures.flat c.put.ensures.flat c.in_ok-r.ensures.value c.result_of.ensures.same c.swap_if_scanning.ensures.step
+    c.swap_if_scanning.ensures.heap c.in-Ok.ensures.ok
 
 pub returns-in-Ok-clause-live : goal.returns-in-Ok-clause-live
 returns-in-Ok-clause-live g c t k =

@@ -8,15 +8,20 @@ pub swap_pairs-requires-clause-scan : goal.swap_pairs-requires-clause-scan
 swap_pairs-requires-clause-scan g c = open_after c.args.frames.now.flat c.pop-x.new.self.flat c.pop-x.result c.pop-x.ensures.flat c.requires.scan
 
 pub swap_pairs-requires-clause-live : goal.swap_pairs-requires-clause-live
-swap_pairs-requires-clause-live g c =
-    (c.requires.live.0, (live_pop c.requires.live.0 (reach_of c.args.world.now []) c.args.frames.now.flat c.pop-x.new.self.flat c.pop-x.result c.pop-x.ensures.flat c.requires.live.1).rest)
+swap_pairs-requires-clause-live g c = (
+  c.requires.live.0,
+  (live_pop c.requires.live.0
+      (reach_of c.args.world.now []) c.args.frames.now.flat c.pop-x.new.self.flat c.pop-x.result c.pop-x.ensures.flat c.requires.live.1).rest,
+)
 
 pub returns-in-Ok-clause-step : goal.returns-in-Ok-clause-step
 returns-in-Ok-clause-step g c =
-    escan_runs c.args.world.now c.swap_pairs.new.world c.args.frames.now.flat c.pop-x.new.self.flat c.swap_pairs.new.frames.flat c.suspend.new.self.flat c.pop-x.result c.pop-x.ensures.flat c.swap_pairs.ensures.stack
+    escan_runs c.args.world.now c.swap_pairs.new.world c.args.frames.now.flat c.pop-x.new.self.flat c.swap_pairs.new.frames.flat c.suspend.new.self.flat
+    c.pop-x.result c.pop-x.ensures.flat c.swap_pairs.ensures.stack
     c.swap_pairs.ensures.world c.swap_pairs.ensures.heap c.in-Ok.ensures.ok
 
 pub returns-in-Ok-clause-live : goal.returns-in-Ok-clause-live
 returns-in-Ok-clause-live g c t k =
-    escan_live t c.args.world.now c.swap_pairs.new.world c.args.frames.now.flat c.pop-x.new.self.flat c.swap_pairs.new.frames.flat c.suspend.new.self.flat c.pop-x.result c.pop-x.ensures.flat c.swap_pairs.ensures.stack
+    escan_live t c.args.world.now c.swap_pairs.new.world c.args.frames.now.flat c.pop-x.new.self.flat c.swap_pairs.new.frames.flat c.suspend.new.self.flat
+    c.pop-x.result c.pop-x.ensures.flat c.swap_pairs.ensures.stack
     c.in-Ok.ensures.ok c.swap_pairs.ensures.reach k

@@ -24,9 +24,11 @@ pub returns-in-Same-clause-step : goal.returns-in-Same-clause-step
 returns-in-Same-clause-step g c tables outside =
     let m = c.args.m.now in
     let t : Table = m.stacks.table in
-    let beside : Beside = record { names = all_names tables; outside = outside; world = world_of m.world; turns = m.turns; begun = m.begun.items; all = extent_of m.world.heap } in
+    let beside : Beside =
+    record { names = all_names tables; outside = outside; world = world_of m.world; turns = m.turns; begun = m.begun.items; all = extent_of m.world.heap } in
     let runs : t.running ≡ Some c.frames.result.now.flat = ap (λ (x : Table). x.running) (sym c.in-Same.ensures.went.2) ∙ c.frames.ensures.running in
-    activates_same beside t c.activate.new.self.table c.frames.result.now.flat c.put.new.frames.flat c.args.id c.args.v c.in-Same.v runs (c.active.ensures.one.here ∙ ap active_status runs)
+    activates_same beside t c.activate.new.self.table c.frames.result.now.flat c.put.new.frames.flat c.args.id c.args.v c.in-Same.v runs
+    (c.active.ensures.one.here ∙ ap active_status runs)
     c.in-Same.ensures.went.0 c.in-Same.ensures.went.1 c.in-Same.ensures.went.2 c.put.ensures.flat
 
 pub returns-in-Same-clause-sound : goal.returns-in-Same-clause-sound
@@ -39,7 +41,8 @@ returns-in-Same-clause-sound g c tables h k =
     let value = subst (λ (x : Val). IsLive reach.extent x) (sym c.in-Same.ensures.went.1) c.requires.value in
     record {
       stacks = stacks_on tables reach u f c.put.new.frames.flat c.frames.ensures.running
-          (λ live. subst (λ (x : FlatStack). IsLiveStack tables reach x) (sym c.put.ensures.flat) (live_push tables reach f (HeldVal c.in-Same.v) live (live_value reach (own f) c.in-Same.v value)))
+          (λ live. subst (λ (x : FlatStack). IsLiveStack tables reach x) (sym c.put.ensures.flat)
+          (live_push tables reach f (HeldVal c.in-Same.v) live (live_value reach (own f) c.in-Same.v value)))
           (subst (λ (x : Table). AreLiveStacks tables reach x) (sym same) k.stacks);
       bounds = k.bounds;
       counts = k.counts ∙ ap (λ (x : Table). length x.coexps) (sym same);
@@ -53,9 +56,11 @@ pub returns-in-Moved-clause-step : goal.returns-in-Moved-clause-step
 returns-in-Moved-clause-step g c tables outside =
     let m = c.args.m.now in
     let t : Table = m.stacks.table in
-    let beside : Beside = record { names = all_names tables; outside = outside; world = world_of m.world; turns = m.turns; begun = m.begun.items; all = extent_of m.world.heap } in
+    let beside : Beside =
+    record { names = all_names tables; outside = outside; world = world_of m.world; turns = m.turns; begun = m.begun.items; all = extent_of m.world.heap } in
     let runs = some_there t.running c.requires.runs in
-    activates_other beside t c.activate.new.self.table runs.0 c.args.id c.args.v runs.1 c.in-Moved.ensures.went.0 c.in-Moved.ensures.went.1 c.in-Moved.ensures.went.2
+    activates_other beside t c.activate.new.self.table runs.0 c.args.id c.args.v runs.1 c.in-Moved.ensures.went.0 c.in-Moved.ensures.went.1
+    c.in-Moved.ensures.went.2
 
 pub returns-in-Moved-clause-sound : goal.returns-in-Moved-clause-sound
 returns-in-Moved-clause-sound g c tables h k =
@@ -75,7 +80,8 @@ returns-in-Moved-clause-sound g c tables h k =
 pub returns-in-Exhausted-clause-step : goal.returns-in-Exhausted-clause-step
 returns-in-Exhausted-clause-step g c tables outside =
     let m = c.args.m.now in
-    let beside : Beside = record { names = all_names tables; outside = outside; world = world_of m.world; turns = m.turns; begun = m.begun.items; all = extent_of m.world.heap } in
+    let beside : Beside =
+    record { names = all_names tables; outside = outside; world = world_of m.world; turns = m.turns; begun = m.begun.items; all = extent_of m.world.heap } in
     activates_exhausted beside m.stacks.table c.activate.new.self.table c.args.id c.args.v c.in-Exhausted.ensures.went.0 c.in-Exhausted.ensures.went.1
 
 pub returns-in-Exhausted-clause-sound : goal.returns-in-Exhausted-clause-sound
@@ -95,7 +101,8 @@ returns-in-Exhausted-clause-sound g c tables h k =
 
 pub returns-in-Moved-clause-stack : goal.returns-in-Moved-clause-stack
 returns-in-Moved-clause-stack g c =
-    entered_runs c.args.id c.args.v c.args.m.now.stacks.table c.activate.new.self.table c.in-Moved.ensures.went.2 c.in-Moved.ensures.went.0 c.in-Moved.ensures.went.1
+    entered_runs c.args.id c.args.v c.args.m.now.stacks.table c.activate.new.self.table c.in-Moved.ensures.went.2 c.in-Moved.ensures.went.0
+    c.in-Moved.ensures.went.1
 
 pub returns-in-Exhausted-clause-stack : goal.returns-in-Exhausted-clause-stack
 returns-in-Exhausted-clause-stack g c = subst (λ (x : Table). IsSome x.running) (sym c.in-Exhausted.ensures.went.1) c.requires.runs

@@ -28,7 +28,8 @@ returns-then-m-clause-step g c tables outside =
     let t = m.stacks.table in
     let runs = some_there t.running c.requires.runs in
     let upper = some_there (held.pop runs.0) (subst (λ (x : FlatStack). IsSome (held.pop x)) (ap running_of runs.1) c.requires.upper) in
-    let lower = second_there runs.0 upper.0.1 upper.0.0 upper.1 (subst (λ (x : FlatStack). IfSome (held.pop x) (λ popped. IsSome (held.pop popped.1))) (ap running_of runs.1) c.requires.lower) in
+    let lower = second_there runs.0 upper.0.1 upper.0.0 upper.1
+    (subst (λ (x : FlatStack). IfSome (held.pop x) (λ popped. IsSome (held.pop popped.1))) (ap running_of runs.1) c.requires.lower) in
     let none : nat_lt m.turns (heap_of m.world.heap).bounds.turns ≡ false
     = ap (λ (x : Bounds). nat_lt m.turns x.turns) c.requires.sound.1.bounds ∙ not_under m.turns m.limits.turns c.if-m.true in
     coact_bound tables (all_names tables) outside m.world m.turns m.begun.items t runs.0 upper.0.1 lower.0.1 upper.0.0 lower.0.0 runs.1 none upper.1 lower.1
@@ -37,11 +38,14 @@ pub take_two_values-requires-clause-upper : goal.take_two_values-requires-clause
 take_two_values-requires-clause-upper g c = subst (λ (x : FlatStack). IsSome (held.pop x)) (ap running_of c.frames.ensures.running) c.requires.upper
 
 pub take_two_values-requires-clause-lower : goal.take_two_values-requires-clause-lower
-take_two_values-requires-clause-lower g c = subst (λ (x : FlatStack). IfSome (held.pop x) (λ popped. IsSome (held.pop popped.1))) (ap running_of c.frames.ensures.running) c.requires.lower
+take_two_values-requires-clause-lower g c =
+    subst (λ (x : FlatStack). IfSome (held.pop x) (λ popped. IsSome (held.pop popped.1))) (ap running_of c.frames.ensures.running) c.requires.lower
 
 pub take_two_values-requires-clause-stack : goal.take_two_values-requires-clause-stack
-take_two_values-requires-clause-stack g c =
-    (c.requires.sound.0, subst (λ (o : Option FlatStack). IsLiveRunning c.requires.sound.0 (reach_of c.args.m.now.world []) o) c.frames.ensures.running c.requires.sound.1.stacks.runs)
+take_two_values-requires-clause-stack g c = (
+  c.requires.sound.0,
+  subst (λ (o : Option FlatStack). IsLiveRunning c.requires.sound.0 (reach_of c.args.m.now.world []) o) c.frames.ensures.running c.requires.sound.1.stacks.runs,
+)
 
 pub returns-in_err-two-clause-step : goal.returns-in_err-two-clause-step
 returns-in_err-two-clause-step g c tables outside =
@@ -55,7 +59,8 @@ returns-in_err-two-clause-step g c tables outside =
     at_stopped c.from_residual.result c.in_err-two.field-0.0 _ _ c.from_residual.ensures.1 tt
     (λ number offending e.
     coact_goes tables (all_names tables) outside w m.turns m.begun.items m.stacks.table f c.frames.ensures.running more
-    ∙ value_error state st w c.in_err-two.field-0.0 number offending (c.in_err-two.ensures.step st (λ first second n. activation flat first second n st) refl) e)
+    ∙ value_error state st w c.in_err-two.field-0.0 number offending
+    (c.in_err-two.ensures.step st (λ first second n. activation flat first second n st) refl) e)
 
 pub returns-in_default-clause-step : goal.returns-in_default-clause-step
 returns-in_default-clause-step g c tables outside =
@@ -68,7 +73,8 @@ returns-in_default-clause-step g c tables outside =
     = ap (λ (x : Bounds). nat_lt m.turns x.turns) c.requires.sound.1.bounds ∙ under m.turns m.limits.turns c.if-m.false in
     coact_goes tables (all_names tables) outside w m.turns m.begun.items m.stacks.table f c.frames.ensures.running more
     ∙ c.in_ok-two.ensures.step st (λ first second n. activation flat first second n st) refl
-    ∙ not_activated (extent_of w.heap) (value_in (extent_of w.heap) c.in_ok-two.two.0) c.in_ok-two.two.1 (stack_in (extent_of w.heap) n) st (sym c.in_default.is ∙ c.coexp_of.ensures)
+    ∙ not_activated (extent_of w.heap) (value_in (extent_of w.heap) c.in_ok-two.two.0) c.in_ok-two.two.1 (stack_in (extent_of w.heap) n) st
+    (sym c.in_default.is ∙ c.coexp_of.ensures)
 
 pub activate-requires-clause-there : goal.activate-requires-clause-there
 activate-requires-clause-there g c =
@@ -101,8 +107,10 @@ pub returns-clause-sound : goal.returns-clause-sound
 returns-clause-sound g c tables k =
     let m = c.args.m.now in
     let cs = (heap_of m.world.heap).coexps in
-    c.activate.ensures.sound tables (record { results = turn_had m.turns m.stacks.table.active cs k.counted.results; activators = k.counted.activators }) (record {
-      stacks = stacks_on tables (reach_of m.world []) m.stacks.table c.frames.result.now.flat c.take_two_values.new.frames.flat c.frames.ensures.running (λ l. c.take_two_values.ensures.live tables l) k.stacks;
+    c.activate.ensures.sound tables (record { results = turn_had m.turns m.stacks.table.active cs k.counted.results; activators = k.counted.activators })
+    (record {
+      stacks = stacks_on tables (reach_of m.world []) m.stacks.table c.frames.result.now.flat c.take_two_values.new.frames.flat c.frames.ensures.running
+          (λ l. c.take_two_values.ensures.live tables l) k.stacks;
       bounds = k.bounds;
       counts = k.counts;
       counted = record { results = turn_more m.turns m.stacks.table.active cs k.counted.results; activators = k.counted.activators };

@@ -41,8 +41,10 @@ pub take_value-requires-clause-operand : goal.take_value-requires-clause-operand
 take_value-requires-clause-operand g c = subst (λ (x : FlatStack). IsSome (held.pop x)) (ap running_of c.frames.ensures.running) c.requires.operand
 
 pub take_value-requires-clause-stack : goal.take_value-requires-clause-stack
-take_value-requires-clause-stack g c =
-    (c.requires.sound.0, subst (λ (o : Option FlatStack). IsLiveRunning c.requires.sound.0 (reach_of c.args.m.now.world []) o) c.frames.ensures.running c.requires.sound.1.stacks.runs)
+take_value-requires-clause-stack g c = (
+  c.requires.sound.0,
+  subst (λ (o : Option FlatStack). IsLiveRunning c.requires.sound.0 (reach_of c.args.m.now.world []) o) c.frames.ensures.running c.requires.sound.1.stacks.runs,
+)
 
 pub returns-in_err-v-clause-step : goal.returns-in_err-v-clause-step
 returns-in_err-v-clause-step g c tables outside =
@@ -55,7 +57,8 @@ returns-in_err-v-clause-step g c tables outside =
     let state : State Frames Frames = with_top (stack_in (extent_of w.heap) f) st (λ value n. result_given flat value n st) in
     at_stopped c.from_residual.result c.in_err-v.field-0.0 _ _ c.from_residual.ensures.1 tt
     (λ number offending e.
-    coret_goes tables (all_names tables) outside w m.turns m.begun.items m.stacks.table f c.frames.ensures.running more (sym (ap held.is_base (ap running_of c.frames.ensures.running)) ∙ c.requires.base) c.requires.other
+    coret_goes tables (all_names tables) outside w m.turns m.begun.items m.stacks.table f c.frames.ensures.running more
+    (sym (ap held.is_base (ap running_of c.frames.ensures.running)) ∙ c.requires.base) c.requires.other
     ∙ value_error state st w c.in_err-v.field-0.0 number offending (c.in_err-v.ensures.step st (λ value n. result_given flat value n st) refl) e)
 
 pub count_result-requires-clause-live : goal.count_result-requires-clause-live
@@ -63,7 +66,8 @@ count_result-requires-clause-live g c =
     let m = c.args.m.now in
     let a : ℕ = m.stacks.table.active in
     subst (λ (n : ℕ). IsLive (extent_of m.world.heap) (Vals.Coexp n)) (sym c.active-from.ensures.number)
-    (coexp_is_live m.world.heap a (subst (λ (n : ℕ). a < n) (sym c.requires.sound.1.counts) (active_there m.stacks.table.coexps a c.active-from.ensures.one.here)))
+    (coexp_is_live m.world.heap a
+    (subst (λ (n : ℕ). a < n) (sym c.requires.sound.1.counts) (active_there m.stacks.table.coexps a c.active-from.ensures.one.here)))
 
 pub count_result-requires-clause-few : goal.count_result-requires-clause-few
 count_result-requires-clause-few g c =
@@ -85,16 +89,21 @@ returns-then-is_moved-clause-step g c tables outside =
     let u : Table = c.give-went.new.self.table in
     let t = c.requires.sound.0 in
     let sound = c.requires.sound.1 in
-    let on : AreLiveStacks t (reach_of w []) table = stacks_on t (reach_of w []) m.stacks.table f n c.frames.ensures.running (λ l. c.take_value.ensures.live t l) sound.stacks in
+    let on : AreLiveStacks t (reach_of w []) table = stacks_on t (reach_of w []) m.stacks.table f n c.frames.ensures.running
+    (λ l. c.take_value.ensures.live t l) sound.stacks in
     let st : Store Frames = store_in (all_names tables) outside (world_of w) (suc m.turns) m.begun.items (extent_of w.heap) m.stacks.table in
-    let F : ℕ → State Frames Frames = λ k. running (stack_in (extent_of v.heap) (running_of u.running)) (store_in (all_names tables) outside (world_of v) k m.begun.items (extent_of v.heap) u) in
+    let F : ℕ → State Frames Frames = λ k. running (stack_in (extent_of v.heap) (running_of u.running))
+    (store_in (all_names tables) outside (world_of v) k m.begun.items (extent_of v.heap) u) in
     let more : nat_lt m.turns (heap_of w.heap).bounds.turns ≡ true
     = ap (λ (x : Bounds). nat_lt m.turns x.turns) sound.bounds ∙ under m.turns m.limits.turns c.if-m.false in
-    coret_goes tables (all_names tables) outside w m.turns m.begun.items m.stacks.table f c.frames.ensures.running more (sym (ap held.is_base (ap running_of c.frames.ensures.running)) ∙ c.requires.base) c.requires.other
+    coret_goes tables (all_names tables) outside w m.turns m.begun.items m.stacks.table f c.frames.ensures.running more
+    (sym (ap held.is_base (ap running_of c.frames.ensures.running)) ∙ c.requires.base) c.requires.other
     ∙ c.in_ok-v.ensures.step st (λ value n. result_given flat value n st) refl
-    ∙ result_passes t (all_names tables) outside w v (suc m.turns) m.begun.items table u n c.in_ok-v.v refl c.give-went.ensures.table c.count_result.ensures.kept
+    ∙ result_passes t (all_names tables) outside w v
+    (suc m.turns) m.begun.items table u n c.in_ok-v.v refl c.give-went.ensures.table c.count_result.ensures.kept
     (c.count_result.ensures.world ∙ ap (λ (k : ℕ). having_result k (world_of w)) c.active-from.ensures.number) c.in_ok-v.ensures.value on.runs on.coexps
-    ∙ lands_runs (beside_in (all_names tables) outside v (suc m.turns) m.begun.items v) (stack_in (extent_of v.heap) n) u c.give-went.result c.give-went.ensures.went (sym c.is_moved.ensures ∙ c.if-is_moved.true)
+    ∙ lands_runs (beside_in (all_names tables) outside v (suc m.turns) m.begun.items v)
+    (stack_in (extent_of v.heap) n) u c.give-went.result c.give-went.ensures.went (sym c.is_moved.ensures ∙ c.if-is_moved.true)
     ∙ ap F (sym (add-one m.turns))
 
 pub returns-then-is_moved-clause-sound : goal.returns-then-is_moved-clause-sound
@@ -107,19 +116,26 @@ returns-then-is_moved-clause-sound g c tables k =
     let table : Table = record m.stacks.table { running = Some n } in
     let u : Table = c.give-went.new.self.table in
     let heap = c.count_result.ensures.heap in
-    let on : AreLiveStacks tables (reach_of w []) table = stacks_on tables (reach_of w []) m.stacks.table f n c.frames.ensures.running (λ l. c.take_value.ensures.live tables l) k.stacks in
+    let on : AreLiveStacks tables (reach_of w []) table = stacks_on tables (reach_of w []) m.stacks.table f n c.frames.ensures.running
+    (λ l. c.take_value.ensures.live tables l) k.stacks in
     let a : ℕ = m.stacks.table.active in
     let cs : List ℕ = (heap_of m.world.heap).coexps in
     let F : ℕ → List ℕ = λ n. slice_set cs n (slice_index cs n + 1) in
-    let fits : FitTurns (m.turns + 1) (source table) (F a) = result_fits m.turns a (source table) cs c.requires.other (k.counted.activators a c.requires.other) k.counted.results in
+    let fits : FitTurns (m.turns + 1) (source table) (F a) = result_fits m.turns a (source table) cs c.requires.other
+    (k.counted.activators a c.requires.other) k.counted.results in
     record {
-      stacks = give_live tables (reach_of v []) c.in_ok-v.v table u c.give-went.ensures.table c.active-from.ensures.begun (c.count_result.ensures.kept.extent.live c.in_ok-v.v c.in_ok-v.ensures.value)
+      stacks = give_live tables (reach_of v []) c.in_ok-v.v table u c.give-went.ensures.table c.active-from.ensures.begun
+          (c.count_result.ensures.kept.extent.live c.in_ok-v.v c.in_ok-v.ensures.value)
           (stacks_stay tables (reach_of w []) (reach_of v []) table c.count_result.ensures.kept on);
       bounds = ap (λ (h : Heap). h.bounds) heap ∙ k.bounds;
-      counts = ap (λ (h : Heap). length h.coexps) heap ∙ length-set (heap_of w.heap).coexps c.active-from.result (slice_index (heap_of w.heap).coexps c.active-from.result + 1) ∙ k.counts ∙ sym (give_length c.in_ok-v.v table u c.give-went.ensures.table);
+      counts = ap (λ (h : Heap). length h.coexps) heap
+          ∙ length-set (heap_of w.heap).coexps c.active-from.result (slice_index (heap_of w.heap).coexps c.active-from.result + 1) ∙ k.counts
+          ∙ sym (give_length c.in_ok-v.v table u c.give-went.ensures.table);
       counted = record {
-        results = subst (λ (n : ℕ). FitTurns (m.turns + 1) n (heap_of c.count_result.new.world.heap).coexps) (sym (give_active c.in_ok-v.v table u c.give-went.ensures.table))
-            (subst (λ (ds : List ℕ). FitTurns (m.turns + 1) (source table) ds) (sym (ap (λ (h : Heap). h.coexps) c.count_result.ensures.heap ∙ ap F c.active-from.ensures.number)) fits);
+        results = subst (λ (n : ℕ). FitTurns (m.turns + 1) n (heap_of c.count_result.new.world.heap).coexps)
+            (sym (give_active c.in_ok-v.v table u c.give-went.ensures.table))
+            (subst (λ (ds : List ℕ). FitTurns (m.turns + 1) (source table) ds)
+            (sym (ap (λ (h : Heap). h.coexps) c.count_result.ensures.heap ∙ ap F c.active-from.ensures.number)) fits);
         activators = give_others c.in_ok-v.v table u c.give-went.ensures.table k.counted.activators;
       };
     }
@@ -135,18 +151,22 @@ returns-else-is_moved-clause-step g c tables outside =
     let u : Table = c.give-went.new.self.table in
     let t = c.requires.sound.0 in
     let sound = c.requires.sound.1 in
-    let on : AreLiveStacks t (reach_of w []) table = stacks_on t (reach_of w []) m.stacks.table f n c.frames.ensures.running (λ l. c.take_value.ensures.live t l) sound.stacks in
+    let on : AreLiveStacks t (reach_of w []) table = stacks_on t (reach_of w []) m.stacks.table f n c.frames.ensures.running
+    (λ l. c.take_value.ensures.live t l) sound.stacks in
     let st : Store Frames = store_in (all_names tables) outside (world_of w) (suc m.turns) m.begun.items (extent_of w.heap) m.stacks.table in
     let old : Frames = stack_in (extent_of v.heap) n in
     let F : ℕ → State Frames Frames = λ k. hopping old (store_in (all_names tables) outside (world_of v) k m.begun.items (extent_of v.heap) u) in
     let more : nat_lt m.turns (heap_of w.heap).bounds.turns ≡ true
     = ap (λ (x : Bounds). nat_lt m.turns x.turns) sound.bounds ∙ under m.turns m.limits.turns c.if-m.false in (
       old,
-      coret_goes tables (all_names tables) outside w m.turns m.begun.items m.stacks.table f c.frames.ensures.running more (sym (ap held.is_base (ap running_of c.frames.ensures.running)) ∙ c.requires.base) c.requires.other
+      coret_goes tables (all_names tables) outside w m.turns m.begun.items m.stacks.table f c.frames.ensures.running more
+          (sym (ap held.is_base (ap running_of c.frames.ensures.running)) ∙ c.requires.base) c.requires.other
           ∙ c.in_ok-v.ensures.step st (λ value n. result_given flat value n st) refl
-          ∙ result_passes t (all_names tables) outside w v (suc m.turns) m.begun.items table u n c.in_ok-v.v refl c.give-went.ensures.table c.count_result.ensures.kept
+          ∙ result_passes t (all_names tables) outside w v
+          (suc m.turns) m.begun.items table u n c.in_ok-v.v refl c.give-went.ensures.table c.count_result.ensures.kept
           (c.count_result.ensures.world ∙ ap (λ (k : ℕ). having_result k (world_of w)) c.active-from.ensures.number) c.in_ok-v.ensures.value on.runs on.coexps
-          ∙ lands_hops (beside_in (all_names tables) outside v (suc m.turns) m.begun.items v) old u c.give-went.result c.give-went.ensures.went (sym c.is_moved.ensures ∙ c.if-is_moved.false)
+          ∙ lands_hops (beside_in (all_names tables) outside v (suc m.turns) m.begun.items v) old u c.give-went.result c.give-went.ensures.went
+          (sym c.is_moved.ensures ∙ c.if-is_moved.false)
           ∙ ap F (sym (add-one m.turns)),
     )
 
@@ -160,19 +180,26 @@ returns-else-is_moved-clause-sound g c tables k =
     let table : Table = record m.stacks.table { running = Some n } in
     let u : Table = c.give-went.new.self.table in
     let heap = c.count_result.ensures.heap in
-    let on : AreLiveStacks tables (reach_of w []) table = stacks_on tables (reach_of w []) m.stacks.table f n c.frames.ensures.running (λ l. c.take_value.ensures.live tables l) k.stacks in
+    let on : AreLiveStacks tables (reach_of w []) table = stacks_on tables (reach_of w []) m.stacks.table f n c.frames.ensures.running
+    (λ l. c.take_value.ensures.live tables l) k.stacks in
     let a : ℕ = m.stacks.table.active in
     let cs : List ℕ = (heap_of m.world.heap).coexps in
     let F : ℕ → List ℕ = λ n. slice_set cs n (slice_index cs n + 1) in
-    let fits : FitTurns (m.turns + 1) (source table) (F a) = result_fits m.turns a (source table) cs c.requires.other (k.counted.activators a c.requires.other) k.counted.results in
+    let fits : FitTurns (m.turns + 1) (source table) (F a) = result_fits m.turns a (source table) cs c.requires.other
+    (k.counted.activators a c.requires.other) k.counted.results in
     record {
-      stacks = give_live tables (reach_of v []) c.in_ok-v.v table u c.give-went.ensures.table c.active-from.ensures.begun (c.count_result.ensures.kept.extent.live c.in_ok-v.v c.in_ok-v.ensures.value)
+      stacks = give_live tables (reach_of v []) c.in_ok-v.v table u c.give-went.ensures.table c.active-from.ensures.begun
+          (c.count_result.ensures.kept.extent.live c.in_ok-v.v c.in_ok-v.ensures.value)
           (stacks_stay tables (reach_of w []) (reach_of v []) table c.count_result.ensures.kept on);
       bounds = ap (λ (h : Heap). h.bounds) heap ∙ k.bounds;
-      counts = ap (λ (h : Heap). length h.coexps) heap ∙ length-set (heap_of w.heap).coexps c.active-from.result (slice_index (heap_of w.heap).coexps c.active-from.result + 1) ∙ k.counts ∙ sym (give_length c.in_ok-v.v table u c.give-went.ensures.table);
+      counts = ap (λ (h : Heap). length h.coexps) heap
+          ∙ length-set (heap_of w.heap).coexps c.active-from.result (slice_index (heap_of w.heap).coexps c.active-from.result + 1) ∙ k.counts
+          ∙ sym (give_length c.in_ok-v.v table u c.give-went.ensures.table);
       counted = record {
-        results = subst (λ (n : ℕ). FitTurns (m.turns + 1) n (heap_of c.count_result.new.world.heap).coexps) (sym (give_active c.in_ok-v.v table u c.give-went.ensures.table))
-            (subst (λ (ds : List ℕ). FitTurns (m.turns + 1) (source table) ds) (sym (ap (λ (h : Heap). h.coexps) c.count_result.ensures.heap ∙ ap F c.active-from.ensures.number)) fits);
+        results = subst (λ (n : ℕ). FitTurns (m.turns + 1) n (heap_of c.count_result.new.world.heap).coexps)
+            (sym (give_active c.in_ok-v.v table u c.give-went.ensures.table))
+            (subst (λ (ds : List ℕ). FitTurns (m.turns + 1) (source table) ds)
+            (sym (ap (λ (h : Heap). h.coexps) c.count_result.ensures.heap ∙ ap F c.active-from.ensures.number)) fits);
         activators = give_others c.in_ok-v.v table u c.give-went.ensures.table k.counted.activators;
       };
     }

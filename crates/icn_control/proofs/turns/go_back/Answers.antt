@@ -14,7 +14,8 @@ returns-clause-sound g c tables k =
     let reach : Reach = reach_of m.world [] in
     record {
       stacks = stacks_on tables reach m.stacks.table c.frames.result.now.flat c.go.new.self.flat c.frames.ensures.running
-          (λ l. subst (λ (x : FlatStack). IsLiveStack tables reach x) (sym c.go.ensures.flat) (live_go tables reach c.frames.result.now.flat c.args.label l)) k.stacks;
+          (λ l. subst (λ (x : FlatStack). IsLiveStack tables reach x) (sym c.go.ensures.flat) (live_go tables reach c.frames.result.now.flat c.args.label l))
+          k.stacks;
       bounds = k.bounds;
       counts = k.counts;
       counted = record { results = turn_more m.turns m.stacks.table.active (heap_of m.world.heap).coexps k.counted.results; activators = k.counted.activators };

@@ -15,8 +15,11 @@ pub returns-clause-kept : goal.returns-clause-kept
 returns-clause-kept g c = no_locals c.args.world.now c.new_list.new.w (held.locals c.args.frames.now.flat) c.new_list.ensures.kept
 
 pub returns-clause-counts : goal.returns-clause-counts
-returns-clause-counts g c = list_counted c.args.world.now c.new_list.new.w (held.locals c.args.frames.now.flat) (map (value_in (extent_of c.args.world.now.heap)) c.args.vals.now) c.new_list.result c.new_list.ensures.found
+returns-clause-counts g c = list_counted c.args.world.now c.new_list.new.w (held.locals c.args.frames.now.flat)
+    (map (value_in (extent_of c.args.world.now.heap)) c.args.vals.now) c.new_list.result c.new_list.ensures.found
 
 pub returns-clause-made : goal.returns-clause-made
 returns-clause-made g c =
-    makes_value c.requires.stack.0 c.args.world.now c.new_list.new.w c.args.frames.now.flat (new_list_of (map (value_in (extent_of c.args.world.now.heap)) c.args.vals.now)) c.new_list.result c.new_list.ensures.kept c.requires.stack.1 c.local_count.ensures.same c.new_list.ensures.found
+    makes_value c.requires.stack.0 c.args.world.now c.new_list.new.w c.args.frames.now.flat
+    (new_list_of (map (value_in (extent_of c.args.world.now.heap)) c.args.vals.now)) c.new_list.result c.new_list.ensures.kept c.requires.stack.1
+    c.local_count.ensures.same c.new_list.ensures.found

@@ -19,26 +19,35 @@ loop-first-init g c =
       spare = refl;
       live = All-same (IsLive all) _ _ c.clear.ensures.items (All-nil (IsLive all));
       left = c.requires.items;
-      is = λ st next same. sym (ap (λ (xs : List Val). with_values_in c.args.world.now c.args.frames.now.flat c.args.items.now st (λ more. next (map (value_in all) xs ++ more))) c.clear.ensures.items);
+      is = λ st next same. sym (ap (λ (xs : List Val). with_values_in c.args.world.now c.args.frames.now.flat c.args.items.now st
+          (λ more. next (map (value_in all) xs ++ more))) c.clear.ensures.items);
     }
 
 pub value_of-requires-clause-stack : goal.value_of-requires-clause-stack
-value_of-requires-clause-stack g c = (c.requires.stack.0, subst (λ (x : FlatStack). IsLiveStack c.requires.stack.0 (reach_of c.args.world.now []) x) (sym c.loop-first.invariant.same) c.requires.stack.1)
+value_of-requires-clause-stack g c = (
+  c.requires.stack.0,
+  subst (λ (x : FlatStack). IsLiveStack c.requires.stack.0 (reach_of c.args.world.now []) x) (sym c.loop-first.invariant.same) c.requires.stack.1,
+)
 
 pub value_of-requires-clause-item : goal.value_of-requires-clause-item
 value_of-requires-clause-item g c =
     let live : Reach = with_locals (held.local_count c.args.frames.now.flat) (reach_of c.args.world.now []) in
-    let first : IsLiveItem live c.in-Some.first.now = All-head (IsLiveItem live) _ _ (All-same (IsLiveItem live) _ _ (sym c.in-Some.ensures.cases.0) c.loop-first.invariant.left) in
-    subst (λ (x : FlatStack). IsLiveItem (with_locals (held.local_count x) (reach_of c.args.world.now [])) c.in-Some.first.now) (sym c.loop-first.invariant.same) first
+    let first : IsLiveItem live c.in-Some.first.now =
+    All-head (IsLiveItem live) _ _ (All-same (IsLiveItem live) _ _ (sym c.in-Some.ensures.cases.0) c.loop-first.invariant.left) in
+    subst (λ (x : FlatStack). IsLiveItem (with_locals (held.local_count x) (reach_of c.args.world.now [])) c.in-Some.first.now)
+    (sym c.loop-first.invariant.same) first
 
 pub returns-in_err-val-clause-values : goal.returns-in_err-val-clause-values
 returns-in_err-val-clause-values g c =
-    values_stop c.from_residual.result c.args.world.now c.args.frames.now.flat c.args.items.now c.in-Some.others.now c.loop-first.rest.now c.loop-first.vals.items c.loop-first.vals.items c.in-Some.first.now c.in_err-val.field-0.0 c.from_residual.ensures.1
-    c.in-Some.ensures.cases.0 (found_at c.args.world.now c.args.frames.now.flat c.loop-first.frames.flat c.in-Some.first.now (Err c.in_err-val.field-0.0) c.loop-first.invariant.same c.in_err-val.ensures.value) c.loop-first.invariant.is
+    values_stop c.from_residual.result c.args.world.now c.args.frames.now.flat c.args.items.now c.in-Some.others.now c.loop-first.rest.now
+    c.loop-first.vals.items c.loop-first.vals.items c.in-Some.first.now c.in_err-val.field-0.0 c.from_residual.ensures.1
+    c.in-Some.ensures.cases.0 (found_at c.args.world.now c.args.frames.now.flat c.loop-first.frames.flat c.in-Some.first.now
+    (Err c.in_err-val.field-0.0) c.loop-first.invariant.same c.in_err-val.ensures.value) c.loop-first.invariant.is
 
 pub returns-in_err-add_value-clause-values : goal.returns-in_err-add_value-clause-values
 returns-in_err-add_value-clause-values g c =
-    values_lack c.from_residual-in_err-add_value.result c.args.world.now c.args.frames.now.flat c.args.items.now c.add_value.new.vals.items c.from_residual-in_err-add_value.ensures.1
+    values_lack c.from_residual-in_err-add_value.result c.args.world.now c.args.frames.now.flat c.args.items.now c.add_value.new.vals.items
+    c.from_residual-in_err-add_value.ensures.1
 
 pub loop-first-preserved : goal.loop-first-preserved
 loop-first-preserved g c =
@@ -49,9 +58,12 @@ loop-first-preserved g c =
       spare = c.value_of.ensures.spare ∙ c.loop-first.invariant.spare;
       live = All-same (IsLive all) _ _ c.in_ok-add_value.ensures (All-push (IsLive all) _ _ c.loop-first.invariant.live c.in_ok-val.ensures.live);
       left = All-rest (IsLiveItem live) _ _ _ c.in-Some.ensures.cases.0 c.loop-first.invariant.left;
-      is = values_next c.args.world.now c.args.frames.now.flat c.args.items.now c.in-Some.others.now c.loop-first.rest.now c.loop-first.vals.items c.add_value.new.vals.items c.in-Some.first.now c.in_ok-val.val c.in-Some.ensures.cases.0 c.in_ok-add_value.ensures
-          (found_at c.args.world.now c.args.frames.now.flat c.loop-first.frames.flat c.in-Some.first.now (Ok c.in_ok-val.val) c.loop-first.invariant.same c.in_ok-val.ensures.value) c.loop-first.invariant.is;
+      is = values_next c.args.world.now c.args.frames.now.flat c.args.items.now c.in-Some.others.now c.loop-first.rest.now c.loop-first.vals.items
+          c.add_value.new.vals.items c.in-Some.first.now c.in_ok-val.val c.in-Some.ensures.cases.0 c.in_ok-add_value.ensures
+          (found_at c.args.world.now c.args.frames.now.flat c.loop-first.frames.flat c.in-Some.first.now
+          (Ok c.in_ok-val.val) c.loop-first.invariant.same c.in_ok-val.ensures.value) c.loop-first.invariant.is;
     }
 
 pub returns-clause-values : goal.returns-clause-values
-returns-clause-values g c = values_found c.args.world.now c.args.frames.now.flat c.args.items.now c.loop-first.rest.now c.loop-first.vals.items c.in_default.ensures.cases c.loop-first.invariant.is
+returns-clause-values g c = values_found c.args.world.now c.args.frames.now.flat c.args.items.now c.loop-first.rest.now c.loop-first.vals.items
+    c.in_default.ensures.cases c.loop-first.invariant.is

@@ -9,11 +9,13 @@ loop-other-preserved g c =
     let below : c.loop-other.other < (extent_of c.args.heap.now).records = omega (arith, c.requires.live.live, c.loop-other-test.true) in
     elim c.if-eq.branch [
       | then-eq w ↦ record {
-        count = w.number-is ∙ counted_more c.loop-other.number _ _ c.loop-other.invariant.count (one_more (g.N.Names.known c.args.names.now) c.args.heap.now c.args.id c.loop-other.other below (tested _ _ _ _ _ _ c.eq.ensures c.record_name.ensures c.record_name-name.ensures w.if-eq.true));
+        count = w.number-is ∙ counted_more c.loop-other.number _ _ c.loop-other.invariant.count (one_more (g.N.Names.known c.args.names.now) c.args.heap.now
+            c.args.id c.loop-other.other below (tested _ _ _ _ _ _ c.eq.ensures c.record_name.ensures c.record_name-name.ensures w.if-eq.true));
         small = omega (arith, w.number-is);
       }
       | else-eq w ↦ record {
-        count = w.number-is ∙ counted_same c.loop-other.number _ _ c.loop-other.invariant.count (no_more (g.N.Names.known c.args.names.now) c.args.heap.now c.args.id c.loop-other.other below (tested _ _ _ _ _ _ c.eq.ensures c.record_name.ensures c.record_name-name.ensures w.if-eq.false));
+        count = w.number-is ∙ counted_same c.loop-other.number _ _ c.loop-other.invariant.count (no_more (g.N.Names.known c.args.names.now) c.args.heap.now
+            c.args.id c.loop-other.other below (tested _ _ _ _ _ _ c.eq.ensures c.record_name.ensures c.record_name-name.ensures w.if-eq.false));
         small = omega (arith, w.number-is);
       }
     ]

@@ -8,4 +8,5 @@ use Rattle.icn_decls.proofs.decl.check_declarations.Given as goal
 -- what is left breaks first what all of them do
 abbrev pub invariant-loop-declaration : goal.invariant-loop-declaration
 invariant-loop-declaration l =
-    first_of (declarations_faults (has l.met) (map declaration_of (drop l.declaration-index l.declarations))) ≡ first_of (context_faults (map declaration_of l.declarations))
+    first_of (declarations_faults (has l.met) (map declaration_of (drop l.declaration-index l.declarations)))
+    ≡ first_of (context_faults (map declaration_of l.declarations))

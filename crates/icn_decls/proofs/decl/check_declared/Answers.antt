@@ -14,8 +14,10 @@ returns-in_err-check_names c =
     let later = flat_map (λ locals. locals.names) (map locals_of c.args.procedure.now.locals.items) in
     let h : Checks (all_repeated C1 none_met parameters) (Err c.in_err-check_names.field-0.0) =
     subst (λ met. Checks (all_repeated C1 met parameters) (Err c.in_err-check_names.field-0.0)) c.new-met.ensures
-    (subst (λ names. Checks (all_repeated C1 (has c.new-met.result) names) (Err c.in_err-check_names.field-0.0)) c.deref.ensures.value c.in_err-check_names.ensures.first) in
-    checks_passed (all_repeated C1 none_met parameters) (all_repeated C1 (with_names none_met parameters) later) _ c.in_err-check_names.field-0.0 c.from_residual.result c.from_residual.ensures.1 h
+    (subst (λ names. Checks (all_repeated C1 (has c.new-met.result) names) (Err c.in_err-check_names.field-0.0)) c.deref.ensures.value
+    c.in_err-check_names.ensures.first) in
+    checks_passed (all_repeated C1 none_met parameters)
+    (all_repeated C1 (with_names none_met parameters) later) _ c.in_err-check_names.field-0.0 c.from_residual.result c.from_residual.ensures.1 h
     (sym (ap first_of (all_repeated-append C1 none_met parameters later)))
 
 pub returns : goal.returns
@@ -31,4 +33,5 @@ returns c =
     (ap (λ met. first_of (all_repeated C1 met later)) has_now
     ∙ sym (first_then (all_repeated C1 none_met parameters) (all_repeated C1 (with_names none_met parameters) later) h)
     ∙ sym (ap first_of (all_repeated-append C1 none_met parameters later)))
-    (subst (λ rows. Checks (all_repeated C1 (has c.check_names.new.met) (flat_map (λ locals. locals.names) (map locals_of rows))) c.check_locals.result) c.deref-2.ensures.value c.check_locals.ensures)
+    (subst (λ rows. Checks (all_repeated C1 (has c.check_names.new.met) (flat_map (λ locals. locals.names) (map locals_of rows))) c.check_locals.result)
+    c.deref-2.ensures.value c.check_locals.ensures)

@@ -7,4 +7,5 @@ use Rattle.icn_decls.proofs.decl.declares_too_many.Given as goal
 -- those counted and those left are too many together exactly where all are
 abbrev pub invariant-loop-local : goal.invariant-loop-local
 invariant-loop-local l =
-    nat_lt 65535 (l.count + length (flat_map (λ locals. locals.names) (map locals_of (drop l.local-index l.procedure.locals.items)))) ≡ nat_lt 65535 (length (declared_names (procedure_of l.procedure)))
+    nat_lt 65535 (l.count + length (flat_map (λ locals. locals.names) (map locals_of (drop l.local-index l.procedure.locals.items))))
+    ≡ nat_lt 65535 (length (declared_names (procedure_of l.procedure)))

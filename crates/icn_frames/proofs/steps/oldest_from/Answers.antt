@@ -8,14 +8,16 @@ pub loop-at-smaller : goal.loop-at-smaller
 loop-at-smaller g c =
     let s = g.K.Stack.cells c.args.cells.now in
     let k : KindAt IsScan (map shape s) c.in-Some.height = subst (λ (w : Option ℕ). MayBeAt IsScan (map shape s) w) c.in-Some.is c.loop-at.invariant.there in
-    let l : Lower s c.in-Some.height c.older_than-older.result = subst (λ (w : Option ℕ). Lower s c.in-Some.height w) (sym c.older_than-older.ensures) (older_lower s c.in-Some.height c.requires.fit k) in
+    let l : Lower s c.in-Some.height c.older_than-older.result = subst (λ (w : Option ℕ). Lower s c.in-Some.height w) (sym c.older_than-older.ensures)
+    (older_lower s c.in-Some.height c.requires.fit k) in
     subst (λ (w : Option ℕ). height_of c.older_than-older.result < height_of w) (sym c.in-Some.is) l.below
 
 pub loop-at-preserved : goal.loop-at-preserved
 loop-at-preserved g c =
     let s = g.K.Stack.cells c.args.cells.now in
     let k : KindAt IsScan (map shape s) c.in-Some.height = subst (λ (w : Option ℕ). MayBeAt IsScan (map shape s) w) c.in-Some.is c.loop-at.invariant.there in
-    let l : Lower s c.in-Some.height c.older_than-older.result = subst (λ (w : Option ℕ). Lower s c.in-Some.height w) (sym c.older_than-older.ensures) (older_lower s c.in-Some.height c.requires.fit k) in
+    let l : Lower s c.in-Some.height c.older_than-older.result = subst (λ (w : Option ℕ). Lower s c.in-Some.height w) (sym c.older_than-older.ensures)
+    (older_lower s c.in-Some.height c.requires.fit k) in
     let e = ap (λ (w : Option ℕ). is_same w c.args.until) (sym c.older_than-older.ensures) ∙ sym c.is_same.ensures ∙ c.if-is_same.false in
     record {
       there = l.is;
@@ -28,4 +30,5 @@ loop-at-preserved g c =
 pub returns-clause-value : goal.returns-clause-value
 returns-clause-value g c =
     let s = g.K.Stack.cells c.args.cells.now in
-    sym (oldest_none (length s) s c.args.until) ∙ ap (λ (w : Option ℕ). oldest_from (length s) s c.args.until w) (sym c.in_default.is) ∙ c.loop-at.invariant.same
+    sym (oldest_none (length s) s c.args.until) ∙ ap (λ (w : Option ℕ). oldest_from (length s) s c.args.until w) (sym c.in_default.is)
+    ∙ c.loop-at.invariant.same

@@ -11,4 +11,5 @@ pub returns : goal.returns
 unfolding extent_of heap_of
 returns c =
     subst (λ (table : Table). KeysDiffer same table.pairs) (sym (table_view (extent_of c.args.heap.now) (parts_of c.args.heap.now) c.args.table))
-    (keys_apart (extent_of c.args.heap.now) _ (table_sound (parts_of c.args.heap.now) c.args.heap.now.sound c.args.table c.requires.live).pairs c.keys_of_pairs_differ.ensures)
+    (keys_apart (extent_of c.args.heap.now) _ (table_sound (parts_of c.args.heap.now) c.args.heap.now.sound c.args.table c.requires.live).pairs
+    c.keys_of_pairs_differ.ensures)

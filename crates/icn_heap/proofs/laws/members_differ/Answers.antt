@@ -10,4 +10,5 @@ pub returns : goal.returns
 unfolding extent_of heap_of
 returns c =
     subst (IsDistinct same) (sym (set_view (extent_of c.args.heap.now) (parts_of c.args.heap.now) c.args.set))
-    (members_apart (extent_of c.args.heap.now) _ (members_sound (parts_of c.args.heap.now) c.args.heap.now.sound c.args.set c.requires.live) c.keys_of_members_differ.ensures)
+    (members_apart (extent_of c.args.heap.now) _ (members_sound (parts_of c.args.heap.now) c.args.heap.now.sound c.args.set c.requires.live)
+    c.keys_of_members_differ.ensures)

@@ -6,4 +6,5 @@ use Rattle.icn_image.proofs.Loops.{with_front}
 use Rattle.icn_image.proofs.global.so_many_globals.Given as goal
 
 abbrev pub invariant-loop : goal.invariant-loop
-invariant-loop l = with_front l.globals.items (globals_from w16 l.strings l.records (has l.met) (l.count - l.counter) l.rest) ≡ globals_from w16 l.strings l.records none_met l.count l.bytes
+invariant-loop l = with_front l.globals.items (globals_from w16 l.strings l.records (has l.met) (l.count - l.counter) l.rest)
+    ≡ globals_from w16 l.strings l.records none_met l.count l.bytes

@@ -7,4 +7,5 @@ use Rattle.icn_image.proofs.Loops.{with_front}
 use Rattle.icn_image.proofs.procs.procs_at.Given as goal
 
 abbrev pub invariant-loop-head : goal.invariant-loop-head
-invariant-loop-head l = with_front (procs_of l.procs.items) (procs_at w16 (tables_in l.front) (drop l.head-index l.heads) l.rest) ≡ procs_at w16 (tables_in l.front) l.heads l.bytes
+invariant-loop-head l =
+    with_front (procs_of l.procs.items) (procs_at w16 (tables_in l.front) (drop l.head-index l.heads) l.rest) ≡ procs_at w16 (tables_in l.front) l.heads l.bytes

@@ -5,4 +5,7 @@ use Rattle.icn_image.proofs.Whole.{image_takes}
 use Rattle.icn_image.proofs.reading.read_image.Goals as goal
 
 pub invariant_of-result : goal.invariant_of-result
-invariant_of-result c = record { rules = (image_takes c.args.bytes.now (with_procs (tables_in c.in_ok-front.front) (procs_of c.in_ok-front.procs.items)) (λ i. omega (arith, c.type_inv.bytes i)) c.in_ok-front.ensures).0 }
+invariant_of-result c = record {
+  rules = (image_takes c.args.bytes.now (with_procs (tables_in c.in_ok-front.front) (procs_of c.in_ok-front.procs.items))
+      (λ i. omega (arith, c.type_inv.bytes i)) c.in_ok-front.ensures).0;
+}

@@ -7,4 +7,5 @@ use Rattle.icn_image.proofs.Loops.{with_front}
 use Rattle.icn_image.proofs.table.so_many_records.Given as goal
 
 abbrev pub invariant-loop : goal.invariant-loop
-invariant-loop l = with_front (records_of l.records.items) (times (record_at w16 l.strings l.fields) (l.count - l.counter) l.rest) ≡ times (record_at w16 l.strings l.fields) l.count l.bytes
+invariant-loop l = with_front (records_of l.records.items) (times (record_at w16 l.strings l.fields) (l.count - l.counter) l.rest)
+    ≡ times (record_at w16 l.strings l.fields) l.count l.bytes

@@ -7,4 +7,5 @@ use Rattle.icn_image.specs.Spelling.{head}
 use Rattle.icn_image.proofs.writing.put_heads.Given as goal
 
 abbrev pub invariant-loop-proc : goal.invariant-loop-proc
-invariant-loop-proc l = l.out.items ≡ l.fn.out.items ++ (to_le_bytes w16 (length l.procs) ++ flat_map (head w16) (map head_of (procs_of (take l.proc-index l.procs))))
+invariant-loop-proc l =
+    l.out.items ≡ l.fn.out.items ++ (to_le_bytes w16 (length l.procs) ++ flat_map (head w16) (map head_of (procs_of (take l.proc-index l.procs))))

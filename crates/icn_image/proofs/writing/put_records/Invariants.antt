@@ -6,4 +6,5 @@ use Rattle.icn_image.specs.Spelling.{record_type}
 use Rattle.icn_image.proofs.writing.put_records.Given as goal
 
 abbrev pub invariant-loop-kind : goal.invariant-loop-kind
-invariant-loop-kind l = l.out.items ≡ l.fn.out.items ++ (to_le_bytes w16 (length l.records) ++ flat_map (record_type w16) (records_of (take l.kind-index l.records)))
+invariant-loop-kind l =
+    l.out.items ≡ l.fn.out.items ++ (to_le_bytes w16 (length l.records) ++ flat_map (record_type w16) (records_of (take l.kind-index l.records)))

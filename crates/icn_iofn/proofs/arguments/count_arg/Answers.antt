@@ -15,7 +15,8 @@ use Rattle.icn_iofn.proofs.arguments.count_arg.Goals as goal
 pub returns-in_err-n-clause-found : goal.returns-in_err-n-clause-found
 returns-in_err-n-clause-found c = λ setting.
     first_stops (extent_of c.args.heap.now) (integer (arg_or (Integer (pos 1)) (map (value_in (extent_of c.args.heap.now)) c.args.vals.now) 1))
-    (λ n. positive n (arg (map (value_in (extent_of c.args.heap.now)) c.args.vals.now) 1)) setting setting (λ (n : ℕ). n) c.in_err-n.field-0.0 c.from_residual.result c.from_residual.ensures.1
+    (λ n. positive n (arg (map (value_in (extent_of c.args.heap.now)) c.args.vals.now) 1)) setting setting
+    (λ (n : ℕ). n) c.in_err-n.field-0.0 c.from_residual.result c.from_residual.ensures.1
     (c.in_err-n.ensures.found setting)
 
 pub returns-clause-found : goal.returns-clause-found
@@ -24,8 +25,10 @@ returns-clause-found c = λ setting.
     found_behind (extent_of c.args.heap.now) (integer (arg_or (Integer (pos 1)) (map (value_in (extent_of c.args.heap.now)) c.args.vals.now) 1)) c.in_ok-n.n
     (λ n. positive n (arg (map (value_in (extent_of c.args.heap.now)) c.args.vals.now) 1)) setting setting setting (λ (n : ℕ). n) c.positive.result
     (c.in_ok-n.ensures.found setting)
-    (subst (λ value. Found (extent_of c.args.heap.now) (positive c.in_ok-n.n value) setting setting (λ (n : ℕ). n) c.positive.result) (c.arg.ensures.value (extent_of c.args.heap.now))
-    (subst (λ m. Found (extent_of c.args.heap.now) (positive m (value_in (extent_of c.args.heap.now) c.arg.result)) setting setting (λ (n : ℕ). n) c.positive.result) (to_z-of_z w64 c.in_ok-n.n fits)
+    (subst (λ value. Found (extent_of c.args.heap.now) (positive c.in_ok-n.n value) setting setting (λ (n : ℕ). n) c.positive.result)
+    (c.arg.ensures.value (extent_of c.args.heap.now))
+    (subst (λ m. Found (extent_of c.args.heap.now) (positive m (value_in (extent_of c.args.heap.now) c.arg.result)) setting setting
+    (λ (n : ℕ). n) c.positive.result) (to_z-of_z w64 c.in_ok-n.n fits)
     (c.positive.ensures.found (extent_of c.args.heap.now) setting)))
 
 pub returns-clause-stops : goal.returns-clause-stops

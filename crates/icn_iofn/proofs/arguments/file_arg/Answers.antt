@@ -7,7 +7,8 @@ use Rattle.icn_iofn.proofs.arguments.file_arg.Goals as goal
 
 pub returns-clause-found : goal.returns-clause-found
 returns-clause-found c = λ all setting.
-    subst (λ value. Found all (file value) setting setting file_of c.file_of.result) (c.value_or.ensures.value all ∙ ap (value_or (Std Input)) (c.arg.ensures.value all)) (c.file_of.ensures.found all setting)
+    subst (λ value. Found all (file value) setting setting file_of c.file_of.result)
+    (c.value_or.ensures.value all ∙ ap (value_or (Std Input)) (c.arg.ensures.value all)) (c.file_of.ensures.found all setting)
 
 pub returns-clause-stops : goal.returns-clause-stops
 returns-clause-stops c = λ all live. c.file_of.ensures.stops all (c.value_or.ensures.live all (record { live = tt }) (c.arg.ensures.live all live))

@@ -11,10 +11,12 @@ use Rattle.icn_iofn.proofs.functions.of_values.Goals as goal
 
 pub returns-in-Exit : goal.returns-in-Exit
 returns-in-Exit g c = λ names. rw c.in-Exit.is
-    (faultless_applies (exit_row (map (value_in (extent_of c.args.w.now.heap)) c.args.vals.now)) c.args.w.now c.args.w.now (g.L.Locals.items c.args.l.now) (g.L.Locals.items c.args.l.now)
+    (faultless_applies (exit_row (map (value_in (extent_of c.args.w.now.heap)) c.args.vals.now)) c.args.w.now c.args.w.now (g.L.Locals.items c.args.l.now)
+    (g.L.Locals.items c.args.l.now)
     (call_streams (g.I.Source.left c.args.input.now) (g.I.Source.faults c.args.input.now) (g.O.Sink.state c.args.out.now) (g.E.Sink.state c.args.err.now))
     c.exit.result (λ was. c.exit.ensures.row (setting_of was c.args.w.now (g.L.Locals.items c.args.l.now)))
-    (c.exit.ensures.live (reach_of c.args.w.now (g.L.Locals.items c.args.l.now)) refl) c.requires.locals (items_all (reach_of c.args.w.now (g.L.Locals.items c.args.l.now))))
+    (c.exit.ensures.live (reach_of c.args.w.now (g.L.Locals.items c.args.l.now)) refl) c.requires.locals
+    (items_all (reach_of c.args.w.now (g.L.Locals.items c.args.l.now))))
 
 pub returns-in-Read : goal.returns-in-Read
 returns-in-Read g c = λ names. rw c.in-Read.is (c.read.ensures (g.O.Sink.state c.args.out.now) (g.E.Sink.state c.args.err.now))

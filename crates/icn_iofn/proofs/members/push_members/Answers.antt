@@ -6,7 +6,9 @@ loop-byte-init c = none_yet c.args.cset.now c.args.buffer.now.items
 
 pub loop-byte-preserved : goal.loop-byte-preserved
 loop-byte-preserved c =
-    one_more c.args.cset.now c.args.buffer.now.items c.loop-byte.buffer.items c.push_member.new.buffer.items c.loop-byte.byte c.loop-byte.invariant c.in_ok-push_member.ensures
+    one_more c.args.cset.now c.args.buffer.now.items c.loop-byte.buffer.items c.push_member.new.buffer.items c.loop-byte.byte c.loop-byte.invariant
+    c.in_ok-push_member.ensures
 
 pub returns : goal.returns
-returns c = all_members c.args.cset.now c.args.buffer.now.items c.loop-byte.buffer.items c.loop-byte.byte c.loop-byte-test.false c.loop-byte.auto.byte-end c.loop-byte.invariant
+returns c = all_members c.args.cset.now c.args.buffer.now.items c.loop-byte.buffer.items c.loop-byte.byte c.loop-byte-test.false c.loop-byte.auto.byte-end
+    c.loop-byte.invariant

@@ -16,7 +16,8 @@ returns-in_err-check_piece-clause-stops c = λ all live.
 
 pub loop-first-preserved : goal.loop-first-preserved
 loop-first-preserved c =
-    checks_go_on c.args.vals.now c.loop-first.rest.now c.in-Some.first.now c.in-Some.others.now c.in-Some.ensures.cases.0 c.loop-first.invariant c.in_ok-check_piece.ensures.found
+    checks_go_on c.args.vals.now c.loop-first.rest.now c.in-Some.first.now c.in-Some.others.now c.in-Some.ensures.cases.0 c.loop-first.invariant
+    c.in_ok-check_piece.ensures.found
 
 pub returns-clause-found : goal.returns-clause-found
 returns-clause-found c = checks_end c.args.vals.now c.loop-first.rest.now c.loop-first.invariant c.in_default.ensures.cases

@@ -16,18 +16,21 @@ returns-in_err-push_text-in_default g c = record {
   file = no_ok c.from_residual.result _ _ c.from_residual.ensures.1;
   err =
       err_is c.from_residual.result _ NoMemory c.from_residual.ensures.1
-      (stops_idle (file_of c.args.file) c.args.buffer.now.items (text_of_piece newline (not c.args.ends) (piece_in (value_in (extent_of c.args.heap.now) c.args.val)))
+      (stops_idle (file_of c.args.file) c.args.buffer.now.items
+      (text_of_piece newline (not c.args.ends) (piece_in (value_in (extent_of c.args.heap.now) c.args.val)))
       (outputs (g.O.Sink.state c.args.out.now) (g.E.Sink.state c.args.err.now)) NoMemory refl);
 }
 
 pub returns-in_ok-push_text-in_default : goal.returns-in_ok-push_text-in_default
 returns-in_ok-push_text-in_default g c = record {
   ok =
-      subst (λ p. Advances (waiting_text (file_of c.args.file) c.args.buffer.now.items (outputs (g.O.Sink.state c.args.out.now) (g.E.Sink.state c.args.err.now)))
+      subst
+      (λ p. Advances (waiting_text (file_of c.args.file) c.args.buffer.now.items (outputs (g.O.Sink.state c.args.out.now) (g.E.Sink.state c.args.err.now)))
       (waiting_text (file_of c.args.file) c.push_text.new.buffer.items (outputs (g.O.Sink.state c.args.out.now) (g.E.Sink.state c.args.err.now)))
       (put_on (file_of c.args.file) (text_of_piece newline (not c.args.ends) p)))
       (sym (text_piece (extent_of c.args.heap.now) c.args.val c.in_default.not-Std))
-      (waits_more (file_of c.args.file) (file_of c.args.file) c.args.buffer.now.items (the_text (value_in (extent_of c.args.heap.now) c.args.val)) c.push_text.new.buffer.items
+      (waits_more (file_of c.args.file) (file_of c.args.file) c.args.buffer.now.items
+      (the_text (value_in (extent_of c.args.heap.now) c.args.val)) c.push_text.new.buffer.items
       (outputs (g.O.Sink.state c.args.out.now) (g.E.Sink.state c.args.err.now)) refl c.in_ok-push_text-in_default.ensures);
   file = sym (ap (file_after (file_of c.args.file)) (text_piece (extent_of c.args.heap.now) c.args.val c.in_default.not-Std));
   err = tt;

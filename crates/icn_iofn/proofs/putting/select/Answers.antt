@@ -8,7 +8,8 @@ use Rattle.icn_iofn.proofs.putting.select.Goals as goal
 pub returns-in_err-end_line-clause-err : goal.returns-in_err-end_line-clause-err
 returns-in_err-end_line-clause-err g c =
     err_is c.from_residual.result _ NoMemory c.from_residual.ensures.1
-    (stops_idle (file_of c.args.file) c.args.buffer.now.items (end_of c.args.ends) (outputs (g.O.Sink.state c.args.out.now) (g.E.Sink.state c.args.err.now)) NoMemory refl)
+    (stops_idle (file_of c.args.file) c.args.buffer.now.items (end_of c.args.ends)
+    (outputs (g.O.Sink.state c.args.out.now) (g.E.Sink.state c.args.err.now)) NoMemory refl)
 
 pub returns-in_ok-flush-clause-ok : goal.returns-in_ok-flush-clause-ok
 returns-in_ok-flush-clause-ok g c =

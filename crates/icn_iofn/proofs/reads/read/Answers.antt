@@ -18,8 +18,10 @@ use Rattle.icn_iofn.proofs.reads.read.Goals as goal
 pub returns-in_err-file : goal.returns-in_err-file
 returns-in_err-file g c = λ output errors.
     stops_there (file (arg_or (Std Input) (map (value_in (extent_of c.args.w.now.heap)) c.args.vals.now) 0))
-    (λ from. check (is_input from) 212 (Some (arg (map (value_in (extent_of c.args.w.now.heap)) c.args.vals.now) 0)) (next_line (λ line. gives_value (Text line))))
-    (call_state c.args.w.now (g.L.Locals.items c.args.l.now) (call_streams (g.I.Source.left c.args.input.now) (g.I.Source.faults c.args.input.now) output errors))
+    (λ from.
+    check (is_input from) 212 (Some (arg (map (value_in (extent_of c.args.w.now.heap)) c.args.vals.now) 0)) (next_line (λ line. gives_value (Text line))))
+    (call_state c.args.w.now (g.L.Locals.items c.args.l.now)
+    (call_streams (g.I.Source.left c.args.input.now) (g.I.Source.faults c.args.input.now) output errors))
     c.in_err-file.field-0.0 c.from_residual.result c.from_residual.ensures.1
     (λ was. c.in_err-file.ensures.found (extent_of c.args.w.now.heap) (setting_of was c.args.w.now (g.L.Locals.items c.args.l.now)))
     (c.in_err-file.ensures.stops (extent_of c.args.w.now.heap) c.requires.live) c.requires.locals
@@ -28,10 +30,14 @@ pub returns : goal.returns
 returns g c = λ output errors.
     applies_same (read_row (map (value_in (extent_of c.args.w.now.heap)) c.args.vals.now))
     (read_from ALine (file_of c.in_ok-file.file) (value_in (extent_of c.args.w.now.heap) c.arg.result))
-    (call_state c.args.w.now (g.L.Locals.items c.args.l.now) (call_streams (g.I.Source.left c.args.input.now) (g.I.Source.faults c.args.input.now) output errors))
-    (call_state c.read_from.new.w (g.L.Locals.items c.args.l.now) (call_streams (g.I.Source.left c.read_from.new.input) (g.I.Source.faults c.read_from.new.input) output errors)) c.read_from.result
+    (call_state c.args.w.now (g.L.Locals.items c.args.l.now)
+    (call_streams (g.I.Source.left c.args.input.now) (g.I.Source.faults c.args.input.now) output errors))
+    (call_state c.read_from.new.w (g.L.Locals.items c.args.l.now)
+    (call_streams (g.I.Source.left c.read_from.new.input) (g.I.Source.faults c.read_from.new.input) output errors)) c.read_from.result
     (λ was. c.in_ok-file.ensures.found (extent_of c.args.w.now.heap) (setting_of was c.args.w.now (g.L.Locals.items c.args.l.now))
-    (λ from. check (is_input from) 212 (Some (arg (map (value_in (extent_of c.args.w.now.heap)) c.args.vals.now) 0)) (next_line (λ line. gives_value (Text line))))
-    ∙ ap (λ value. check (is_input (file_of c.in_ok-file.file)) 212 (Some value) (next_line (λ line. gives_value (Text line))) (setting_of was c.args.w.now (g.L.Locals.items c.args.l.now)))
+    (λ from.
+    check (is_input from) 212 (Some (arg (map (value_in (extent_of c.args.w.now.heap)) c.args.vals.now) 0)) (next_line (λ line. gives_value (Text line))))
+    ∙ ap (λ value. check (is_input (file_of c.in_ok-file.file)) 212 (Some value) (next_line (λ line. gives_value (Text line)))
+    (setting_of was c.args.w.now (g.L.Locals.items c.args.l.now)))
     (sym (c.arg.ensures.value (extent_of c.args.w.now.heap))))
     (c.read_from.ensures output errors)

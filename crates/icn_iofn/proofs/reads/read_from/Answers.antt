@@ -14,6 +14,8 @@ pub returns : goal.returns
 returns g c = λ output errors.
     let same : c.args.file ≡ Input = search rules in
     subst (λ file. Applies (read_from (asked_in c.args.ask) (file_of file) (value_in (extent_of c.args.w.now.heap) c.args.named))
-    (call_state c.args.w.now (g.L.Locals.items c.args.l.now) (call_streams (g.I.Source.left c.args.input.now) (g.I.Source.faults c.args.input.now) output errors))
-    (call_state c.read_input.new.w (g.L.Locals.items c.args.l.now) (call_streams (g.I.Source.left c.read_input.new.input) (g.I.Source.faults c.read_input.new.input) output errors)) c.read_input.result)
+    (call_state c.args.w.now (g.L.Locals.items c.args.l.now)
+    (call_streams (g.I.Source.left c.args.input.now) (g.I.Source.faults c.args.input.now) output errors))
+    (call_state c.read_input.new.w (g.L.Locals.items c.args.l.now)
+    (call_streams (g.I.Source.left c.read_input.new.input) (g.I.Source.faults c.read_input.new.input) output errors)) c.read_input.result)
     (sym same) (c.read_input.ensures output errors)

@@ -19,8 +19,10 @@ pub returns-in_err-file : goal.returns-in_err-file
 returns-in_err-file g c = λ output errors.
     stops_there (file (arg_or (Std Input) (map (value_in (extent_of c.args.w.now.heap)) c.args.vals.now) 0))
     (λ from. count_read (map (value_in (extent_of c.args.w.now.heap)) c.args.vals.now)
-    (λ count. check (is_input from) 212 (Some (arg (map (value_in (extent_of c.args.w.now.heap)) c.args.vals.now) 0)) (next_bytes count (λ bytes. gives_value (Text bytes)))))
-    (call_state c.args.w.now (g.L.Locals.items c.args.l.now) (call_streams (g.I.Source.left c.args.input.now) (g.I.Source.faults c.args.input.now) output errors))
+    (λ count. check (is_input from) 212 (Some (arg (map (value_in (extent_of c.args.w.now.heap)) c.args.vals.now) 0))
+    (next_bytes count (λ bytes. gives_value (Text bytes)))))
+    (call_state c.args.w.now (g.L.Locals.items c.args.l.now)
+    (call_streams (g.I.Source.left c.args.input.now) (g.I.Source.faults c.args.input.now) output errors))
     c.in_err-file.field-0.0 c.from_residual.result c.from_residual.ensures.1
     (λ was. c.in_err-file.ensures.found (extent_of c.args.w.now.heap) (setting_of was c.args.w.now (g.L.Locals.items c.args.l.now)))
     (c.in_err-file.ensures.stops (extent_of c.args.w.now.heap) c.requires.live) c.requires.locals
@@ -29,16 +31,22 @@ pub returns-in_err-count : goal.returns-in_err-count
 returns-in_err-count g c = λ output errors.
     applies_same (reads_row (map (value_in (extent_of c.args.w.now.heap)) c.args.vals.now))
     (count_read (map (value_in (extent_of c.args.w.now.heap)) c.args.vals.now)
-    (λ count. check (is_input (file_of c.in_ok-file.file)) 212 (Some (arg (map (value_in (extent_of c.args.w.now.heap)) c.args.vals.now) 0)) (next_bytes count (λ bytes. gives_value (Text bytes)))))
-    (call_state c.args.w.now (g.L.Locals.items c.args.l.now) (call_streams (g.I.Source.left c.args.input.now) (g.I.Source.faults c.args.input.now) output errors))
-    (call_state c.args.w.now (g.L.Locals.items c.args.l.now) (call_streams (g.I.Source.left c.args.input.now) (g.I.Source.faults c.args.input.now) output errors))
+    (λ count. check (is_input (file_of c.in_ok-file.file)) 212 (Some (arg (map (value_in (extent_of c.args.w.now.heap)) c.args.vals.now) 0))
+    (next_bytes count (λ bytes. gives_value (Text bytes)))))
+    (call_state c.args.w.now (g.L.Locals.items c.args.l.now)
+    (call_streams (g.I.Source.left c.args.input.now) (g.I.Source.faults c.args.input.now) output errors))
+    (call_state c.args.w.now (g.L.Locals.items c.args.l.now)
+    (call_streams (g.I.Source.left c.args.input.now) (g.I.Source.faults c.args.input.now) output errors))
     c.from_residual-in_err-count.result
     (λ was. c.in_ok-file.ensures.found (extent_of c.args.w.now.heap) (setting_of was c.args.w.now (g.L.Locals.items c.args.l.now))
     (λ from. count_read (map (value_in (extent_of c.args.w.now.heap)) c.args.vals.now)
-    (λ count. check (is_input from) 212 (Some (arg (map (value_in (extent_of c.args.w.now.heap)) c.args.vals.now) 0)) (next_bytes count (λ bytes. gives_value (Text bytes))))))
+    (λ count. check (is_input from) 212 (Some (arg (map (value_in (extent_of c.args.w.now.heap)) c.args.vals.now) 0))
+    (next_bytes count (λ bytes. gives_value (Text bytes))))))
     (stops_there (count_read (map (value_in (extent_of c.args.w.now.heap)) c.args.vals.now))
-    (λ count. check (is_input (file_of c.in_ok-file.file)) 212 (Some (arg (map (value_in (extent_of c.args.w.now.heap)) c.args.vals.now) 0)) (next_bytes count (λ bytes. gives_value (Text bytes))))
-    (call_state c.args.w.now (g.L.Locals.items c.args.l.now) (call_streams (g.I.Source.left c.args.input.now) (g.I.Source.faults c.args.input.now) output errors))
+    (λ count. check (is_input (file_of c.in_ok-file.file)) 212 (Some (arg (map (value_in (extent_of c.args.w.now.heap)) c.args.vals.now) 0))
+    (next_bytes count (λ bytes. gives_value (Text bytes))))
+    (call_state c.args.w.now (g.L.Locals.items c.args.l.now)
+    (call_streams (g.I.Source.left c.args.input.now) (g.I.Source.faults c.args.input.now) output errors))
     c.in_err-count.field-0.0 c.from_residual-in_err-count.result c.from_residual-in_err-count.ensures.1
     (λ was. c.in_err-count.ensures.found (setting_of was c.args.w.now (g.L.Locals.items c.args.l.now))) c.in_err-count.ensures.stops c.requires.locals)
 
@@ -46,13 +54,18 @@ pub returns : goal.returns
 returns g c = λ output errors.
     applies_same (reads_row (map (value_in (extent_of c.args.w.now.heap)) c.args.vals.now))
     (read_from (SomeBytes c.in_ok-count.count) (file_of c.in_ok-file.file) (value_in (extent_of c.args.w.now.heap) c.arg.result))
-    (call_state c.args.w.now (g.L.Locals.items c.args.l.now) (call_streams (g.I.Source.left c.args.input.now) (g.I.Source.faults c.args.input.now) output errors))
-    (call_state c.read_from.new.w (g.L.Locals.items c.args.l.now) (call_streams (g.I.Source.left c.read_from.new.input) (g.I.Source.faults c.read_from.new.input) output errors)) c.read_from.result
+    (call_state c.args.w.now (g.L.Locals.items c.args.l.now)
+    (call_streams (g.I.Source.left c.args.input.now) (g.I.Source.faults c.args.input.now) output errors))
+    (call_state c.read_from.new.w (g.L.Locals.items c.args.l.now)
+    (call_streams (g.I.Source.left c.read_from.new.input) (g.I.Source.faults c.read_from.new.input) output errors)) c.read_from.result
     (λ was. c.in_ok-file.ensures.found (extent_of c.args.w.now.heap) (setting_of was c.args.w.now (g.L.Locals.items c.args.l.now))
     (λ from. count_read (map (value_in (extent_of c.args.w.now.heap)) c.args.vals.now)
-    (λ count. check (is_input from) 212 (Some (arg (map (value_in (extent_of c.args.w.now.heap)) c.args.vals.now) 0)) (next_bytes count (λ bytes. gives_value (Text bytes)))))
+    (λ count. check (is_input from) 212 (Some (arg (map (value_in (extent_of c.args.w.now.heap)) c.args.vals.now) 0))
+    (next_bytes count (λ bytes. gives_value (Text bytes)))))
     ∙ (c.in_ok-count.ensures.found (setting_of was c.args.w.now (g.L.Locals.items c.args.l.now))
-    (λ count. check (is_input (file_of c.in_ok-file.file)) 212 (Some (arg (map (value_in (extent_of c.args.w.now.heap)) c.args.vals.now) 0)) (next_bytes count (λ bytes. gives_value (Text bytes))))
-    ∙ ap (λ value. check (is_input (file_of c.in_ok-file.file)) 212 (Some value) (next_bytes c.in_ok-count.count (λ bytes. gives_value (Text bytes))) (setting_of was c.args.w.now (g.L.Locals.items c.args.l.now)))
+    (λ count. check (is_input (file_of c.in_ok-file.file)) 212 (Some (arg (map (value_in (extent_of c.args.w.now.heap)) c.args.vals.now) 0))
+    (next_bytes count (λ bytes. gives_value (Text bytes))))
+    ∙ ap (λ value. check (is_input (file_of c.in_ok-file.file)) 212 (Some value) (next_bytes c.in_ok-count.count (λ bytes. gives_value (Text bytes)))
+    (setting_of was c.args.w.now (g.L.Locals.items c.args.l.now)))
     (sym (c.arg.ensures.value (extent_of c.args.w.now.heap)))))
     (c.read_from.ensures output errors)

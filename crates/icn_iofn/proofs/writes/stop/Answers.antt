@@ -22,18 +22,23 @@ returns-in_err-check_pieces g c = λ left faults.
 
 pub returns-in-Ok : goal.returns-in-Ok
 returns-in-Ok g c = λ left faults.
-    wrote_ends newline Errout (map (value_in (extent_of c.args.w.now.heap)) c.args.vals.now) (ends 1) (λ s. refl) (λ s. c.in_ok-check_pieces.ensures.found (extent_of c.args.w.now.heap) s) c.args.w.now (g.L.Locals.items c.args.l.now) left faults
+    wrote_ends newline Errout (map (value_in (extent_of c.args.w.now.heap)) c.args.vals.now) (ends 1) (λ s. refl)
+    (λ s. c.in_ok-check_pieces.ensures.found (extent_of c.args.w.now.heap) s) c.args.w.now (g.L.Locals.items c.args.l.now) left faults
     (g.O.Sink.state c.args.out.now) (g.O.Sink.state c.put_line.new.out) (g.E.Sink.state c.args.err.now) (g.E.Sink.state c.put_line.new.err) c.requires.locals
     1 (λ s. refl) c.in-Ok.ensures.ok c.in-Ok.ensures.counts
 
 pub returns-in-Err-Failed : goal.returns-in-Err-Failed
 returns-in-Err-Failed g c = λ left faults.
-    write_fails newline Errout (map (value_in (extent_of c.args.w.now.heap)) c.args.vals.now) (ends 1) (λ s. refl) (λ s. c.in_ok-check_pieces.ensures.found (extent_of c.args.w.now.heap) s) c.args.w.now (g.L.Locals.items c.args.l.now) left faults
+    write_fails newline Errout (map (value_in (extent_of c.args.w.now.heap)) c.args.vals.now) (ends 1) (λ s. refl)
+    (λ s. c.in_ok-check_pieces.ensures.found (extent_of c.args.w.now.heap) s) c.args.w.now (g.L.Locals.items c.args.l.now) left faults
     (g.O.Sink.state c.args.out.now) (g.O.Sink.state c.put_line.new.out) (g.E.Sink.state c.args.err.now) (g.E.Sink.state c.put_line.new.err) c.requires.locals
-    c.in-Err-Failed.ensures.err (subst (BrokenBy (outputs (g.O.Sink.state c.args.out.now) (g.E.Sink.state c.args.err.now)) (outputs (g.O.Sink.state c.put_line.new.out) (g.E.Sink.state c.put_line.new.err))) c.in-Err-Failed.field-0-is c.in-Err-Failed.ensures.cause)
+    c.in-Err-Failed.ensures.err (subst (BrokenBy (outputs (g.O.Sink.state c.args.out.now) (g.E.Sink.state c.args.err.now))
+    (outputs (g.O.Sink.state c.put_line.new.out) (g.E.Sink.state c.put_line.new.err))) c.in-Err-Failed.field-0-is c.in-Err-Failed.ensures.cause)
 
 pub returns-in-Err-NoMemory : goal.returns-in-Err-NoMemory
 returns-in-Err-NoMemory g c = λ left faults.
-    write_wants newline Errout (map (value_in (extent_of c.args.w.now.heap)) c.args.vals.now) (ends 1) (λ s. refl) (λ s. c.in_ok-check_pieces.ensures.found (extent_of c.args.w.now.heap) s) c.args.w.now (g.L.Locals.items c.args.l.now) left faults
+    write_wants newline Errout (map (value_in (extent_of c.args.w.now.heap)) c.args.vals.now) (ends 1) (λ s. refl)
+    (λ s. c.in_ok-check_pieces.ensures.found (extent_of c.args.w.now.heap) s) c.args.w.now (g.L.Locals.items c.args.l.now) left faults
     (g.O.Sink.state c.args.out.now) (g.O.Sink.state c.put_line.new.out) (g.E.Sink.state c.args.err.now) (g.E.Sink.state c.put_line.new.err) c.requires.locals
-    c.in-Err-NoMemory.ensures.err (subst (BrokenBy (outputs (g.O.Sink.state c.args.out.now) (g.E.Sink.state c.args.err.now)) (outputs (g.O.Sink.state c.put_line.new.out) (g.E.Sink.state c.put_line.new.err))) c.in-Err-NoMemory.field-0-is c.in-Err-NoMemory.ensures.cause)
+    c.in-Err-NoMemory.ensures.err (subst (BrokenBy (outputs (g.O.Sink.state c.args.out.now) (g.E.Sink.state c.args.err.now))
+    (outputs (g.O.Sink.state c.put_line.new.out) (g.E.Sink.state c.put_line.new.err))) c.in-Err-NoMemory.field-0-is c.in-Err-NoMemory.ensures.cause)

@@ -6,4 +6,5 @@ use Rattle.icn_lex.proofs.literals.read_part.Goals as goal
 pub returns-clause-exact : goal.returns-clause-exact
 returns-clause-exact c =
     rw c.unclosed.ensures
-    (λ later. c.loop-first.invariant.same later ∙ at_end c.args.line.now (literal_of c.args.opening c.loop-first.bytes.items) c.loop-first.rest.now later c.in_default.ensures.cases)
+    (λ later. c.loop-first.invariant.same later
+    ∙ at_end c.args.line.now (literal_of c.args.opening c.loop-first.bytes.items) c.loop-first.rest.now later c.in_default.ensures.cases)

@@ -4,7 +4,8 @@ use Rattle.icn_lex.proofs.literals.read_part.Given as goal
 
 abbrev pub invariant-loop-first : goal.invariant-loop-first
 invariant-loop-first l = record {
-  same : (later : Later) → scan_inside l.line (literal_of l.opening l.initial.bytes.items) l.text later ≡ scan_inside l.line (literal_of l.opening l.bytes.items) l.rest later;
+  same : (later : Later)
+      → scan_inside l.line (literal_of l.opening l.initial.bytes.items) l.text later ≡ scan_inside l.line (literal_of l.opening l.bytes.items) l.rest later;
   within : length l.rest ≤ length l.text;
 }
 

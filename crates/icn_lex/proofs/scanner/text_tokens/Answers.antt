@@ -6,12 +6,14 @@ use Rattle.icn_lex.proofs.scanner.text_tokens.Goals as goal
 
 pub loop-first-preserved-then-is_space : goal.loop-first-preserved-then-is_space
 loop-first-preserved-then-is_space c =
-    λ later all r. reads_same all c.loop-first.tokens.items _ _ (at_space c.args.line.now c.loop-first.is_first c.in-Some.first.now c.in-Some.others.now c.loop-first.rest.now later c.in-Some.ensures.cases.0
+    λ later all r. reads_same all c.loop-first.tokens.items
+    _ _ (at_space c.args.line.now c.loop-first.is_first c.in-Some.first.now c.in-Some.others.now c.loop-first.rest.now later c.in-Some.ensures.cases.0
     (sym c.is_space.ensures ∙ c.if-is_space.true)) (c.loop-first.invariant later all r)
 
 pub returns-then-begins_comment : goal.returns-then-begins_comment
 returns-then-begins_comment c =
-    λ later all r. reads_same all c.loop-first.tokens.items _ _ (at_comment c.args.line.now c.loop-first.is_first c.in-Some.first.now c.in-Some.others.now c.loop-first.rest.now later c.in-Some.ensures.cases.0
+    λ later all r. reads_same all c.loop-first.tokens.items
+    _ _ (at_comment c.args.line.now c.loop-first.is_first c.in-Some.first.now c.in-Some.others.now c.loop-first.rest.now later c.in-Some.ensures.cases.0
     (sym c.is_space.ensures ∙ c.if-is_space.false) (sym c.begins_comment.ensures ∙ c.if-begins_comment.true)) (c.loop-first.invariant later all r)
 
 pub returns-in_err-behind : goal.returns-in_err-behind
@@ -21,4 +23,5 @@ returns-in_err-behind c =
 
 pub returns : goal.returns
 returns c =
-    λ later all r. reads_same all c.loop-first.tokens.items _ _ (at_text_end c.args.line.now c.loop-first.is_first c.loop-first.rest.now later c.in_default.ensures.cases) (c.loop-first.invariant later all r)
+    λ later all r. reads_same all c.loop-first.tokens.items
+    _ _ (at_text_end c.args.line.now c.loop-first.is_first c.loop-first.rest.now later c.in_default.ensures.cases) (c.loop-first.invariant later all r)

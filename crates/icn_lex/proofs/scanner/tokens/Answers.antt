@@ -34,12 +34,14 @@ returns-in-Some c = record {
   exact =
       let lines = c.args.lines.now.lines.items in
       rw c.unclosed.ensures
-      (unclosed_outcome lines c.loop-line.tokens.items c.loop-line.line-index (literal_read c.in-Some.literal) (omega (arith, ap length c.deref-line-items.ensures.value)) (rw c.in-Some.is at c.loop-line.invariant));
+      (unclosed_outcome lines c.loop-line.tokens.items c.loop-line.line-index (literal_read c.in-Some.literal)
+      (omega (arith, ap length c.deref-line-items.ensures.value)) (rw c.in-Some.is at c.loop-line.invariant));
 }
 
 pub returns-in-None : goal.returns-in-None
 returns-in-None c = record {
   exact =
       let lines = c.args.lines.now.lines.items in
-      inr (ap Some (scanned_outcome lines c.loop-line.tokens.items c.loop-line.line-index (omega (arith, ap length c.deref-line-items.ensures.value)) (rw c.in-None.is at c.loop-line.invariant)));
+      inr (ap Some (scanned_outcome lines c.loop-line.tokens.items c.loop-line.line-index (omega (arith, ap length c.deref-line-items.ensures.value))
+      (rw c.in-None.is at c.loop-line.invariant)));
 }

@@ -6,6 +6,7 @@ use Rattle.icn_link.proofs.gathered.enter_integers_used.Goals as goal
 
 pub loop-instr-preserved : goal.loop-instr-preserved
 loop-instr-preserved c =
-    own_integers_step (λ (instr : UnitInstr). integer_in (mention_of instr)) c.args.instrs.now c.loop-instr.instr-index c.instr-item.result c.loop-instr.found.keys _
+    own_integers_step
+    (λ (instr : UnitInstr). integer_in (mention_of instr)) c.args.instrs.now c.loop-instr.instr-index c.instr-item.result c.loop-instr.found.keys _
     c.loop-instr-test.true c.instr-item.is c.in_ok-enter_integer_used.ensures
     ∙ c.loop-instr.invariant

@@ -11,6 +11,8 @@ use Rattle.icn_link.proofs.gathered.enter_literals.Goals as goal
 
 pub loop-proc-preserved : goal.loop-proc-preserved
 loop-proc-preserved c =
-    texts_step (λ (item : Bor ProcCode). proc_seen item.now) (mentioned_in text_in) c.args.procs.now c.loop-proc.proc-index c.proc-item.result (texts_seen c.loop-proc.texts.keys) _
-    c.loop-proc-test.true c.proc-item.is (c.in_ok-enter_texts_used.ensures ∙ ap (λ items. with_texts (texts_seen c.loop-proc.texts.keys) (flat_map (λ (instr : UnitInstr). text_in (mention_of instr)) items)) c.deref.ensures.value)
+    texts_step (λ (item : Bor ProcCode). proc_seen item.now) (mentioned_in text_in) c.args.procs.now c.loop-proc.proc-index c.proc-item.result
+    (texts_seen c.loop-proc.texts.keys) _
+    c.loop-proc-test.true c.proc-item.is (c.in_ok-enter_texts_used.ensures
+    ∙ ap (λ items. with_texts (texts_seen c.loop-proc.texts.keys) (flat_map (λ (instr : UnitInstr). text_in (mention_of instr)) items)) c.deref.ensures.value)
     ∙ c.loop-proc.invariant

@@ -8,6 +8,7 @@ use Rattle.icn_link.proofs.gathered.enter_record_fields.Goals as goal
 
 pub loop-decl-preserved : goal.loop-decl-preserved
 loop-decl-preserved c =
-    texts_step (λ (item : Bor UnitDecl). decl_seen item.now) fields_in c.args.decls.now c.loop-decl.decl-index c.decl-item.result (texts_seen c.loop-decl.names.keys) _
+    texts_step (λ (item : Bor UnitDecl). decl_seen item.now) fields_in c.args.decls.now c.loop-decl.decl-index c.decl-item.result
+    (texts_seen c.loop-decl.names.keys) _
     c.loop-decl-test.true c.decl-item.is c.in_ok-enter_fields.ensures
     ∙ c.loop-decl.invariant

@@ -7,6 +7,7 @@ use Rattle.icn_link.proofs.gathered.enter_sets_used.Goals as goal
 
 pub loop-instr-preserved : goal.loop-instr-preserved
 loop-instr-preserved c =
-    own_texts_step (λ (instr : UnitInstr). set_in (mention_of instr)) c.args.instrs.now c.loop-instr.instr-index c.instr-item.result (texts_seen c.loop-instr.found.keys) _
+    own_texts_step (λ (instr : UnitInstr). set_in (mention_of instr)) c.args.instrs.now c.loop-instr.instr-index c.instr-item.result
+    (texts_seen c.loop-instr.found.keys) _
     c.loop-instr-test.true c.instr-item.is c.in_ok-enter_set_used.ensures
     ∙ c.loop-instr.invariant

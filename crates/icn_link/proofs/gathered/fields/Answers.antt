@@ -11,8 +11,10 @@ use Rattle.icn_link.proofs.gathered.fields.Goals as goal
 
 pub loop-proc-preserved : goal.loop-proc-preserved
 loop-proc-preserved c =
-    texts_step (λ (item : Bor ProcCode). proc_seen item.now) (mentioned_in field_in) c.args.procs.now c.loop-proc.proc-index c.proc-item.result (texts_seen c.loop-proc.names.keys) _
-    c.loop-proc-test.true c.proc-item.is (c.in_ok-enter_fields_used.ensures ∙ ap (λ items. with_texts (texts_seen c.loop-proc.names.keys) (flat_map (λ (instr : UnitInstr). field_in (mention_of instr)) items)) c.deref.ensures.value)
+    texts_step (λ (item : Bor ProcCode). proc_seen item.now) (mentioned_in field_in) c.args.procs.now c.loop-proc.proc-index c.proc-item.result
+    (texts_seen c.loop-proc.names.keys) _
+    c.loop-proc-test.true c.proc-item.is (c.in_ok-enter_fields_used.ensures
+    ∙ ap (λ items. with_texts (texts_seen c.loop-proc.names.keys) (flat_map (λ (instr : UnitInstr). field_in (mention_of instr)) items)) c.deref.ensures.value)
     ∙ c.loop-proc.invariant
 
 pub loop-proc-init : goal.loop-proc-init

@@ -10,6 +10,8 @@ use Rattle.icn_link.proofs.gathered.globals.Goals as goal
 
 pub loop-proc-preserved : goal.loop-proc-preserved
 loop-proc-preserved c =
-    texts_step (λ (item : Bor ProcCode). proc_seen item.now) functions_in c.args.procs.now c.loop-proc.proc-index c.proc-item.result (texts_seen c.loop-proc.names.keys) _
-    c.loop-proc-test.true c.proc-item.is (c.in_ok-enter_functions.ensures ∙ ap (λ items. with_texts (texts_seen c.loop-proc.names.keys) (flat_map function_in items)) c.deref.ensures.value)
+    texts_step (λ (item : Bor ProcCode). proc_seen item.now) functions_in c.args.procs.now c.loop-proc.proc-index c.proc-item.result
+    (texts_seen c.loop-proc.names.keys) _
+    c.loop-proc-test.true c.proc-item.is
+    (c.in_ok-enter_functions.ensures ∙ ap (λ items. with_texts (texts_seen c.loop-proc.names.keys) (flat_map function_in items)) c.deref.ensures.value)
     ∙ c.loop-proc.invariant

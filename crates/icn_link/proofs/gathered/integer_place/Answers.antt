@@ -10,9 +10,11 @@ use Rattle.icn_link.proofs.gathered.integer_place.Goals as goal
 pub returns-in-Some : goal.returns-in-Some
 returns-in-Some c =
     let fits : FitsSigned w64 c.args.n = search rules in
-    sym (found_place (int_eq c.args.n) c.args.integers.now.keys c.in-Some.place (ap (λ z. position (int_eq z) c.args.integers.now.keys) (sym (to_z-of_z w64 c.args.n fits)) ∙ sym c.in-Some.ensures.index))
+    sym (found_place (int_eq c.args.n) c.args.integers.now.keys c.in-Some.place
+    (ap (λ z. position (int_eq z) c.args.integers.now.keys) (sym (to_z-of_z w64 c.args.n fits)) ∙ sym c.in-Some.ensures.index))
 
 pub returns-in-None : goal.returns-in-None
 returns-in-None c =
     let fits : FitsSigned w64 c.args.n = search rules in
-    c.len.ensures.len ∙ sym (no_place (int_eq c.args.n) c.args.integers.now.keys (ap (λ z. position (int_eq z) c.args.integers.now.keys) (sym (to_z-of_z w64 c.args.n fits)) ∙ sym c.in-None.ensures.index))
+    c.len.ensures.len ∙ sym (no_place (int_eq c.args.n) c.args.integers.now.keys
+    (ap (λ z. position (int_eq z) c.args.integers.now.keys) (sym (to_z-of_z w64 c.args.n fits)) ∙ sym c.in-None.ensures.index))

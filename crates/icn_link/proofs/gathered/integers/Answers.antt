@@ -10,6 +10,8 @@ use Rattle.icn_link.proofs.gathered.integers.Goals as goal
 
 pub loop-proc-preserved : goal.loop-proc-preserved
 loop-proc-preserved c =
-    integers_step (λ (item : Bor ProcCode). proc_seen item.now) (mentioned_in integer_in) c.args.procs.now c.loop-proc.proc-index c.proc-item.result c.loop-proc.found.keys _
-    c.loop-proc-test.true c.proc-item.is (c.in_ok-enter_integers_used.ensures ∙ ap (λ items. with_integers c.loop-proc.found.keys (flat_map (λ (instr : UnitInstr). integer_in (mention_of instr)) items)) c.deref.ensures.value)
+    integers_step (λ (item : Bor ProcCode). proc_seen item.now)
+    (mentioned_in integer_in) c.args.procs.now c.loop-proc.proc-index c.proc-item.result c.loop-proc.found.keys _
+    c.loop-proc-test.true c.proc-item.is (c.in_ok-enter_integers_used.ensures
+    ∙ ap (λ items. with_integers c.loop-proc.found.keys (flat_map (λ (instr : UnitInstr). integer_in (mention_of instr)) items)) c.deref.ensures.value)
     ∙ c.loop-proc.invariant

@@ -10,17 +10,21 @@ use Rattle.icn_link.proofs.linking.code_of.Goals as goal
 
 pub places-requires : goal.places-requires
 places-requires c =
-    let few : AreFew (gathered_seen c.args.tables.now) = are_few (gathered_seen c.args.tables.now) (decls_seen c.args.decls.now) (procs_seen c.args.procs.now) c.requires.tables c.requires.joinable in
+    let few : AreFew (gathered_seen c.args.tables.now) = are_few (gathered_seen c.args.tables.now) (decls_seen c.args.decls.now)
+    (procs_seen c.args.procs.now) c.requires.tables c.requires.joinable in
     record { few = few.strings }
 
 pub records-requires : goal.records-requires
-records-requires c = record { few = are_few (gathered_seen c.args.tables.now) (decls_seen c.args.decls.now) (procs_seen c.args.procs.now) c.requires.tables c.requires.joinable }
+records-requires c =
+    record { few = are_few (gathered_seen c.args.tables.now) (decls_seen c.args.decls.now) (procs_seen c.args.procs.now) c.requires.tables c.requires.joinable }
 
 pub globals-requires : goal.globals-requires
-globals-requires c = record { few = are_few (gathered_seen c.args.tables.now) (decls_seen c.args.decls.now) (procs_seen c.args.procs.now) c.requires.tables c.requires.joinable }
+globals-requires c =
+    record { few = are_few (gathered_seen c.args.tables.now) (decls_seen c.args.decls.now) (procs_seen c.args.procs.now) c.requires.tables c.requires.joinable }
 
 pub entries-requires-clause-few : goal.entries-requires-clause-few
-entries-requires-clause-few c = are_few (gathered_seen c.args.tables.now) (decls_seen c.args.decls.now) (procs_seen c.args.procs.now) c.requires.tables c.requires.joinable
+entries-requires-clause-few c =
+    are_few (gathered_seen c.args.tables.now) (decls_seen c.args.decls.now) (procs_seen c.args.procs.now) c.requires.tables c.requires.joinable
 
 pub entries-requires-clause-locals : goal.entries-requires-clause-locals
 entries-requires-clause-locals c =

@@ -8,10 +8,12 @@ use Rattle.icn_link.proofs.linking.entries.Goals as goal
 
 pub put_entry-requires-clause-locals : goal.put_entry-requires-clause-locals
 put_entry-requires-clause-locals c =
-    leb-true _ _ (at_item (λ (proc : Proc). nat_le (locals_in (gathered_seen c.args.tables.now).globals proc.names) 65535) c.args.procs.now c.loop-proc.proc-index
+    leb-true
+    _ _ (at_item (λ (proc : Proc). nat_le (locals_in (gathered_seen c.args.tables.now).globals proc.names) 65535) c.args.procs.now c.loop-proc.proc-index
     c.proc-item.result c.loop-proc-test.true c.proc-item.is c.requires.locals)
 
 pub put_entry-requires-clause-statics : goal.put_entry-requires-clause-statics
 put_entry-requires-clause-statics c =
-    leb-true _ _ (at_item (λ (proc : Proc). nat_le (statics_in (gathered_seen c.args.tables.now).globals proc.names) 65535) c.args.procs.now c.loop-proc.proc-index
+    leb-true
+    _ _ (at_item (λ (proc : Proc). nat_le (statics_in (gathered_seen c.args.tables.now).globals proc.names) 65535) c.args.procs.now c.loop-proc.proc-index
     c.proc-item.result c.loop-proc-test.true c.proc-item.is c.requires.statics)

@@ -24,4 +24,5 @@ returns-clause-entry c =
     (λ label. c.in_ok-labels.ensures label ∙ ap (label_address label) c.deref-2.ensures.value)
     (c.in_ok-locals.ensures.locals ∙ ap (locals_in (gathered_seen c.args.tables.now).globals) c.deref-5.ensures.value)
     (c.in_ok-statics.ensures.statics ∙ ap (statics_in (gathered_seen c.args.tables.now).globals) c.deref-6.ensures.value)
-    (c.in_ok-instrs.ensures ∙ ap (resolve (scope_with (gathered_seen c.args.tables.now) c.deref-3.result.now (address_in c.in_ok-labels.labels))) c.deref-4.ensures.value)
+    (c.in_ok-instrs.ensures
+    ∙ ap (resolve (scope_with (gathered_seen c.args.tables.now) c.deref-3.result.now (address_in c.in_ok-labels.labels))) c.deref-4.ensures.value)

@@ -4,5 +4,6 @@ use Rattle.icn_link.specs.Views.{texts_seen, gathered_seen, places_in}
 use Rattle.icn_link.proofs.linking.globals_with.Given as goal
 
 abbrev pub invariant-loop-name : goal.invariant-loop-name
-invariant-loop-name l = l.globals.items ++ map (global_with (gathered_seen l.tables) (places_in l.procs) (places_in l.records)) (texts_seen (drop l.name-index l.names))
+invariant-loop-name l =
+    l.globals.items ++ map (global_with (gathered_seen l.tables) (places_in l.procs) (places_in l.records)) (texts_seen (drop l.name-index l.names))
     ≡ map (global_with (gathered_seen l.tables) (places_in l.procs) (places_in l.records)) (texts_seen l.names)

@@ -8,5 +8,7 @@ use Rattle.icn_link.proofs.linking.join.Goals as goal
 
 pub returns-in_err-check_instrs-clause-fault : goal.returns-in_err-check_instrs-clause-fault
 returns-in_err-check_instrs-clause-fault c =
-    err_is c.from_residual.result (IsFault (too_large_of (decls_seen c.args.decls.now) (procs_seen c.args.procs.now))) c.in_err-check_instrs.field-0.0 c.from_residual.ensures.1
-    (instrs_exit (all_mentions (decls_seen c.args.decls.now) (procs_seen c.args.procs.now)) (decls_seen c.args.decls.now) (procs_seen c.args.procs.now) refl c.in_err-check_instrs.field-0.0 c.in_err-check_instrs.ensures.fault)
+    err_is c.from_residual.result
+    (IsFault (too_large_of (decls_seen c.args.decls.now) (procs_seen c.args.procs.now))) c.in_err-check_instrs.field-0.0 c.from_residual.ensures.1
+    (instrs_exit (all_mentions (decls_seen c.args.decls.now) (procs_seen c.args.procs.now)) (decls_seen c.args.decls.now)
+    (procs_seen c.args.procs.now) refl c.in_err-check_instrs.field-0.0 c.in_err-check_instrs.ensures.fault)

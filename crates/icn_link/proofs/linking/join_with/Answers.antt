@@ -8,51 +8,69 @@ use Rattle.icn_link.proofs.linking.join_with.Goals as goal
 
 pub returns-in_err-check_tables-clause-fault : goal.returns-in_err-check_tables-clause-fault
 returns-in_err-check_tables-clause-fault c =
-    err_is c.from_residual.result (IsFault (too_large_of (decls_seen c.args.decls.now) (procs_seen c.args.procs.now))) c.in_err-check_tables.field-0.0 c.from_residual.ensures.1
+    err_is c.from_residual.result
+    (IsFault (too_large_of (decls_seen c.args.decls.now) (procs_seen c.args.procs.now))) c.in_err-check_tables.field-0.0 c.from_residual.ensures.1
     (tables_exit (gathered_seen c.args.tables.now) (decls_seen c.args.decls.now) (procs_seen c.args.procs.now) c.requires.tables c.in_err-check_tables.field-0.0
     c.requires.instrs c.in_err-check_tables.ensures.fault)
 
 pub returns-in_err-check_operands-clause-fault : goal.returns-in_err-check_operands-clause-fault
 returns-in_err-check_operands-clause-fault c =
-    err_is c.from_residual-in_err-check_operands.result (IsFault (too_large_of (decls_seen c.args.decls.now) (procs_seen c.args.procs.now))) c.in_err-check_operands.field-0.0 c.from_residual-in_err-check_operands.ensures.1
-    (operands_exit (gathered_seen c.args.tables.now) (decls_seen c.args.decls.now) (procs_seen c.args.procs.now) c.requires.tables c.in_err-check_operands.field-0.0
+    err_is c.from_residual-in_err-check_operands.result (IsFault (too_large_of (decls_seen c.args.decls.now) (procs_seen c.args.procs.now)))
+    c.in_err-check_operands.field-0.0 c.from_residual-in_err-check_operands.ensures.1
+    (operands_exit (gathered_seen c.args.tables.now) (decls_seen c.args.decls.now)
+    (procs_seen c.args.procs.now) c.requires.tables c.in_err-check_operands.field-0.0
     c.requires.instrs c.in_ok-check_tables.ensures.none c.in_err-check_operands.ensures.fault)
 
 pub returns-in_err-check_records-clause-fault : goal.returns-in_err-check_records-clause-fault
 returns-in_err-check_records-clause-fault c =
-    err_is c.from_residual-in_err-check_records.result (IsFault (too_large_of (decls_seen c.args.decls.now) (procs_seen c.args.procs.now))) c.in_err-check_records.field-0.0 c.from_residual-in_err-check_records.ensures.1
-    (records_exit (gathered_seen c.args.tables.now) (decls_seen c.args.decls.now) (procs_seen c.args.procs.now) c.requires.tables c.in_err-check_records.field-0.0
+    err_is c.from_residual-in_err-check_records.result (IsFault (too_large_of (decls_seen c.args.decls.now) (procs_seen c.args.procs.now)))
+    c.in_err-check_records.field-0.0 c.from_residual-in_err-check_records.ensures.1
+    (records_exit (gathered_seen c.args.tables.now) (decls_seen c.args.decls.now)
+    (procs_seen c.args.procs.now) c.requires.tables c.in_err-check_records.field-0.0
     c.requires.instrs c.in_ok-check_tables.ensures.none c.in_ok-check_operands.ensures.none c.in_err-check_records.ensures.fault)
 
 pub returns-in_err-check_locals-clause-fault : goal.returns-in_err-check_locals-clause-fault
 returns-in_err-check_locals-clause-fault c =
-    err_is c.from_residual-in_err-check_locals.result (IsFault (too_large_of (decls_seen c.args.decls.now) (procs_seen c.args.procs.now))) c.in_err-check_locals.field-0.0 c.from_residual-in_err-check_locals.ensures.1
+    err_is c.from_residual-in_err-check_locals.result (IsFault (too_large_of (decls_seen c.args.decls.now) (procs_seen c.args.procs.now)))
+    c.in_err-check_locals.field-0.0 c.from_residual-in_err-check_locals.ensures.1
     (locals_exit (gathered_seen c.args.tables.now) (decls_seen c.args.decls.now) (procs_seen c.args.procs.now) c.requires.tables c.in_err-check_locals.field-0.0
-    c.requires.instrs c.in_ok-check_tables.ensures.none c.in_ok-check_operands.ensures.none c.in_ok-check_records.ensures.none c.in_err-check_locals.ensures.fault)
+    c.requires.instrs c.in_ok-check_tables.ensures.none c.in_ok-check_operands.ensures.none c.in_ok-check_records.ensures.none
+    c.in_err-check_locals.ensures.fault)
 
 pub returns-in_err-check_statics-clause-fault : goal.returns-in_err-check_statics-clause-fault
 returns-in_err-check_statics-clause-fault c =
-    err_is c.from_residual-in_err-check_statics.result (IsFault (too_large_of (decls_seen c.args.decls.now) (procs_seen c.args.procs.now))) c.in_err-check_statics.field-0.0 c.from_residual-in_err-check_statics.ensures.1
-    (statics_exit (gathered_seen c.args.tables.now) (decls_seen c.args.decls.now) (procs_seen c.args.procs.now) c.requires.tables c.in_err-check_statics.field-0.0
-    c.requires.instrs c.in_ok-check_tables.ensures.none c.in_ok-check_operands.ensures.none c.in_ok-check_records.ensures.none c.in_ok-check_locals.ensures.none c.in_err-check_statics.ensures.fault)
+    err_is c.from_residual-in_err-check_statics.result (IsFault (too_large_of (decls_seen c.args.decls.now) (procs_seen c.args.procs.now)))
+    c.in_err-check_statics.field-0.0 c.from_residual-in_err-check_statics.ensures.1
+    (statics_exit (gathered_seen c.args.tables.now) (decls_seen c.args.decls.now)
+    (procs_seen c.args.procs.now) c.requires.tables c.in_err-check_statics.field-0.0
+    c.requires.instrs c.in_ok-check_tables.ensures.none c.in_ok-check_operands.ensures.none c.in_ok-check_records.ensures.none c.in_ok-check_locals.ensures.none
+    c.in_err-check_statics.ensures.fault)
 
 pub code_of-requires-clause-joinable : goal.code_of-requires-clause-joinable
 code_of-requires-clause-joinable c =
-    are_joinable (gathered_seen c.args.tables.now) (decls_seen c.args.decls.now) (procs_seen c.args.procs.now) c.requires.tables c.requires.decls c.requires.procs
-    c.requires.instrs c.in_ok-check_tables.ensures.none c.in_ok-check_operands.ensures.none c.in_ok-check_records.ensures.none c.in_ok-check_locals.ensures.none c.in_ok-check_statics.ensures.none
+    are_joinable (gathered_seen c.args.tables.now) (decls_seen c.args.decls.now)
+    (procs_seen c.args.procs.now) c.requires.tables c.requires.decls c.requires.procs
+    c.requires.instrs c.in_ok-check_tables.ensures.none c.in_ok-check_operands.ensures.none c.in_ok-check_records.ensures.none c.in_ok-check_locals.ensures.none
+    c.in_ok-check_statics.ensures.none
 
 pub returns-in_err-code-clause-fault : goal.returns-in_err-code-clause-fault
 returns-in_err-code-clause-fault c =
-    err_is c.from_residual-in_err-code.result (IsFault (too_large_of (decls_seen c.args.decls.now) (procs_seen c.args.procs.now))) c.in_err-code.field-0.0 c.from_residual-in_err-code.ensures.1
+    err_is c.from_residual-in_err-code.result
+    (IsFault (too_large_of (decls_seen c.args.decls.now) (procs_seen c.args.procs.now))) c.in_err-code.field-0.0 c.from_residual-in_err-code.ensures.1
     (inl c.in_err-code.ensures.fault)
 
 pub returns-in_err-check_image-clause-fault : goal.returns-in_err-check_image-clause-fault
 returns-in_err-check_image-clause-fault c =
-    err_is c.from_residual-in_err-check_image.result (IsFault (too_large_of (decls_seen c.args.decls.now) (procs_seen c.args.procs.now))) c.in_err-check_image.field-0.0 c.from_residual-in_err-check_image.ensures.1
-    (image_exit (gathered_seen c.args.tables.now) (decls_seen c.args.decls.now) (procs_seen c.args.procs.now) c.requires.tables (tables_of c.in_ok-code.code) c.in_err-check_image.field-0.0 c.in_ok-code.ensures.joined
-    c.requires.instrs c.in_ok-check_tables.ensures.none c.in_ok-check_operands.ensures.none c.in_ok-check_records.ensures.none c.in_ok-check_locals.ensures.none c.in_ok-check_statics.ensures.none c.in_err-check_image.ensures.fault)
+    err_is c.from_residual-in_err-check_image.result (IsFault (too_large_of (decls_seen c.args.decls.now) (procs_seen c.args.procs.now)))
+    c.in_err-check_image.field-0.0 c.from_residual-in_err-check_image.ensures.1
+    (image_exit (gathered_seen c.args.tables.now) (decls_seen c.args.decls.now) (procs_seen c.args.procs.now) c.requires.tables
+    (tables_of c.in_ok-code.code) c.in_err-check_image.field-0.0 c.in_ok-code.ensures.joined
+    c.requires.instrs c.in_ok-check_tables.ensures.none c.in_ok-check_operands.ensures.none c.in_ok-check_records.ensures.none c.in_ok-check_locals.ensures.none
+    c.in_ok-check_statics.ensures.none c.in_err-check_image.ensures.fault)
 
 pub returns-clause-fits : goal.returns-clause-fits
 returns-clause-fits c =
-    sizes_kept (gathered_seen c.args.tables.now) (decls_seen c.args.decls.now) (procs_seen c.args.procs.now) c.requires.tables (tables_of c.in_ok-code.code) c.in_ok-code.ensures.joined
-    c.requires.instrs c.in_ok-check_tables.ensures.none c.in_ok-check_operands.ensures.none c.in_ok-check_records.ensures.none c.in_ok-check_locals.ensures.none c.in_ok-check_statics.ensures.none c.in_ok-check_image.ensures.none
+    sizes_kept (gathered_seen c.args.tables.now) (decls_seen c.args.decls.now) (procs_seen c.args.procs.now) c.requires.tables
+    (tables_of c.in_ok-code.code) c.in_ok-code.ensures.joined
+    c.requires.instrs c.in_ok-check_tables.ensures.none c.in_ok-check_operands.ensures.none c.in_ok-check_records.ensures.none c.in_ok-check_locals.ensures.none
+    c.in_ok-check_statics.ensures.none c.in_ok-check_image.ensures.none

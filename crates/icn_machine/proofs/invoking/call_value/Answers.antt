@@ -39,7 +39,8 @@ returns-in-None-clause-step g c =
     let w = c.args.world.now in
     let all = extent_of w.heap in
     still_event (all_names (tables_of c.args.code.now))
-    (λ st. invoke_value flat (tables_of c.args.code.now) (value_in all c.args.callee) (map (item_in all) c.args.items.now) (stack_in all c.args.frames.now.flat) st)
+    (λ st.
+    invoke_value flat (tables_of c.args.code.now) (value_in all c.args.callee) (map (item_in all) c.args.items.now) (stack_in all c.args.frames.now.flat) st)
     w c.invoke.new.world c.invoke.new.frames.flat _ c.invoke.result c.invoke.ensures.step
 
 pub returns-in-None-clause-named : goal.returns-in-None-clause-named

@@ -10,4 +10,6 @@ returns-in-InputLines g c = λ output errors. rw c.in-InputLines.is (c.lines_aga
 
 pub returns-in_default : goal.returns-in_default
 returns-in_default g c = λ output errors.
-    faultless_applies (again (residual_in (extent_of c.args.w.now.heap) c.args.rest)) c.args.w.now c.resume.new.w (g.L.Locals.items c.args.l.now) (g.L.Locals.items c.resume.new.l) (call_streams (g.I.Source.left c.args.input.now) (g.I.Source.faults c.args.input.now) output errors) c.resume.result (λ was. c.resume.ensures.row was) c.resume.ensures.live c.resume.ensures.locals c.resume.ensures.kept
+    faultless_applies (again (residual_in (extent_of c.args.w.now.heap) c.args.rest)) c.args.w.now c.resume.new.w (g.L.Locals.items c.args.l.now)
+    (g.L.Locals.items c.resume.new.l) (call_streams (g.I.Source.left c.args.input.now) (g.I.Source.faults c.args.input.now) output errors) c.resume.result
+    (λ was. c.resume.ensures.row was) c.resume.ensures.live c.resume.ensures.locals c.resume.ensures.kept

@@ -11,16 +11,24 @@ use Rattle.icn_ops.proofs.arithmetic.divide_row.Goals as goal
 
 pub returns-in_err-m-clause-row : goal.returns-in_err-m-clause-row
 returns-in_err-m-clause-row g c = λ outside.
-    row_stops (extent_of c.args.w.now.heap) (two_numbers (item_in (extent_of c.args.w.now.heap) c.args.x) (item_in (extent_of c.args.w.now.heap) c.args.y)) (λ (two : ℤ × ℤ). gives_computed (quotient two.0 two.1)) (setting_of outside c.args.w.now (g.L.Locals.items c.args.l.now)) (setting_of outside c.args.w.now (g.L.Locals.items c.args.l.now)) c.in_err-m.field-0.0 c.from_residual.result c.from_residual.ensures.1 (c.in_err-m.ensures.found outside)
+    row_stops (extent_of c.args.w.now.heap) (two_numbers (item_in (extent_of c.args.w.now.heap) c.args.x) (item_in (extent_of c.args.w.now.heap) c.args.y))
+    (λ (two : ℤ × ℤ). gives_computed (quotient two.0 two.1)) (setting_of outside c.args.w.now (g.L.Locals.items c.args.l.now)) (setting_of outside c.args.w.now
+    (g.L.Locals.items c.args.l.now)) c.in_err-m.field-0.0 c.from_residual.result c.from_residual.ensures.1 (c.in_err-m.ensures.found outside)
 
 pub returns-in_err-m-clause-live : goal.returns-in_err-m-clause-live
 returns-in_err-m-clause-live g c =
-    stop_lives (reach_of c.args.w.now (g.L.Locals.items c.args.l.now)) c.in_err-m.field-0.0 c.from_residual.result c.from_residual.ensures.1 c.in_err-m.ensures.stops
+    stop_lives
+    (reach_of c.args.w.now (g.L.Locals.items c.args.l.now)) c.in_err-m.field-0.0 c.from_residual.result c.from_residual.ensures.1 c.in_err-m.ensures.stops
 
 pub returns-clause-row : goal.returns-clause-row
 returns-clause-row g c = λ outside.
-    answer_then (extent_of c.args.w.now.heap) (divide_row (item_in (extent_of c.args.w.now.heap) c.args.x) (item_in (extent_of c.args.w.now.heap) c.args.y)) (gives_computed c.div.result) (setting_of outside c.args.w.now (g.L.Locals.items c.args.l.now)) (setting_of outside c.args.w.now (g.L.Locals.items c.args.l.now)) (setting_of outside c.args.w.now (g.L.Locals.items c.args.l.now)) c.given.result
-    (c.in_ok-m.ensures.found outside (λ (two : ℤ × ℤ). gives_computed (quotient two.0 two.1)) ∙ ap (λ found. gives_computed found (setting_of outside c.args.w.now (g.L.Locals.items c.args.l.now))) (sym (c.div.ensures ∙ held_two quotient c.in_ok-m.m c.in_ok-m.n (let fits : FitsSigned w64 c.in_ok-m.m = search rules in fits) (let fits : FitsSigned w64 c.in_ok-m.n = search rules in fits)))) (c.given.ensures.row (extent_of c.args.w.now.heap) (setting_of outside c.args.w.now (g.L.Locals.items c.args.l.now)))
+    answer_then (extent_of c.args.w.now.heap) (divide_row (item_in (extent_of c.args.w.now.heap) c.args.x) (item_in (extent_of c.args.w.now.heap) c.args.y))
+    (gives_computed c.div.result) (setting_of outside c.args.w.now (g.L.Locals.items c.args.l.now))
+    (setting_of outside c.args.w.now (g.L.Locals.items c.args.l.now)) (setting_of outside c.args.w.now (g.L.Locals.items c.args.l.now)) c.given.result
+    (c.in_ok-m.ensures.found outside (λ (two : ℤ × ℤ). gives_computed (quotient two.0 two.1))
+    ∙ ap (λ found. gives_computed found (setting_of outside c.args.w.now (g.L.Locals.items c.args.l.now))) (sym (c.div.ensures ∙ held_two quotient
+    c.in_ok-m.m c.in_ok-m.n (let fits : FitsSigned w64 c.in_ok-m.m = search rules in fits) (let fits : FitsSigned w64 c.in_ok-m.n = search rules in fits))))
+    (c.given.ensures.row (extent_of c.args.w.now.heap) (setting_of outside c.args.w.now (g.L.Locals.items c.args.l.now)))
 
 pub returns-clause-live : goal.returns-clause-live
 returns-clause-live g c =

@@ -8,7 +8,8 @@ use Rattle.icn_ops.proofs.arithmetic.given.Goals as goal
 
 pub returns-in_err-n-clause-row : goal.returns-in_err-n-clause-row
 returns-in_err-n-clause-row c = λ all setting.
-    row_stops all (computed c.args.found) (λ n. gives_value (Integer n)) setting setting c.in_err-n.field-0.0 c.from_residual.result c.from_residual.ensures.1 (c.in_err-n.ensures.found all setting)
+    row_stops all (computed c.args.found) (λ n. gives_value (Integer n)) setting setting c.in_err-n.field-0.0 c.from_residual.result c.from_residual.ensures.1
+    (c.in_err-n.ensures.found all setting)
 
 pub returns-in_err-n-clause-live : goal.returns-in_err-n-clause-live
 returns-in_err-n-clause-live c = λ reach.
@@ -16,4 +17,5 @@ returns-in_err-n-clause-live c = λ reach.
 
 pub returns-clause-row : goal.returns-clause-row
 returns-clause-row c = λ all setting.
-    c.in_ok-n.ensures.found all setting (λ n. gives_value (Integer n)) ∙ sym (held_one (λ n. Gives (Val (Integer n)) setting) c.in_ok-n.n (let fits : FitsSigned w64 c.in_ok-n.n = search rules in fits))
+    c.in_ok-n.ensures.found all setting (λ n. gives_value (Integer n))
+    ∙ sym (held_one (λ n. Gives (Val (Integer n)) setting) c.in_ok-n.n (let fits : FitsSigned w64 c.in_ok-n.n = search rules in fits))

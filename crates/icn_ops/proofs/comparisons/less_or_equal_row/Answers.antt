@@ -13,16 +13,23 @@ use Rattle.icn_ops.proofs.comparisons.less_or_equal_row.Goals as goal
 
 pub returns-in_err-order-clause-row : goal.returns-in_err-order-clause-row
 returns-in_err-order-clause-row g c = λ outside.
-    row_stops (extent_of c.args.w.now.heap) (compared_numbers (item_in (extent_of c.args.w.now.heap) c.args.x) (item_in (extent_of c.args.w.now.heap) c.args.y)) (λ (two : Ordering × ℤ). passing (is_le two.0) (gives_value (Integer two.1))) (setting_of outside c.args.w.now (g.L.Locals.items c.args.l.now)) (setting_of outside c.args.w.now (g.L.Locals.items c.args.l.now)) c.in_err-order.field-0.0 c.from_residual.result c.from_residual.ensures.1 (c.in_err-order.ensures.found outside)
+    row_stops (extent_of c.args.w.now.heap) (compared_numbers (item_in (extent_of c.args.w.now.heap) c.args.x) (item_in (extent_of c.args.w.now.heap) c.args.y))
+    (λ (two : Ordering × ℤ). passing (is_le two.0) (gives_value (Integer two.1))) (setting_of outside c.args.w.now (g.L.Locals.items c.args.l.now))
+    (setting_of outside c.args.w.now (g.L.Locals.items c.args.l.now)) c.in_err-order.field-0.0 c.from_residual.result c.from_residual.ensures.1
+    (c.in_err-order.ensures.found outside)
 
 pub returns-in_err-order-clause-live : goal.returns-in_err-order-clause-live
 returns-in_err-order-clause-live g c =
-    stop_lives (reach_of c.args.w.now (g.L.Locals.items c.args.l.now)) c.in_err-order.field-0.0 c.from_residual.result c.from_residual.ensures.1 c.in_err-order.ensures.stops
+    stop_lives (reach_of c.args.w.now (g.L.Locals.items c.args.l.now)) c.in_err-order.field-0.0 c.from_residual.result c.from_residual.ensures.1
+    c.in_err-order.ensures.stops
 
 pub returns-clause-row : goal.returns-clause-row
 returns-clause-row g c = λ outside.
-    c.in_ok-order.ensures.found outside (λ (two : Ordering × ℤ). passing (is_le two.0) (gives_value (Integer two.1))) ∙ (ap (λ met. passing met (gives_value (Integer c.in_ok-order.n)) (setting_of outside c.args.w.now (g.L.Locals.items c.args.l.now))) (sym c.is_le.ensures)
-    ∙ (sym (held_one (λ n. passing c.is_le.result (gives_value (Integer n)) (setting_of outside c.args.w.now (g.L.Locals.items c.args.l.now))) c.in_ok-order.n (let fits : FitsSigned w64 c.in_ok-order.n = search rules in fits)) ∙ c.value_if.ensures.row (extent_of c.args.w.now.heap) (setting_of outside c.args.w.now (g.L.Locals.items c.args.l.now))))
+    c.in_ok-order.ensures.found outside (λ (two : Ordering × ℤ). passing (is_le two.0) (gives_value (Integer two.1)))
+    ∙ (ap (λ met. passing met (gives_value (Integer c.in_ok-order.n)) (setting_of outside c.args.w.now (g.L.Locals.items c.args.l.now))) (sym c.is_le.ensures)
+    ∙ (sym (held_one (λ n. passing c.is_le.result (gives_value (Integer n)) (setting_of outside c.args.w.now (g.L.Locals.items c.args.l.now))) c.in_ok-order.n
+    (let fits : FitsSigned w64 c.in_ok-order.n = search rules in fits))
+    ∙ c.value_if.ensures.row (extent_of c.args.w.now.heap) (setting_of outside c.args.w.now (g.L.Locals.items c.args.l.now))))
 
 pub returns-clause-live : goal.returns-clause-live
 returns-clause-live g c =

@@ -12,15 +12,23 @@ use Rattle.icn_ops.proofs.comparisons.lexically_greater_row.Goals as goal
 
 pub returns-in_err-order-clause-row : goal.returns-in_err-order-clause-row
 returns-in_err-order-clause-row g c = λ outside.
-    row_stops (extent_of c.compared_texts.new.w.heap) (compared_texts (item_in (extent_of c.args.w.now.heap) c.args.x) (item_in (extent_of c.args.w.now.heap) c.args.y)) (λ (two : Ordering × List ℕ). passing (is_gt two.0) (gives_value (Text two.1))) (setting_of outside c.args.w.now (g.L.Locals.items c.args.l.now)) (setting_of outside c.compared_texts.new.w (g.L.Locals.items c.args.l.now)) c.in_err-order.field-0.0 c.from_residual.result c.from_residual.ensures.1 (c.in_err-order.ensures.found outside)
+    row_stops
+    (extent_of c.compared_texts.new.w.heap) (compared_texts (item_in (extent_of c.args.w.now.heap) c.args.x) (item_in (extent_of c.args.w.now.heap) c.args.y))
+    (λ (two : Ordering × List ℕ). passing (is_gt two.0) (gives_value (Text two.1))) (setting_of outside c.args.w.now (g.L.Locals.items c.args.l.now))
+    (setting_of outside c.compared_texts.new.w (g.L.Locals.items c.args.l.now)) c.in_err-order.field-0.0 c.from_residual.result c.from_residual.ensures.1
+    (c.in_err-order.ensures.found outside)
 
 pub returns-in_err-order-clause-live : goal.returns-in_err-order-clause-live
 returns-in_err-order-clause-live g c =
-    stop_lives (reach_of c.compared_texts.new.w (g.L.Locals.items c.args.l.now)) c.in_err-order.field-0.0 c.from_residual.result c.from_residual.ensures.1 c.in_err-order.ensures.stops
+    stop_lives (reach_of c.compared_texts.new.w (g.L.Locals.items c.args.l.now)) c.in_err-order.field-0.0 c.from_residual.result c.from_residual.ensures.1
+    c.in_err-order.ensures.stops
 
 pub returns-clause-row : goal.returns-clause-row
 returns-clause-row g c = λ outside.
-    c.in_ok-order.ensures.found outside (λ (two : Ordering × List ℕ). passing (is_gt two.0) (gives_value (Text two.1))) ∙ (ap (λ met. passing met (gives_value (Text (text_in (extent_of c.compared_texts.new.w.heap) c.in_ok-order.text))) (setting_of outside c.compared_texts.new.w (g.L.Locals.items c.args.l.now))) (sym c.is_gt.ensures) ∙ c.value_if.ensures.row (extent_of c.compared_texts.new.w.heap) (setting_of outside c.compared_texts.new.w (g.L.Locals.items c.args.l.now)))
+    c.in_ok-order.ensures.found outside (λ (two : Ordering × List ℕ). passing (is_gt two.0) (gives_value (Text two.1)))
+    ∙ (ap (λ met. passing met (gives_value (Text (text_in (extent_of c.compared_texts.new.w.heap) c.in_ok-order.text)))
+    (setting_of outside c.compared_texts.new.w (g.L.Locals.items c.args.l.now))) (sym c.is_gt.ensures)
+    ∙ c.value_if.ensures.row (extent_of c.compared_texts.new.w.heap) (setting_of outside c.compared_texts.new.w (g.L.Locals.items c.args.l.now)))
 
 pub returns-clause-live : goal.returns-clause-live
 returns-clause-live g c =

@@ -11,15 +11,21 @@ use Rattle.icn_ops.proofs.comparisons.not_equivalent_row.Goals as goal
 
 pub returns-in_err-a-clause-row : goal.returns-in_err-a-clause-row
 returns-in_err-a-clause-row g c = λ outside.
-    row_stops (extent_of c.args.w.now.heap) (two_values (item_in (extent_of c.args.w.now.heap) c.args.x) (item_in (extent_of c.args.w.now.heap) c.args.y)) (λ (two : Value × Value). passing (not (same two.0 two.1)) (gives_value two.1)) (setting_of outside c.args.w.now (g.L.Locals.items c.args.l.now)) (setting_of outside c.args.w.now (g.L.Locals.items c.args.l.now)) c.in_err-a.field-0.0 c.from_residual.result c.from_residual.ensures.1 (c.in_err-a.ensures.found outside)
+    row_stops (extent_of c.args.w.now.heap) (two_values (item_in (extent_of c.args.w.now.heap) c.args.x) (item_in (extent_of c.args.w.now.heap) c.args.y))
+    (λ (two : Value × Value). passing (not (same two.0 two.1)) (gives_value two.1)) (setting_of outside c.args.w.now (g.L.Locals.items c.args.l.now))
+    (setting_of outside c.args.w.now (g.L.Locals.items c.args.l.now)) c.in_err-a.field-0.0 c.from_residual.result c.from_residual.ensures.1
+    (c.in_err-a.ensures.found outside)
 
 pub returns-in_err-a-clause-live : goal.returns-in_err-a-clause-live
 returns-in_err-a-clause-live g c =
-    stop_lives (reach_of c.args.w.now (g.L.Locals.items c.args.l.now)) c.in_err-a.field-0.0 c.from_residual.result c.from_residual.ensures.1 c.in_err-a.ensures.stops
+    stop_lives
+    (reach_of c.args.w.now (g.L.Locals.items c.args.l.now)) c.in_err-a.field-0.0 c.from_residual.result c.from_residual.ensures.1 c.in_err-a.ensures.stops
 
 pub returns-clause-row : goal.returns-clause-row
 returns-clause-row g c = λ outside.
-    c.in_ok-a.ensures.found outside (λ (two : Value × Value). passing (not (same two.0 two.1)) (gives_value two.1)) ∙ (ap (λ met. passing (not (met)) (gives_value (value_in (extent_of c.args.w.now.heap) c.in_ok-a.b)) (setting_of outside c.args.w.now (g.L.Locals.items c.args.l.now))) (sym c.same.ensures) ∙ c.value_if.ensures.row (extent_of c.args.w.now.heap) (setting_of outside c.args.w.now (g.L.Locals.items c.args.l.now)))
+    c.in_ok-a.ensures.found outside (λ (two : Value × Value). passing (not (same two.0 two.1)) (gives_value two.1)) ∙ (ap (λ met. passing (not (met))
+    (gives_value (value_in (extent_of c.args.w.now.heap) c.in_ok-a.b)) (setting_of outside c.args.w.now (g.L.Locals.items c.args.l.now))) (sym c.same.ensures)
+    ∙ c.value_if.ensures.row (extent_of c.args.w.now.heap) (setting_of outside c.args.w.now (g.L.Locals.items c.args.l.now)))
 
 pub returns-clause-live : goal.returns-clause-live
 returns-clause-live g c =

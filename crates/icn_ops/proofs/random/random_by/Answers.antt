@@ -13,8 +13,12 @@ use Rattle.icn_ops.proofs.random.random_by.Goals as goal
 
 pub returns-in-Integer-clause-row : goal.returns-in-Integer-clause-row
 returns-in-Integer-clause-row g c = λ outside.
-    subst (λ (v : Value). ComesToAnswer (extent_of c.random_number.new.w.heap) (random_by (item_in (extent_of c.args.w.now.heap) c.args.x) v (held_integer v)) (setting_of outside c.args.w.now (g.L.Locals.items c.args.l.now)) (setting_of outside c.random_number.new.w (g.L.Locals.items c.args.l.now)) c.random_number.result) (sym (ap (value_in (extent_of c.args.w.now.heap)) c.in-Integer.is))
-    (subst (λ (k : ℤ). ComesToAnswer (extent_of c.random_number.new.w.heap) (random_number (Integer c.in-Integer.n) k) (setting_of outside c.args.w.now (g.L.Locals.items c.args.l.now)) (setting_of outside c.random_number.new.w (g.L.Locals.items c.args.l.now)) c.random_number.result) (to_z-of_z w64 c.in-Integer.n (let fits : FitsSigned w64 c.in-Integer.n = search rules in fits)) (c.random_number.ensures.row outside))
+    subst (λ (v : Value). ComesToAnswer (extent_of c.random_number.new.w.heap) (random_by (item_in (extent_of c.args.w.now.heap) c.args.x) v (held_integer v))
+    (setting_of outside c.args.w.now (g.L.Locals.items c.args.l.now)) (setting_of outside c.random_number.new.w (g.L.Locals.items c.args.l.now))
+    c.random_number.result) (sym (ap (value_in (extent_of c.args.w.now.heap)) c.in-Integer.is))
+    (subst (λ (k : ℤ). ComesToAnswer (extent_of c.random_number.new.w.heap) (random_number (Integer c.in-Integer.n) k) (setting_of outside c.args.w.now
+    (g.L.Locals.items c.args.l.now)) (setting_of outside c.random_number.new.w (g.L.Locals.items c.args.l.now)) c.random_number.result)
+    (to_z-of_z w64 c.in-Integer.n (let fits : FitsSigned w64 c.in-Integer.n = search rules in fits)) (c.random_number.ensures.row outside))
 
 pub returns-in-Text-clause-row : goal.returns-in-Text-clause-row
 returns-in-Text-clause-row g c = λ outside.
@@ -41,4 +45,6 @@ returns-in-Rec-clause-row g c = λ outside.
     rw c.in-Rec.is (c.random_field.ensures.row outside)
 
 pub returns-in_default-clause-row : goal.returns-in_default-clause-row
-returns-in_default-clause-row g c = λ outside. no_random (extent_of c.args.w.now.heap) c.args.val (item_in (extent_of c.args.w.now.heap) c.args.x) (setting_of outside c.args.w.now (g.L.Locals.items c.args.l.now)) c.in_default.not-Integer c.in_default.not-Text c.in_default.not-Chars c.in_default.not-List c.in_default.not-Set c.in_default.not-Table c.in_default.not-Rec
+returns-in_default-clause-row g c = λ outside. no_random (extent_of c.args.w.now.heap) c.args.val (item_in (extent_of c.args.w.now.heap) c.args.x)
+    (setting_of outside c.args.w.now (g.L.Locals.items c.args.l.now)) c.in_default.not-Integer c.in_default.not-Text c.in_default.not-Chars
+    c.in_default.not-List c.in_default.not-Set c.in_default.not-Table c.in_default.not-Rec

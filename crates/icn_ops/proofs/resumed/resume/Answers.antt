@@ -35,7 +35,10 @@ returns-in-UndoPosition-clause-row g c = λ outside. rw c.in-UndoPosition.is (c.
 
 pub returns-in-Counting-clause-row : goal.returns-in-Counting-clause-row
 returns-in-Counting-clause-row g c = λ outside.
-    rw c.in-Counting.is (sym (held_three (λ m n k. counting_again m n k (setting_of outside c.args.w.now (g.L.Locals.items c.args.l.now))) c.in-Counting.given c.in-Counting.last c.in-Counting.step (let fits : FitsSigned w64 c.in-Counting.given = search rules in fits) (let fits : FitsSigned w64 c.in-Counting.last = search rules in fits) (let fits : FitsSigned w64 c.in-Counting.step = search rules in fits)) ∙ c.counting_again.ensures.row (extent_of c.args.w.now.heap) (setting_of outside c.args.w.now (g.L.Locals.items c.args.l.now)))
+    rw c.in-Counting.is (sym (held_three (λ m n k. counting_again m n k (setting_of outside c.args.w.now (g.L.Locals.items c.args.l.now)))
+    c.in-Counting.given c.in-Counting.last c.in-Counting.step (let fits : FitsSigned w64 c.in-Counting.given = search rules in fits)
+    (let fits : FitsSigned w64 c.in-Counting.last = search rules in fits) (let fits : FitsSigned w64 c.in-Counting.step = search rules in fits))
+    ∙ c.counting_again.ensures.row (extent_of c.args.w.now.heap) (setting_of outside c.args.w.now (g.L.Locals.items c.args.l.now)))
 
 pub returns-in-Counting-clause-live : goal.returns-in-Counting-clause-live
 returns-in-Counting-clause-live g c = c.counting_again.ensures.live (reach_of c.args.w.now (g.L.Locals.items c.args.l.now))

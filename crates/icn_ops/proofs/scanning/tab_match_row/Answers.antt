@@ -8,11 +8,14 @@ use Rattle.icn_ops.proofs.scanning.tab_match_row.Goals as goal
 
 pub returns-in_err-wanted-clause-row : goal.returns-in_err-wanted-clause-row
 returns-in_err-wanted-clause-row g c = λ outside.
-    row_stops (extent_of c.one_text.new.w.heap) (one_text (item_in (extent_of c.args.w.now.heap) c.args.x)) matches_here (setting_of outside c.args.w.now (g.L.Locals.items c.args.l.now)) (setting_of outside c.one_text.new.w (g.L.Locals.items c.args.l.now)) c.in_err-wanted.field-0.0 c.from_residual.result c.from_residual.ensures.1 (c.in_err-wanted.ensures.found outside)
+    row_stops (extent_of c.one_text.new.w.heap) (one_text (item_in (extent_of c.args.w.now.heap) c.args.x)) matches_here
+    (setting_of outside c.args.w.now (g.L.Locals.items c.args.l.now)) (setting_of outside c.one_text.new.w (g.L.Locals.items c.args.l.now))
+    c.in_err-wanted.field-0.0 c.from_residual.result c.from_residual.ensures.1 (c.in_err-wanted.ensures.found outside)
 
 pub returns-in_err-wanted-clause-live : goal.returns-in_err-wanted-clause-live
 returns-in_err-wanted-clause-live g c =
-    stop_lives (reach_of c.one_text.new.w (g.L.Locals.items c.args.l.now)) c.in_err-wanted.field-0.0 c.from_residual.result c.from_residual.ensures.1 c.in_err-wanted.ensures.stops
+    stop_lives (reach_of c.one_text.new.w (g.L.Locals.items c.args.l.now)) c.in_err-wanted.field-0.0 c.from_residual.result c.from_residual.ensures.1
+    c.in_err-wanted.ensures.stops
 
 pub returns-clause-row : goal.returns-clause-row
 returns-clause-row g c = λ outside.
@@ -20,4 +23,5 @@ returns-clause-row g c = λ outside.
 
 pub returns-clause-kept : goal.returns-clause-kept
 returns-clause-kept g c =
-    items_then (reach_of c.args.w.now (g.L.Locals.items c.args.l.now)) (reach_of c.one_text.new.w (g.L.Locals.items c.args.l.now)) (reach_of c.match_here.new.w (g.L.Locals.items c.args.l.now)) c.one_text.ensures.kept c.match_here.ensures.kept
+    items_then (reach_of c.args.w.now (g.L.Locals.items c.args.l.now)) (reach_of c.one_text.new.w (g.L.Locals.items c.args.l.now))
+    (reach_of c.match_here.new.w (g.L.Locals.items c.args.l.now)) c.one_text.ensures.kept c.match_here.ensures.kept

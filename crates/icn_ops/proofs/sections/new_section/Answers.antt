@@ -12,13 +12,20 @@ use Rattle.icn_ops.proofs.sections.new_section.Goals as goal
 
 pub returns-in_err-made-clause-row : goal.returns-in_err-made-clause-row
 returns-in_err-made-clause-row g c = λ outside.
-    row_stops (extent_of c.new_list.new.w.heap) (new_list_of (slice_range (list_at (heap_of c.args.w.now.heap) c.args.list).items c.args.from c.args.to)) gives_value (setting_of outside c.args.w.now (g.L.Locals.items c.args.l.now)) (setting_of outside c.new_list.new.w (g.L.Locals.items c.args.l.now)) c.in_err-made.field-0.0 c.from_residual.result c.from_residual.ensures.1
-    (subst (λ items. StopsFinding (extent_of c.new_list.new.w.heap) (new_list_of items) (setting_of outside c.args.w.now (g.L.Locals.items c.args.l.now)) (setting_of outside c.new_list.new.w (g.L.Locals.items c.args.l.now)) c.in_err-made.field-0.0) (ap (map (value_in (extent_of c.args.w.now.heap))) c.deref.ensures.value ∙ c.in-Ok.ensures.items) (c.in_err-made.ensures.found outside))
+    row_stops (extent_of c.new_list.new.w.heap) (new_list_of (slice_range (list_at (heap_of c.args.w.now.heap) c.args.list).items c.args.from c.args.to))
+    gives_value (setting_of outside c.args.w.now (g.L.Locals.items c.args.l.now))
+    (setting_of outside c.new_list.new.w (g.L.Locals.items c.args.l.now)) c.in_err-made.field-0.0 c.from_residual.result c.from_residual.ensures.1
+    (subst (λ items. StopsFinding (extent_of c.new_list.new.w.heap) (new_list_of items) (setting_of outside c.args.w.now (g.L.Locals.items c.args.l.now))
+    (setting_of outside c.new_list.new.w (g.L.Locals.items c.args.l.now)) c.in_err-made.field-0.0)
+    (ap (map (value_in (extent_of c.args.w.now.heap))) c.deref.ensures.value ∙ c.in-Ok.ensures.items) (c.in_err-made.ensures.found outside))
 
 pub returns-in_err-made-clause-live : goal.returns-in_err-made-clause-live
 returns-in_err-made-clause-live g c =
-    stop_lives (reach_of c.new_list.new.w (g.L.Locals.items c.args.l.now)) c.in_err-made.field-0.0 c.from_residual.result c.from_residual.ensures.1 c.in_err-made.ensures.stops
+    stop_lives (reach_of c.new_list.new.w (g.L.Locals.items c.args.l.now)) c.in_err-made.field-0.0 c.from_residual.result c.from_residual.ensures.1
+    c.in_err-made.ensures.stops
 
 pub returns-clause-row : goal.returns-clause-row
 returns-clause-row g c = λ outside.
-    subst (λ items. new_list_of items gives_value (setting_of outside c.args.w.now (g.L.Locals.items c.args.l.now)) ≡ Gives (Val (value_in (extent_of c.new_list.new.w.heap) c.in_ok-made.made)) (setting_of outside c.new_list.new.w (g.L.Locals.items c.args.l.now))) (ap (map (value_in (extent_of c.args.w.now.heap))) c.deref.ensures.value ∙ c.in-Ok.ensures.items) (c.in_ok-made.ensures.found outside gives_value)
+    subst (λ items. new_list_of items gives_value (setting_of outside c.args.w.now (g.L.Locals.items c.args.l.now))
+    ≡ Gives (Val (value_in (extent_of c.new_list.new.w.heap) c.in_ok-made.made)) (setting_of outside c.new_list.new.w (g.L.Locals.items c.args.l.now)))
+    (ap (map (value_in (extent_of c.args.w.now.heap))) c.deref.ensures.value ∙ c.in-Ok.ensures.items) (c.in_ok-made.ensures.found outside gives_value)

@@ -22,4 +22,7 @@ returns-in-List-clause-row g c = λ outside.
     rw c.in-List.is (c.list_section.ensures.row outside)
 
 pub returns-in_default-clause-row : goal.returns-in_default-clause-row
-returns-in_default-clause-row g c = λ outside. no_section (extent_of c.args.w.now.heap) c.args.val (second_of c.args.kind) (item_in (extent_of c.args.w.now.heap) c.args.x) (value_in (extent_of c.args.w.now.heap) c.args.from) (value_in (extent_of c.args.w.now.heap) c.args.to) (setting_of outside c.args.w.now (g.L.Locals.items c.args.l.now)) c.in_default.not-Integer c.in_default.not-Text c.in_default.not-Chars c.in_default.not-List
+returns-in_default-clause-row g c = λ outside. no_section (extent_of c.args.w.now.heap) c.args.val (second_of c.args.kind)
+    (item_in (extent_of c.args.w.now.heap) c.args.x) (value_in (extent_of c.args.w.now.heap) c.args.from) (value_in (extent_of c.args.w.now.heap) c.args.to)
+    (setting_of outside c.args.w.now (g.L.Locals.items c.args.l.now)) c.in_default.not-Integer c.in_default.not-Text c.in_default.not-Chars
+    c.in_default.not-List

@@ -16,11 +16,15 @@ use Rattle.icn_ops.proofs.sets.difference_row.Goals as goal
 
 pub returns-in_err-a-clause-row : goal.returns-in_err-a-clause-row
 returns-in_err-a-clause-row g c = λ outside.
-    row_stops (extent_of c.args.w.now.heap) (two_values (item_in (extent_of c.args.w.now.heap) c.args.x) (item_in (extent_of c.args.w.now.heap) c.args.y)) (λ (two : Value × Value). sets_or_csets difference (λ a b. a && not b) two.0 two.1 (two_sets (set_of two.0) (set_of two.1))) (setting_of outside c.args.w.now (g.L.Locals.items c.args.l.now)) (setting_of outside c.args.w.now (g.L.Locals.items c.args.l.now)) c.in_err-a.field-0.0 c.from_residual.result c.from_residual.ensures.1 (c.in_err-a.ensures.found outside)
+    row_stops (extent_of c.args.w.now.heap) (two_values (item_in (extent_of c.args.w.now.heap) c.args.x) (item_in (extent_of c.args.w.now.heap) c.args.y))
+    (λ (two : Value × Value). sets_or_csets difference (λ a b. a && not b) two.0 two.1 (two_sets (set_of two.0) (set_of two.1)))
+    (setting_of outside c.args.w.now (g.L.Locals.items c.args.l.now)) (setting_of outside c.args.w.now (g.L.Locals.items c.args.l.now)) c.in_err-a.field-0.0
+    c.from_residual.result c.from_residual.ensures.1 (c.in_err-a.ensures.found outside)
 
 pub returns-in_err-a-clause-live : goal.returns-in_err-a-clause-live
 returns-in_err-a-clause-live g c =
-    stop_lives (reach_of c.args.w.now (g.L.Locals.items c.args.l.now)) c.in_err-a.field-0.0 c.from_residual.result c.from_residual.ensures.1 c.in_err-a.ensures.stops
+    stop_lives
+    (reach_of c.args.w.now (g.L.Locals.items c.args.l.now)) c.in_err-a.field-0.0 c.from_residual.result c.from_residual.ensures.1 c.in_err-a.ensures.stops
 
 pub new_difference-requires-clause-first : goal.new_difference-requires-clause-first
 new_difference-requires-clause-first g c =
@@ -32,26 +36,60 @@ new_difference-requires-clause-second g c =
 
 pub returns-in_err-set-in-Some-clause-row : goal.returns-in_err-set-in-Some-clause-row
 returns-in_err-set-in-Some-clause-row g c = λ outside.
-    answer_then (extent_of c.new_difference.new.w.heap) (difference_row (item_in (extent_of c.args.w.now.heap) c.args.x) (item_in (extent_of c.args.w.now.heap) c.args.y)) (new_set_of (difference (set_at (heap_of c.args.w.now.heap) c.in-Some.ids.0) (set_at (heap_of c.args.w.now.heap) c.in-Some.ids.1)) gives_value) (setting_of outside c.args.w.now (g.L.Locals.items c.args.l.now)) (setting_of outside c.args.w.now (g.L.Locals.items c.args.l.now)) (setting_of outside c.new_difference.new.w (g.L.Locals.items c.args.l.now)) c.from_residual-in_err-set-in-Some.result (c.in_ok-a.ensures.found outside (λ (two : Value × Value). sets_or_csets difference (λ a b. a && not b) two.0 two.1 (two_sets (set_of two.0) (set_of two.1))) ∙ ap (λ ids. sets_or_csets difference (λ a b. a && not b) (value_in (extent_of c.args.w.now.heap) c.in_ok-a.a) (value_in (extent_of c.args.w.now.heap) c.in_ok-a.b) ids (setting_of outside c.args.w.now (g.L.Locals.items c.args.l.now))) (sym (c.in-Some.ensures.sets (extent_of c.args.w.now.heap))))
-    (row_stops (extent_of c.new_difference.new.w.heap) (new_set_of (difference (set_at (heap_of c.args.w.now.heap) c.in-Some.ids.0) (set_at (heap_of c.args.w.now.heap) c.in-Some.ids.1))) gives_value (setting_of outside c.args.w.now (g.L.Locals.items c.args.l.now)) (setting_of outside c.new_difference.new.w (g.L.Locals.items c.args.l.now)) c.in_err-set-in-Some.field-0.0 c.from_residual-in_err-set-in-Some.result c.from_residual-in_err-set-in-Some.ensures.1 (c.in_err-set-in-Some.ensures.found outside))
+    answer_then
+    (extent_of c.new_difference.new.w.heap) (difference_row (item_in (extent_of c.args.w.now.heap) c.args.x) (item_in (extent_of c.args.w.now.heap) c.args.y))
+    (new_set_of (difference (set_at (heap_of c.args.w.now.heap) c.in-Some.ids.0) (set_at (heap_of c.args.w.now.heap) c.in-Some.ids.1)) gives_value)
+    (setting_of outside c.args.w.now (g.L.Locals.items c.args.l.now)) (setting_of outside c.args.w.now (g.L.Locals.items c.args.l.now))
+    (setting_of outside c.new_difference.new.w (g.L.Locals.items c.args.l.now)) c.from_residual-in_err-set-in-Some.result (c.in_ok-a.ensures.found outside
+    (λ (two : Value × Value). sets_or_csets difference (λ a b. a && not b) two.0 two.1 (two_sets (set_of two.0) (set_of two.1)))
+    ∙ ap (λ ids. sets_or_csets difference (λ a b. a && not b) (value_in (extent_of c.args.w.now.heap) c.in_ok-a.a) (value_in (extent_of c.args.w.now.heap)
+    c.in_ok-a.b) ids (setting_of outside c.args.w.now (g.L.Locals.items c.args.l.now))) (sym (c.in-Some.ensures.sets (extent_of c.args.w.now.heap))))
+    (row_stops (extent_of c.new_difference.new.w.heap) (new_set_of (difference (set_at (heap_of c.args.w.now.heap) c.in-Some.ids.0)
+    (set_at (heap_of c.args.w.now.heap) c.in-Some.ids.1))) gives_value (setting_of outside c.args.w.now (g.L.Locals.items c.args.l.now))
+    (setting_of outside c.new_difference.new.w (g.L.Locals.items c.args.l.now)) c.in_err-set-in-Some.field-0.0 c.from_residual-in_err-set-in-Some.result
+    c.from_residual-in_err-set-in-Some.ensures.1 (c.in_err-set-in-Some.ensures.found outside))
 
 pub returns-in_err-set-in-Some-clause-live : goal.returns-in_err-set-in-Some-clause-live
 returns-in_err-set-in-Some-clause-live g c =
-    stop_lives (reach_of c.new_difference.new.w (g.L.Locals.items c.args.l.now)) c.in_err-set-in-Some.field-0.0 c.from_residual-in_err-set-in-Some.result c.from_residual-in_err-set-in-Some.ensures.1 c.in_err-set-in-Some.ensures.stops
+    stop_lives (reach_of c.new_difference.new.w (g.L.Locals.items c.args.l.now)) c.in_err-set-in-Some.field-0.0 c.from_residual-in_err-set-in-Some.result
+    c.from_residual-in_err-set-in-Some.ensures.1 c.in_err-set-in-Some.ensures.stops
 
 pub returns-in_ok-set-in-Some-clause-row : goal.returns-in_ok-set-in-Some-clause-row
 returns-in_ok-set-in-Some-clause-row g c = λ outside.
-    (c.in_ok-a.ensures.found outside (λ (two : Value × Value). sets_or_csets difference (λ a b. a && not b) two.0 two.1 (two_sets (set_of two.0) (set_of two.1))) ∙ ap (λ ids. sets_or_csets difference (λ a b. a && not b) (value_in (extent_of c.args.w.now.heap) c.in_ok-a.a) (value_in (extent_of c.args.w.now.heap) c.in_ok-a.b) ids (setting_of outside c.args.w.now (g.L.Locals.items c.args.l.now))) (sym (c.in-Some.ensures.sets (extent_of c.args.w.now.heap)))) ∙ c.in_ok-set-in-Some.ensures.found outside gives_value
+    (c.in_ok-a.ensures.found outside
+    (λ (two : Value × Value). sets_or_csets difference (λ a b. a && not b) two.0 two.1 (two_sets (set_of two.0) (set_of two.1)))
+    ∙ ap (λ ids. sets_or_csets difference (λ a b. a && not b) (value_in (extent_of c.args.w.now.heap) c.in_ok-a.a) (value_in (extent_of c.args.w.now.heap)
+    c.in_ok-a.b) ids (setting_of outside c.args.w.now (g.L.Locals.items c.args.l.now))) (sym (c.in-Some.ensures.sets (extent_of c.args.w.now.heap))))
+    ∙ c.in_ok-set-in-Some.ensures.found outside gives_value
 
 pub returns-in_err-c-in-None-clause-row : goal.returns-in_err-c-in-None-clause-row
 returns-in_err-c-in-None-clause-row g c = λ outside.
-    answer_then (extent_of c.args.w.now.heap) (difference_row (item_in (extent_of c.args.w.now.heap) c.args.x) (item_in (extent_of c.args.w.now.heap) c.args.y)) (two_csets (value_in (extent_of c.args.w.now.heap) c.in_ok-a.a) (value_in (extent_of c.args.w.now.heap) c.in_ok-a.b) (λ (two : List ℕ × List ℕ). gives_value (Chars (members (λ byte. contains two.0 byte && not (contains two.1 byte)))))) (setting_of outside c.args.w.now (g.L.Locals.items c.args.l.now)) (setting_of outside c.args.w.now (g.L.Locals.items c.args.l.now)) (setting_of outside c.args.w.now (g.L.Locals.items c.args.l.now)) c.from_residual-in_err-c-in-None.result (c.in_ok-a.ensures.found outside (λ (two : Value × Value). sets_or_csets difference (λ a b. a && not b) two.0 two.1 (two_sets (set_of two.0) (set_of two.1))) ∙ ap (λ ids. sets_or_csets difference (λ a b. a && not b) (value_in (extent_of c.args.w.now.heap) c.in_ok-a.a) (value_in (extent_of c.args.w.now.heap) c.in_ok-a.b) ids (setting_of outside c.args.w.now (g.L.Locals.items c.args.l.now))) (sym (c.in-None.ensures.sets (extent_of c.args.w.now.heap))))
-    (row_stops (extent_of c.args.w.now.heap) (two_csets (value_in (extent_of c.args.w.now.heap) c.in_ok-a.a) (value_in (extent_of c.args.w.now.heap) c.in_ok-a.b)) (λ (two : List ℕ × List ℕ). gives_value (Chars (members (λ byte. contains two.0 byte && not (contains two.1 byte))))) (setting_of outside c.args.w.now (g.L.Locals.items c.args.l.now)) (setting_of outside c.args.w.now (g.L.Locals.items c.args.l.now)) c.in_err-c-in-None.field-0.0 c.from_residual-in_err-c-in-None.result c.from_residual-in_err-c-in-None.ensures.1 (c.in_err-c-in-None.ensures.found (setting_of outside c.args.w.now (g.L.Locals.items c.args.l.now))))
+    answer_then (extent_of c.args.w.now.heap) (difference_row (item_in (extent_of c.args.w.now.heap) c.args.x) (item_in (extent_of c.args.w.now.heap) c.args.y))
+    (two_csets (value_in (extent_of c.args.w.now.heap) c.in_ok-a.a) (value_in (extent_of c.args.w.now.heap) c.in_ok-a.b)
+    (λ (two : List ℕ × List ℕ). gives_value (Chars (members (λ byte. contains two.0 byte && not (contains two.1 byte))))))
+    (setting_of outside c.args.w.now (g.L.Locals.items c.args.l.now)) (setting_of outside c.args.w.now (g.L.Locals.items c.args.l.now))
+    (setting_of outside c.args.w.now (g.L.Locals.items c.args.l.now)) c.from_residual-in_err-c-in-None.result (c.in_ok-a.ensures.found outside
+    (λ (two : Value × Value). sets_or_csets difference (λ a b. a && not b) two.0 two.1 (two_sets (set_of two.0) (set_of two.1)))
+    ∙ ap (λ ids. sets_or_csets difference (λ a b. a && not b) (value_in (extent_of c.args.w.now.heap) c.in_ok-a.a) (value_in (extent_of c.args.w.now.heap)
+    c.in_ok-a.b) ids (setting_of outside c.args.w.now (g.L.Locals.items c.args.l.now))) (sym (c.in-None.ensures.sets (extent_of c.args.w.now.heap))))
+    (row_stops (extent_of c.args.w.now.heap)
+    (two_csets (value_in (extent_of c.args.w.now.heap) c.in_ok-a.a) (value_in (extent_of c.args.w.now.heap) c.in_ok-a.b)) (λ (two : List ℕ × List ℕ).
+    gives_value (Chars (members (λ byte. contains two.0 byte && not (contains two.1 byte))))) (setting_of outside c.args.w.now (g.L.Locals.items c.args.l.now))
+    (setting_of outside c.args.w.now (g.L.Locals.items c.args.l.now)) c.in_err-c-in-None.field-0.0 c.from_residual-in_err-c-in-None.result
+    c.from_residual-in_err-c-in-None.ensures.1 (c.in_err-c-in-None.ensures.found (setting_of outside c.args.w.now (g.L.Locals.items c.args.l.now))))
 
 pub returns-in_err-c-in-None-clause-live : goal.returns-in_err-c-in-None-clause-live
 returns-in_err-c-in-None-clause-live g c =
-    stop_lives (reach_of c.args.w.now (g.L.Locals.items c.args.l.now)) c.in_err-c-in-None.field-0.0 c.from_residual-in_err-c-in-None.result c.from_residual-in_err-c-in-None.ensures.1 c.in_err-c-in-None.ensures.stops
+    stop_lives (reach_of c.args.w.now (g.L.Locals.items c.args.l.now)) c.in_err-c-in-None.field-0.0 c.from_residual-in_err-c-in-None.result
+    c.from_residual-in_err-c-in-None.ensures.1 c.in_err-c-in-None.ensures.stops
 
 pub returns-in_ok-c-in-None-clause-row : goal.returns-in_ok-c-in-None-clause-row
 returns-in_ok-c-in-None-clause-row g c = λ outside.
-    (c.in_ok-a.ensures.found outside (λ (two : Value × Value). sets_or_csets difference (λ a b. a && not b) two.0 two.1 (two_sets (set_of two.0) (set_of two.1))) ∙ ap (λ ids. sets_or_csets difference (λ a b. a && not b) (value_in (extent_of c.args.w.now.heap) c.in_ok-a.a) (value_in (extent_of c.args.w.now.heap) c.in_ok-a.b) ids (setting_of outside c.args.w.now (g.L.Locals.items c.args.l.now))) (sym (c.in-None.ensures.sets (extent_of c.args.w.now.heap)))) ∙ (c.in_ok-c-in-None.ensures.found (setting_of outside c.args.w.now (g.L.Locals.items c.args.l.now)) (λ (two : List ℕ × List ℕ). gives_value (Chars (members (λ byte. contains two.0 byte && not (contains two.1 byte))))) ∙ ap (λ bytes. Gives (Val (Chars bytes)) (setting_of outside c.args.w.now (g.L.Locals.items c.args.l.now))) (sym (unshared_members c.in_ok-c-in-None.c c.in_ok-c-in-None.d c.less.result c.less.ensures)))
+    (c.in_ok-a.ensures.found outside
+    (λ (two : Value × Value). sets_or_csets difference (λ a b. a && not b) two.0 two.1 (two_sets (set_of two.0) (set_of two.1)))
+    ∙ ap (λ ids. sets_or_csets difference (λ a b. a && not b) (value_in (extent_of c.args.w.now.heap) c.in_ok-a.a) (value_in (extent_of c.args.w.now.heap)
+    c.in_ok-a.b) ids (setting_of outside c.args.w.now (g.L.Locals.items c.args.l.now))) (sym (c.in-None.ensures.sets (extent_of c.args.w.now.heap))))
+    ∙ (c.in_ok-c-in-None.ensures.found (setting_of outside c.args.w.now (g.L.Locals.items c.args.l.now))
+    (λ (two : List ℕ × List ℕ). gives_value (Chars (members (λ byte. contains two.0 byte && not (contains two.1 byte)))))
+    ∙ ap (λ bytes. Gives (Val (Chars bytes)) (setting_of outside c.args.w.now (g.L.Locals.items c.args.l.now)))
+    (sym (unshared_members c.in_ok-c-in-None.c c.in_ok-c-in-None.d c.less.result c.less.ensures)))

@@ -17,22 +17,38 @@ use Rattle.icn_ops.proofs.sets.new_union.Goals as goal
 
 pub returns-in_err-union-clause-found : goal.returns-in_err-union-clause-found
 returns-in_err-union-clause-found g c = λ outside.
-    subst (λ (setting : Setting). Found (extent_of c.union.new.self) (new_set_of ((set_at (heap_of c.args.w.now.heap) c.args.first) ++ difference (set_at (heap_of c.args.w.now.heap) c.args.second) (set_at (heap_of c.args.w.now.heap) c.args.first))) (setting_of outside c.args.w.now (g.L.Locals.items c.args.l.now)) setting (value_in (extent_of c.union.new.self)) c.from_residual.result)
-    (heap_changed outside c.args.w.now.heap c.union.new.self c.args.w.now.pair c.args.w.now.random c.args.w.now.globals.items c.args.w.now.statics.items (g.L.Locals.items c.args.l.now) c.union.ensures.kept c.in_err-union.ensures.unchanged c.args.w.now.sound c.requires.locals)
-    (found_err (extent_of c.union.new.self) (new_set_of ((set_at (heap_of c.args.w.now.heap) c.args.first) ++ difference (set_at (heap_of c.args.w.now.heap) c.args.second) (set_at (heap_of c.args.w.now.heap) c.args.first))) (setting_of outside c.args.w.now (g.L.Locals.items c.args.l.now)) (setting_of outside c.args.w.now (g.L.Locals.items c.args.l.now)) (value_in (extent_of c.union.new.self)) (stop_of c.in_err-union.field-0.0) c.from_residual.result c.from_residual.ensures.1
-    (set_refused (extent_of c.union.new.self) (setting_of outside c.args.w.now (g.L.Locals.items c.args.l.now)) ((set_at (heap_of c.args.w.now.heap) c.args.first) ++ difference (set_at (heap_of c.args.w.now.heap) c.args.second) (set_at (heap_of c.args.w.now.heap) c.args.first)) c.in_err-union.field-0.0 c.in_err-union.ensures.step))
+    subst (λ (setting : Setting). Found (extent_of c.union.new.self) (new_set_of ((set_at (heap_of c.args.w.now.heap) c.args.first)
+    ++ difference (set_at (heap_of c.args.w.now.heap) c.args.second) (set_at (heap_of c.args.w.now.heap) c.args.first)))
+    (setting_of outside c.args.w.now (g.L.Locals.items c.args.l.now)) setting (value_in (extent_of c.union.new.self)) c.from_residual.result)
+    (heap_changed outside c.args.w.now.heap c.union.new.self c.args.w.now.pair c.args.w.now.random c.args.w.now.globals.items c.args.w.now.statics.items
+    (g.L.Locals.items c.args.l.now) c.union.ensures.kept c.in_err-union.ensures.unchanged c.args.w.now.sound c.requires.locals)
+    (found_err (extent_of c.union.new.self) (new_set_of ((set_at (heap_of c.args.w.now.heap) c.args.first)
+    ++ difference (set_at (heap_of c.args.w.now.heap) c.args.second) (set_at (heap_of c.args.w.now.heap) c.args.first)))
+    (setting_of outside c.args.w.now (g.L.Locals.items c.args.l.now)) (setting_of outside c.args.w.now (g.L.Locals.items c.args.l.now))
+    (value_in (extent_of c.union.new.self)) (stop_of c.in_err-union.field-0.0) c.from_residual.result c.from_residual.ensures.1
+    (set_refused (extent_of c.union.new.self) (setting_of outside c.args.w.now (g.L.Locals.items c.args.l.now))
+    ((set_at (heap_of c.args.w.now.heap) c.args.first) ++ difference (set_at (heap_of c.args.w.now.heap) c.args.second)
+    (set_at (heap_of c.args.w.now.heap) c.args.first)) c.in_err-union.field-0.0 c.in_err-union.ensures.step))
 
 pub returns-clause-found : goal.returns-clause-found
 returns-clause-found g c = λ outside.
-    λ next. set_made (setting_of outside c.args.w.now (g.L.Locals.items c.args.l.now)) ((set_at (heap_of c.args.w.now.heap) c.args.first) ++ difference (set_at (heap_of c.args.w.now.heap) c.args.second) (set_at (heap_of c.args.w.now.heap) c.args.first)) (heap_of c.union.new.self) c.in_ok-union.ensures.step next
-    ∙ (ap (λ (value : Value). next value (having_heap (λ _. heap_of c.union.new.self) (setting_of outside c.args.w.now (g.L.Locals.items c.args.l.now)))) (sym c.in_ok-union.ensures.value)
-    ∙ ap (next (value_in (extent_of c.union.new.self) c.in_ok-union.field-0)) (heap_changed outside c.args.w.now.heap c.union.new.self c.args.w.now.pair c.args.w.now.random c.args.w.now.globals.items c.args.w.now.statics.items (g.L.Locals.items c.args.l.now) c.union.ensures.kept refl c.args.w.now.sound c.requires.locals))
+    λ next. set_made (setting_of outside c.args.w.now (g.L.Locals.items c.args.l.now)) ((set_at (heap_of c.args.w.now.heap) c.args.first)
+    ++ difference (set_at (heap_of c.args.w.now.heap) c.args.second) (set_at (heap_of c.args.w.now.heap) c.args.first))
+    (heap_of c.union.new.self) c.in_ok-union.ensures.step next
+    ∙ (ap (λ (value : Value). next value (having_heap (λ _. heap_of c.union.new.self) (setting_of outside c.args.w.now (g.L.Locals.items c.args.l.now))))
+    (sym c.in_ok-union.ensures.value)
+    ∙ ap (next (value_in (extent_of c.union.new.self) c.in_ok-union.field-0))
+    (heap_changed outside c.args.w.now.heap c.union.new.self c.args.w.now.pair c.args.w.now.random c.args.w.now.globals.items c.args.w.now.statics.items
+    (g.L.Locals.items c.args.l.now) c.union.ensures.kept refl c.args.w.now.sound c.requires.locals))
 
 pub returns-clause-kept : goal.returns-clause-kept
 returns-clause-kept g c =
     record {
       extent = c.union.ensures.kept;
-      fields = fields_behind (cells_change (1 + length ((set_at (heap_of c.args.w.now.heap) c.args.first) ++ difference (set_at (heap_of c.args.w.now.heap) c.args.second) (set_at (heap_of c.args.w.now.heap) c.args.first)))) (having_members ((set_at (heap_of c.args.w.now.heap) c.args.first) ++ difference (set_at (heap_of c.args.w.now.heap) c.args.second) (set_at (heap_of c.args.w.now.heap) c.args.first))) (λ heap. refl) (heap_of c.args.w.now.heap) (heap_of c.union.new.self) c.in_ok-union.ensures.step;
+      fields = fields_behind (cells_change (1 + length ((set_at (heap_of c.args.w.now.heap) c.args.first)
+          ++ difference (set_at (heap_of c.args.w.now.heap) c.args.second) (set_at (heap_of c.args.w.now.heap) c.args.first))))
+          (having_members ((set_at (heap_of c.args.w.now.heap) c.args.first) ++ difference (set_at (heap_of c.args.w.now.heap) c.args.second)
+          (set_at (heap_of c.args.w.now.heap) c.args.first))) (λ heap. refl) (heap_of c.args.w.now.heap) (heap_of c.union.new.self) c.in_ok-union.ensures.step;
       globals = refl;
       statics = refl;
       locals = refl;

@@ -16,16 +16,36 @@ use Rattle.icn_ops.proofs.subscripts.list_subscript.Goals as goal
 
 pub returns-in_err-n-clause-row : goal.returns-in_err-n-clause-row
 returns-in_err-n-clause-row g c = λ outside.
-    row_stops (extent_of c.args.w.now.heap) (integer (value_in (extent_of c.args.w.now.heap) c.args.at)) (λ n setting. element_place n (length (list_at setting.world.heap c.args.list).items) (λ place. gives (element_item c.args.list (list_at setting.world.heap c.args.list) (place - 1))) setting) (setting_of outside c.args.w.now (g.L.Locals.items c.args.l.now)) (setting_of outside c.args.w.now (g.L.Locals.items c.args.l.now)) c.in_err-n.field-0.0 c.from_residual.result c.from_residual.ensures.1 (c.in_err-n.ensures.found (setting_of outside c.args.w.now (g.L.Locals.items c.args.l.now)))
+    row_stops (extent_of c.args.w.now.heap)
+    (integer (value_in (extent_of c.args.w.now.heap) c.args.at)) (λ n setting. element_place n (length (list_at setting.world.heap c.args.list).items)
+    (λ place. gives (element_item c.args.list (list_at setting.world.heap c.args.list) (place - 1))) setting)
+    (setting_of outside c.args.w.now (g.L.Locals.items c.args.l.now)) (setting_of outside c.args.w.now (g.L.Locals.items c.args.l.now)) c.in_err-n.field-0.0
+    c.from_residual.result c.from_residual.ensures.1 (c.in_err-n.ensures.found (setting_of outside c.args.w.now (g.L.Locals.items c.args.l.now)))
 
 pub returns-in_err-n-clause-live : goal.returns-in_err-n-clause-live
 returns-in_err-n-clause-live g c =
-    stop_lives (reach_of c.args.w.now (g.L.Locals.items c.args.l.now)) c.in_err-n.field-0.0 c.from_residual.result c.from_residual.ensures.1 c.in_err-n.ensures.stops
+    stop_lives
+    (reach_of c.args.w.now (g.L.Locals.items c.args.l.now)) c.in_err-n.field-0.0 c.from_residual.result c.from_residual.ensures.1 c.in_err-n.ensures.stops
 
 pub returns-in-Some-clause-row : goal.returns-in-Some-clause-row
 returns-in-Some-clause-row g c = λ outside.
-    c.in_ok-n.ensures.found (setting_of outside c.args.w.now (g.L.Locals.items c.args.l.now)) (λ n setting. element_place n (length (list_at setting.world.heap c.args.list).items) (λ place. gives (element_item c.args.list (list_at setting.world.heap c.args.list) (place - 1))) setting) ∙ (element_held c.in_ok-n.n (to_z w64 (of_z w64 c.in_ok-n.n)) (length (list_at (heap_of c.args.w.now.heap) c.args.list).items) c.list_count.result (λ place. gives (element_item c.args.list (list_at (heap_of c.args.w.now.heap) c.args.list) (place - 1))) (setting_of outside c.args.w.now (g.L.Locals.items c.args.l.now)) _ (to_z-of_z w64 c.in_ok-n.n (let fits : FitsSigned w64 c.in_ok-n.n = search rules in fits)) c.list_count.ensures.count (c.in-Some.ensures.place (λ place. gives (element_item c.args.list (list_at (heap_of c.args.w.now.heap) c.args.list) (place - 1))) (setting_of outside c.args.w.now (g.L.Locals.items c.args.l.now))) ∙ sym (ap (λ i. Gives i (setting_of outside c.args.w.now (g.L.Locals.items c.args.l.now))) c.element_item.ensures.item))
+    c.in_ok-n.ensures.found
+    (setting_of outside c.args.w.now (g.L.Locals.items c.args.l.now)) (λ n setting. element_place n (length (list_at setting.world.heap c.args.list).items)
+    (λ place. gives (element_item c.args.list (list_at setting.world.heap c.args.list) (place - 1))) setting)
+    ∙ (element_held c.in_ok-n.n (to_z w64 (of_z w64 c.in_ok-n.n)) (length (list_at (heap_of c.args.w.now.heap) c.args.list).items) c.list_count.result
+    (λ place. gives (element_item c.args.list (list_at (heap_of c.args.w.now.heap) c.args.list) (place - 1))) (setting_of outside c.args.w.now
+    (g.L.Locals.items c.args.l.now)) _ (to_z-of_z w64 c.in_ok-n.n (let fits : FitsSigned w64 c.in_ok-n.n = search rules in fits)) c.list_count.ensures.count
+    (c.in-Some.ensures.place (λ place. gives (element_item c.args.list (list_at (heap_of c.args.w.now.heap) c.args.list) (place - 1)))
+    (setting_of outside c.args.w.now (g.L.Locals.items c.args.l.now)))
+    ∙ sym (ap (λ i. Gives i (setting_of outside c.args.w.now (g.L.Locals.items c.args.l.now))) c.element_item.ensures.item))
 
 pub returns-in-None-clause-row : goal.returns-in-None-clause-row
 returns-in-None-clause-row g c = λ outside.
-    c.in_ok-n.ensures.found (setting_of outside c.args.w.now (g.L.Locals.items c.args.l.now)) (λ n setting. element_place n (length (list_at setting.world.heap c.args.list).items) (λ place. gives (element_item c.args.list (list_at setting.world.heap c.args.list) (place - 1))) setting) ∙ element_held c.in_ok-n.n (to_z w64 (of_z w64 c.in_ok-n.n)) (length (list_at (heap_of c.args.w.now.heap) c.args.list).items) c.list_count.result (λ place. gives (element_item c.args.list (list_at (heap_of c.args.w.now.heap) c.args.list) (place - 1))) (setting_of outside c.args.w.now (g.L.Locals.items c.args.l.now)) _ (to_z-of_z w64 c.in_ok-n.n (let fits : FitsSigned w64 c.in_ok-n.n = search rules in fits)) c.list_count.ensures.count (c.in-None.ensures.place (λ place. gives (element_item c.args.list (list_at (heap_of c.args.w.now.heap) c.args.list) (place - 1))) (setting_of outside c.args.w.now (g.L.Locals.items c.args.l.now)))
+    c.in_ok-n.ensures.found
+    (setting_of outside c.args.w.now (g.L.Locals.items c.args.l.now)) (λ n setting. element_place n (length (list_at setting.world.heap c.args.list).items)
+    (λ place. gives (element_item c.args.list (list_at setting.world.heap c.args.list) (place - 1))) setting)
+    ∙ element_held c.in_ok-n.n (to_z w64 (of_z w64 c.in_ok-n.n)) (length (list_at (heap_of c.args.w.now.heap) c.args.list).items) c.list_count.result
+    (λ place. gives (element_item c.args.list (list_at (heap_of c.args.w.now.heap) c.args.list) (place - 1))) (setting_of outside c.args.w.now
+    (g.L.Locals.items c.args.l.now)) _ (to_z-of_z w64 c.in_ok-n.n (let fits : FitsSigned w64 c.in_ok-n.n = search rules in fits)) c.list_count.ensures.count
+    (c.in-None.ensures.place (λ place. gives (element_item c.args.list (list_at (heap_of c.args.w.now.heap) c.args.list) (place - 1)))
+    (setting_of outside c.args.w.now (g.L.Locals.items c.args.l.now)))

@@ -10,12 +10,22 @@ use Rattle.icn_ops.proofs.subscripts.subscript_row.Goals as goal
 
 pub returns-in_err-val-clause-row : goal.returns-in_err-val-clause-row
 returns-in_err-val-clause-row g c = λ outside.
-    row_stops (extent_of c.args.w.now.heap) (two_values (item_in (extent_of c.args.w.now.heap) c.args.x) (item_in (extent_of c.args.w.now.heap) c.args.y)) (λ (two : Value × Value). subscript_of (item_in (extent_of c.args.w.now.heap) c.args.x) two.0 two.1 (group_of two.0)) (setting_of outside c.args.w.now (g.L.Locals.items c.args.l.now)) (setting_of outside c.args.w.now (g.L.Locals.items c.args.l.now)) c.in_err-val.field-0.0 c.from_residual.result c.from_residual.ensures.1 (c.in_err-val.ensures.found outside)
+    row_stops (extent_of c.args.w.now.heap) (two_values (item_in (extent_of c.args.w.now.heap) c.args.x) (item_in (extent_of c.args.w.now.heap) c.args.y))
+    (λ (two : Value × Value). subscript_of (item_in (extent_of c.args.w.now.heap) c.args.x) two.0 two.1 (group_of two.0))
+    (setting_of outside c.args.w.now (g.L.Locals.items c.args.l.now)) (setting_of outside c.args.w.now (g.L.Locals.items c.args.l.now)) c.in_err-val.field-0.0
+    c.from_residual.result c.from_residual.ensures.1 (c.in_err-val.ensures.found outside)
 
 pub returns-in_err-val-clause-live : goal.returns-in_err-val-clause-live
 returns-in_err-val-clause-live g c =
-    stop_lives (reach_of c.args.w.now (g.L.Locals.items c.args.l.now)) c.in_err-val.field-0.0 c.from_residual.result c.from_residual.ensures.1 c.in_err-val.ensures.stops
+    stop_lives
+    (reach_of c.args.w.now (g.L.Locals.items c.args.l.now)) c.in_err-val.field-0.0 c.from_residual.result c.from_residual.ensures.1 c.in_err-val.ensures.stops
 
 pub returns-clause-row : goal.returns-clause-row
 returns-clause-row g c = λ outside.
-    answer_then (extent_of c.subscript_of.new.w.heap) (subscript_row (item_in (extent_of c.args.w.now.heap) c.args.x) (item_in (extent_of c.args.w.now.heap) c.args.y)) (subscript_of (item_in (extent_of c.args.w.now.heap) c.args.x) (value_in (extent_of c.args.w.now.heap) c.in_ok-val.val) (value_in (extent_of c.args.w.now.heap) c.in_ok-val.at) (group_of (value_in (extent_of c.args.w.now.heap) c.in_ok-val.val))) (setting_of outside c.args.w.now (g.L.Locals.items c.args.l.now)) (setting_of outside c.args.w.now (g.L.Locals.items c.args.l.now)) (setting_of outside c.subscript_of.new.w (g.L.Locals.items c.args.l.now)) c.subscript_of.result (c.in_ok-val.ensures.found outside (λ (two : Value × Value). subscript_of (item_in (extent_of c.args.w.now.heap) c.args.x) two.0 two.1 (group_of two.0))) (c.subscript_of.ensures.row outside)
+    answer_then
+    (extent_of c.subscript_of.new.w.heap) (subscript_row (item_in (extent_of c.args.w.now.heap) c.args.x) (item_in (extent_of c.args.w.now.heap) c.args.y))
+    (subscript_of (item_in (extent_of c.args.w.now.heap) c.args.x) (value_in (extent_of c.args.w.now.heap) c.in_ok-val.val)
+    (value_in (extent_of c.args.w.now.heap) c.in_ok-val.at) (group_of (value_in (extent_of c.args.w.now.heap) c.in_ok-val.val)))
+    (setting_of outside c.args.w.now (g.L.Locals.items c.args.l.now)) (setting_of outside c.args.w.now (g.L.Locals.items c.args.l.now))
+    (setting_of outside c.subscript_of.new.w (g.L.Locals.items c.args.l.now)) c.subscript_of.result (c.in_ok-val.ensures.found outside
+    (λ (two : Value × Value). subscript_of (item_in (extent_of c.args.w.now.heap) c.args.x) two.0 two.1 (group_of two.0))) (c.subscript_of.ensures.row outside)

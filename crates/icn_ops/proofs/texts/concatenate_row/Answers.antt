@@ -12,29 +12,46 @@ use Rattle.icn_ops.proofs.texts.concatenate_row.Goals as goal
 
 pub returns-in_err-s-clause-row : goal.returns-in_err-s-clause-row
 returns-in_err-s-clause-row g c = λ outside.
-    row_stops (extent_of c.two_texts.new.w.heap) (two_texts (item_in (extent_of c.args.w.now.heap) c.args.x) (item_in (extent_of c.args.w.now.heap) c.args.y)) (λ (two : List ℕ × List ℕ). builds (two.0 ++ two.1)) (setting_of outside c.args.w.now (g.L.Locals.items c.args.l.now)) (setting_of outside c.two_texts.new.w (g.L.Locals.items c.args.l.now)) c.in_err-s.field-0.0 c.from_residual.result c.from_residual.ensures.1 (c.in_err-s.ensures.found outside)
+    row_stops (extent_of c.two_texts.new.w.heap) (two_texts (item_in (extent_of c.args.w.now.heap) c.args.x) (item_in (extent_of c.args.w.now.heap) c.args.y))
+    (λ (two : List ℕ × List ℕ). builds (two.0 ++ two.1)) (setting_of outside c.args.w.now (g.L.Locals.items c.args.l.now)) (setting_of outside c.two_texts.new.w
+    (g.L.Locals.items c.args.l.now)) c.in_err-s.field-0.0 c.from_residual.result c.from_residual.ensures.1 (c.in_err-s.ensures.found outside)
 
 pub returns-in_err-s-clause-live : goal.returns-in_err-s-clause-live
 returns-in_err-s-clause-live g c =
-    stop_lives (reach_of c.two_texts.new.w (g.L.Locals.items c.args.l.now)) c.in_err-s.field-0.0 c.from_residual.result c.from_residual.ensures.1 c.in_err-s.ensures.stops
+    stop_lives
+    (reach_of c.two_texts.new.w (g.L.Locals.items c.args.l.now)) c.in_err-s.field-0.0 c.from_residual.result c.from_residual.ensures.1 c.in_err-s.ensures.stops
 
 pub returns-in_err-text-clause-row : goal.returns-in_err-text-clause-row
 returns-in_err-text-clause-row g c = λ outside.
-    answer_then (extent_of c.join.new.w.heap) (concatenate_row (item_in (extent_of c.args.w.now.heap) c.args.x) (item_in (extent_of c.args.w.now.heap) c.args.y)) (builds (text_in (extent_of c.two_texts.new.w.heap) c.in_ok-s.s ++ text_in (extent_of c.two_texts.new.w.heap) c.in_ok-s.t)) (setting_of outside c.args.w.now (g.L.Locals.items c.args.l.now)) (setting_of outside c.two_texts.new.w (g.L.Locals.items c.args.l.now)) (setting_of outside c.join.new.w (g.L.Locals.items c.args.l.now)) c.from_residual-in_err-text.result (c.in_ok-s.ensures.found outside (λ (two : List ℕ × List ℕ). builds (two.0 ++ two.1)))
-    (row_stops_at (extent_of c.join.new.w.heap) (costs_bytes (length (text_in (extent_of c.two_texts.new.w.heap) c.in_ok-s.s ++ text_in (extent_of c.two_texts.new.w.heap) c.in_ok-s.t))) (gives_value (Text (text_in (extent_of c.two_texts.new.w.heap) c.in_ok-s.s ++ text_in (extent_of c.two_texts.new.w.heap) c.in_ok-s.t))) (setting_of outside c.two_texts.new.w (g.L.Locals.items c.args.l.now)) (setting_of outside c.join.new.w (g.L.Locals.items c.args.l.now)) c.in_err-text.field-0.0 c.from_residual-in_err-text.result c.from_residual-in_err-text.ensures.1 (c.in_err-text.ensures.step outside))
+    answer_then
+    (extent_of c.join.new.w.heap) (concatenate_row (item_in (extent_of c.args.w.now.heap) c.args.x) (item_in (extent_of c.args.w.now.heap) c.args.y))
+    (builds (text_in (extent_of c.two_texts.new.w.heap) c.in_ok-s.s ++ text_in (extent_of c.two_texts.new.w.heap) c.in_ok-s.t))
+    (setting_of outside c.args.w.now (g.L.Locals.items c.args.l.now)) (setting_of outside c.two_texts.new.w (g.L.Locals.items c.args.l.now))
+    (setting_of outside c.join.new.w (g.L.Locals.items c.args.l.now)) c.from_residual-in_err-text.result
+    (c.in_ok-s.ensures.found outside (λ (two : List ℕ × List ℕ). builds (two.0 ++ two.1)))
+    (row_stops_at (extent_of c.join.new.w.heap)
+    (costs_bytes (length (text_in (extent_of c.two_texts.new.w.heap) c.in_ok-s.s ++ text_in (extent_of c.two_texts.new.w.heap) c.in_ok-s.t)))
+    (gives_value (Text (text_in (extent_of c.two_texts.new.w.heap) c.in_ok-s.s ++ text_in (extent_of c.two_texts.new.w.heap) c.in_ok-s.t)))
+    (setting_of outside c.two_texts.new.w (g.L.Locals.items c.args.l.now)) (setting_of outside c.join.new.w (g.L.Locals.items c.args.l.now))
+    c.in_err-text.field-0.0 c.from_residual-in_err-text.result c.from_residual-in_err-text.ensures.1 (c.in_err-text.ensures.step outside))
 
 pub returns-in_err-text-clause-live : goal.returns-in_err-text-clause-live
 returns-in_err-text-clause-live g c =
-    stop_lives (reach_of c.join.new.w (g.L.Locals.items c.args.l.now)) c.in_err-text.field-0.0 c.from_residual-in_err-text.result c.from_residual-in_err-text.ensures.1 c.in_err-text.ensures.stops
+    stop_lives (reach_of c.join.new.w (g.L.Locals.items c.args.l.now)) c.in_err-text.field-0.0 c.from_residual-in_err-text.result
+    c.from_residual-in_err-text.ensures.1 c.in_err-text.ensures.stops
 
 pub returns-in_err-text-clause-kept : goal.returns-in_err-text-clause-kept
 returns-in_err-text-clause-kept g c =
-    items_then (reach_of c.args.w.now (g.L.Locals.items c.args.l.now)) (reach_of c.two_texts.new.w (g.L.Locals.items c.args.l.now)) (reach_of c.join.new.w (g.L.Locals.items c.args.l.now)) c.two_texts.ensures.kept c.join.ensures.kept
+    items_then (reach_of c.args.w.now (g.L.Locals.items c.args.l.now)) (reach_of c.two_texts.new.w (g.L.Locals.items c.args.l.now))
+    (reach_of c.join.new.w (g.L.Locals.items c.args.l.now)) c.two_texts.ensures.kept c.join.ensures.kept
 
 pub returns-clause-row : goal.returns-clause-row
 returns-clause-row g c = λ outside.
-    c.in_ok-s.ensures.found outside (λ (two : List ℕ × List ℕ). builds (two.0 ++ two.1)) ∙ (c.in_ok-text.ensures.step outside (gives_value (Text (text_in (extent_of c.two_texts.new.w.heap) c.in_ok-s.s ++ text_in (extent_of c.two_texts.new.w.heap) c.in_ok-s.t))) ∙ ap (λ bytes. Gives (Val (Text bytes)) (setting_of outside c.join.new.w (g.L.Locals.items c.args.l.now))) (sym c.in_ok-text.ensures.text))
+    c.in_ok-s.ensures.found outside (λ (two : List ℕ × List ℕ). builds (two.0 ++ two.1)) ∙ (c.in_ok-text.ensures.step outside
+    (gives_value (Text (text_in (extent_of c.two_texts.new.w.heap) c.in_ok-s.s ++ text_in (extent_of c.two_texts.new.w.heap) c.in_ok-s.t)))
+    ∙ ap (λ bytes. Gives (Val (Text bytes)) (setting_of outside c.join.new.w (g.L.Locals.items c.args.l.now))) (sym c.in_ok-text.ensures.text))
 
 pub returns-clause-kept : goal.returns-clause-kept
 returns-clause-kept g c =
-    items_then (reach_of c.args.w.now (g.L.Locals.items c.args.l.now)) (reach_of c.two_texts.new.w (g.L.Locals.items c.args.l.now)) (reach_of c.join.new.w (g.L.Locals.items c.args.l.now)) c.two_texts.ensures.kept c.join.ensures.kept
+    items_then (reach_of c.args.w.now (g.L.Locals.items c.args.l.now)) (reach_of c.two_texts.new.w (g.L.Locals.items c.args.l.now))
+    (reach_of c.join.new.w (g.L.Locals.items c.args.l.now)) c.two_texts.ensures.kept c.join.ensures.kept

@@ -32,4 +32,6 @@ returns-in-Rec-clause-row g c = λ outside.
     rw c.in-Rec.is (c.record_fields_from.ensures.row outside)
 
 pub returns-in_default-clause-row : goal.returns-in_default-clause-row
-returns-in_default-clause-row g c = λ outside. no_elements (extent_of c.args.w.now.heap) c.args.val (item_in (extent_of c.args.w.now.heap) c.args.x) (setting_of outside c.args.w.now (g.L.Locals.items c.args.l.now)) c.in_default.not-Integer c.in_default.not-Text c.in_default.not-Chars c.in_default.not-List c.in_default.not-Set c.in_default.not-Table c.in_default.not-Rec c.in_default.not-Std
+returns-in_default-clause-row g c = λ outside. no_elements (extent_of c.args.w.now.heap) c.args.val (item_in (extent_of c.args.w.now.heap) c.args.x)
+    (setting_of outside c.args.w.now (g.L.Locals.items c.args.l.now)) c.in_default.not-Integer c.in_default.not-Text c.in_default.not-Chars
+    c.in_default.not-List c.in_default.not-Set c.in_default.not-Table c.in_default.not-Rec c.in_default.not-Std

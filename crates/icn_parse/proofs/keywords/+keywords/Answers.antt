@@ -41,23 +41,30 @@ check-returns-in_ok-check-in-Case t c = search (rules, row_clauses, the_lemmas, 
 
 pub check_all-returns-in_err-check : goal.check_all-returns-in_err-check
 check_all-returns-in_err-check t c =
-    unknown_passed (keywords (tree_of c.expr-item.result)) (all_keywords (all_of (drop (c.loop-expr.expr-index + 1) c.args.exprs.now))) c.in_err-check.field-0.0 c.from_residual.result c.from_residual.ensures.1 c.in_err-check.ensures
+    unknown_passed (keywords (tree_of c.expr-item.result)) (all_keywords (all_of (drop (c.loop-expr.expr-index + 1) c.args.exprs.now))) c.in_err-check.field-0.0
+    c.from_residual.result c.from_residual.ensures.1 c.in_err-check.ensures
     ∙ sym (ap first_unknown (exprs_at c.args.exprs.now c.loop-expr.expr-index c.expr-item.result c.loop-expr-test.true c.expr-item.is)) ∙ c.loop-expr.invariant
 
 pub check_all-loop-expr-preserved : goal.check_all-loop-expr-preserved
 check_all-loop-expr-preserved t c =
-    sym (unknown_then (keywords (tree_of c.expr-item.result)) (all_keywords (all_of (drop (c.loop-expr.expr-index + 1) c.args.exprs.now))) c.in_ok-check.ensures)
+    sym
+    (unknown_then (keywords (tree_of c.expr-item.result)) (all_keywords (all_of (drop (c.loop-expr.expr-index + 1) c.args.exprs.now))) c.in_ok-check.ensures)
     ∙ sym (ap first_unknown (exprs_at c.args.exprs.now c.loop-expr.expr-index c.expr-item.result c.loop-expr-test.true c.expr-item.is)) ∙ c.loop-expr.invariant
 
 pub check_clauses-returns-in_err-check_clause : goal.check_clauses-returns-in_err-check_clause
 check_clauses-returns-in_err-check_clause t c =
-    unknown_passed (clause_keywords (clause_of c.clause-item.result)) (clauses_keywords (all_clauses_of (drop (c.loop-clause.clause-index + 1) c.args.clauses.now))) c.in_err-check_clause.field-0.0 c.from_residual.result c.from_residual.ensures.1 c.in_err-check_clause.ensures
-    ∙ sym (ap first_unknown (clauses_at c.args.clauses.now c.loop-clause.clause-index c.clause-item.result c.loop-clause-test.true c.clause-item.is)) ∙ c.loop-clause.invariant
+    unknown_passed (clause_keywords (clause_of c.clause-item.result))
+    (clauses_keywords (all_clauses_of (drop (c.loop-clause.clause-index + 1) c.args.clauses.now))) c.in_err-check_clause.field-0.0 c.from_residual.result
+    c.from_residual.ensures.1 c.in_err-check_clause.ensures
+    ∙ sym (ap first_unknown (clauses_at c.args.clauses.now c.loop-clause.clause-index c.clause-item.result c.loop-clause-test.true c.clause-item.is))
+    ∙ c.loop-clause.invariant
 
 pub check_clauses-loop-clause-preserved : goal.check_clauses-loop-clause-preserved
 check_clauses-loop-clause-preserved t c =
-    sym (unknown_then (clause_keywords (clause_of c.clause-item.result)) (clauses_keywords (all_clauses_of (drop (c.loop-clause.clause-index + 1) c.args.clauses.now))) c.in_ok-check_clause.ensures)
-    ∙ sym (ap first_unknown (clauses_at c.args.clauses.now c.loop-clause.clause-index c.clause-item.result c.loop-clause-test.true c.clause-item.is)) ∙ c.loop-clause.invariant
+    sym (unknown_then (clause_keywords (clause_of c.clause-item.result))
+    (clauses_keywords (all_clauses_of (drop (c.loop-clause.clause-index + 1) c.args.clauses.now))) c.in_ok-check_clause.ensures)
+    ∙ sym (ap first_unknown (clauses_at c.args.clauses.now c.loop-clause.clause-index c.clause-item.result c.loop-clause-test.true c.clause-item.is))
+    ∙ c.loop-clause.invariant
 
 pub check-returns-in_err-check-in-Section : goal.check-returns-in_err-check-in-Section
 check-returns-in_err-check-in-Section t c = search (rules, unknown_kept)

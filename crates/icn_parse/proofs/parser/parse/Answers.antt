@@ -13,4 +13,5 @@ returns-clause-exact c =
 pub returns-in_err-check_declarations-clause-exact : goal.returns-in_err-check_declarations-clause-exact
 returns-in_err-check_declarations-clause-exact c =
     let p = err_from_is_err_and c.from_residual-in_err-check_declarations.result c.from_residual-in_err-check_declarations.ensures.1 in
-    rw (p.1, p.2) (unfit_breaks c.args.tokens.now (map declaration_of c.in_ok-decls.decls.items) _ c.in_ok-decls.ensures (rw c.deref.ensures.value at c.in_err-check_declarations.ensures))
+    rw (p.1, p.2) (unfit_breaks c.args.tokens.now
+    (map declaration_of c.in_ok-decls.decls.items) _ c.in_ok-decls.ensures (rw c.deref.ensures.value at c.in_err-check_declarations.ensures))

@@ -14,8 +14,10 @@ returns-in_err-all c =
 pub returns-in-Some : goal.returns-in-Some
 returns-in-Some c =
     broken_as (IsOutcome c.args.tokens.now) (TooHigh c.in-Some.place) S2 c.in-Some.place c.at.result c.at.ensures refl
-    (high_tree c.args.tokens.now (length c.args.tokens.now) c.in-Some.place (map declaration_of c.in_ok-all.all.decls.items) (c.in_ok-all.ensures ∙ ap (λ high. Some (high, map declaration_of c.in_ok-all.all.decls.items)) c.in-Some.is))
+    (high_tree c.args.tokens.now (length c.args.tokens.now) c.in-Some.place (map declaration_of c.in_ok-all.all.decls.items)
+    (c.in_ok-all.ensures ∙ ap (λ high. Some (high, map declaration_of c.in_ok-all.all.decls.items)) c.in-Some.is))
 
 pub returns-in-None : goal.returns-in-None
 returns-in-None c =
-    low_tree c.args.tokens.now (length c.args.tokens.now) (map declaration_of c.in_ok-all.all.decls.items) (c.in_ok-all.ensures ∙ ap (λ high. Some (high, map declaration_of c.in_ok-all.all.decls.items)) c.in-None.is)
+    low_tree c.args.tokens.now (length c.args.tokens.now) (map declaration_of c.in_ok-all.all.decls.items)
+    (c.in_ok-all.ensures ∙ ap (λ high. Some (high, map declaration_of c.in_ok-all.all.decls.items)) c.in-None.is)

@@ -11,5 +11,7 @@ loop-kind-smaller c = locals_shorter c.in-Some.kind c.loop-kind.rest.now c.in_ok
 
 pub loop-kind-preserved : goal.loop-kind-preserved
 loop-kind-preserved c =
-    subst (λ done. LocalsSo c.args.tokens.now done c.in_ok-locals.others.now) (sym (ap (map locals_of) c.in_ok-push.ensures.items ∙ map_last locals_of c.loop-kind.all.items c.in_ok-locals.locals))
-    (locals_more c.args.tokens.now (map locals_of c.loop-kind.all.items) c.loop-kind.rest.now c.in_ok-locals.others.now c.in-Some.kind (locals_of c.in_ok-locals.locals) c.loop-kind.invariant (sym c.local_kind.ensures ∙ c.in-Some.is) c.in_ok-locals.ensures)
+    subst (λ done. LocalsSo c.args.tokens.now done c.in_ok-locals.others.now)
+    (sym (ap (map locals_of) c.in_ok-push.ensures.items ∙ map_last locals_of c.loop-kind.all.items c.in_ok-locals.locals))
+    (locals_more c.args.tokens.now (map locals_of c.loop-kind.all.items) c.loop-kind.rest.now c.in_ok-locals.others.now c.in-Some.kind
+    (locals_of c.in_ok-locals.locals) c.loop-kind.invariant (sym c.local_kind.ensures ∙ c.in-Some.is) c.in_ok-locals.ensures)

@@ -8,7 +8,8 @@ use Rattle.icn_prep.proofs.file.read_lines.Given as goal
 
 abbrev pub invariant-loop-at : goal.invariant-loop-at
 invariant-loop-at l = record {
-  so : (includes : IncludeStep) → lines_read includes (state_of l.fn.reading) (place_of l.fn.place) (lines_of (drop l.fn.from l.content)) ≡ lines_read includes (state_of l.reading) (place_of l.place) (lines_of (drop l.at l.content));
+  so : (includes : IncludeStep) → lines_read includes (state_of l.fn.reading) (place_of l.fn.place) (lines_of (drop l.fn.from l.content))
+      ≡ lines_read includes (state_of l.reading) (place_of l.place) (lines_of (drop l.at l.content));
   within : l.at ≤ length l.content;
   named : l.place.file < vec_len l.reading.names;
   numbered : l.place.line + (length l.content - l.at) ≤ 1016777216;

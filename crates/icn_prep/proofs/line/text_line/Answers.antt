@@ -15,5 +15,6 @@ returns-in_default-clause-exact c =
     let all = replace_words (texts_of c.args.reading.now.texts).count (texts_of c.args.reading.now.texts).text_of c.args.reading.now.literal c.args.line.now in
     let long : c.saturating_sub-most.result < length all.bytes = rw c.in_default.is at c.in_ok-read.ensures in
     refuses_by _ _ _
-    (ap (λ o. o >>= λ s'. Ok (s', next_line (place_of c.args.place.now))) (given_long s (place_of c.args.place.now) all.bytes (next_line_state all.state) c.args.reading.now.size c.args.reading.now.counted (omega (arith, c.saturating_sub-most.ensures))))
+    (ap (λ o. o >>= λ s'. Ok (s', next_line (place_of c.args.place.now))) (given_long s (place_of c.args.place.now) all.bytes
+    (next_line_state all.state) c.args.reading.now.size c.args.reading.now.counted (omega (arith, c.saturating_sub-most.ensures))))
     (rw c.name_at.ensures at c.broken.ensures)

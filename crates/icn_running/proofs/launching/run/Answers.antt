@@ -72,7 +72,8 @@ returns-in-Err-clause-ends g c =
     let launch : List ℕ → Launch = λ left. launch_with c.args.words.now c.args.limits (outside_of left) in
     run_ends tables launch
     (call_streams (g.I.Source.left c.args.input.now) (g.I.Source.faults c.args.input.now) (g.O.Sink.state c.args.out.now) (g.E.Sink.state c.args.err.now))
-    (call_streams (g.I.Source.left c.args.input.now) (g.I.Source.faults c.args.input.now) (g.O.Sink.state c.args.out.now) (g.E.Sink.state c.end_unbegun.new.err))
+    (call_streams (g.I.Source.left c.args.input.now) (g.I.Source.faults c.args.input.now) (g.O.Sink.state c.args.out.now)
+    (g.E.Sink.state c.end_unbegun.new.err))
     c.end_unbegun.result
     (λ left told. let run = (c.runs_hold.ensures tables c.args.code.now.code.rules c.args.code.now.verified (launch left)).ends in
     unbegun_answers g.row.K.Denot tables (launch left).words (launch left).bounds left run.0 c.in-Err.halt c.end_unbegun.result
@@ -88,7 +89,8 @@ returns-in-Err-clause-breaks g c =
     let launch : List ℕ → Launch = λ left. launch_with c.args.words.now c.args.limits (outside_of left) in
     run_breaks tables launch
     (call_streams (g.I.Source.left c.args.input.now) (g.I.Source.faults c.args.input.now) (g.O.Sink.state c.args.out.now) (g.E.Sink.state c.args.err.now))
-    (call_streams (g.I.Source.left c.args.input.now) (g.I.Source.faults c.args.input.now) (g.O.Sink.state c.args.out.now) (g.E.Sink.state c.end_unbegun.new.err))
+    (call_streams (g.I.Source.left c.args.input.now) (g.I.Source.faults c.args.input.now) (g.O.Sink.state c.args.out.now)
+    (g.E.Sink.state c.end_unbegun.new.err))
     c.end_unbegun.result
     (λ left told. let run = (c.runs_hold.ensures tables c.args.code.now.code.rules c.args.code.now.verified (launch left)).ends in
     unbegun_answers g.row.K.Denot tables (launch left).words (launch left).bounds left run.0 c.in-Err.halt c.end_unbegun.result
@@ -104,7 +106,8 @@ returns-in-Err-clause-reported g c =
     let launch : List ℕ → Launch = λ left. launch_with c.args.words.now c.args.limits (outside_of left) in
     run_reports tables launch
     (call_streams (g.I.Source.left c.args.input.now) (g.I.Source.faults c.args.input.now) (g.O.Sink.state c.args.out.now) (g.E.Sink.state c.args.err.now))
-    (call_streams (g.I.Source.left c.args.input.now) (g.I.Source.faults c.args.input.now) (g.O.Sink.state c.args.out.now) (g.E.Sink.state c.end_unbegun.new.err))
+    (call_streams (g.I.Source.left c.args.input.now) (g.I.Source.faults c.args.input.now) (g.O.Sink.state c.args.out.now)
+    (g.E.Sink.state c.end_unbegun.new.err))
     c.end_unbegun.result
     (λ left told. let run = (c.runs_hold.ensures tables c.args.code.now.code.rules c.args.code.now.verified (launch left)).ends in
     unbegun_answers g.row.K.Denot tables (launch left).words (launch left).bounds left run.0 c.in-Err.halt c.end_unbegun.result

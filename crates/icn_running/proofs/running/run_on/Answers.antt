@@ -28,7 +28,8 @@ pub returns-in_err-stepped-clause-steps : goal.returns-in_err-stepped-clause-ste
 returns-in_err-stepped-clause-steps g c =
     let on = on_is c.loop-stepped.stepped (sym c.is_on.ensures ∙ c.loop-stepped-test.true) in
     stopped_err (tables_of c.args.code.now.code) c.args.m.now _ c.run_to_turn.new.m _ c.in_err-stepped.field-0.0 c.from_residual.result
-    (run_err (tables_of c.args.code.now.code) c.args.m.now _ c.loop-stepped.m c.loop-stepped.stepped _ c.run_to_turn.new.m _ c.in_err-stepped.field-0.0 c.from_residual.result on
+    (run_err (tables_of c.args.code.now.code) c.args.m.now _ c.loop-stepped.m c.loop-stepped.stepped
+    _ c.run_to_turn.new.m _ c.in_err-stepped.field-0.0 c.from_residual.result on
     c.loop-stepped.invariant.steps
     c.in_err-stepped.ensures.steps c.from_residual.ensures.1) c.from_residual.ensures.1
 

@@ -51,7 +51,8 @@ loop-stepped-smaller g c =
     let tables = tables_of c.args.code.now.code in
     let test : is_within c.loop-stepped.stepped c.loop-stepped.m.turns c.args.m.now.turns ≡ true = sym c.is_within.ensures ∙ c.loop-stepped-test.true in
     let on = within_is c.loop-stepped.stepped c.loop-stepped.m.turns c.args.m.now.turns test in
-    subst (λ b. left_if (is_within c.in_ok-stepped.stepped c.step.new.m.turns c.args.m.now.turns) (left_now tables c.step.new.m) < left_if b (left_now tables c.loop-stepped.m))
+    subst (λ b. left_if (is_within c.in_ok-stepped.stepped c.step.new.m.turns c.args.m.now.turns) (left_now tables c.step.new.m)
+    < left_if b (left_now tables c.loop-stepped.m))
     (sym test)
     (left_falls tables c.loop-stepped.m _ c.step.new.m _ (c.loop-stepped.invariant.lasts (on_true c.loop-stepped.stepped on.0))
     c.in_ok-stepped.stepped c.args.m.now.turns on.1 c.in_ok-stepped.ensures.steps)

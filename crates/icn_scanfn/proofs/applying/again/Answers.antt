@@ -25,16 +25,26 @@ among_again-requires g c = let rest = rw c.in-Among.is at c.requires.rest in res
 
 pub returns-in-UndoPosition-clause-row : goal.returns-in-UndoPosition-clause-row
 returns-in-UndoPosition-clause-row g c =
-    subst (λ (rest : Residual). Answers c.args.w.now (g.L.Locals.items c.args.l.now) c.undo_position_again.new.w (g.L.Locals.items c.args.l.now) (again (residual_in (extent_of c.args.w.now.heap) rest)) c.undo_position_again.result) (sym c.in-UndoPosition.is) c.undo_position_again.ensures.row
+    subst (λ (rest : Residual). Answers c.args.w.now (g.L.Locals.items c.args.l.now) c.undo_position_again.new.w (g.L.Locals.items c.args.l.now)
+    (again (residual_in (extent_of c.args.w.now.heap) rest)) c.undo_position_again.result) (sym c.in-UndoPosition.is) c.undo_position_again.ensures.row
 
 pub returns-in-Balanced-clause-row : goal.returns-in-Balanced-clause-row
 returns-in-Balanced-clause-row g c =
-    subst (λ (rest : Residual). (outside : Outside) → again (residual_in (extent_of c.args.w.now.heap) rest) (setting_of outside c.args.w.now (g.L.Locals.items c.args.l.now)) ≡ outcome_in (extent_of c.args.w.now.heap) c.balanced_again.result (setting_of outside c.args.w.now (g.L.Locals.items c.args.l.now))) (sym c.in-Balanced.is) c.balanced_again.ensures.row
+    subst (λ (rest : Residual). (outside : Outside)
+    → again (residual_in (extent_of c.args.w.now.heap) rest) (setting_of outside c.args.w.now (g.L.Locals.items c.args.l.now))
+    ≡ outcome_in (extent_of c.args.w.now.heap) c.balanced_again.result (setting_of outside c.args.w.now (g.L.Locals.items c.args.l.now)))
+    (sym c.in-Balanced.is) c.balanced_again.ensures.row
 
 pub returns-in-Found-clause-row : goal.returns-in-Found-clause-row
 returns-in-Found-clause-row g c =
-    subst (λ (rest : Residual). (outside : Outside) → again (residual_in (extent_of c.args.w.now.heap) rest) (setting_of outside c.args.w.now (g.L.Locals.items c.args.l.now)) ≡ outcome_in (extent_of c.args.w.now.heap) c.found_again.result (setting_of outside c.args.w.now (g.L.Locals.items c.args.l.now))) (sym c.in-Found.is) c.found_again.ensures.row
+    subst (λ (rest : Residual). (outside : Outside)
+    → again (residual_in (extent_of c.args.w.now.heap) rest) (setting_of outside c.args.w.now (g.L.Locals.items c.args.l.now))
+    ≡ outcome_in (extent_of c.args.w.now.heap) c.found_again.result (setting_of outside c.args.w.now (g.L.Locals.items c.args.l.now)))
+    (sym c.in-Found.is) c.found_again.ensures.row
 
 pub returns-in-Among-clause-row : goal.returns-in-Among-clause-row
 returns-in-Among-clause-row g c =
-    subst (λ (rest : Residual). (outside : Outside) → again (residual_in (extent_of c.args.w.now.heap) rest) (setting_of outside c.args.w.now (g.L.Locals.items c.args.l.now)) ≡ outcome_in (extent_of c.args.w.now.heap) c.among_again.result (setting_of outside c.args.w.now (g.L.Locals.items c.args.l.now))) (sym c.in-Among.is) c.among_again.ensures.row
+    subst (λ (rest : Residual). (outside : Outside)
+    → again (residual_in (extent_of c.args.w.now.heap) rest) (setting_of outside c.args.w.now (g.L.Locals.items c.args.l.now))
+    ≡ outcome_in (extent_of c.args.w.now.heap) c.among_again.result (setting_of outside c.args.w.now (g.L.Locals.items c.args.l.now)))
+    (sym c.in-Among.is) c.among_again.ensures.row

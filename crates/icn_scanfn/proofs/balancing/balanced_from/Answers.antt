@@ -9,9 +9,15 @@ use Rattle.icn_scanfn.proofs.balancing.balanced_from.Goals as goal
 
 pub returns-in-Some-clause-row : goal.returns-in-Some-clause-row
 returns-in-Some-clause-row g c = λ outside.
-    balanced_found (members_of c.args.sets.wanted) (members_of c.args.sets.opening) (members_of c.args.sets.closing) (text_in (extent_of c.args.w.now.heap) c.args.text) c.args.last (setting_of outside c.args.w.now (g.L.Locals.items c.args._l.now)) c.bytes-bytes.result.now c.args.place c.args.count (Some c.in-Some.found) c.bytes-bytes.ensures c.in-Some.ensures.value
-    ∙ place_held c.in-Some.found (Balanced (members_of c.args.sets.wanted) (members_of c.args.sets.opening) (members_of c.args.sets.closing) (text_in (extent_of c.args.w.now.heap) c.args.text) c.in-Some.found c.args.last) (setting_of outside c.args.w.now (g.L.Locals.items c.args._l.now)) (omega (arith, c.in-Some.ensures.within.1, c.requires.search.high, c.short_text.ensures))
+    balanced_found (members_of c.args.sets.wanted) (members_of c.args.sets.opening) (members_of c.args.sets.closing)
+    (text_in (extent_of c.args.w.now.heap) c.args.text) c.args.last (setting_of outside c.args.w.now (g.L.Locals.items c.args._l.now)) c.bytes-bytes.result.now
+    c.args.place c.args.count (Some c.in-Some.found) c.bytes-bytes.ensures c.in-Some.ensures.value
+    ∙ place_held c.in-Some.found (Balanced (members_of c.args.sets.wanted) (members_of c.args.sets.opening) (members_of c.args.sets.closing)
+    (text_in (extent_of c.args.w.now.heap) c.args.text) c.in-Some.found c.args.last)
+    (setting_of outside c.args.w.now (g.L.Locals.items c.args._l.now)) (omega (arith, c.in-Some.ensures.within.1, c.requires.search.high, c.short_text.ensures))
 
 pub returns-in-None-clause-row : goal.returns-in-None-clause-row
 returns-in-None-clause-row g c = λ outside.
-    balanced_found (members_of c.args.sets.wanted) (members_of c.args.sets.opening) (members_of c.args.sets.closing) (text_in (extent_of c.args.w.now.heap) c.args.text) c.args.last (setting_of outside c.args.w.now (g.L.Locals.items c.args._l.now)) c.bytes-bytes.result.now c.args.place c.args.count None c.bytes-bytes.ensures c.in-None.ensures.value
+    balanced_found (members_of c.args.sets.wanted) (members_of c.args.sets.opening) (members_of c.args.sets.closing)
+    (text_in (extent_of c.args.w.now.heap) c.args.text) c.args.last (setting_of outside c.args.w.now (g.L.Locals.items c.args._l.now)) c.bytes-bytes.result.now
+    c.args.place c.args.count None c.bytes-bytes.ensures c.in-None.ensures.value

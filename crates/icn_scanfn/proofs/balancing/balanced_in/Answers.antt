@@ -8,5 +8,6 @@ use Rattle.icn_scanfn.proofs.balancing.balanced_in.Goals as goal
 
 pub returns-in-Some-clause-row : goal.returns-in-Some-clause-row
 returns-in-Some-clause-row g c = λ outside.
-    c.in-Some.ensures.ends (λ ends. balanced_from (members_of c.args.sets.wanted) (members_of c.args.sets.opening) (members_of c.args.sets.closing) (text_in (extent_of c.args.w.now.heap) c.args.searched.text) ends.0 ends.1 0) (setting_of outside c.args.w.now (g.L.Locals.items c.args.l.now))
+    c.in-Some.ensures.ends (λ ends. balanced_from (members_of c.args.sets.wanted) (members_of c.args.sets.opening) (members_of c.args.sets.closing)
+    (text_in (extent_of c.args.w.now.heap) c.args.searched.text) ends.0 ends.1 0) (setting_of outside c.args.w.now (g.L.Locals.items c.args.l.now))
     ∙ c.balanced_from.ensures.row outside

@@ -9,9 +9,12 @@ use Rattle.icn_scanfn.proofs.finding.among_from.Goals as goal
 
 pub returns-in-Some-clause-row : goal.returns-in-Some-clause-row
 returns-in-Some-clause-row g c = λ outside.
-    member_found (members_of c.args.wanted) (text_in (extent_of c.args.w.now.heap) c.args.text) c.bytes.result.now c.args.place c.args.last (Some c.in-Some.found) (setting_of outside c.args.w.now (g.L.Locals.items c.args._l.now)) c.bytes.ensures c.in-Some.ensures.value
-    ∙ place_held c.in-Some.found (Among (members_of c.args.wanted) (text_in (extent_of c.args.w.now.heap) c.args.text) c.in-Some.found c.args.last) (setting_of outside c.args.w.now (g.L.Locals.items c.args._l.now)) (omega (arith, c.in-Some.ensures.within.1, c.requires.high, c.short_text.ensures))
+    member_found (members_of c.args.wanted) (text_in (extent_of c.args.w.now.heap) c.args.text) c.bytes.result.now c.args.place c.args.last
+    (Some c.in-Some.found) (setting_of outside c.args.w.now (g.L.Locals.items c.args._l.now)) c.bytes.ensures c.in-Some.ensures.value
+    ∙ place_held c.in-Some.found (Among (members_of c.args.wanted) (text_in (extent_of c.args.w.now.heap) c.args.text) c.in-Some.found c.args.last)
+    (setting_of outside c.args.w.now (g.L.Locals.items c.args._l.now)) (omega (arith, c.in-Some.ensures.within.1, c.requires.high, c.short_text.ensures))
 
 pub returns-in-None-clause-row : goal.returns-in-None-clause-row
 returns-in-None-clause-row g c = λ outside.
-    member_found (members_of c.args.wanted) (text_in (extent_of c.args.w.now.heap) c.args.text) c.bytes.result.now c.args.place c.args.last None (setting_of outside c.args.w.now (g.L.Locals.items c.args._l.now)) c.bytes.ensures c.in-None.ensures.value
+    member_found (members_of c.args.wanted) (text_in (extent_of c.args.w.now.heap) c.args.text) c.bytes.result.now c.args.place c.args.last None
+    (setting_of outside c.args.w.now (g.L.Locals.items c.args._l.now)) c.bytes.ensures c.in-None.ensures.value

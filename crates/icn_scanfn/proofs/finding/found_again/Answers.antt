@@ -7,4 +7,5 @@ use Rattle.icn_scanfn.proofs.finding.found_again.Goals as goal
 
 pub returns-else-place-last-clause-row : goal.returns-else-place-last-clause-row
 returns-else-place-last-clause-row g c = λ outside.
-    no_more_text (text_in (extent_of c.args.w.now.heap) c.args.wanted) (text_in (extent_of c.args.w.now.heap) c.args.text) c.args.place c.args.last (setting_of outside c.args.w.now (g.L.Locals.items c.args.l.now)) (omega arith)
+    no_more_text (text_in (extent_of c.args.w.now.heap) c.args.wanted) (text_in (extent_of c.args.w.now.heap) c.args.text) c.args.place c.args.last
+    (setting_of outside c.args.w.now (g.L.Locals.items c.args.l.now)) (omega arith)

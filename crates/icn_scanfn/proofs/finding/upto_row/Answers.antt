@@ -8,7 +8,9 @@ use Rattle.icn_scanfn.proofs.finding.upto_row.Goals as goal
 
 pub returns-in_err-wanted-clause-row : goal.returns-in_err-wanted-clause-row
 returns-in_err-wanted-clause-row g c = λ outside.
-    row_stops (extent_of c.cset_search.new.w.heap) (cset_search (map (value_in (extent_of c.args.w.now.heap)) c.args.args.now)) (λ two. upto_in two.0 two.1) (setting_of outside c.args.w.now (g.L.Locals.items c.args.l.now)) (setting_of outside c.cset_search.new.w (g.L.Locals.items c.args.l.now)) c.in_err-wanted.field-0.0 c.from_residual.result c.from_residual.ensures.1
+    row_stops (extent_of c.cset_search.new.w.heap) (cset_search (map (value_in (extent_of c.args.w.now.heap)) c.args.args.now))
+    (λ two. upto_in two.0 two.1) (setting_of outside c.args.w.now (g.L.Locals.items c.args.l.now))
+    (setting_of outside c.cset_search.new.w (g.L.Locals.items c.args.l.now)) c.in_err-wanted.field-0.0 c.from_residual.result c.from_residual.ensures.1
     (c.in_err-wanted.ensures.found outside)
 
 pub returns-clause-row : goal.returns-clause-row

@@ -14,11 +14,13 @@ pub returns-in_err-n-clause-row : goal.returns-in_err-n-clause-row
 returns-in_err-n-clause-row g c = λ outside.
     let s = setting_of outside c.args.w.now (g.L.Locals.items c.args.l.now) in
     let all = extent_of c.args.w.now.heap in
-    row_stops all (integer (arg (map (value_in all) c.args.args.now) 0)) tests_position s s c.in_err-n.field-0.0 c.from_residual.result c.from_residual.ensures.1
+    row_stops all
+    (integer (arg (map (value_in all) c.args.args.now) 0)) tests_position s s c.in_err-n.field-0.0 c.from_residual.result c.from_residual.ensures.1
     (subst (λ v. StopsFinding all (integer v) s s c.in_err-n.field-0.0) (c.arg.ensures.value all) (c.in_err-n.ensures.found s))
 
 pub returns-clause-row : goal.returns-clause-row
 returns-clause-row g c = λ outside.
     let s = setting_of outside c.args.w.now (g.L.Locals.items c.args.l.now) in
     let all = extent_of c.args.w.now.heap in
-    sym (ap (λ v. integer v tests_position s) (c.arg.ensures.value all)) ∙ (c.in_ok-n.ensures.found s tests_position ∙ (sym (held (λ n. tests_position n s) c.in_ok-n.n (let fits : FitsSigned w64 c.in_ok-n.n = search rules in fits)) ∙ c.position_tested.ensures.row outside))
+    sym (ap (λ v. integer v tests_position s) (c.arg.ensures.value all)) ∙ (c.in_ok-n.ensures.found s tests_position
+    ∙ (sym (held (λ n. tests_position n s) c.in_ok-n.n (let fits : FitsSigned w64 c.in_ok-n.n = search rules in fits)) ∙ c.position_tested.ensures.row outside))

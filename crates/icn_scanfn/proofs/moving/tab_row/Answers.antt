@@ -21,4 +21,5 @@ pub returns-clause-row : goal.returns-clause-row
 returns-clause-row g c = λ outside.
     let s = setting_of outside c.args.w.now (g.L.Locals.items c.args.l.now) in
     let all = extent_of c.args.w.now.heap in
-    sym (ap (λ v. integer v tabs_by s) (c.arg.ensures.value all)) ∙ (c.in_ok-n.ensures.found s tabs_by ∙ (sym (held (λ n. tabs_by n s) c.in_ok-n.n (let fits : FitsSigned w64 c.in_ok-n.n = search rules in fits)) ∙ c.tab_by.ensures.row outside))
+    sym (ap (λ v. integer v tabs_by s) (c.arg.ensures.value all)) ∙ (c.in_ok-n.ensures.found s tabs_by
+    ∙ (sym (held (λ n. tabs_by n s) c.in_ok-n.n (let fits : FitsSigned w64 c.in_ok-n.n = search rules in fits)) ∙ c.tab_by.ensures.row outside))

@@ -8,7 +8,8 @@ use Rattle.icn_scanfn.proofs.searching.next_member.Given as goal
 abbrev pub invariant-loop-at : goal.invariant-loop-at
 invariant-loop-at l = record {
   low : 1 ≤ l.at;
-  goes_on : find (λ place. contains (members_of l.wanted) (byte_behind l.text place)) (range_with_len l.place (l.last - l.place)) ≡ find (λ place. contains (members_of l.wanted) (byte_behind l.text place)) (range_with_len l.at (l.last - l.at));
+  goes_on : find (λ place. contains (members_of l.wanted) (byte_behind l.text place)) (range_with_len l.place (l.last - l.place))
+      ≡ find (λ place. contains (members_of l.wanted) (byte_behind l.text place)) (range_with_len l.at (l.last - l.at));
 }
 
 abbrev pub decreases-loop-at : goal.decreases-loop-at

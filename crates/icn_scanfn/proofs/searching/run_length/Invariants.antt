@@ -9,7 +9,8 @@ abbrev pub invariant-loop-at : goal.invariant-loop-at
 invariant-loop-at l = record {
   low : l.from ≤ l.at;
   high : l.at ≤ l.to;
-  goes_on : prefix_len (contains (members_of l.wanted)) (between l.text l.from l.to) ≡ (l.at - l.from) + prefix_len (contains (members_of l.wanted)) (between l.text l.at l.to);
+  goes_on : prefix_len (contains (members_of l.wanted)) (between l.text l.from l.to)
+      ≡ (l.at - l.from) + prefix_len (contains (members_of l.wanted)) (between l.text l.at l.to);
 }
 
 abbrev pub decreases-loop-at : goal.decreases-loop-at

@@ -7,4 +7,5 @@ use Rattle.icn_streams.proofs.filling.fill_line.Goals as goal
 pub returns-clause-some : goal.returns-clause-some
 returns-clause-some g c =
     let ended : c.ne.result ≡ false → c.in_ok-line.line ≡ End = λ missed. search rules in
-    line_read c.ne.result c.clear.new.self.items c.line.new.into.items c.clear.ensures.items c.in_ok-line.ensures.plain (λ missed. c.in_ok-line.ensures.none (ended missed))
+    line_read c.ne.result c.clear.new.self.items c.line.new.into.items c.clear.ensures.items c.in_ok-line.ensures.plain
+    (λ missed. c.in_ok-line.ensures.none (ended missed))

@@ -11,56 +11,77 @@ use Rattle.icn_streams.proofs.reading.read_text.Goals as goal
 pub returns-in_err-text_of-in-Ok-true-clause-reads : goal.returns-in_err-text_of-in-Ok-true-clause-reads
 returns-in_err-text_of-in-Ok-true-clause-reads g c = λ was output errors told.
     reads_err (asked_in c.args.ask) was
-    (call_state c.args.w.now (g.L.Locals.items c.args.l.now) (call_streams (g.I.Source.left c.args.input.now) (g.I.Source.faults c.args.input.now) output errors))
-    (call_state c.text_of.new.w (g.L.Locals.items c.args.l.now) (call_streams (g.I.Source.left c.fill.new.input) (g.I.Source.faults c.fill.new.input) output errors))
+    (call_state c.args.w.now (g.L.Locals.items c.args.l.now)
+    (call_streams (g.I.Source.left c.args.input.now) (g.I.Source.faults c.args.input.now) output errors))
+    (call_state c.text_of.new.w (g.L.Locals.items c.args.l.now)
+    (call_streams (g.I.Source.left c.fill.new.input) (g.I.Source.faults c.fill.new.input) output errors))
     c.in-Ok-true.field-0 c.fill.new.buffer.items c.deref.result.now c.in_err-text_of-in-Ok-true.field-0.0 c.from_residual.result
-    (at_some (g.I.Source.left c.args.input.now) was.left (λ left. Fills (asked_in c.args.ask) left c.in-Ok-true.field-0 c.fill.new.buffer.items (g.I.Source.left c.fill.new.input)) told c.in-Ok-true.ensures.ok)
-    c.in-Ok-true.field-0-test c.deref.ensures.value (c.in_err-text_of-in-Ok-true.ensures.step (after_reading (asked_in c.args.ask) was)) c.from_residual.ensures.1
+    (at_some (g.I.Source.left c.args.input.now) was.left
+    (λ left. Fills (asked_in c.args.ask) left c.in-Ok-true.field-0 c.fill.new.buffer.items (g.I.Source.left c.fill.new.input)) told c.in-Ok-true.ensures.ok)
+    c.in-Ok-true.field-0-test c.deref.ensures.value
+    (c.in_err-text_of-in-Ok-true.ensures.step (after_reading (asked_in c.args.ask) was)) c.from_residual.ensures.1
 
 pub returns-in_ok-text_of-in-Ok-true-clause-reads : goal.returns-in_ok-text_of-in-Ok-true-clause-reads
 returns-in_ok-text_of-in-Ok-true-clause-reads g c = λ was output errors told.
     reads_some (asked_in c.args.ask) was
-    (call_state c.args.w.now (g.L.Locals.items c.args.l.now) (call_streams (g.I.Source.left c.args.input.now) (g.I.Source.faults c.args.input.now) output errors))
-    (call_state c.text_of.new.w (g.L.Locals.items c.args.l.now) (call_streams (g.I.Source.left c.fill.new.input) (g.I.Source.faults c.fill.new.input) output errors))
+    (call_state c.args.w.now (g.L.Locals.items c.args.l.now)
+    (call_streams (g.I.Source.left c.args.input.now) (g.I.Source.faults c.args.input.now) output errors))
+    (call_state c.text_of.new.w (g.L.Locals.items c.args.l.now)
+    (call_streams (g.I.Source.left c.fill.new.input) (g.I.Source.faults c.fill.new.input) output errors))
     c.in-Ok-true.field-0 c.fill.new.buffer.items c.deref.result.now c.in_ok-text_of-in-Ok-true.field-0
-    (at_some (g.I.Source.left c.args.input.now) was.left (λ left. Fills (asked_in c.args.ask) left c.in-Ok-true.field-0 c.fill.new.buffer.items (g.I.Source.left c.fill.new.input)) told c.in-Ok-true.ensures.ok)
-    c.in-Ok-true.field-0-test c.deref.ensures.value c.in_ok-text_of-in-Ok-true.ensures.text (c.in_ok-text_of-in-Ok-true.ensures.step (after_reading (asked_in c.args.ask) was))
+    (at_some (g.I.Source.left c.args.input.now) was.left
+    (λ left. Fills (asked_in c.args.ask) left c.in-Ok-true.field-0 c.fill.new.buffer.items (g.I.Source.left c.fill.new.input)) told c.in-Ok-true.ensures.ok)
+    c.in-Ok-true.field-0-test c.deref.ensures.value c.in_ok-text_of-in-Ok-true.ensures.text
+    (c.in_ok-text_of-in-Ok-true.ensures.step (after_reading (asked_in c.args.ask) was))
 
 pub returns-in-Ok-false-clause-reads : goal.returns-in-Ok-false-clause-reads
 returns-in-Ok-false-clause-reads g c = λ was output errors told.
     reads_none (asked_in c.args.ask) was
-    (call_state c.args.w.now (g.L.Locals.items c.args.l.now) (call_streams (g.I.Source.left c.args.input.now) (g.I.Source.faults c.args.input.now) output errors))
-    (call_state c.args.w.now (g.L.Locals.items c.args.l.now) (call_streams (g.I.Source.left c.fill.new.input) (g.I.Source.faults c.fill.new.input) output errors))
+    (call_state c.args.w.now (g.L.Locals.items c.args.l.now)
+    (call_streams (g.I.Source.left c.args.input.now) (g.I.Source.faults c.args.input.now) output errors))
+    (call_state c.args.w.now (g.L.Locals.items c.args.l.now)
+    (call_streams (g.I.Source.left c.fill.new.input) (g.I.Source.faults c.fill.new.input) output errors))
     c.in-Ok-false.field-0 c.fill.new.buffer.items
-    (at_some (g.I.Source.left c.args.input.now) was.left (λ left. Fills (asked_in c.args.ask) left c.in-Ok-false.field-0 c.fill.new.buffer.items (g.I.Source.left c.fill.new.input)) told c.in-Ok-false.ensures.ok)
+    (at_some (g.I.Source.left c.args.input.now) was.left
+    (λ left. Fills (asked_in c.args.ask) left c.in-Ok-false.field-0 c.fill.new.buffer.items (g.I.Source.left c.fill.new.input)) told c.in-Ok-false.ensures.ok)
     c.in-Ok-false.field-0-test refl
 
 pub returns-in_err-text_of-in-Ok-true-clause-some : goal.returns-in_err-text_of-in-Ok-true-clause-some
 returns-in_err-text_of-in-Ok-true-clause-some g c = λ output errors.
-    some_err (asked_in c.args.ask) (call_state c.args.w.now (g.L.Locals.items c.args.l.now) (call_streams (g.I.Source.left c.args.input.now) (g.I.Source.faults c.args.input.now) output errors))
-    (call_state c.text_of.new.w (g.L.Locals.items c.args.l.now) (call_streams (g.I.Source.left c.fill.new.input) (g.I.Source.faults c.fill.new.input) output errors))
+    some_err (asked_in c.args.ask) (call_state c.args.w.now (g.L.Locals.items c.args.l.now)
+    (call_streams (g.I.Source.left c.args.input.now) (g.I.Source.faults c.args.input.now) output errors))
+    (call_state c.text_of.new.w (g.L.Locals.items c.args.l.now)
+    (call_streams (g.I.Source.left c.fill.new.input) (g.I.Source.faults c.fill.new.input) output errors))
     c.in-Ok-true.field-0 c.fill.new.buffer.items c.deref.result.now c.in-Ok-true.ensures.some c.in_err-text_of-in-Ok-true.field-0.0 c.from_residual.result
     c.in-Ok-true.field-0-test c.deref.ensures.value c.in_err-text_of-in-Ok-true.ensures.step c.from_residual.ensures.1
 
 pub returns-in_ok-text_of-in-Ok-true-clause-some : goal.returns-in_ok-text_of-in-Ok-true-clause-some
 returns-in_ok-text_of-in-Ok-true-clause-some g c = λ output errors.
-    some_text (asked_in c.args.ask) (call_state c.args.w.now (g.L.Locals.items c.args.l.now) (call_streams (g.I.Source.left c.args.input.now) (g.I.Source.faults c.args.input.now) output errors))
-    (call_state c.text_of.new.w (g.L.Locals.items c.args.l.now) (call_streams (g.I.Source.left c.fill.new.input) (g.I.Source.faults c.fill.new.input) output errors))
+    some_text (asked_in c.args.ask) (call_state c.args.w.now (g.L.Locals.items c.args.l.now)
+    (call_streams (g.I.Source.left c.args.input.now) (g.I.Source.faults c.args.input.now) output errors))
+    (call_state c.text_of.new.w (g.L.Locals.items c.args.l.now)
+    (call_streams (g.I.Source.left c.fill.new.input) (g.I.Source.faults c.fill.new.input) output errors))
     c.in-Ok-true.field-0 c.fill.new.buffer.items c.deref.result.now c.in-Ok-true.ensures.some c.in_ok-text_of-in-Ok-true.field-0
     c.in-Ok-true.field-0-test c.deref.ensures.value c.in_ok-text_of-in-Ok-true.ensures.text c.in_ok-text_of-in-Ok-true.ensures.step
 
 pub returns-in-Ok-false-clause-some : goal.returns-in-Ok-false-clause-some
 returns-in-Ok-false-clause-some g c = λ output errors.
-    some_none (asked_in c.args.ask) (call_state c.args.w.now (g.L.Locals.items c.args.l.now) (call_streams (g.I.Source.left c.args.input.now) (g.I.Source.faults c.args.input.now) output errors))
-    (call_state c.args.w.now (g.L.Locals.items c.args.l.now) (call_streams (g.I.Source.left c.fill.new.input) (g.I.Source.faults c.fill.new.input) output errors))
+    some_none (asked_in c.args.ask) (call_state c.args.w.now (g.L.Locals.items c.args.l.now)
+    (call_streams (g.I.Source.left c.args.input.now) (g.I.Source.faults c.args.input.now) output errors))
+    (call_state c.args.w.now (g.L.Locals.items c.args.l.now)
+    (call_streams (g.I.Source.left c.fill.new.input) (g.I.Source.faults c.fill.new.input) output errors))
     c.in-Ok-false.field-0 c.fill.new.buffer.items c.fill.new.buffer.items c.in-Ok-false.ensures.some c.in-Ok-false.field-0-test (λ outside. refl)
 
 pub returns-in-Err-Failed-clause-some : goal.returns-in-Err-Failed-clause-some
 returns-in-Err-Failed-clause-some g c = λ output errors.
-    some_fault (asked_in c.args.ask) (call_state c.args.w.now (g.L.Locals.items c.args.l.now) (call_streams (g.I.Source.left c.args.input.now) (g.I.Source.faults c.args.input.now) output errors))
-    (call_state c.args.w.now (g.L.Locals.items c.args.l.now) (call_streams (g.I.Source.left c.fill.new.input) (g.I.Source.faults c.fill.new.input) output errors))
+    some_fault (asked_in c.args.ask) (call_state c.args.w.now (g.L.Locals.items c.args.l.now)
+    (call_streams (g.I.Source.left c.args.input.now) (g.I.Source.faults c.args.input.now) output errors))
+    (call_state c.args.w.now (g.L.Locals.items c.args.l.now)
+    (call_streams (g.I.Source.left c.fill.new.input) (g.I.Source.faults c.fill.new.input) output errors))
 
 pub returns-in-Err-NoMemory-clause-some : goal.returns-in-Err-NoMemory-clause-some
 returns-in-Err-NoMemory-clause-some g c = λ output errors.
-    some_want (asked_in c.args.ask) (call_state c.args.w.now (g.L.Locals.items c.args.l.now) (call_streams (g.I.Source.left c.args.input.now) (g.I.Source.faults c.args.input.now) output errors))
-    (call_state c.args.w.now (g.L.Locals.items c.args.l.now) (call_streams (g.I.Source.left c.fill.new.input) (g.I.Source.faults c.fill.new.input) output errors))
+    some_want (asked_in c.args.ask) (call_state c.args.w.now (g.L.Locals.items c.args.l.now)
+    (call_streams (g.I.Source.left c.args.input.now) (g.I.Source.faults c.args.input.now) output errors))
+    (call_state c.args.w.now (g.L.Locals.items c.args.l.now)
+    (call_streams (g.I.Source.left c.fill.new.input) (g.I.Source.faults c.fill.new.input) output errors))

@@ -14,21 +14,50 @@ pub to_integer-requires : goal.to_integer-requires
 to_integer-requires c = c.or_one-count.ensures.live _ (c.arg-given.ensures.live _ c.requires)
 
 pub returns-then-lacks_text-clause-stops : goal.returns-then-lacks_text-clause-stops
-returns-then-lacks_text-clause-stops c = λ layout setting. steps.field_no_text (map (value_in (extent_of c.args.heap.now)) c.args.args.now) (value_in (extent_of c.args.heap.now) c.arg-val.result) (value_in (extent_of c.args.heap.now) c.or_one-count.result) (value_in (extent_of c.args.heap.now) c.arg-given.result) (value_in (extent_of c.args.heap.now) c.arg-fill.result) (laid_out layout) setting (c.arg-val.ensures.value (extent_of c.args.heap.now)) (c.or_one-count.ensures.value (extent_of c.args.heap.now) ∙ ap (λ (v : Value). value_or one v) (c.arg-given.ensures.value (extent_of c.args.heap.now))) (c.arg-given.ensures.value (extent_of c.args.heap.now)) (c.arg-fill.ensures.value (extent_of c.args.heap.now)) (c.if-lacks_text.ensures (extent_of c.args.heap.now))
+returns-then-lacks_text-clause-stops c = λ layout setting. steps.field_no_text (map (value_in (extent_of c.args.heap.now)) c.args.args.now)
+    (value_in (extent_of c.args.heap.now) c.arg-val.result) (value_in (extent_of c.args.heap.now) c.or_one-count.result)
+    (value_in (extent_of c.args.heap.now) c.arg-given.result) (value_in (extent_of c.args.heap.now) c.arg-fill.result)
+    (laid_out layout) setting (c.arg-val.ensures.value (extent_of c.args.heap.now)) (c.or_one-count.ensures.value (extent_of c.args.heap.now)
+    ∙ ap (λ (v : Value). value_or one v) (c.arg-given.ensures.value (extent_of c.args.heap.now))) (c.arg-given.ensures.value (extent_of c.args.heap.now))
+    (c.arg-fill.ensures.value (extent_of c.args.heap.now)) (c.if-lacks_text.ensures (extent_of c.args.heap.now))
 
 pub returns-in_default-clause-stops : goal.returns-in_default-clause-stops
-returns-in_default-clause-stops c = λ layout setting. steps.field_no_count (map (value_in (extent_of c.args.heap.now)) c.args.args.now) (value_in (extent_of c.args.heap.now) c.arg-val.result) (value_in (extent_of c.args.heap.now) c.or_one-count.result) (value_in (extent_of c.args.heap.now) c.arg-given.result) (value_in (extent_of c.args.heap.now) c.arg-fill.result) (laid_out layout) setting (c.arg-val.ensures.value (extent_of c.args.heap.now)) (c.or_one-count.ensures.value (extent_of c.args.heap.now) ∙ ap (λ (v : Value). value_or one v) (c.arg-given.ensures.value (extent_of c.args.heap.now))) (c.arg-given.ensures.value (extent_of c.args.heap.now)) (c.arg-fill.ensures.value (extent_of c.args.heap.now)) (c.if-lacks_text.ensures (extent_of c.args.heap.now)) (sym c.to_integer.ensures ∙ c.in_default.is)
+returns-in_default-clause-stops c = λ layout setting. steps.field_no_count (map (value_in (extent_of c.args.heap.now)) c.args.args.now)
+    (value_in (extent_of c.args.heap.now) c.arg-val.result) (value_in (extent_of c.args.heap.now) c.or_one-count.result)
+    (value_in (extent_of c.args.heap.now) c.arg-given.result) (value_in (extent_of c.args.heap.now) c.arg-fill.result)
+    (laid_out layout) setting (c.arg-val.ensures.value (extent_of c.args.heap.now)) (c.or_one-count.ensures.value (extent_of c.args.heap.now)
+    ∙ ap (λ (v : Value). value_or one v) (c.arg-given.ensures.value (extent_of c.args.heap.now))) (c.arg-given.ensures.value (extent_of c.args.heap.now))
+    (c.arg-fill.ensures.value (extent_of c.args.heap.now)) (c.if-lacks_text.ensures (extent_of c.args.heap.now)) (sym c.to_integer.ensures ∙ c.in_default.is)
 
 pub returns-in_default-clause-live : goal.returns-in_default-clause-live
 returns-in_default-clause-live c = c.or_one-count.ensures.live _ (c.arg-given.ensures.live _ c.requires)
 
 pub returns-then-lacks_argument-clause-stops : goal.returns-then-lacks_argument-clause-stops
-returns-then-lacks_argument-clause-stops c = λ layout setting. steps.field_no_fill (map (value_in (extent_of c.args.heap.now)) c.args.args.now) (value_in (extent_of c.args.heap.now) c.arg-val.result) (value_in (extent_of c.args.heap.now) c.or_one-count.result) (value_in (extent_of c.args.heap.now) c.arg-given.result) (value_in (extent_of c.args.heap.now) c.arg-fill.result) (laid_out layout) setting (c.arg-val.ensures.value (extent_of c.args.heap.now)) (c.or_one-count.ensures.value (extent_of c.args.heap.now) ∙ ap (λ (v : Value). value_or one v) (c.arg-given.ensures.value (extent_of c.args.heap.now))) (c.arg-given.ensures.value (extent_of c.args.heap.now)) (c.arg-fill.ensures.value (extent_of c.args.heap.now)) (c.if-lacks_text.ensures (extent_of c.args.heap.now)) c.in-Some.n (sym c.to_integer.ensures ∙ c.in-Some.is) (c.if-lacks_argument.ensures.text (extent_of c.args.heap.now)) (c.if-lacks_argument.ensures.value (extent_of c.args.heap.now))
+returns-then-lacks_argument-clause-stops c =
+    λ layout setting. steps.field_no_fill (map (value_in (extent_of c.args.heap.now)) c.args.args.now) (value_in (extent_of c.args.heap.now) c.arg-val.result)
+    (value_in (extent_of c.args.heap.now) c.or_one-count.result) (value_in (extent_of c.args.heap.now) c.arg-given.result)
+    (value_in (extent_of c.args.heap.now) c.arg-fill.result) (laid_out layout) setting (c.arg-val.ensures.value (extent_of c.args.heap.now))
+    (c.or_one-count.ensures.value (extent_of c.args.heap.now) ∙ ap (λ (v : Value). value_or one v) (c.arg-given.ensures.value (extent_of c.args.heap.now)))
+    (c.arg-given.ensures.value (extent_of c.args.heap.now)) (c.arg-fill.ensures.value (extent_of c.args.heap.now))
+    (c.if-lacks_text.ensures (extent_of c.args.heap.now)) c.in-Some.n (sym c.to_integer.ensures ∙ c.in-Some.is)
+    (c.if-lacks_argument.ensures.text (extent_of c.args.heap.now)) (c.if-lacks_argument.ensures.value (extent_of c.args.heap.now))
 
 pub returns-in_default-natural-clause-stops : goal.returns-in_default-natural-clause-stops
-returns-in_default-natural-clause-stops c = λ layout setting. steps.field_below (map (value_in (extent_of c.args.heap.now)) c.args.args.now) (value_in (extent_of c.args.heap.now) c.arg-val.result) (value_in (extent_of c.args.heap.now) c.or_one-count.result) (value_in (extent_of c.args.heap.now) c.arg-given.result) (value_in (extent_of c.args.heap.now) c.arg-fill.result) (laid_out layout) setting (c.arg-val.ensures.value (extent_of c.args.heap.now)) (c.or_one-count.ensures.value (extent_of c.args.heap.now) ∙ ap (λ (v : Value). value_or one v) (c.arg-given.ensures.value (extent_of c.args.heap.now))) (c.arg-given.ensures.value (extent_of c.args.heap.now)) (c.arg-fill.ensures.value (extent_of c.args.heap.now)) (c.if-lacks_text.ensures (extent_of c.args.heap.now)) c.in-Some.n (sym c.to_integer.ensures ∙ c.in-Some.is) (c.if-lacks_argument.ensures.text (extent_of c.args.heap.now)) (let fits : FitsSigned w64 c.in-Some.n = search rules in rw (to_z-of_z w64 c.in-Some.n fits) at (sym c.natural.ensures ∙ c.in_default-natural.is))
+returns-in_default-natural-clause-stops c = λ layout setting. steps.field_below (map (value_in (extent_of c.args.heap.now)) c.args.args.now)
+    (value_in (extent_of c.args.heap.now) c.arg-val.result) (value_in (extent_of c.args.heap.now) c.or_one-count.result)
+    (value_in (extent_of c.args.heap.now) c.arg-given.result) (value_in (extent_of c.args.heap.now) c.arg-fill.result)
+    (laid_out layout) setting (c.arg-val.ensures.value (extent_of c.args.heap.now)) (c.or_one-count.ensures.value (extent_of c.args.heap.now)
+    ∙ ap (λ (v : Value). value_or one v) (c.arg-given.ensures.value (extent_of c.args.heap.now))) (c.arg-given.ensures.value (extent_of c.args.heap.now))
+    (c.arg-fill.ensures.value (extent_of c.args.heap.now)) (c.if-lacks_text.ensures (extent_of c.args.heap.now)) c.in-Some.n
+    (sym c.to_integer.ensures ∙ c.in-Some.is) (c.if-lacks_argument.ensures.text (extent_of c.args.heap.now))
+    (let fits : FitsSigned w64 c.in-Some.n = search rules in rw (to_z-of_z w64 c.in-Some.n fits) at (sym c.natural.ensures ∙ c.in_default-natural.is))
 
 pub returns-clause-field : goal.returns-clause-field
 returns-clause-field c =
-    steps.is_field (map (value_in (extent_of c.args.heap.now)) c.args.args.now) (value_in (extent_of c.args.heap.now) c.arg-val.result) (value_in (extent_of c.args.heap.now) c.or_one-count.result) (value_in (extent_of c.args.heap.now) c.arg-fill.result) c.in-Some.n c.in-Some-natural.width (c.arg-val.ensures.value (extent_of c.args.heap.now)) (c.or_one-count.ensures.value (extent_of c.args.heap.now) ∙ ap (λ (v : Value). value_or one v) (c.arg-given.ensures.value (extent_of c.args.heap.now))) (c.arg-fill.ensures.value (extent_of c.args.heap.now))
-    (c.if-lacks_text.ensures (extent_of c.args.heap.now)) (sym c.to_integer.ensures ∙ c.in-Some.is) (c.if-lacks_argument.ensures.text (extent_of c.args.heap.now)) (let fits : FitsSigned w64 c.in-Some.n = search rules in rw (to_z-of_z w64 c.in-Some.n fits) at (sym c.natural.ensures ∙ c.in-Some-natural.is))
+    steps.is_field (map (value_in (extent_of c.args.heap.now)) c.args.args.now) (value_in (extent_of c.args.heap.now) c.arg-val.result)
+    (value_in (extent_of c.args.heap.now) c.or_one-count.result) (value_in (extent_of c.args.heap.now) c.arg-fill.result) c.in-Some.n c.in-Some-natural.width
+    (c.arg-val.ensures.value (extent_of c.args.heap.now)) (c.or_one-count.ensures.value (extent_of c.args.heap.now)
+    ∙ ap (λ (v : Value). value_or one v) (c.arg-given.ensures.value (extent_of c.args.heap.now))) (c.arg-fill.ensures.value (extent_of c.args.heap.now))
+    (c.if-lacks_text.ensures (extent_of c.args.heap.now)) (sym c.to_integer.ensures ∙ c.in-Some.is)
+    (c.if-lacks_argument.ensures.text (extent_of c.args.heap.now)) (let fits : FitsSigned w64 c.in-Some.n = search rules in
+    rw (to_z-of_z w64 c.in-Some.n fits) at (sym c.natural.ensures ∙ c.in-Some-natural.is))

@@ -18,25 +18,47 @@ use Rattle.icn_strfn.proofs.laid_rows.field_row.Goals as goal
 
 pub returns-in_err-width-clause-row : goal.returns-in_err-width-clause-row
 returns-in_err-width-clause-row g c = λ outside.
-    stops_so (extent_of c.args.w.now.heap) (field_row (laid_out c.args.layout) (map (value_in (extent_of c.args.w.now.heap)) c.args.args.now)) (setting_of outside c.args.w.now (g.L.Locals.items c.args.l.now)) c.in_err-width.field-0.0 c.from_residual.result c.from_residual.ensures.1 (c.in_err-width.ensures.stops c.args.layout (setting_of outside c.args.w.now (g.L.Locals.items c.args.l.now)))
+    stops_so (extent_of c.args.w.now.heap) (field_row (laid_out c.args.layout) (map (value_in (extent_of c.args.w.now.heap)) c.args.args.now))
+    (setting_of outside c.args.w.now (g.L.Locals.items c.args.l.now)) c.in_err-width.field-0.0 c.from_residual.result c.from_residual.ensures.1
+    (c.in_err-width.ensures.stops c.args.layout (setting_of outside c.args.w.now (g.L.Locals.items c.args.l.now)))
 
 pub two_texts-requires-clause-first_has : goal.two_texts-requires-clause-first_has
 two_texts-requires-clause-first_has g c = subst HasText (sym (c.arg-val.ensures.value (extent_of c.args.w.now.heap))) c.in_ok-width.ensures.field.text
 
 pub two_texts-requires-clause-second_has : goal.two_texts-requires-clause-second_has
-two_texts-requires-clause-second_has g c = subst (λ (v : Value). HasText (or_default Blank v)) (sym (c.arg-other.ensures.value (extent_of c.args.w.now.heap))) c.in_ok-width.ensures.field.fill
+two_texts-requires-clause-second_has g c =
+    subst (λ (v : Value). HasText (or_default Blank v)) (sym (c.arg-other.ensures.value (extent_of c.args.w.now.heap))) c.in_ok-width.ensures.field.fill
 
 pub returns-in_err-span-clause-row : goal.returns-in_err-span-clause-row
 returns-in_err-span-clause-row g c = λ outside.
-    stops_at (extent_of c.two_texts.new.w.heap) (field_row (laid_out c.args.layout) (map (value_in (extent_of c.args.w.now.heap)) c.args.args.now)) (costs_texts ((value_in (extent_of c.args.w.now.heap) c.arg-val.result) ∷ (value_in (extent_of c.args.w.now.heap) c.arg-other.result) ∷ [])) (builds (laid_out c.args.layout (the_text (value_in (extent_of c.args.w.now.heap) c.arg-val.result)) c.in_ok-width.width (the_text (or_default Blank (value_in (extent_of c.args.w.now.heap) c.arg-other.result))))) (setting_of outside c.args.w.now (g.L.Locals.items c.args.l.now)) (setting_of outside c.args.w.now (g.L.Locals.items c.args.l.now)) (setting_of outside c.two_texts.new.w (g.L.Locals.items c.args.l.now)) c.in_err-span.field-0.0 c.from_residual-in_err-span.result
-    (steps.field_left (map (value_in (extent_of c.args.w.now.heap)) c.args.args.now) (value_in (extent_of c.args.w.now.heap) c.arg-val.result) (value_in (extent_of c.args.w.now.heap) c.arg-other.result) (laid_out c.args.layout) c.in_ok-width.width (setting_of outside c.args.w.now (g.L.Locals.items c.args.l.now)) (c.arg-val.ensures.value (extent_of c.args.w.now.heap)) (c.arg-other.ensures.value (extent_of c.args.w.now.heap)) c.in_ok-width.ensures.field) c.from_residual-in_err-span.ensures.1 (c.in_err-span.ensures.step outside)
+    stops_at (extent_of c.two_texts.new.w.heap) (field_row (laid_out c.args.layout) (map (value_in (extent_of c.args.w.now.heap)) c.args.args.now))
+    (costs_texts ((value_in (extent_of c.args.w.now.heap) c.arg-val.result) ∷ (value_in (extent_of c.args.w.now.heap) c.arg-other.result) ∷ []))
+    (builds (laid_out c.args.layout (the_text (value_in (extent_of c.args.w.now.heap) c.arg-val.result)) c.in_ok-width.width
+    (the_text (or_default Blank (value_in (extent_of c.args.w.now.heap) c.arg-other.result)))))
+    (setting_of outside c.args.w.now (g.L.Locals.items c.args.l.now)) (setting_of outside c.args.w.now (g.L.Locals.items c.args.l.now))
+    (setting_of outside c.two_texts.new.w (g.L.Locals.items c.args.l.now)) c.in_err-span.field-0.0 c.from_residual-in_err-span.result
+    (steps.field_left (map (value_in (extent_of c.args.w.now.heap)) c.args.args.now) (value_in (extent_of c.args.w.now.heap) c.arg-val.result)
+    (value_in (extent_of c.args.w.now.heap) c.arg-other.result) (laid_out c.args.layout) c.in_ok-width.width
+    (setting_of outside c.args.w.now (g.L.Locals.items c.args.l.now))
+    (c.arg-val.ensures.value (extent_of c.args.w.now.heap)) (c.arg-other.ensures.value (extent_of c.args.w.now.heap)) c.in_ok-width.ensures.field)
+    c.from_residual-in_err-span.ensures.1 (c.in_err-span.ensures.step outside)
 
 pub returns-clause-row : goal.returns-clause-row
 returns-clause-row g c = λ outside.
-    goes_on (extent_of c.built.new.w.heap) (field_row (laid_out c.args.layout) (map (value_in (extent_of c.args.w.now.heap)) c.args.args.now)) (builds c.deref.result.now) (setting_of outside c.args.w.now (g.L.Locals.items c.args.l.now)) (setting_of outside c.two_texts.new.w (g.L.Locals.items c.args.l.now)) (setting_of outside c.built.new.w (g.L.Locals.items c.args.l.now)) c.built.result
-    (steps.field_left (map (value_in (extent_of c.args.w.now.heap)) c.args.args.now) (value_in (extent_of c.args.w.now.heap) c.arg-val.result) (value_in (extent_of c.args.w.now.heap) c.arg-other.result) (laid_out c.args.layout) c.in_ok-width.width (setting_of outside c.args.w.now (g.L.Locals.items c.args.l.now)) (c.arg-val.ensures.value (extent_of c.args.w.now.heap)) (c.arg-other.ensures.value (extent_of c.args.w.now.heap)) c.in_ok-width.ensures.field ∙ (c.in_ok-span.ensures.step outside (builds (laid_out c.args.layout (the_text (value_in (extent_of c.args.w.now.heap) c.arg-val.result)) c.in_ok-width.width (the_text (or_default Blank (value_in (extent_of c.args.w.now.heap) c.arg-other.result)))))
-    ∙ ap (λ bytes. builds bytes (setting_of outside c.two_texts.new.w (g.L.Locals.items c.args.l.now))) (ap (λ bytes. laid_out c.args.layout bytes c.in_ok-width.width (the_text (or_default Blank (value_in (extent_of c.args.w.now.heap) c.arg-other.result)))) (sym c.in_ok-span.ensures.first_text ∙ sym c.bytes.ensures)
-    ∙ (ap (laid_out c.args.layout c.bytes.result.now c.in_ok-width.width) (sym c.in_ok-span.ensures.second_text ∙ sym c.bytes-2.ensures) ∙ (sym c.in_ok-made.ensures ∙ sym c.deref.ensures.value)))))
+    goes_on (extent_of c.built.new.w.heap) (field_row (laid_out c.args.layout) (map (value_in (extent_of c.args.w.now.heap)) c.args.args.now))
+    (builds c.deref.result.now) (setting_of outside c.args.w.now (g.L.Locals.items c.args.l.now))
+    (setting_of outside c.two_texts.new.w (g.L.Locals.items c.args.l.now)) (setting_of outside c.built.new.w (g.L.Locals.items c.args.l.now)) c.built.result
+    (steps.field_left (map (value_in (extent_of c.args.w.now.heap)) c.args.args.now) (value_in (extent_of c.args.w.now.heap) c.arg-val.result)
+    (value_in (extent_of c.args.w.now.heap) c.arg-other.result) (laid_out c.args.layout) c.in_ok-width.width
+    (setting_of outside c.args.w.now (g.L.Locals.items c.args.l.now))
+    (c.arg-val.ensures.value (extent_of c.args.w.now.heap)) (c.arg-other.ensures.value (extent_of c.args.w.now.heap)) c.in_ok-width.ensures.field
+    ∙ (c.in_ok-span.ensures.step outside (builds (laid_out c.args.layout (the_text (value_in (extent_of c.args.w.now.heap) c.arg-val.result))
+    c.in_ok-width.width (the_text (or_default Blank (value_in (extent_of c.args.w.now.heap) c.arg-other.result)))))
+    ∙ ap (λ bytes. builds bytes (setting_of outside c.two_texts.new.w (g.L.Locals.items c.args.l.now)))
+    (ap (λ bytes. laid_out c.args.layout bytes c.in_ok-width.width (the_text (or_default Blank (value_in (extent_of c.args.w.now.heap) c.arg-other.result))))
+    (sym c.in_ok-span.ensures.first_text ∙ sym c.bytes.ensures)
+    ∙ (ap (laid_out c.args.layout c.bytes.result.now c.in_ok-width.width) (sym c.in_ok-span.ensures.second_text ∙ sym c.bytes-2.ensures)
+    ∙ (sym c.in_ok-made.ensures ∙ sym c.deref.ensures.value)))))
     (c.built.ensures.row outside)
 
 pub returns-clause-kept : goal.returns-clause-kept
@@ -44,6 +66,15 @@ returns-clause-kept g c = items_then _ _ _ c.two_texts.ensures.kept c.built.ensu
 
 pub returns-then-lacks_room-clause-row : goal.returns-then-lacks_room-clause-row
 returns-then-lacks_room-clause-row g c = λ outside.
-    let made : List ℕ = laid_out c.args.layout (the_text (value_in (extent_of c.args.w.now.heap) c.arg-val.result)) c.in_ok-width.width (the_text (or_default Blank (value_in (extent_of c.args.w.now.heap) c.arg-other.result))) in
-    steps.field_left (map (value_in (extent_of c.args.w.now.heap)) c.args.args.now) (value_in (extent_of c.args.w.now.heap) c.arg-val.result) (value_in (extent_of c.args.w.now.heap) c.arg-other.result) (laid_out c.args.layout) c.in_ok-width.width (setting_of outside c.args.w.now (g.L.Locals.items c.args.l.now)) (c.arg-val.ensures.value (extent_of c.args.w.now.heap)) (c.arg-other.ensures.value (extent_of c.args.w.now.heap)) c.in_ok-width.ensures.field ∙ (c.in_ok-span.ensures.step outside (builds made)
-    ∙ too_long made (setting_of outside c.two_texts.new.w (g.L.Locals.items c.args.l.now)) (omega (arith, c.if-lacks_room.ensures, length-laid_out c.args.layout (the_text (value_in (extent_of c.args.w.now.heap) c.arg-val.result)) (the_text (or_default Blank (value_in (extent_of c.args.w.now.heap) c.arg-other.result))) c.in_ok-width.width)))
+    let made : List ℕ = laid_out c.args.layout (the_text (value_in (extent_of c.args.w.now.heap) c.arg-val.result)) c.in_ok-width.width
+    (the_text (or_default Blank (value_in (extent_of c.args.w.now.heap) c.arg-other.result))) in
+    steps.field_left (map (value_in (extent_of c.args.w.now.heap)) c.args.args.now) (value_in (extent_of c.args.w.now.heap) c.arg-val.result)
+    (value_in (extent_of c.args.w.now.heap) c.arg-other.result) (laid_out c.args.layout) c.in_ok-width.width
+    (setting_of outside c.args.w.now (g.L.Locals.items c.args.l.now)) (c.arg-val.ensures.value (extent_of c.args.w.now.heap))
+    (c.arg-other.ensures.value (extent_of c.args.w.now.heap)) c.in_ok-width.ensures.field ∙ (c.in_ok-span.ensures.step outside (builds made)
+    ∙ too_long made (setting_of outside c.two_texts.new.w (g.L.Locals.items c.args.l.now)) (omega (
+      arith,
+      c.if-lacks_room.ensures,
+      length-laid_out c.args.layout (the_text (value_in (extent_of c.args.w.now.heap) c.arg-val.result))
+          (the_text (or_default Blank (value_in (extent_of c.args.w.now.heap) c.arg-other.result))) c.in_ok-width.width,
+    )))

@@ -18,29 +18,62 @@ use Rattle.icn_strfn.proofs.laid_rows.map_row.Goals as goal
 
 pub returns-in_err-checked_mapping-clause-row : goal.returns-in_err-checked_mapping-clause-row
 returns-in_err-checked_mapping-clause-row g c = λ outside.
-    stops_so (extent_of c.args.w.now.heap) (map_row (map (value_in (extent_of c.args.w.now.heap)) c.args.args.now)) (setting_of outside c.args.w.now (g.L.Locals.items c.args.l.now)) c.in_err-checked_mapping.field-0.0 c.from_residual.result c.from_residual.ensures.1 (c.in_err-checked_mapping.ensures.stops (setting_of outside c.args.w.now (g.L.Locals.items c.args.l.now)))
+    stops_so (extent_of c.args.w.now.heap) (map_row (map (value_in (extent_of c.args.w.now.heap)) c.args.args.now))
+    (setting_of outside c.args.w.now (g.L.Locals.items c.args.l.now)) c.in_err-checked_mapping.field-0.0 c.from_residual.result c.from_residual.ensures.1
+    (c.in_err-checked_mapping.ensures.stops (setting_of outside c.args.w.now (g.L.Locals.items c.args.l.now)))
 
 pub two_texts-requires-clause-first_has : goal.two_texts-requires-clause-first_has
-two_texts-requires-clause-first_has g c = subst HasText (sym (c.arg-val.ensures.value (extent_of c.args.w.now.heap))) c.in_ok-checked_mapping.ensures.mapping.text
+two_texts-requires-clause-first_has g c =
+    subst HasText (sym (c.arg-val.ensures.value (extent_of c.args.w.now.heap))) c.in_ok-checked_mapping.ensures.mapping.text
 
 pub two_texts-requires-clause-second_has : goal.two_texts-requires-clause-second_has
-two_texts-requires-clause-second_has g c = subst (λ (v : Value). HasText (or_default Upper v)) (sym (c.arg-from.ensures.value (extent_of c.args.w.now.heap))) c.in_ok-checked_mapping.ensures.mapping.from
+two_texts-requires-clause-second_has g c = subst (λ (v : Value). HasText (or_default Upper v))
+    (sym (c.arg-from.ensures.value (extent_of c.args.w.now.heap))) c.in_ok-checked_mapping.ensures.mapping.from
 
 pub returns-in_err-span-clause-row : goal.returns-in_err-span-clause-row
 returns-in_err-span-clause-row g c = λ outside.
-    stops_at (extent_of c.two_texts.new.w.heap) (map_row (map (value_in (extent_of c.args.w.now.heap)) c.args.args.now)) (costs_texts ((value_in (extent_of c.args.w.now.heap) c.arg-val.result) ∷ (value_in (extent_of c.args.w.now.heap) c.arg-from.result) ∷ [])) (costs_text (value_in (extent_of c.args.w.now.heap) c.arg-to.result) (builds (map (mapped (the_text (or_default Upper (value_in (extent_of c.args.w.now.heap) c.arg-from.result))) (the_text (or_default Lower (value_in (extent_of c.args.w.now.heap) c.arg-to.result)))) (the_text (value_in (extent_of c.args.w.now.heap) c.arg-val.result))))) (setting_of outside c.args.w.now (g.L.Locals.items c.args.l.now)) (setting_of outside c.args.w.now (g.L.Locals.items c.args.l.now)) (setting_of outside c.two_texts.new.w (g.L.Locals.items c.args.l.now)) c.in_err-span.field-0.0 c.from_residual-in_err-span.result
-    (steps.map_left (map (value_in (extent_of c.args.w.now.heap)) c.args.args.now) (value_in (extent_of c.args.w.now.heap) c.arg-val.result) (value_in (extent_of c.args.w.now.heap) c.arg-from.result) (value_in (extent_of c.args.w.now.heap) c.arg-to.result) (setting_of outside c.args.w.now (g.L.Locals.items c.args.l.now)) (c.arg-val.ensures.value (extent_of c.args.w.now.heap)) (c.arg-from.ensures.value (extent_of c.args.w.now.heap)) (c.arg-to.ensures.value (extent_of c.args.w.now.heap)) c.in_ok-checked_mapping.ensures.mapping) c.from_residual-in_err-span.ensures.1 (c.in_err-span.ensures.step outside)
+    stops_at (extent_of c.two_texts.new.w.heap) (map_row (map (value_in (extent_of c.args.w.now.heap)) c.args.args.now))
+    (costs_texts ((value_in (extent_of c.args.w.now.heap) c.arg-val.result) ∷ (value_in (extent_of c.args.w.now.heap) c.arg-from.result) ∷ []))
+    (costs_text (value_in (extent_of c.args.w.now.heap) c.arg-to.result)
+    (builds (map (mapped (the_text (or_default Upper (value_in (extent_of c.args.w.now.heap) c.arg-from.result))) (the_text (or_default Lower
+    (value_in (extent_of c.args.w.now.heap) c.arg-to.result)))) (the_text (value_in (extent_of c.args.w.now.heap) c.arg-val.result)))))
+    (setting_of outside c.args.w.now (g.L.Locals.items c.args.l.now)) (setting_of outside c.args.w.now (g.L.Locals.items c.args.l.now))
+    (setting_of outside c.two_texts.new.w (g.L.Locals.items c.args.l.now)) c.in_err-span.field-0.0 c.from_residual-in_err-span.result
+    (steps.map_left (map (value_in (extent_of c.args.w.now.heap)) c.args.args.now) (value_in (extent_of c.args.w.now.heap) c.arg-val.result)
+    (value_in (extent_of c.args.w.now.heap) c.arg-from.result) (value_in (extent_of c.args.w.now.heap) c.arg-to.result)
+    (setting_of outside c.args.w.now (g.L.Locals.items c.args.l.now)) (c.arg-val.ensures.value (extent_of c.args.w.now.heap))
+    (c.arg-from.ensures.value (extent_of c.args.w.now.heap)) (c.arg-to.ensures.value (extent_of c.args.w.now.heap)) c.in_ok-checked_mapping.ensures.mapping)
+    c.from_residual-in_err-span.ensures.1 (c.in_err-span.ensures.step outside)
 
 pub text_argument-requires-clause-live : goal.text_argument-requires-clause-live
-text_argument-requires-clause-live g c = c.two_texts.ensures.kept.extent.live c.arg-to.result (c.arg-to.ensures.live (extent_of c.args.w.now.heap) c.requires.args)
+text_argument-requires-clause-live g c =
+    c.two_texts.ensures.kept.extent.live c.arg-to.result (c.arg-to.ensures.live (extent_of c.args.w.now.heap) c.requires.args)
 
 pub text_argument-requires-clause-has : goal.text_argument-requires-clause-has
-text_argument-requires-clause-has g c = subst (λ (v : Value). HasText (or_default Lower v)) (sym ((c.two_texts.ensures.kept.extent.value c.arg-to.result (c.arg-to.ensures.live (extent_of c.args.w.now.heap) c.requires.args)) ∙ c.arg-to.ensures.value (extent_of c.args.w.now.heap))) c.in_ok-checked_mapping.ensures.mapping.to
+text_argument-requires-clause-has g c = subst (λ (v : Value). HasText (or_default Lower v))
+    (sym ((c.two_texts.ensures.kept.extent.value c.arg-to.result (c.arg-to.ensures.live (extent_of c.args.w.now.heap) c.requires.args))
+    ∙ c.arg-to.ensures.value (extent_of c.args.w.now.heap))) c.in_ok-checked_mapping.ensures.mapping.to
 
 pub returns-in_err-second-clause-row : goal.returns-in_err-second-clause-row
 returns-in_err-second-clause-row g c = λ outside.
-    stops_at (extent_of c.text_argument.new.w.heap) (map_row (map (value_in (extent_of c.args.w.now.heap)) c.args.args.now)) (costs_text (value_in (extent_of c.two_texts.new.w.heap) c.arg-to.result)) (builds (map (mapped (the_text (or_default Upper (value_in (extent_of c.args.w.now.heap) c.arg-from.result))) (the_text (or_default Lower (value_in (extent_of c.args.w.now.heap) c.arg-to.result)))) (the_text (value_in (extent_of c.args.w.now.heap) c.arg-val.result)))) (setting_of outside c.args.w.now (g.L.Locals.items c.args.l.now)) (setting_of outside c.two_texts.new.w (g.L.Locals.items c.args.l.now)) (setting_of outside c.text_argument.new.w (g.L.Locals.items c.args.l.now)) c.in_err-second.field-0.0 c.from_residual-in_err-second.result
-    (((steps.map_left (map (value_in (extent_of c.args.w.now.heap)) c.args.args.now) (value_in (extent_of c.args.w.now.heap) c.arg-val.result) (value_in (extent_of c.args.w.now.heap) c.arg-from.result) (value_in (extent_of c.args.w.now.heap) c.arg-to.result) (setting_of outside c.args.w.now (g.L.Locals.items c.args.l.now)) (c.arg-val.ensures.value (extent_of c.args.w.now.heap)) (c.arg-from.ensures.value (extent_of c.args.w.now.heap)) (c.arg-to.ensures.value (extent_of c.args.w.now.heap)) c.in_ok-checked_mapping.ensures.mapping) ∙ c.in_ok-span.ensures.step outside (costs_text (value_in (extent_of c.args.w.now.heap) c.arg-to.result) (builds (map (mapped (the_text (or_default Upper (value_in (extent_of c.args.w.now.heap) c.arg-from.result))) (the_text (or_default Lower (value_in (extent_of c.args.w.now.heap) c.arg-to.result)))) (the_text (value_in (extent_of c.args.w.now.heap) c.arg-val.result)))))) ∙ ap (λ (v : Value). costs_text v (builds (map (mapped (the_text (or_default Upper (value_in (extent_of c.args.w.now.heap) c.arg-from.result))) (the_text (or_default Lower (value_in (extent_of c.args.w.now.heap) c.arg-to.result)))) (the_text (value_in (extent_of c.args.w.now.heap) c.arg-val.result)))) (setting_of outside c.two_texts.new.w (g.L.Locals.items c.args.l.now))) (sym (c.two_texts.ensures.kept.extent.value c.arg-to.result (c.arg-to.ensures.live (extent_of c.args.w.now.heap) c.requires.args)))) c.from_residual-in_err-second.ensures.1 (c.in_err-second.ensures.step outside)
+    stops_at (extent_of c.text_argument.new.w.heap)
+    (map_row (map (value_in (extent_of c.args.w.now.heap)) c.args.args.now)) (costs_text (value_in (extent_of c.two_texts.new.w.heap) c.arg-to.result))
+    (builds (map (mapped (the_text (or_default Upper (value_in (extent_of c.args.w.now.heap) c.arg-from.result))) (the_text (or_default Lower
+    (value_in (extent_of c.args.w.now.heap) c.arg-to.result)))) (the_text (value_in (extent_of c.args.w.now.heap) c.arg-val.result))))
+    (setting_of outside c.args.w.now (g.L.Locals.items c.args.l.now)) (setting_of outside c.two_texts.new.w (g.L.Locals.items c.args.l.now))
+    (setting_of outside c.text_argument.new.w (g.L.Locals.items c.args.l.now)) c.in_err-second.field-0.0 c.from_residual-in_err-second.result
+    (((steps.map_left (map (value_in (extent_of c.args.w.now.heap)) c.args.args.now) (value_in (extent_of c.args.w.now.heap) c.arg-val.result)
+    (value_in (extent_of c.args.w.now.heap) c.arg-from.result) (value_in (extent_of c.args.w.now.heap) c.arg-to.result)
+    (setting_of outside c.args.w.now (g.L.Locals.items c.args.l.now)) (c.arg-val.ensures.value (extent_of c.args.w.now.heap))
+    (c.arg-from.ensures.value (extent_of c.args.w.now.heap)) (c.arg-to.ensures.value (extent_of c.args.w.now.heap)) c.in_ok-checked_mapping.ensures.mapping)
+    ∙ c.in_ok-span.ensures.step outside (costs_text (value_in (extent_of c.args.w.now.heap) c.arg-to.result)
+    (builds (map (mapped (the_text (or_default Upper (value_in (extent_of c.args.w.now.heap) c.arg-from.result))) (the_text (or_default Lower
+    (value_in (extent_of c.args.w.now.heap) c.arg-to.result)))) (the_text (value_in (extent_of c.args.w.now.heap) c.arg-val.result))))))
+    ∙ ap (λ (v : Value). costs_text v (builds (map (mapped (the_text (or_default Upper (value_in (extent_of c.args.w.now.heap) c.arg-from.result)))
+    (the_text (or_default Lower (value_in (extent_of c.args.w.now.heap) c.arg-to.result))))
+    (the_text (value_in (extent_of c.args.w.now.heap) c.arg-val.result)))) (setting_of outside c.two_texts.new.w (g.L.Locals.items c.args.l.now)))
+    (sym (c.two_texts.ensures.kept.extent.value c.arg-to.result (c.arg-to.ensures.live (extent_of c.args.w.now.heap) c.requires.args))))
+    c.from_residual-in_err-second.ensures.1 (c.in_err-second.ensures.step outside)
 
 pub bytes-requires : goal.bytes-requires
 bytes-requires g c = c.text_argument.ensures.kept.extent.text c.in_ok-span.span c.in_ok-span.ensures.first_live
@@ -54,18 +87,61 @@ bytes-requires-3 g c = argument_stays _ _ c.text_argument.ensures.kept.extent c.
 pub returns-then-lacks_room-clause-row : goal.returns-then-lacks_room-clause-row
 returns-then-lacks_room-clause-row g c = λ outside.
     let text : List ℕ = the_text (value_in (extent_of c.args.w.now.heap) c.arg-val.result) in
-    let same : length c.bytes.result.now ≡ length text = ap length (c.bytes.ensures ∙ (c.text_argument.ensures.kept.extent.bytes c.in_ok-span.span c.in_ok-span.ensures.first_live ∙ c.in_ok-span.ensures.first_text)) in
-    (((steps.map_left (map (value_in (extent_of c.args.w.now.heap)) c.args.args.now) (value_in (extent_of c.args.w.now.heap) c.arg-val.result) (value_in (extent_of c.args.w.now.heap) c.arg-from.result) (value_in (extent_of c.args.w.now.heap) c.arg-to.result) (setting_of outside c.args.w.now (g.L.Locals.items c.args.l.now)) (c.arg-val.ensures.value (extent_of c.args.w.now.heap)) (c.arg-from.ensures.value (extent_of c.args.w.now.heap)) (c.arg-to.ensures.value (extent_of c.args.w.now.heap)) c.in_ok-checked_mapping.ensures.mapping) ∙ c.in_ok-span.ensures.step outside (costs_text (value_in (extent_of c.args.w.now.heap) c.arg-to.result) (builds (map (mapped (the_text (or_default Upper (value_in (extent_of c.args.w.now.heap) c.arg-from.result))) (the_text (or_default Lower (value_in (extent_of c.args.w.now.heap) c.arg-to.result)))) (the_text (value_in (extent_of c.args.w.now.heap) c.arg-val.result)))))) ∙ ap (λ (v : Value). costs_text v (builds (map (mapped (the_text (or_default Upper (value_in (extent_of c.args.w.now.heap) c.arg-from.result))) (the_text (or_default Lower (value_in (extent_of c.args.w.now.heap) c.arg-to.result)))) (the_text (value_in (extent_of c.args.w.now.heap) c.arg-val.result)))) (setting_of outside c.two_texts.new.w (g.L.Locals.items c.args.l.now))) (sym (c.two_texts.ensures.kept.extent.value c.arg-to.result (c.arg-to.ensures.live (extent_of c.args.w.now.heap) c.requires.args)))) ∙ (c.in_ok-second.ensures.step outside (builds (map (mapped (the_text (or_default Upper (value_in (extent_of c.args.w.now.heap) c.arg-from.result))) (the_text (or_default Lower (value_in (extent_of c.args.w.now.heap) c.arg-to.result)))) (the_text (value_in (extent_of c.args.w.now.heap) c.arg-val.result))))
-    ∙ too_long (map (mapped (the_text (or_default Upper (value_in (extent_of c.args.w.now.heap) c.arg-from.result))) (the_text (or_default Lower (value_in (extent_of c.args.w.now.heap) c.arg-to.result)))) (the_text (value_in (extent_of c.args.w.now.heap) c.arg-val.result))) (setting_of outside c.text_argument.new.w (g.L.Locals.items c.args.l.now)) (omega (arith, c.if-lacks_room.ensures, same, length-map text (mapped (the_text (or_default Upper (value_in (extent_of c.args.w.now.heap) c.arg-from.result))) (the_text (or_default Lower (value_in (extent_of c.args.w.now.heap) c.arg-to.result)))))))
+    let same : length c.bytes.result.now ≡ length text = ap length (c.bytes.ensures
+    ∙ (c.text_argument.ensures.kept.extent.bytes c.in_ok-span.span c.in_ok-span.ensures.first_live ∙ c.in_ok-span.ensures.first_text)) in
+    (((steps.map_left (map (value_in (extent_of c.args.w.now.heap)) c.args.args.now) (value_in (extent_of c.args.w.now.heap) c.arg-val.result)
+    (value_in (extent_of c.args.w.now.heap) c.arg-from.result) (value_in (extent_of c.args.w.now.heap) c.arg-to.result)
+    (setting_of outside c.args.w.now (g.L.Locals.items c.args.l.now)) (c.arg-val.ensures.value (extent_of c.args.w.now.heap))
+    (c.arg-from.ensures.value (extent_of c.args.w.now.heap)) (c.arg-to.ensures.value (extent_of c.args.w.now.heap)) c.in_ok-checked_mapping.ensures.mapping)
+    ∙ c.in_ok-span.ensures.step outside (costs_text (value_in (extent_of c.args.w.now.heap) c.arg-to.result)
+    (builds (map (mapped (the_text (or_default Upper (value_in (extent_of c.args.w.now.heap) c.arg-from.result))) (the_text (or_default Lower
+    (value_in (extent_of c.args.w.now.heap) c.arg-to.result)))) (the_text (value_in (extent_of c.args.w.now.heap) c.arg-val.result))))))
+    ∙ ap (λ (v : Value). costs_text v (builds (map (mapped (the_text (or_default Upper (value_in (extent_of c.args.w.now.heap) c.arg-from.result)))
+    (the_text (or_default Lower (value_in (extent_of c.args.w.now.heap) c.arg-to.result))))
+    (the_text (value_in (extent_of c.args.w.now.heap) c.arg-val.result)))) (setting_of outside c.two_texts.new.w (g.L.Locals.items c.args.l.now)))
+    (sym (c.two_texts.ensures.kept.extent.value c.arg-to.result (c.arg-to.ensures.live (extent_of c.args.w.now.heap) c.requires.args))))
+    ∙ (c.in_ok-second.ensures.step outside (builds (map (mapped (the_text (or_default Upper (value_in (extent_of c.args.w.now.heap) c.arg-from.result)))
+    (the_text (or_default Lower (value_in (extent_of c.args.w.now.heap) c.arg-to.result))))
+    (the_text (value_in (extent_of c.args.w.now.heap) c.arg-val.result))))
+    ∙ too_long (map (mapped (the_text (or_default Upper (value_in (extent_of c.args.w.now.heap) c.arg-from.result)))
+    (the_text (or_default Lower (value_in (extent_of c.args.w.now.heap) c.arg-to.result))))
+    (the_text (value_in (extent_of c.args.w.now.heap) c.arg-val.result))) (setting_of outside c.text_argument.new.w (g.L.Locals.items c.args.l.now)) (omega (
+      arith,
+      c.if-lacks_room.ensures,
+      same,
+      length-map text (mapped (the_text (or_default Upper (value_in (extent_of c.args.w.now.heap) c.arg-from.result)))
+          (the_text (or_default Lower (value_in (extent_of c.args.w.now.heap) c.arg-to.result)))),
+    )))
 
 pub returns-clause-row : goal.returns-clause-row
 returns-clause-row g c = λ outside.
-    goes_on (extent_of c.built.new.w.heap) (map_row (map (value_in (extent_of c.args.w.now.heap)) c.args.args.now)) (builds c.deref.result.now) (setting_of outside c.args.w.now (g.L.Locals.items c.args.l.now)) (setting_of outside c.text_argument.new.w (g.L.Locals.items c.args.l.now)) (setting_of outside c.built.new.w (g.L.Locals.items c.args.l.now)) c.built.result
-    ((((steps.map_left (map (value_in (extent_of c.args.w.now.heap)) c.args.args.now) (value_in (extent_of c.args.w.now.heap) c.arg-val.result) (value_in (extent_of c.args.w.now.heap) c.arg-from.result) (value_in (extent_of c.args.w.now.heap) c.arg-to.result) (setting_of outside c.args.w.now (g.L.Locals.items c.args.l.now)) (c.arg-val.ensures.value (extent_of c.args.w.now.heap)) (c.arg-from.ensures.value (extent_of c.args.w.now.heap)) (c.arg-to.ensures.value (extent_of c.args.w.now.heap)) c.in_ok-checked_mapping.ensures.mapping) ∙ c.in_ok-span.ensures.step outside (costs_text (value_in (extent_of c.args.w.now.heap) c.arg-to.result) (builds (map (mapped (the_text (or_default Upper (value_in (extent_of c.args.w.now.heap) c.arg-from.result))) (the_text (or_default Lower (value_in (extent_of c.args.w.now.heap) c.arg-to.result)))) (the_text (value_in (extent_of c.args.w.now.heap) c.arg-val.result)))))) ∙ ap (λ (v : Value). costs_text v (builds (map (mapped (the_text (or_default Upper (value_in (extent_of c.args.w.now.heap) c.arg-from.result))) (the_text (or_default Lower (value_in (extent_of c.args.w.now.heap) c.arg-to.result)))) (the_text (value_in (extent_of c.args.w.now.heap) c.arg-val.result)))) (setting_of outside c.two_texts.new.w (g.L.Locals.items c.args.l.now))) (sym (c.two_texts.ensures.kept.extent.value c.arg-to.result (c.arg-to.ensures.live (extent_of c.args.w.now.heap) c.requires.args)))) ∙ (c.in_ok-second.ensures.step outside (builds (map (mapped (the_text (or_default Upper (value_in (extent_of c.args.w.now.heap) c.arg-from.result))) (the_text (or_default Lower (value_in (extent_of c.args.w.now.heap) c.arg-to.result)))) (the_text (value_in (extent_of c.args.w.now.heap) c.arg-val.result))))
+    goes_on (extent_of c.built.new.w.heap) (map_row (map (value_in (extent_of c.args.w.now.heap)) c.args.args.now)) (builds c.deref.result.now)
+    (setting_of outside c.args.w.now (g.L.Locals.items c.args.l.now)) (setting_of outside c.text_argument.new.w (g.L.Locals.items c.args.l.now))
+    (setting_of outside c.built.new.w (g.L.Locals.items c.args.l.now)) c.built.result
+    ((((steps.map_left (map (value_in (extent_of c.args.w.now.heap)) c.args.args.now) (value_in (extent_of c.args.w.now.heap) c.arg-val.result)
+    (value_in (extent_of c.args.w.now.heap) c.arg-from.result) (value_in (extent_of c.args.w.now.heap) c.arg-to.result)
+    (setting_of outside c.args.w.now (g.L.Locals.items c.args.l.now)) (c.arg-val.ensures.value (extent_of c.args.w.now.heap))
+    (c.arg-from.ensures.value (extent_of c.args.w.now.heap)) (c.arg-to.ensures.value (extent_of c.args.w.now.heap)) c.in_ok-checked_mapping.ensures.mapping)
+    ∙ c.in_ok-span.ensures.step outside (costs_text (value_in (extent_of c.args.w.now.heap) c.arg-to.result)
+    (builds (map (mapped (the_text (or_default Upper (value_in (extent_of c.args.w.now.heap) c.arg-from.result))) (the_text (or_default Lower
+    (value_in (extent_of c.args.w.now.heap) c.arg-to.result)))) (the_text (value_in (extent_of c.args.w.now.heap) c.arg-val.result))))))
+    ∙ ap (λ (v : Value). costs_text v (builds (map (mapped (the_text (or_default Upper (value_in (extent_of c.args.w.now.heap) c.arg-from.result)))
+    (the_text (or_default Lower (value_in (extent_of c.args.w.now.heap) c.arg-to.result))))
+    (the_text (value_in (extent_of c.args.w.now.heap) c.arg-val.result)))) (setting_of outside c.two_texts.new.w (g.L.Locals.items c.args.l.now)))
+    (sym (c.two_texts.ensures.kept.extent.value c.arg-to.result (c.arg-to.ensures.live (extent_of c.args.w.now.heap) c.requires.args))))
+    ∙ (c.in_ok-second.ensures.step outside (builds (map (mapped (the_text (or_default Upper (value_in (extent_of c.args.w.now.heap) c.arg-from.result)))
+    (the_text (or_default Lower (value_in (extent_of c.args.w.now.heap) c.arg-to.result))))
+    (the_text (value_in (extent_of c.args.w.now.heap) c.arg-val.result))))
     ∙ ap (λ bytes. builds bytes (setting_of outside c.text_argument.new.w (g.L.Locals.items c.args.l.now)))
-    (ap (λ (bytes : List ℕ). map (mapped (the_text (or_default Upper (value_in (extent_of c.args.w.now.heap) c.arg-from.result))) (the_text (or_default Lower (value_in (extent_of c.args.w.now.heap) c.arg-to.result)))) bytes) (sym (c.bytes-2.ensures ∙ ((c.text_argument.ensures.kept.extent.bytes c.in_ok-span.span c.in_ok-span.ensures.first_live) ∙ c.in_ok-span.ensures.first_text)))
-    ∙ (ap (λ (bytes : List ℕ). map (mapped bytes (the_text (or_default Lower (value_in (extent_of c.args.w.now.heap) c.arg-to.result)))) c.bytes-2.result.now) (sym (c.bytes-3.ensures ∙ (same_argument _ _ c.text_argument.ensures.kept.extent c.in_ok-span.first c.in_ok-span.ensures.second_live ∙ c.in_ok-span.ensures.second_text)))
-    ∙ (ap (λ (bytes : List ℕ). map (mapped c.bytes-3.result.now bytes) c.bytes-2.result.now) (sym (c.bytes-4.ensures ∙ (c.in_ok-second.ensures.text ∙ ap (λ (v : Value). the_text (or_default Lower v)) (c.two_texts.ensures.kept.extent.value c.arg-to.result (c.arg-to.ensures.live (extent_of c.args.w.now.heap) c.requires.args)))))
+    (ap (λ (bytes : List ℕ). map (mapped (the_text (or_default Upper (value_in (extent_of c.args.w.now.heap) c.arg-from.result)))
+    (the_text (or_default Lower (value_in (extent_of c.args.w.now.heap) c.arg-to.result)))) bytes) (sym (c.bytes-2.ensures
+    ∙ ((c.text_argument.ensures.kept.extent.bytes c.in_ok-span.span c.in_ok-span.ensures.first_live) ∙ c.in_ok-span.ensures.first_text)))
+    ∙ (ap (λ (bytes : List ℕ). map (mapped bytes (the_text (or_default Lower (value_in (extent_of c.args.w.now.heap) c.arg-to.result)))) c.bytes-2.result.now)
+    (sym (c.bytes-3.ensures ∙ (same_argument _ _ c.text_argument.ensures.kept.extent c.in_ok-span.first c.in_ok-span.ensures.second_live
+    ∙ c.in_ok-span.ensures.second_text)))
+    ∙ (ap (λ (bytes : List ℕ). map (mapped c.bytes-3.result.now bytes) c.bytes-2.result.now)
+    (sym (c.bytes-4.ensures ∙ (c.in_ok-second.ensures.text ∙ ap (λ (v : Value). the_text (or_default Lower v))
+    (c.two_texts.ensures.kept.extent.value c.arg-to.result (c.arg-to.ensures.live (extent_of c.args.w.now.heap) c.requires.args)))))
     ∙ (sym c.in_ok-made.ensures ∙ sym c.deref.ensures.value))))))
     (c.built.ensures.row outside)
 

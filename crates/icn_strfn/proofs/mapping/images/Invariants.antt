@@ -8,5 +8,6 @@ use Rattle.icn_strfn.proofs.mapping.images.Given as goal
 abbrev pub invariant-loop-byte : goal.invariant-loop-byte
 invariant-loop-byte l = record {
   long : length l.images ≡ 256;
-  goes_on : (byte : ℕ) → byte < 256 → fold (becomes byte) (get_or l.images byte 0) (zip (drop (length l.yielded) l.from) (drop (length l.yielded) l.to)) ≡ mapped l.from l.to byte;
+  goes_on : (byte : ℕ) → byte < 256
+      → fold (becomes byte) (get_or l.images byte 0) (zip (drop (length l.yielded) l.from) (drop (length l.yielded) l.to)) ≡ mapped l.from l.to byte;
 }

@@ -7,5 +7,6 @@ use Rattle.icn_strfn.proofs.text_arguments.text_argument.Goals as goal
 
 pub returns-in_err-span-in_default-clause-step : goal.returns-in_err-span-in_default-clause-step
 returns-in_err-span-in_default-clause-step g c = λ outside.
-    passed_err (extent_of c.text_of.new.w.heap) (costs_text (value_in (extent_of c.args.w.now.heap) c.args.val)) (setting_of outside c.args.w.now (g.L.Locals.items c.args.l.now)) (setting_of outside c.text_of.new.w (g.L.Locals.items c.args.l.now))
+    passed_err (extent_of c.text_of.new.w.heap) (costs_text (value_in (extent_of c.args.w.now.heap) c.args.val))
+    (setting_of outside c.args.w.now (g.L.Locals.items c.args.l.now)) (setting_of outside c.text_of.new.w (g.L.Locals.items c.args.l.now))
     c.in_err-span-in_default.field-0.0 c.from_residual.result c.from_residual.ensures.1 (c.in_err-span-in_default.ensures.step outside)

@@ -16,21 +16,48 @@ use Rattle.icn_strfn.proofs.Steps as steps
 use Rattle.icn_strfn.proofs.text_rows.repl_row.Goals as goal
 
 pub returns-in_default-clause-row : goal.returns-in_default-clause-row
-returns-in_default-clause-row g c = λ outside. steps.repl_no_integer (map (value_in (extent_of c.args.w.now.heap)) c.args.args.now) (value_in (extent_of c.args.w.now.heap) c.arg-val.result) (value_in (extent_of c.args.w.now.heap) c.arg-times.result) (setting_of outside c.args.w.now (g.L.Locals.items c.args.l.now)) (c.arg-val.ensures.value (extent_of c.args.w.now.heap)) (c.arg-times.ensures.value (extent_of c.args.w.now.heap)) (c.if-lacks_text.ensures (extent_of c.args.w.now.heap)) (sym c.to_integer.ensures ∙ c.in_default.is)
+returns-in_default-clause-row g c =
+    λ outside. steps.repl_no_integer (map (value_in (extent_of c.args.w.now.heap)) c.args.args.now) (value_in (extent_of c.args.w.now.heap) c.arg-val.result)
+    (value_in (extent_of c.args.w.now.heap) c.arg-times.result) (setting_of outside c.args.w.now (g.L.Locals.items c.args.l.now))
+    (c.arg-val.ensures.value (extent_of c.args.w.now.heap)) (c.arg-times.ensures.value (extent_of c.args.w.now.heap))
+    (c.if-lacks_text.ensures (extent_of c.args.w.now.heap)) (sym c.to_integer.ensures ∙ c.in_default.is)
 
 pub returns-in_default-natural-clause-row : goal.returns-in_default-natural-clause-row
-returns-in_default-natural-clause-row g c = λ outside. steps.repl_below (map (value_in (extent_of c.args.w.now.heap)) c.args.args.now) (value_in (extent_of c.args.w.now.heap) c.arg-val.result) (value_in (extent_of c.args.w.now.heap) c.arg-times.result) c.in-Some.n (setting_of outside c.args.w.now (g.L.Locals.items c.args.l.now)) (c.arg-val.ensures.value (extent_of c.args.w.now.heap)) (c.arg-times.ensures.value (extent_of c.args.w.now.heap)) (c.if-lacks_text.ensures (extent_of c.args.w.now.heap)) (sym c.to_integer.ensures ∙ c.in-Some.is) (let fits : FitsSigned w64 c.in-Some.n = search rules in rw (to_z-of_z w64 c.in-Some.n fits) at (sym c.natural.ensures ∙ c.in_default-natural.is))
+returns-in_default-natural-clause-row g c = λ outside. steps.repl_below (map (value_in (extent_of c.args.w.now.heap)) c.args.args.now)
+    (value_in (extent_of c.args.w.now.heap) c.arg-val.result) (value_in (extent_of c.args.w.now.heap) c.arg-times.result) c.in-Some.n
+    (setting_of outside c.args.w.now (g.L.Locals.items c.args.l.now)) (c.arg-val.ensures.value (extent_of c.args.w.now.heap))
+    (c.arg-times.ensures.value (extent_of c.args.w.now.heap)) (c.if-lacks_text.ensures (extent_of c.args.w.now.heap)) (sym c.to_integer.ensures ∙ c.in-Some.is)
+    (let fits : FitsSigned w64 c.in-Some.n = search rules in rw (to_z-of_z w64 c.in-Some.n fits) at (sym c.natural.ensures ∙ c.in_default-natural.is))
 
 pub returns-in_err-span-clause-row : goal.returns-in_err-span-clause-row
 returns-in_err-span-clause-row g c = λ outside.
-    stops_at (extent_of c.text_of.new.w.heap) (repl_row (map (value_in (extent_of c.args.w.now.heap)) c.args.args.now)) (costs_text (value_in (extent_of c.args.w.now.heap) c.arg-val.result)) (builds (concat (replicate c.in-Some-natural.count (the_text (value_in (extent_of c.args.w.now.heap) c.arg-val.result))))) (setting_of outside c.args.w.now (g.L.Locals.items c.args.l.now)) (setting_of outside c.args.w.now (g.L.Locals.items c.args.l.now)) (setting_of outside c.text_of.new.w (g.L.Locals.items c.args.l.now)) c.in_err-span.field-0.0 c.from_residual.result
-    (steps.repl_left (map (value_in (extent_of c.args.w.now.heap)) c.args.args.now) (value_in (extent_of c.args.w.now.heap) c.arg-val.result) (value_in (extent_of c.args.w.now.heap) c.arg-times.result) c.in-Some.n c.in-Some-natural.count (setting_of outside c.args.w.now (g.L.Locals.items c.args.l.now)) (c.arg-val.ensures.value (extent_of c.args.w.now.heap)) (c.arg-times.ensures.value (extent_of c.args.w.now.heap)) (c.if-lacks_text.ensures (extent_of c.args.w.now.heap)) (sym c.to_integer.ensures ∙ c.in-Some.is) (steps.natural_some c.in-Some.n c.in-Some-natural.count (let fits : FitsSigned w64 c.in-Some.n = search rules in rw (to_z-of_z w64 c.in-Some.n fits) at (sym c.natural.ensures ∙ c.in-Some-natural.is)))) c.from_residual.ensures.1 (c.in_err-span.ensures.step outside)
+    stops_at (extent_of c.text_of.new.w.heap) (repl_row (map (value_in (extent_of c.args.w.now.heap)) c.args.args.now))
+    (costs_text (value_in (extent_of c.args.w.now.heap) c.arg-val.result))
+    (builds (concat (replicate c.in-Some-natural.count (the_text (value_in (extent_of c.args.w.now.heap) c.arg-val.result)))))
+    (setting_of outside c.args.w.now (g.L.Locals.items c.args.l.now)) (setting_of outside c.args.w.now (g.L.Locals.items c.args.l.now))
+    (setting_of outside c.text_of.new.w (g.L.Locals.items c.args.l.now)) c.in_err-span.field-0.0 c.from_residual.result
+    (steps.repl_left (map (value_in (extent_of c.args.w.now.heap)) c.args.args.now)
+    (value_in (extent_of c.args.w.now.heap) c.arg-val.result) (value_in (extent_of c.args.w.now.heap) c.arg-times.result) c.in-Some.n c.in-Some-natural.count
+    (setting_of outside c.args.w.now (g.L.Locals.items c.args.l.now)) (c.arg-val.ensures.value (extent_of c.args.w.now.heap))
+    (c.arg-times.ensures.value (extent_of c.args.w.now.heap)) (c.if-lacks_text.ensures (extent_of c.args.w.now.heap))
+    (sym c.to_integer.ensures ∙ c.in-Some.is) (steps.natural_some c.in-Some.n c.in-Some-natural.count (let fits : FitsSigned w64 c.in-Some.n = search rules in
+    rw (to_z-of_z w64 c.in-Some.n fits) at (sym c.natural.ensures ∙ c.in-Some-natural.is)))) c.from_residual.ensures.1 (c.in_err-span.ensures.step outside)
 
 pub returns-clause-row : goal.returns-clause-row
 returns-clause-row g c = λ outside.
-    goes_on (extent_of c.built.new.w.heap) (repl_row (map (value_in (extent_of c.args.w.now.heap)) c.args.args.now)) (builds c.deref.result.now) (setting_of outside c.args.w.now (g.L.Locals.items c.args.l.now)) (setting_of outside c.text_of.new.w (g.L.Locals.items c.args.l.now)) (setting_of outside c.built.new.w (g.L.Locals.items c.args.l.now)) c.built.result
-    (steps.repl_left (map (value_in (extent_of c.args.w.now.heap)) c.args.args.now) (value_in (extent_of c.args.w.now.heap) c.arg-val.result) (value_in (extent_of c.args.w.now.heap) c.arg-times.result) c.in-Some.n c.in-Some-natural.count (setting_of outside c.args.w.now (g.L.Locals.items c.args.l.now)) (c.arg-val.ensures.value (extent_of c.args.w.now.heap)) (c.arg-times.ensures.value (extent_of c.args.w.now.heap)) (c.if-lacks_text.ensures (extent_of c.args.w.now.heap)) (sym c.to_integer.ensures ∙ c.in-Some.is) (steps.natural_some c.in-Some.n c.in-Some-natural.count (let fits : FitsSigned w64 c.in-Some.n = search rules in rw (to_z-of_z w64 c.in-Some.n fits) at (sym c.natural.ensures ∙ c.in-Some-natural.is))) ∙ (c.in_ok-span.ensures.step outside (builds (concat (replicate c.in-Some-natural.count (the_text (value_in (extent_of c.args.w.now.heap) c.arg-val.result)))))
-    ∙ ap (λ bytes. builds bytes (setting_of outside c.text_of.new.w (g.L.Locals.items c.args.l.now))) (ap (λ bytes. concat (replicate c.in-Some-natural.count bytes)) (sym c.in_ok-span.ensures.text ∙ sym c.bytes-2.ensures) ∙ (sym c.in_ok-made.ensures ∙ sym c.deref.ensures.value))))
+    goes_on (extent_of c.built.new.w.heap) (repl_row (map (value_in (extent_of c.args.w.now.heap)) c.args.args.now)) (builds c.deref.result.now)
+    (setting_of outside c.args.w.now (g.L.Locals.items c.args.l.now)) (setting_of outside c.text_of.new.w (g.L.Locals.items c.args.l.now))
+    (setting_of outside c.built.new.w (g.L.Locals.items c.args.l.now)) c.built.result
+    (steps.repl_left (map (value_in (extent_of c.args.w.now.heap)) c.args.args.now)
+    (value_in (extent_of c.args.w.now.heap) c.arg-val.result) (value_in (extent_of c.args.w.now.heap) c.arg-times.result) c.in-Some.n c.in-Some-natural.count
+    (setting_of outside c.args.w.now (g.L.Locals.items c.args.l.now)) (c.arg-val.ensures.value (extent_of c.args.w.now.heap))
+    (c.arg-times.ensures.value (extent_of c.args.w.now.heap)) (c.if-lacks_text.ensures (extent_of c.args.w.now.heap))
+    (sym c.to_integer.ensures ∙ c.in-Some.is) (steps.natural_some c.in-Some.n c.in-Some-natural.count (let fits : FitsSigned w64 c.in-Some.n = search rules in
+    rw (to_z-of_z w64 c.in-Some.n fits) at (sym c.natural.ensures ∙ c.in-Some-natural.is))) ∙ (c.in_ok-span.ensures.step outside
+    (builds (concat (replicate c.in-Some-natural.count (the_text (value_in (extent_of c.args.w.now.heap) c.arg-val.result)))))
+    ∙ ap (λ bytes. builds bytes (setting_of outside c.text_of.new.w (g.L.Locals.items c.args.l.now)))
+    (ap (λ bytes. concat (replicate c.in-Some-natural.count bytes)) (sym c.in_ok-span.ensures.text ∙ sym c.bytes-2.ensures)
+    ∙ (sym c.in_ok-made.ensures ∙ sym c.deref.ensures.value))))
     (c.built.ensures.row outside)
 
 pub returns-clause-kept : goal.returns-clause-kept
@@ -39,6 +66,17 @@ returns-clause-kept g c = items_then _ _ _ c.text_of.ensures.kept c.built.ensure
 pub returns-then-lacks_room-clause-row : goal.returns-then-lacks_room-clause-row
 returns-then-lacks_room-clause-row g c = λ outside.
     let made : List ℕ = concat (replicate c.in-Some-natural.count (the_text (value_in (extent_of c.args.w.now.heap) c.arg-val.result))) in
-    let same : length c.bytes.result.now ≡ length (the_text (value_in (extent_of c.args.w.now.heap) c.arg-val.result)) = ap length (c.bytes.ensures ∙ c.in_ok-span.ensures.text) in
-    steps.repl_left (map (value_in (extent_of c.args.w.now.heap)) c.args.args.now) (value_in (extent_of c.args.w.now.heap) c.arg-val.result) (value_in (extent_of c.args.w.now.heap) c.arg-times.result) c.in-Some.n c.in-Some-natural.count (setting_of outside c.args.w.now (g.L.Locals.items c.args.l.now)) (c.arg-val.ensures.value (extent_of c.args.w.now.heap)) (c.arg-times.ensures.value (extent_of c.args.w.now.heap)) (c.if-lacks_text.ensures (extent_of c.args.w.now.heap)) (sym c.to_integer.ensures ∙ c.in-Some.is) (steps.natural_some c.in-Some.n c.in-Some-natural.count (let fits : FitsSigned w64 c.in-Some.n = search rules in rw (to_z-of_z w64 c.in-Some.n fits) at (sym c.natural.ensures ∙ c.in-Some-natural.is))) ∙ (c.in_ok-span.ensures.step outside (builds made)
-    ∙ too_long made (setting_of outside c.text_of.new.w (g.L.Locals.items c.args.l.now)) (omega (arith, c.if-lacks_room.ensures, repeated_long c.in-Some-natural.count (the_text (value_in (extent_of c.args.w.now.heap) c.arg-val.result)) (length c.bytes.result.now) _ same c.saturating_mul.ensures)))
+    let same : length c.bytes.result.now
+    ≡ length (the_text (value_in (extent_of c.args.w.now.heap) c.arg-val.result)) = ap length (c.bytes.ensures ∙ c.in_ok-span.ensures.text) in
+    steps.repl_left (map (value_in (extent_of c.args.w.now.heap)) c.args.args.now) (value_in (extent_of c.args.w.now.heap) c.arg-val.result)
+    (value_in (extent_of c.args.w.now.heap) c.arg-times.result) c.in-Some.n c.in-Some-natural.count
+    (setting_of outside c.args.w.now (g.L.Locals.items c.args.l.now)) (c.arg-val.ensures.value (extent_of c.args.w.now.heap))
+    (c.arg-times.ensures.value (extent_of c.args.w.now.heap)) (c.if-lacks_text.ensures (extent_of c.args.w.now.heap))
+    (sym c.to_integer.ensures ∙ c.in-Some.is) (steps.natural_some c.in-Some.n c.in-Some-natural.count (let fits : FitsSigned w64 c.in-Some.n = search rules in
+    rw (to_z-of_z w64 c.in-Some.n fits) at (sym c.natural.ensures ∙ c.in-Some-natural.is))) ∙ (c.in_ok-span.ensures.step outside (builds made)
+    ∙ too_long made (setting_of outside c.text_of.new.w (g.L.Locals.items c.args.l.now)) (omega (
+      arith,
+      c.if-lacks_room.ensures,
+      repeated_long c.in-Some-natural.count (the_text (value_in (extent_of c.args.w.now.heap) c.arg-val.result))
+          (length c.bytes.result.now) _ same c.saturating_mul.ensures,
+    )))

@@ -14,22 +14,37 @@ use Rattle.icn_strfn.proofs.text_rows.reverse_row.Goals as goal
 
 pub returns-in_err-span-clause-row : goal.returns-in_err-span-clause-row
 returns-in_err-span-clause-row g c = λ outside.
-    stops_at (extent_of c.text_of.new.w.heap) (reverse_row (map (value_in (extent_of c.args.w.now.heap)) c.args.args.now)) (costs_text (value_in (extent_of c.args.w.now.heap) c.arg-val.result)) (builds (reverse (the_text (value_in (extent_of c.args.w.now.heap) c.arg-val.result)))) (setting_of outside c.args.w.now (g.L.Locals.items c.args.l.now)) (setting_of outside c.args.w.now (g.L.Locals.items c.args.l.now)) (setting_of outside c.text_of.new.w (g.L.Locals.items c.args.l.now)) c.in_err-span.field-0.0 c.from_residual.result
-    (steps.reverse_left (map (value_in (extent_of c.args.w.now.heap)) c.args.args.now) (value_in (extent_of c.args.w.now.heap) c.arg-val.result) (setting_of outside c.args.w.now (g.L.Locals.items c.args.l.now)) (c.arg-val.ensures.value (extent_of c.args.w.now.heap)) (c.if-lacks_text.ensures (extent_of c.args.w.now.heap))) c.from_residual.ensures.1 (c.in_err-span.ensures.step outside)
+    stops_at (extent_of c.text_of.new.w.heap)
+    (reverse_row (map (value_in (extent_of c.args.w.now.heap)) c.args.args.now)) (costs_text (value_in (extent_of c.args.w.now.heap) c.arg-val.result))
+    (builds (reverse (the_text (value_in (extent_of c.args.w.now.heap) c.arg-val.result))))
+    (setting_of outside c.args.w.now (g.L.Locals.items c.args.l.now)) (setting_of outside c.args.w.now (g.L.Locals.items c.args.l.now))
+    (setting_of outside c.text_of.new.w (g.L.Locals.items c.args.l.now)) c.in_err-span.field-0.0 c.from_residual.result
+    (steps.reverse_left (map (value_in (extent_of c.args.w.now.heap)) c.args.args.now) (value_in (extent_of c.args.w.now.heap) c.arg-val.result)
+    (setting_of outside c.args.w.now (g.L.Locals.items c.args.l.now)) (c.arg-val.ensures.value (extent_of c.args.w.now.heap))
+    (c.if-lacks_text.ensures (extent_of c.args.w.now.heap))) c.from_residual.ensures.1 (c.in_err-span.ensures.step outside)
 
 pub returns-clause-row : goal.returns-clause-row
 returns-clause-row g c = λ outside.
-    goes_on (extent_of c.built.new.w.heap) (reverse_row (map (value_in (extent_of c.args.w.now.heap)) c.args.args.now)) (builds c.deref.result.now) (setting_of outside c.args.w.now (g.L.Locals.items c.args.l.now)) (setting_of outside c.text_of.new.w (g.L.Locals.items c.args.l.now)) (setting_of outside c.built.new.w (g.L.Locals.items c.args.l.now)) c.built.result
-    (steps.reverse_left (map (value_in (extent_of c.args.w.now.heap)) c.args.args.now) (value_in (extent_of c.args.w.now.heap) c.arg-val.result) (setting_of outside c.args.w.now (g.L.Locals.items c.args.l.now)) (c.arg-val.ensures.value (extent_of c.args.w.now.heap)) (c.if-lacks_text.ensures (extent_of c.args.w.now.heap)) ∙ (c.in_ok-span.ensures.step outside (builds (reverse (the_text (value_in (extent_of c.args.w.now.heap) c.arg-val.result))))
-    ∙ ap (λ bytes. builds bytes (setting_of outside c.text_of.new.w (g.L.Locals.items c.args.l.now))) (ap (λ bytes. reverse bytes) (sym c.in_ok-span.ensures.text ∙ sym c.bytes-2.ensures) ∙ (sym c.in_ok-made.ensures ∙ sym c.deref.ensures.value))))
+    goes_on (extent_of c.built.new.w.heap) (reverse_row (map (value_in (extent_of c.args.w.now.heap)) c.args.args.now)) (builds c.deref.result.now)
+    (setting_of outside c.args.w.now (g.L.Locals.items c.args.l.now)) (setting_of outside c.text_of.new.w (g.L.Locals.items c.args.l.now))
+    (setting_of outside c.built.new.w (g.L.Locals.items c.args.l.now)) c.built.result
+    (steps.reverse_left (map (value_in (extent_of c.args.w.now.heap)) c.args.args.now) (value_in (extent_of c.args.w.now.heap) c.arg-val.result)
+    (setting_of outside c.args.w.now (g.L.Locals.items c.args.l.now)) (c.arg-val.ensures.value (extent_of c.args.w.now.heap))
+    (c.if-lacks_text.ensures (extent_of c.args.w.now.heap))
+    ∙ (c.in_ok-span.ensures.step outside (builds (reverse (the_text (value_in (extent_of c.args.w.now.heap) c.arg-val.result))))
+    ∙ ap (λ bytes. builds bytes (setting_of outside c.text_of.new.w (g.L.Locals.items c.args.l.now)))
+    (ap (λ bytes. reverse bytes) (sym c.in_ok-span.ensures.text ∙ sym c.bytes-2.ensures) ∙ (sym c.in_ok-made.ensures ∙ sym c.deref.ensures.value))))
     (c.built.ensures.row outside)
 
 pub returns-then-lacks_room-clause-row : goal.returns-then-lacks_room-clause-row
 returns-then-lacks_room-clause-row g c = λ outside.
     let text : List ℕ = the_text (value_in (extent_of c.args.w.now.heap) c.arg-val.result) in
     let same : length c.bytes.result.now ≡ length text = ap length (c.bytes.ensures ∙ c.in_ok-span.ensures.text) in
-    steps.reverse_left (map (value_in (extent_of c.args.w.now.heap)) c.args.args.now) (value_in (extent_of c.args.w.now.heap) c.arg-val.result) (setting_of outside c.args.w.now (g.L.Locals.items c.args.l.now)) (c.arg-val.ensures.value (extent_of c.args.w.now.heap)) (c.if-lacks_text.ensures (extent_of c.args.w.now.heap)) ∙ (c.in_ok-span.ensures.step outside (builds (reverse text))
-    ∙ too_long (reverse text) (setting_of outside c.text_of.new.w (g.L.Locals.items c.args.l.now)) (omega (arith, c.if-lacks_room.ensures, same, length-reverse text)))
+    steps.reverse_left (map (value_in (extent_of c.args.w.now.heap)) c.args.args.now) (value_in (extent_of c.args.w.now.heap) c.arg-val.result)
+    (setting_of outside c.args.w.now (g.L.Locals.items c.args.l.now)) (c.arg-val.ensures.value (extent_of c.args.w.now.heap))
+    (c.if-lacks_text.ensures (extent_of c.args.w.now.heap)) ∙ (c.in_ok-span.ensures.step outside (builds (reverse text))
+    ∙ too_long (reverse text) (setting_of outside c.text_of.new.w (g.L.Locals.items c.args.l.now))
+    (omega (arith, c.if-lacks_room.ensures, same, length-reverse text)))
 
 pub returns-clause-kept : goal.returns-clause-kept
 returns-clause-kept g c = items_then _ _ _ c.text_of.ensures.kept c.built.ensures.kept

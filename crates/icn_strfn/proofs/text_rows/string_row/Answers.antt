@@ -11,14 +11,27 @@ use Rattle.icn_strfn.proofs.Steps as steps
 use Rattle.icn_strfn.proofs.text_rows.string_row.Goals as goal
 
 pub returns-then-lacks_text-clause-row : goal.returns-then-lacks_text-clause-row
-returns-then-lacks_text-clause-row g c = λ outside. steps.string_fails (map (value_in (extent_of c.args.w.now.heap)) c.args.args.now) (value_in (extent_of c.args.w.now.heap) c.arg-val.result) (setting_of outside c.args.w.now (g.L.Locals.items c.args.l.now)) (c.arg-val.ensures.value (extent_of c.args.w.now.heap)) (c.if-lacks_text.ensures (extent_of c.args.w.now.heap))
+returns-then-lacks_text-clause-row g c = λ outside. steps.string_fails (map (value_in (extent_of c.args.w.now.heap)) c.args.args.now)
+    (value_in (extent_of c.args.w.now.heap) c.arg-val.result) (setting_of outside c.args.w.now (g.L.Locals.items c.args.l.now))
+    (c.arg-val.ensures.value (extent_of c.args.w.now.heap)) (c.if-lacks_text.ensures (extent_of c.args.w.now.heap))
 
 pub returns-in_err-span-clause-row : goal.returns-in_err-span-clause-row
 returns-in_err-span-clause-row g c = λ outside.
-    stops_at (extent_of c.text_of.new.w.heap) (string_row (map (value_in (extent_of c.args.w.now.heap)) c.args.args.now)) (costs_text (value_in (extent_of c.args.w.now.heap) c.arg-val.result)) (gives_value (Text (the_text (value_in (extent_of c.args.w.now.heap) c.arg-val.result)))) (setting_of outside c.args.w.now (g.L.Locals.items c.args.l.now)) (setting_of outside c.args.w.now (g.L.Locals.items c.args.l.now)) (setting_of outside c.text_of.new.w (g.L.Locals.items c.args.l.now)) c.in_err-span.field-0.0 c.from_residual.result
-    (steps.string_left (map (value_in (extent_of c.args.w.now.heap)) c.args.args.now) (value_in (extent_of c.args.w.now.heap) c.arg-val.result) (setting_of outside c.args.w.now (g.L.Locals.items c.args.l.now)) (c.arg-val.ensures.value (extent_of c.args.w.now.heap)) (c.if-lacks_text.ensures (extent_of c.args.w.now.heap))) c.from_residual.ensures.1 (c.in_err-span.ensures.step outside)
+    stops_at (extent_of c.text_of.new.w.heap) (string_row (map (value_in (extent_of c.args.w.now.heap)) c.args.args.now))
+    (costs_text (value_in (extent_of c.args.w.now.heap) c.arg-val.result))
+    (gives_value (Text (the_text (value_in (extent_of c.args.w.now.heap) c.arg-val.result))))
+    (setting_of outside c.args.w.now (g.L.Locals.items c.args.l.now)) (setting_of outside c.args.w.now (g.L.Locals.items c.args.l.now))
+    (setting_of outside c.text_of.new.w (g.L.Locals.items c.args.l.now)) c.in_err-span.field-0.0 c.from_residual.result
+    (steps.string_left (map (value_in (extent_of c.args.w.now.heap)) c.args.args.now) (value_in (extent_of c.args.w.now.heap) c.arg-val.result)
+    (setting_of outside c.args.w.now (g.L.Locals.items c.args.l.now)) (c.arg-val.ensures.value (extent_of c.args.w.now.heap))
+    (c.if-lacks_text.ensures (extent_of c.args.w.now.heap))) c.from_residual.ensures.1 (c.in_err-span.ensures.step outside)
 
 pub returns-clause-row : goal.returns-clause-row
 returns-clause-row g c = λ outside.
-    rw c.text.ensures (gives_text (string_row (map (value_in (extent_of c.args.w.now.heap)) c.args.args.now)) (setting_of outside c.args.w.now (g.L.Locals.items c.args.l.now)) (setting_of outside c.text_of.new.w (g.L.Locals.items c.args.l.now)) (the_text (value_in (extent_of c.args.w.now.heap) c.arg-val.result)) (text_in (extent_of c.text_of.new.w.heap) c.in_ok-span.span)
-    (steps.string_left (map (value_in (extent_of c.args.w.now.heap)) c.args.args.now) (value_in (extent_of c.args.w.now.heap) c.arg-val.result) (setting_of outside c.args.w.now (g.L.Locals.items c.args.l.now)) (c.arg-val.ensures.value (extent_of c.args.w.now.heap)) (c.if-lacks_text.ensures (extent_of c.args.w.now.heap)) ∙ c.in_ok-span.ensures.step outside (gives_value (Text (the_text (value_in (extent_of c.args.w.now.heap) c.arg-val.result))))) c.in_ok-span.ensures.text)
+    rw c.text.ensures (gives_text (string_row (map (value_in (extent_of c.args.w.now.heap)) c.args.args.now))
+    (setting_of outside c.args.w.now (g.L.Locals.items c.args.l.now)) (setting_of outside c.text_of.new.w (g.L.Locals.items c.args.l.now))
+    (the_text (value_in (extent_of c.args.w.now.heap) c.arg-val.result)) (text_in (extent_of c.text_of.new.w.heap) c.in_ok-span.span)
+    (steps.string_left (map (value_in (extent_of c.args.w.now.heap)) c.args.args.now) (value_in (extent_of c.args.w.now.heap) c.arg-val.result)
+    (setting_of outside c.args.w.now (g.L.Locals.items c.args.l.now)) (c.arg-val.ensures.value (extent_of c.args.w.now.heap))
+    (c.if-lacks_text.ensures (extent_of c.args.w.now.heap))
+    ∙ c.in_ok-span.ensures.step outside (gives_value (Text (the_text (value_in (extent_of c.args.w.now.heap) c.arg-val.result))))) c.in_ok-span.ensures.text)

@@ -9,7 +9,8 @@ loop-len-preserved c =
     let p = contains (members_of c.args.bytes.now) in
     let text = c.args.text.now in
     let len = c.loop-len.len in
-    let yes : p (get_or text (len - 1) 0) ≡ true = is_member c.args.bytes.now (get_or text (len - 1) 0) (omega (arith, c.type_inv.text (len - 1))) ∙ (sym c.has.ensures ∙ c.if-has.true) in
+    let yes : p (get_or text (len - 1) 0) ≡ true = is_member c.args.bytes.now (get_or text (len - 1) 0) (omega (arith, c.type_inv.text (len - 1)))
+    ∙ (sym c.has.ensures ∙ c.if-has.true) in
     record { within = omega arith; goes_on = omega (arith, suffix_len-take_yes p text len 0 (omega arith) (omega arith) yes) }
 
 pub returns-else-has-clause-value : goal.returns-else-has-clause-value
@@ -17,5 +18,6 @@ returns-else-has-clause-value c =
     let p = contains (members_of c.args.bytes.now) in
     let text = c.args.text.now in
     let len = c.loop-len.len in
-    let passes : p (get_or text (len - 1) 0) ≡ false = is_member c.args.bytes.now (get_or text (len - 1) 0) (omega (arith, c.type_inv.text (len - 1))) ∙ (sym c.has.ensures ∙ c.if-has.false) in
+    let passes : p (get_or text (len - 1) 0) ≡ false = is_member c.args.bytes.now (get_or text (len - 1) 0) (omega (arith, c.type_inv.text (len - 1)))
+    ∙ (sym c.has.ensures ∙ c.if-has.false) in
     omega (arith, suffix_len-take_no p text len 0 (omega arith) (omega arith) passes)

@@ -11,15 +11,29 @@ use Rattle.icn_defs.specs.Strings.{char_row}
 use Rattle.icn_strfn.proofs.value_rows.char_row.Goals as goal
 
 pub returns-in_default-clause-row : goal.returns-in_default-clause-row
-returns-in_default-clause-row g c = λ outside. steps.char_no_integer (map (value_in (extent_of c.args.w.now.heap)) c.args.args.now) (value_in (extent_of c.args.w.now.heap) c.arg-val.result) (setting_of outside c.args.w.now (g.L.Locals.items c.args.l.now)) (c.arg-val.ensures.value (extent_of c.args.w.now.heap)) (sym c.to_integer.ensures ∙ c.in_default.is)
+returns-in_default-clause-row g c = λ outside. steps.char_no_integer (map (value_in (extent_of c.args.w.now.heap)) c.args.args.now)
+    (value_in (extent_of c.args.w.now.heap) c.arg-val.result) (setting_of outside c.args.w.now (g.L.Locals.items c.args.l.now))
+    (c.arg-val.ensures.value (extent_of c.args.w.now.heap)) (sym c.to_integer.ensures ∙ c.in_default.is)
 
 pub returns-in_default-natural-clause-row : goal.returns-in_default-natural-clause-row
-returns-in_default-natural-clause-row g c = λ outside. steps.char_below (map (value_in (extent_of c.args.w.now.heap)) c.args.args.now) (value_in (extent_of c.args.w.now.heap) c.arg-val.result) (setting_of outside c.args.w.now (g.L.Locals.items c.args.l.now)) (c.arg-val.ensures.value (extent_of c.args.w.now.heap)) c.in-Some.n (sym c.to_integer.ensures ∙ c.in-Some.is) (let fits : FitsSigned w64 c.in-Some.n = search rules in rw (to_z-of_z w64 c.in-Some.n fits) at (sym c.natural.ensures ∙ c.in_default-natural.is))
+returns-in_default-natural-clause-row g c = λ outside. steps.char_below (map (value_in (extent_of c.args.w.now.heap)) c.args.args.now)
+    (value_in (extent_of c.args.w.now.heap) c.arg-val.result) (setting_of outside c.args.w.now (g.L.Locals.items c.args.l.now))
+    (c.arg-val.ensures.value (extent_of c.args.w.now.heap)) c.in-Some.n (sym c.to_integer.ensures ∙ c.in-Some.is)
+    (let fits : FitsSigned w64 c.in-Some.n = search rules in rw (to_z-of_z w64 c.in-Some.n fits) at (sym c.natural.ensures ∙ c.in_default-natural.is))
 
 pub returns-then-byte-ge256-clause-row : goal.returns-then-byte-ge256-clause-row
-returns-then-byte-ge256-clause-row g c = λ outside. steps.char_above (map (value_in (extent_of c.args.w.now.heap)) c.args.args.now) (value_in (extent_of c.args.w.now.heap) c.arg-val.result) (setting_of outside c.args.w.now (g.L.Locals.items c.args.l.now)) (c.arg-val.ensures.value (extent_of c.args.w.now.heap)) c.in-Some.n c.in-Some-natural.byte (sym c.to_integer.ensures ∙ c.in-Some.is) (let fits : FitsSigned w64 c.in-Some.n = search rules in rw (to_z-of_z w64 c.in-Some.n fits) at (sym c.natural.ensures ∙ c.in-Some-natural.is)) c.if-byte-ge256.true
+returns-then-byte-ge256-clause-row g c =
+    λ outside. steps.char_above (map (value_in (extent_of c.args.w.now.heap)) c.args.args.now) (value_in (extent_of c.args.w.now.heap) c.arg-val.result)
+    (setting_of outside c.args.w.now (g.L.Locals.items c.args.l.now)) (c.arg-val.ensures.value (extent_of c.args.w.now.heap)) c.in-Some.n c.in-Some-natural.byte
+    (sym c.to_integer.ensures ∙ c.in-Some.is) (let fits : FitsSigned w64 c.in-Some.n = search rules in
+    rw (to_z-of_z w64 c.in-Some.n fits) at (sym c.natural.ensures ∙ c.in-Some-natural.is)) c.if-byte-ge256.true
 
 pub returns-clause-row : goal.returns-clause-row
 returns-clause-row g c = λ outside.
-    goes_on (extent_of c.held.new.w.heap) (char_row (map (value_in (extent_of c.args.w.now.heap)) c.args.args.now)) (gives_value (Text (c.in-Some-natural.byte ∷ []))) (setting_of outside c.args.w.now (g.L.Locals.items c.args.l.now)) (setting_of outside c.args.w.now (g.L.Locals.items c.args.l.now)) (setting_of outside c.held.new.w (g.L.Locals.items c.args.l.now)) c.held.result
-    (steps.char_left (map (value_in (extent_of c.args.w.now.heap)) c.args.args.now) (value_in (extent_of c.args.w.now.heap) c.arg-val.result) (setting_of outside c.args.w.now (g.L.Locals.items c.args.l.now)) (c.arg-val.ensures.value (extent_of c.args.w.now.heap)) c.in-Some.n c.in-Some-natural.byte (sym c.to_integer.ensures ∙ c.in-Some.is) (let fits : FitsSigned w64 c.in-Some.n = search rules in rw (to_z-of_z w64 c.in-Some.n fits) at (sym c.natural.ensures ∙ c.in-Some-natural.is)) c.if-byte-ge256.false) (c.held.ensures.row outside)
+    goes_on (extent_of c.held.new.w.heap) (char_row (map (value_in (extent_of c.args.w.now.heap)) c.args.args.now))
+    (gives_value (Text (c.in-Some-natural.byte ∷ []))) (setting_of outside c.args.w.now (g.L.Locals.items c.args.l.now))
+    (setting_of outside c.args.w.now (g.L.Locals.items c.args.l.now)) (setting_of outside c.held.new.w (g.L.Locals.items c.args.l.now)) c.held.result
+    (steps.char_left (map (value_in (extent_of c.args.w.now.heap)) c.args.args.now) (value_in (extent_of c.args.w.now.heap) c.arg-val.result)
+    (setting_of outside c.args.w.now (g.L.Locals.items c.args.l.now)) (c.arg-val.ensures.value (extent_of c.args.w.now.heap)) c.in-Some.n c.in-Some-natural.byte
+    (sym c.to_integer.ensures ∙ c.in-Some.is) (let fits : FitsSigned w64 c.in-Some.n = search rules in
+    rw (to_z-of_z w64 c.in-Some.n fits) at (sym c.natural.ensures ∙ c.in-Some-natural.is)) c.if-byte-ge256.false) (c.held.ensures.row outside)

@@ -16,6 +16,10 @@ image-requires-clause-named g c = c.first_argument-val.ensures.named _ c.require
 
 pub returns-clause-row : goal.returns-clause-row
 returns-clause-row g c = λ outside.
-    goes_on (extent_of c.built.new.w.heap) (image_row (g.N.Names.known c.args.names.now) (map (value_in (extent_of c.args.w.now.heap)) c.args.args.now)) (builds c.deref.result.now) (setting_of outside c.args.w.now (g.L.Locals.items c.args.l.now)) (setting_of outside c.args.w.now (g.L.Locals.items c.args.l.now)) (setting_of outside c.built.new.w (g.L.Locals.items c.args.l.now)) c.built.result
-    (ap (λ bytes. builds bytes (setting_of outside c.args.w.now (g.L.Locals.items c.args.l.now))) (ap (image (g.N.Names.known c.args.names.now) (heap_of c.args.w.now.heap)) (sym (c.first_argument-val.ensures.value (extent_of c.args.w.now.heap))) ∙ (sym c.in_ok-shown.ensures ∙ sym c.deref.ensures.value)))
+    goes_on (extent_of c.built.new.w.heap) (image_row (g.N.Names.known c.args.names.now) (map (value_in (extent_of c.args.w.now.heap)) c.args.args.now))
+    (builds c.deref.result.now) (setting_of outside c.args.w.now (g.L.Locals.items c.args.l.now))
+    (setting_of outside c.args.w.now (g.L.Locals.items c.args.l.now)) (setting_of outside c.built.new.w (g.L.Locals.items c.args.l.now)) c.built.result
+    (ap (λ bytes. builds bytes (setting_of outside c.args.w.now (g.L.Locals.items c.args.l.now)))
+    (ap (image (g.N.Names.known c.args.names.now) (heap_of c.args.w.now.heap)) (sym (c.first_argument-val.ensures.value (extent_of c.args.w.now.heap)))
+    ∙ (sym c.in_ok-shown.ensures ∙ sym c.deref.ensures.value)))
     (c.built.ensures.row outside)

@@ -10,16 +10,19 @@ use Rattle.icn_structfn.proofs.adding.add_left.Goals as goal
 
 pub returns-in_err-room_for_cells-clause-step : goal.returns-in_err-room_for_cells-clause-step
 returns-in_err-room_for_cells-clause-step g c outside =
-    not_added with_left c.args.list (extent_of c.args.w.now.heap) (setting_of outside c.args.w.now (g.L.Locals.items c.args.l.now)) (map (value_in (extent_of c.args.w.now.heap)) c.args.vals.now) c.in_err-room_for_cells.field-0.0 c.from_residual.result
+    not_added with_left c.args.list (extent_of c.args.w.now.heap) (setting_of outside c.args.w.now (g.L.Locals.items c.args.l.now))
+    (map (value_in (extent_of c.args.w.now.heap)) c.args.vals.now) c.in_err-room_for_cells.field-0.0 c.from_residual.result
     (rw (length-map c.args.vals.now (value_in (extent_of c.args.w.now.heap))) c.in_err-room_for_cells.ensures.answer) c.from_residual.ensures.1
 
 pub returns-in_err-push_each-clause-step : goal.returns-in_err-push_each-clause-step
 returns-in_err-push_each-clause-step g c outside =
-    unfinished with_left c.args.list (extent_of c.push_each.new.heap) _ _ (map (value_in (extent_of c.args.w.now.heap)) c.args.vals.now) c.in_err-push_each.field-0.0 c.from_residual-in_err-push_each.result c.in_err-push_each.ensures.error c.from_residual-in_err-push_each.ensures.1
+    unfinished with_left c.args.list (extent_of c.push_each.new.heap) _ _ (map (value_in (extent_of c.args.w.now.heap)) c.args.vals.now)
+    c.in_err-push_each.field-0.0 c.from_residual-in_err-push_each.result c.in_err-push_each.ensures.error c.from_residual-in_err-push_each.ensures.1
 
 pub returns-clause-step : goal.returns-clause-step
 returns-clause-step g c =
-    added with_left c.args.list c.args.w.now.heap c.push_each.new.heap c.args.w.now.pair c.args.w.now.random c.args.w.now.globals.items c.args.w.now.statics.items (g.L.Locals.items c.args.l.now) c.push_each.ensures.kept
+    added with_left c.args.list c.args.w.now.heap c.push_each.new.heap c.args.w.now.pair c.args.w.now.random c.args.w.now.globals.items
+    c.args.w.now.statics.items (g.L.Locals.items c.args.l.now) c.push_each.ensures.kept
     c.args.w.now.sound c.requires.locals (map (value_in (extent_of c.args.w.now.heap)) c.args.vals.now)
     (rw (length-map c.args.vals.now (value_in (extent_of c.args.w.now.heap))) c.in_ok-room_for_cells.ensures.answer) c.in_ok-push_each.ensures.step
 

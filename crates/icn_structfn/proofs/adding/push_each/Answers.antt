@@ -20,20 +20,27 @@ pub loop-first-preserved : goal.loop-first-preserved
 loop-first-preserved c =
     let first : Val = c.in-Some.first.now in
     let others : List Val = c.in-Some.others.now in
-    let here : IsLive (extent_of c.args.heap.now) first = All-head (IsLive (extent_of c.args.heap.now)) first others (All-same (IsLive (extent_of c.args.heap.now)) _ _ (sym c.in-Some.ensures.cases.0) c.loop-first.invariant.left) in
-    let more = cells_more with_left c.args.list (heap_of c.loop-first.heap) (heap_of c.push.new.self) (value_in (extent_of c.loop-first.heap) first) c.in_ok-push.ensures.step in
-    let bound = bounds_stay with_left c.args.list (heap_of c.loop-first.heap) (heap_of c.push.new.self) (value_in (extent_of c.loop-first.heap) first) c.in_ok-push.ensures.step in
+    let here : IsLive (extent_of c.args.heap.now) first = All-head (IsLive (extent_of c.args.heap.now)) first others
+    (All-same (IsLive (extent_of c.args.heap.now)) _ _ (sym c.in-Some.ensures.cases.0) c.loop-first.invariant.left) in
+    let more = cells_more with_left c.args.list (heap_of c.loop-first.heap) (heap_of c.push.new.self)
+    (value_in (extent_of c.loop-first.heap) first) c.in_ok-push.ensures.step in
+    let bound = bounds_stay with_left c.args.list (heap_of c.loop-first.heap) (heap_of c.push.new.self)
+    (value_in (extent_of c.loop-first.heap) first) c.in_ok-push.ensures.step in
     let long : length c.loop-first.rest.now ≡ 1 + length others = ap length c.in-Some.ensures.cases.0 ∙ omega arith in
     record {
       kept = keeps_then c.loop-first.invariant.kept c.push.ensures.kept;
       left = All-rest (IsLive (extent_of c.args.heap.now)) _ _ _ c.in-Some.ensures.cases.0 c.loop-first.invariant.left;
       room = (let room = c.loop-first.invariant.room in omega arith);
-      records = records_stay with_left c.args.list (heap_of c.loop-first.heap) (heap_of c.push.new.self) (value_in (extent_of c.loop-first.heap) first) c.in_ok-push.ensures.step ∙ c.loop-first.invariant.records;
+      records = records_stay with_left c.args.list (heap_of c.loop-first.heap) (heap_of c.push.new.self)
+          (value_in (extent_of c.loop-first.heap) first) c.in_ok-push.ensures.step ∙ c.loop-first.invariant.records;
       is =
-          adds_next with_left c.args.list (heap_of c.loop-first.heap) (heap_of c.push.new.self) (value_in (extent_of c.loop-first.heap) first) (map (value_in (extent_of c.args.heap.now)) others)
+          adds_next with_left c.args.list (heap_of c.loop-first.heap) (heap_of c.push.new.self) (value_in (extent_of c.loop-first.heap) first)
+          (map (value_in (extent_of c.args.heap.now)) others)
           (list_there c.loop-first.heap c.args.list (c.loop-first.invariant.kept.live _ c.requires.list)) c.in_ok-push.ensures.step
-          ∙ (ap (λ (v : Value). added_to with_left c.args.list (v ∷ map (value_in (extent_of c.args.heap.now)) others) (heap_of c.loop-first.heap)) (c.loop-first.invariant.kept.value first here)
-          ∙ (ap (λ vals. added_to with_left c.args.list (map (value_in (extent_of c.args.heap.now)) vals) (heap_of c.loop-first.heap)) (sym c.in-Some.ensures.cases.0) ∙ c.loop-first.invariant.is));
+          ∙ (ap (λ (v : Value). added_to with_left c.args.list (v ∷ map (value_in (extent_of c.args.heap.now)) others) (heap_of c.loop-first.heap))
+          (c.loop-first.invariant.kept.value first here)
+          ∙ (ap (λ vals. added_to with_left c.args.list (map (value_in (extent_of c.args.heap.now)) vals) (heap_of c.loop-first.heap))
+          (sym c.in-Some.ensures.cases.0) ∙ c.loop-first.invariant.is));
     }
 
 pub push-requires-clause-list : goal.push-requires-clause-list
@@ -44,9 +51,11 @@ returns-in_err-push-clause-error c =
     let long : length c.loop-first.rest.now ≡ 1 + length c.in-Some.others.now = ap length c.in-Some.ensures.cases.0 ∙ omega arith in
     let room = c.loop-first.invariant.room in
     err_is c.in_err-push.field-0.0 NoMemory c.from_residual.result c.from_residual.ensures.1
-    (no_refusal with_left c.args.list (heap_of c.loop-first.heap) (value_in (extent_of c.loop-first.heap) c.in-Some.first.now) c.in_err-push.field-0.0 (omega arith) c.in_err-push.ensures.step)
+    (no_refusal with_left c.args.list (heap_of c.loop-first.heap) (value_in (extent_of c.loop-first.heap) c.in-Some.first.now) c.in_err-push.field-0.0
+    (omega arith) c.in_err-push.ensures.step)
 
 pub returns-clause-step : goal.returns-clause-step
 returns-clause-step c =
     sym (adds_nothing with_left c.args.list (heap_of c.loop-first.heap))
-    ∙ (ap (λ vals. added_to with_left c.args.list (map (value_in (extent_of c.args.heap.now)) vals) (heap_of c.loop-first.heap)) (sym (nothing_left c.loop-first.rest.now c.in_default.ensures.cases)) ∙ c.loop-first.invariant.is)
+    ∙ (ap (λ vals. added_to with_left c.args.list (map (value_in (extent_of c.args.heap.now)) vals) (heap_of c.loop-first.heap))
+    (sym (nothing_left c.loop-first.rest.now c.in_default.ensures.cases)) ∙ c.loop-first.invariant.is)

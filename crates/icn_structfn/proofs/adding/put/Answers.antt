@@ -19,15 +19,21 @@ pub returns-in_err-add_right-in-List-clause-row : goal.returns-in_err-add_right-
 returns-in_err-add_right-in-List-clause-row g c outside =
     let before : Setting = setting_of outside c.args.w.now (g.L.Locals.items c.args.l.now) in
     let after : Setting = setting_of outside c.add_right.new.w (g.L.Locals.items c.args.l.now) in
-    let same : put_row (map (value_in (extent_of c.args.w.now.heap)) c.args.args.now) before ≡ adds with_right c.in-List.id (map (value_in (extent_of c.args.w.now.heap)) c.added.result.now) (gives_value (AList c.in-List.id)) before =
-    ap (λ (v : Value). adds_row with_right v (or_null (drop 1 (map (value_in (extent_of c.args.w.now.heap)) c.args.args.now))) before) (sym (c.arg-list.ensures.value (extent_of c.args.w.now.heap)) ∙ ap (value_in (extent_of c.args.w.now.heap)) c.in-List.is)
-    ∙ ap (λ (vs : List Value). adds with_right c.in-List.id vs (gives_value (AList c.in-List.id)) before) (sym (c.added.ensures.value (extent_of c.args.w.now.heap))) in
-    stops_passing (extent_of c.add_right.new.w.heap) (put_row (map (value_in (extent_of c.args.w.now.heap)) c.args.args.now)) (adds with_right c.in-List.id (map (value_in (extent_of c.args.w.now.heap)) c.added.result.now)) (gives_value (AList c.in-List.id)) before before after
+    let same : put_row (map (value_in (extent_of c.args.w.now.heap)) c.args.args.now) before
+    ≡ adds with_right c.in-List.id (map (value_in (extent_of c.args.w.now.heap)) c.added.result.now) (gives_value (AList c.in-List.id)) before =
+    ap (λ (v : Value). adds_row with_right v (or_null (drop 1 (map (value_in (extent_of c.args.w.now.heap)) c.args.args.now))) before)
+    (sym (c.arg-list.ensures.value (extent_of c.args.w.now.heap)) ∙ ap (value_in (extent_of c.args.w.now.heap)) c.in-List.is)
+    ∙ ap (λ (vs : List Value). adds with_right c.in-List.id vs (gives_value (AList c.in-List.id)) before)
+    (sym (c.added.ensures.value (extent_of c.args.w.now.heap))) in
+    stops_passing (extent_of c.add_right.new.w.heap) (put_row (map (value_in (extent_of c.args.w.now.heap)) c.args.args.now))
+    (adds with_right c.in-List.id (map (value_in (extent_of c.args.w.now.heap)) c.added.result.now)) (gives_value (AList c.in-List.id)) before before after
     c.in_err-add_right-in-List.field-0.0 c.from_residual.result same c.from_residual.ensures.1 (c.in_err-add_right-in-List.ensures.step outside)
 
 pub returns-in_ok-add_right-in-List-clause-row : goal.returns-in_ok-add_right-in-List-clause-row
 returns-in_ok-add_right-in-List-clause-row g c outside =
     let before : Setting = setting_of outside c.args.w.now (g.L.Locals.items c.args.l.now) in
-    ap (λ (v : Value). adds_row with_right v (or_null (drop 1 (map (value_in (extent_of c.args.w.now.heap)) c.args.args.now))) before) (sym (c.arg-list.ensures.value (extent_of c.args.w.now.heap)) ∙ ap (value_in (extent_of c.args.w.now.heap)) c.in-List.is)
-    ∙ (ap (λ (vs : List Value). adds with_right c.in-List.id vs (gives_value (AList c.in-List.id)) before) (sym (c.added.ensures.value (extent_of c.args.w.now.heap)))
+    ap (λ (v : Value). adds_row with_right v (or_null (drop 1 (map (value_in (extent_of c.args.w.now.heap)) c.args.args.now))) before)
+    (sym (c.arg-list.ensures.value (extent_of c.args.w.now.heap)) ∙ ap (value_in (extent_of c.args.w.now.heap)) c.in-List.is)
+    ∙ (ap (λ (vs : List Value). adds with_right c.in-List.id vs (gives_value (AList c.in-List.id)) before)
+    (sym (c.added.ensures.value (extent_of c.args.w.now.heap)))
     ∙ c.in_ok-add_right-in-List.ensures.step outside (gives_value (AList c.in-List.id)))

@@ -12,7 +12,8 @@ invariant-loop-first l = record {
   left : All (IsLive (extent_of l.initial.heap)) l.rest;
   room : (heap_of l.heap).cells + length l.rest ≤ (heap_of l.heap).bounds.cells;
   records : (heap_of l.heap).records ≡ (heap_of l.initial.heap).records;
-  is : added_to with_right l.list (map (value_in (extent_of l.initial.heap)) l.rest) (heap_of l.heap) ≡ added_to with_right l.list (map (value_in (extent_of l.initial.heap)) l.vals) (heap_of l.initial.heap);
+  is : added_to with_right l.list (map (value_in (extent_of l.initial.heap)) l.rest) (heap_of l.heap)
+      ≡ added_to with_right l.list (map (value_in (extent_of l.initial.heap)) l.vals) (heap_of l.initial.heap);
 }
 
 abbrev pub decreases-loop-first : goal.decreases-loop-first

@@ -12,19 +12,23 @@ use Rattle.icn_structfn.proofs.ends.pull.Goals as goal
 
 pub returns-in-Some-clause-row : goal.returns-in-Some-clause-row
 returns-in-Some-clause-row g c =
-    given c.args.w.now.heap c.pull.new.self c.args.w.now.pair c.args.w.now.random c.args.w.now.globals.items c.args.w.now.statics.items (g.L.Locals.items c.args.l.now) c.pull.ensures.kept
+    given c.args.w.now.heap c.pull.new.self c.args.w.now.pair c.args.w.now.random c.args.w.now.globals.items c.args.w.now.statics.items
+    (g.L.Locals.items c.args.l.now) c.pull.ensures.kept
     c.args.w.now.sound c.requires.locals rightmost without_right (arg (map (value_in (extent_of c.args.w.now.heap)) c.args.args.now) 0) c.in-List.id
     (sym (c.arg-list.ensures.value (extent_of c.args.w.now.heap)) ∙ ap (value_in (extent_of c.args.w.now.heap)) c.in-List.is)
     (value_in (extent_of c.pull.new.self) c.in-Some.val) c.in-Some.ensures.item c.pull.ensures.step
 
 pub returns-in-None-clause-row : goal.returns-in-None-clause-row
 returns-in-None-clause-row g c =
-    failed c.args.w.now.heap c.pull.new.self c.args.w.now.pair c.args.w.now.random c.args.w.now.globals.items c.args.w.now.statics.items (g.L.Locals.items c.args.l.now) c.pull.ensures.kept
+    failed c.args.w.now.heap c.pull.new.self c.args.w.now.pair c.args.w.now.random c.args.w.now.globals.items c.args.w.now.statics.items
+    (g.L.Locals.items c.args.l.now) c.pull.ensures.kept
     c.args.w.now.sound c.requires.locals rightmost without_right (arg (map (value_in (extent_of c.args.w.now.heap)) c.args.args.now) 0) c.in-List.id
     (sym (c.arg-list.ensures.value (extent_of c.args.w.now.heap)) ∙ ap (value_in (extent_of c.args.w.now.heap)) c.in-List.is)
     c.in-None.ensures.item (right_none (list_at (heap_of c.args.w.now.heap) c.in-List.id) c.in-None.ensures.item) c.pull.ensures.step
 
 pub returns-in_default-clause-row : goal.returns-in_default-clause-row
 returns-in_default-clause-row g c outside =
-    ap (λ (v : Value). takes rightmost without_right v (setting_of outside c.args.w.now (g.L.Locals.items c.args.l.now))) (sym (c.arg-list.ensures.value (extent_of c.args.w.now.heap)))
-    ∙ not_taken rightmost without_right (value_in (extent_of c.args.w.now.heap) c.arg-list.result) (no_list (extent_of c.args.w.now.heap) c.arg-list.result c.in_default.not-List) (setting_of outside c.args.w.now (g.L.Locals.items c.args.l.now))
+    ap (λ (v : Value). takes rightmost without_right v (setting_of outside c.args.w.now (g.L.Locals.items c.args.l.now)))
+    (sym (c.arg-list.ensures.value (extent_of c.args.w.now.heap)))
+    ∙ not_taken rightmost without_right (value_in (extent_of c.args.w.now.heap) c.arg-list.result)
+    (no_list (extent_of c.args.w.now.heap) c.arg-list.result c.in_default.not-List) (setting_of outside c.args.w.now (g.L.Locals.items c.args.l.now))

@@ -8,20 +8,25 @@ use Rattle.icn_structfn.proofs.making.new_table.Goals as goal
 
 pub returns-in_err-make_table-clause-found : goal.returns-in_err-make_table-clause-found
 returns-in_err-make_table-clause-found g c =
-    refused c.args.w.now.heap c.make_table.new.self c.args.w.now.pair c.args.w.now.random c.args.w.now.globals.items c.args.w.now.statics.items (g.L.Locals.items c.args.l.now) c.make_table.ensures.kept
+    refused c.args.w.now.heap c.make_table.new.self c.args.w.now.pair c.args.w.now.random c.args.w.now.globals.items c.args.w.now.statics.items
+    (g.L.Locals.items c.args.l.now) c.make_table.ensures.kept
     c.args.w.now.sound c.requires.locals 1 (having_table (value_in (extent_of c.args.w.now.heap) c.args.default)) table_number
-    (value_in (extent_of c.make_table.new.self)) c.in_err-make_table.field-0.0 c.from_residual.result c.in_err-make_table.ensures.unchanged c.in_err-make_table.ensures.step c.from_residual.ensures.1
+    (value_in (extent_of c.make_table.new.self)) c.in_err-make_table.field-0.0 c.from_residual.result c.in_err-make_table.ensures.unchanged
+    c.in_err-make_table.ensures.step c.from_residual.ensures.1
 
 pub returns-clause-found : goal.returns-clause-found
 returns-clause-found g c =
-    made c.args.w.now.heap c.make_table.new.self c.args.w.now.pair c.args.w.now.random c.args.w.now.globals.items c.args.w.now.statics.items (g.L.Locals.items c.args.l.now) c.make_table.ensures.kept
+    made c.args.w.now.heap c.make_table.new.self c.args.w.now.pair c.args.w.now.random c.args.w.now.globals.items c.args.w.now.statics.items
+    (g.L.Locals.items c.args.l.now) c.make_table.ensures.kept
     c.args.w.now.sound c.requires.locals 1 (having_table (value_in (extent_of c.args.w.now.heap) c.args.default)) table_number
-    (tables_stay (heap_of c.args.w.now.heap)) (value_in (extent_of c.make_table.new.self) c.in_ok-make_table.field-0) c.in_ok-make_table.ensures.value c.in_ok-make_table.ensures.step
+    (tables_stay (heap_of c.args.w.now.heap))
+    (value_in (extent_of c.make_table.new.self) c.in_ok-make_table.field-0) c.in_ok-make_table.ensures.value c.in_ok-make_table.ensures.step
 
 pub returns-clause-kept : goal.returns-clause-kept
 returns-clause-kept g c = record {
   extent = c.make_table.ensures.kept;
-  fields = fields_behind (cells_change 1) (having_table (value_in (extent_of c.args.w.now.heap) c.args.default)) (λ heap. refl) (heap_of c.args.w.now.heap) (heap_of c.make_table.new.self) c.in_ok-make_table.ensures.step;
+  fields = fields_behind (cells_change 1) (having_table (value_in (extent_of c.args.w.now.heap) c.args.default)) (λ heap. refl) (heap_of c.args.w.now.heap)
+      (heap_of c.make_table.new.self) c.in_ok-make_table.ensures.step;
   globals = refl;
   statics = refl;
   locals = refl;

@@ -9,20 +9,28 @@ use Rattle.icn_structfn.proofs.making.set_like.Goals as goal
 
 pub returns-in_err-copy_set-clause-found : goal.returns-in_err-copy_set-clause-found
 returns-in_err-copy_set-clause-found g c =
-    refused c.args.w.now.heap c.copy_set.new.self c.args.w.now.pair c.args.w.now.random c.args.w.now.globals.items c.args.w.now.statics.items (g.L.Locals.items c.args.l.now) c.copy_set.ensures.kept
-    c.args.w.now.sound c.requires.locals (1 + length (set_at (heap_of c.args.w.now.heap) c.args.set)) (having_members (set_at (heap_of c.args.w.now.heap) c.args.set)) set_number
-    (value_in (extent_of c.copy_set.new.self)) c.in_err-copy_set.field-0.0 c.from_residual.result c.in_err-copy_set.ensures.unchanged c.in_err-copy_set.ensures.step c.from_residual.ensures.1
+    refused c.args.w.now.heap c.copy_set.new.self c.args.w.now.pair c.args.w.now.random c.args.w.now.globals.items c.args.w.now.statics.items
+    (g.L.Locals.items c.args.l.now) c.copy_set.ensures.kept
+    c.args.w.now.sound c.requires.locals (1 + length (set_at (heap_of c.args.w.now.heap) c.args.set))
+    (having_members (set_at (heap_of c.args.w.now.heap) c.args.set)) set_number
+    (value_in (extent_of c.copy_set.new.self)) c.in_err-copy_set.field-0.0 c.from_residual.result c.in_err-copy_set.ensures.unchanged
+    c.in_err-copy_set.ensures.step c.from_residual.ensures.1
 
 pub returns-clause-found : goal.returns-clause-found
 returns-clause-found g c =
-    made c.args.w.now.heap c.copy_set.new.self c.args.w.now.pair c.args.w.now.random c.args.w.now.globals.items c.args.w.now.statics.items (g.L.Locals.items c.args.l.now) c.copy_set.ensures.kept
-    c.args.w.now.sound c.requires.locals (1 + length (set_at (heap_of c.args.w.now.heap) c.args.set)) (having_members (set_at (heap_of c.args.w.now.heap) c.args.set)) set_number
-    (sets_stay (heap_of c.args.w.now.heap)) (value_in (extent_of c.copy_set.new.self) c.in_ok-copy_set.field-0) c.in_ok-copy_set.ensures.value c.in_ok-copy_set.ensures.step
+    made c.args.w.now.heap c.copy_set.new.self c.args.w.now.pair c.args.w.now.random c.args.w.now.globals.items c.args.w.now.statics.items
+    (g.L.Locals.items c.args.l.now) c.copy_set.ensures.kept
+    c.args.w.now.sound c.requires.locals (1 + length (set_at (heap_of c.args.w.now.heap) c.args.set))
+    (having_members (set_at (heap_of c.args.w.now.heap) c.args.set)) set_number
+    (sets_stay (heap_of c.args.w.now.heap))
+    (value_in (extent_of c.copy_set.new.self) c.in_ok-copy_set.field-0) c.in_ok-copy_set.ensures.value c.in_ok-copy_set.ensures.step
 
 pub returns-clause-kept : goal.returns-clause-kept
 returns-clause-kept g c = record {
   extent = c.copy_set.ensures.kept;
-  fields = fields_behind (cells_change (1 + length (set_at (heap_of c.args.w.now.heap) c.args.set))) (having_members (set_at (heap_of c.args.w.now.heap) c.args.set)) (λ heap. refl) (heap_of c.args.w.now.heap) (heap_of c.copy_set.new.self) c.in_ok-copy_set.ensures.step;
+  fields = fields_behind (cells_change (1 + length (set_at (heap_of c.args.w.now.heap) c.args.set)))
+      (having_members (set_at (heap_of c.args.w.now.heap) c.args.set)) (λ heap. refl) (heap_of c.args.w.now.heap)
+      (heap_of c.copy_set.new.self) c.in_ok-copy_set.ensures.step;
   globals = refl;
   statics = refl;
   locals = refl;

@@ -9,20 +9,28 @@ use Rattle.icn_structfn.proofs.making.table_like.Goals as goal
 
 pub returns-in_err-copy_table-clause-found : goal.returns-in_err-copy_table-clause-found
 returns-in_err-copy_table-clause-found g c =
-    refused c.args.w.now.heap c.copy_table.new.self c.args.w.now.pair c.args.w.now.random c.args.w.now.globals.items c.args.w.now.statics.items (g.L.Locals.items c.args.l.now) c.copy_table.ensures.kept
-    c.args.w.now.sound c.requires.locals (1 + length (table_at (heap_of c.args.w.now.heap) c.args.table).pairs) (having_table_of (table_at (heap_of c.args.w.now.heap) c.args.table)) table_number
-    (value_in (extent_of c.copy_table.new.self)) c.in_err-copy_table.field-0.0 c.from_residual.result c.in_err-copy_table.ensures.unchanged c.in_err-copy_table.ensures.step c.from_residual.ensures.1
+    refused c.args.w.now.heap c.copy_table.new.self c.args.w.now.pair c.args.w.now.random c.args.w.now.globals.items c.args.w.now.statics.items
+    (g.L.Locals.items c.args.l.now) c.copy_table.ensures.kept
+    c.args.w.now.sound c.requires.locals (1 + length (table_at (heap_of c.args.w.now.heap) c.args.table).pairs)
+    (having_table_of (table_at (heap_of c.args.w.now.heap) c.args.table)) table_number
+    (value_in (extent_of c.copy_table.new.self)) c.in_err-copy_table.field-0.0 c.from_residual.result c.in_err-copy_table.ensures.unchanged
+    c.in_err-copy_table.ensures.step c.from_residual.ensures.1
 
 pub returns-clause-found : goal.returns-clause-found
 returns-clause-found g c =
-    made c.args.w.now.heap c.copy_table.new.self c.args.w.now.pair c.args.w.now.random c.args.w.now.globals.items c.args.w.now.statics.items (g.L.Locals.items c.args.l.now) c.copy_table.ensures.kept
-    c.args.w.now.sound c.requires.locals (1 + length (table_at (heap_of c.args.w.now.heap) c.args.table).pairs) (having_table_of (table_at (heap_of c.args.w.now.heap) c.args.table)) table_number
-    (tables_stay (heap_of c.args.w.now.heap)) (value_in (extent_of c.copy_table.new.self) c.in_ok-copy_table.field-0) c.in_ok-copy_table.ensures.value c.in_ok-copy_table.ensures.step
+    made c.args.w.now.heap c.copy_table.new.self c.args.w.now.pair c.args.w.now.random c.args.w.now.globals.items c.args.w.now.statics.items
+    (g.L.Locals.items c.args.l.now) c.copy_table.ensures.kept
+    c.args.w.now.sound c.requires.locals (1 + length (table_at (heap_of c.args.w.now.heap) c.args.table).pairs)
+    (having_table_of (table_at (heap_of c.args.w.now.heap) c.args.table)) table_number
+    (tables_stay (heap_of c.args.w.now.heap))
+    (value_in (extent_of c.copy_table.new.self) c.in_ok-copy_table.field-0) c.in_ok-copy_table.ensures.value c.in_ok-copy_table.ensures.step
 
 pub returns-clause-kept : goal.returns-clause-kept
 returns-clause-kept g c = record {
   extent = c.copy_table.ensures.kept;
-  fields = fields_behind (cells_change (1 + length (table_at (heap_of c.args.w.now.heap) c.args.table).pairs)) (having_table_of (table_at (heap_of c.args.w.now.heap) c.args.table)) (λ heap. refl) (heap_of c.args.w.now.heap) (heap_of c.copy_table.new.self) c.in_ok-copy_table.ensures.step;
+  fields = fields_behind (cells_change (1 + length (table_at (heap_of c.args.w.now.heap) c.args.table).pairs))
+      (having_table_of (table_at (heap_of c.args.w.now.heap) c.args.table)) (λ heap. refl) (heap_of c.args.w.now.heap)
+      (heap_of c.copy_table.new.self) c.in_ok-copy_table.ensures.step;
   globals = refl;
   statics = refl;
   locals = refl;

@@ -14,9 +14,12 @@ pub returns-clause-order : goal.returns-clause-order
 returns-clause-order g c =
     IfOk-weaker c.pairs_at.result _ _ (λ found values.
     values (extent_of c.args.heap.now)
-    ∙ ordered (map (values_in (extent_of c.args.heap.now)) c.args.pairs.now) (Null, Null) (key_cmp (g.N.Names.known c.args.names.now) (heap_of c.args.heap.now)) _ c.in_ok-places.places.items c.deref.result.now c.deref.ensures.value
+    ∙ ordered (map (values_in (extent_of c.args.heap.now)) c.args.pairs.now) (Null, Null)
+    (key_cmp (g.N.Names.known c.args.names.now) (heap_of c.args.heap.now)) _ c.in_ok-places.places.items c.deref.result.now c.deref.ensures.value
     (sym (length-map c.args.pairs.now (values_in (extent_of c.args.heap.now)))) c.in_ok-places.ensures.permutation c.in_ok-places.ensures.sorted
-    (λ ys. keys_alone (key_cmp (g.N.Names.known c.args.names.now) (heap_of c.args.heap.now)) (total_keys (g.N.Names.known c.args.names.now) (heap_of c.args.heap.now)) (λ a b is. ties_are_one (g.N.Names.known c.args.names.now) (heap_of c.args.heap.now) a.0 b.0 is) (map (values_in (extent_of c.args.heap.now)) c.args.pairs.now) ys c.requires.differ)) c.pairs_at.ensures.values
+    (λ ys. keys_alone (key_cmp (g.N.Names.known c.args.names.now) (heap_of c.args.heap.now))
+    (total_keys (g.N.Names.known c.args.names.now) (heap_of c.args.heap.now)) (λ a b is. ties_are_one (g.N.Names.known c.args.names.now)
+    (heap_of c.args.heap.now) a.0 b.0 is) (map (values_in (extent_of c.args.heap.now)) c.args.pairs.now) ys c.requires.differ)) c.pairs_at.ensures.values
 
 pub returns-clause-live : goal.returns-clause-live
 returns-clause-live g c = IfOk-weaker c.pairs_at.result _ _ (λ found live. live (extent_of c.args.heap.now) c.requires.live) c.pairs_at.ensures.live

@@ -14,11 +14,13 @@ compare-requires-clause-second g c = (c.pair_at-second.ensures.live (extent_of c
 
 pub compare-requires-clause-first_named : goal.compare-requires-clause-first_named
 compare-requires-clause-first_named g c =
-    (pair_named (g.N.Names.known c.args.names.now) (extent_of c.args.heap.now) c.args.pairs.now c.args.i c.pair_at-first.result (c.pair_at-first.ensures.values (extent_of c.args.heap.now)) c.requires.named).0
+    (pair_named (g.N.Names.known c.args.names.now) (extent_of c.args.heap.now) c.args.pairs.now c.args.i c.pair_at-first.result
+    (c.pair_at-first.ensures.values (extent_of c.args.heap.now)) c.requires.named).0
 
 pub compare-requires-clause-second_named : goal.compare-requires-clause-second_named
 compare-requires-clause-second_named g c =
-    (pair_named (g.N.Names.known c.args.names.now) (extent_of c.args.heap.now) c.args.pairs.now c.args.j c.pair_at-second.result (c.pair_at-second.ensures.values (extent_of c.args.heap.now)) c.requires.named).0
+    (pair_named (g.N.Names.known c.args.names.now) (extent_of c.args.heap.now) c.args.pairs.now c.args.j c.pair_at-second.result
+    (c.pair_at-second.ensures.values (extent_of c.args.heap.now)) c.requires.named).0
 
 pub compare-requires-clause-records : goal.compare-requires-clause-records
 compare-requires-clause-records g c = named_records (g.N.Names.known c.args.names.now) (heap_of c.args.heap.now) c.requires.heap
@@ -26,5 +28,7 @@ compare-requires-clause-records g c = named_records (g.N.Names.known c.args.name
 pub returns : goal.returns
 returns g c =
     c.compare.ensures
-    ∙ (ap (λ pair. key_cmp (g.N.Names.known c.args.names.now) (heap_of c.args.heap.now) pair (values_in (extent_of c.args.heap.now) c.pair_at-second.result)) (c.pair_at-first.ensures.values (extent_of c.args.heap.now))
-    ∙ ap (key_cmp (g.N.Names.known c.args.names.now) (heap_of c.args.heap.now) (pair_at (map (values_in (extent_of c.args.heap.now)) c.args.pairs.now) c.args.i)) (c.pair_at-second.ensures.values (extent_of c.args.heap.now)))
+    ∙ (ap (λ pair. key_cmp (g.N.Names.known c.args.names.now) (heap_of c.args.heap.now) pair (values_in (extent_of c.args.heap.now) c.pair_at-second.result))
+    (c.pair_at-first.ensures.values (extent_of c.args.heap.now))
+    ∙ ap (key_cmp (g.N.Names.known c.args.names.now) (heap_of c.args.heap.now)
+    (pair_at (map (values_in (extent_of c.args.heap.now)) c.args.pairs.now) c.args.i)) (c.pair_at-second.ensures.values (extent_of c.args.heap.now)))

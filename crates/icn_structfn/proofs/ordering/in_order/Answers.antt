@@ -14,9 +14,12 @@ pub returns-clause-order : goal.returns-clause-order
 returns-clause-order g c =
     IfOk-weaker c.values_at.result _ _ (λ found values.
     values (extent_of c.args.heap.now)
-    ∙ ordered (map (value_in (extent_of c.args.heap.now)) c.args.vals.now) Null (value_cmp (g.N.Names.known c.args.names.now) (heap_of c.args.heap.now)) _ c.in_ok-places.places.items c.deref.result.now c.deref.ensures.value
+    ∙ ordered (map (value_in (extent_of c.args.heap.now)) c.args.vals.now) Null
+    (value_cmp (g.N.Names.known c.args.names.now) (heap_of c.args.heap.now)) _ c.in_ok-places.places.items c.deref.result.now c.deref.ensures.value
     (sym (length-map c.args.vals.now (value_in (extent_of c.args.heap.now)))) c.in_ok-places.ensures.permutation c.in_ok-places.ensures.sorted
-    (λ ys. alone (value_cmp (g.N.Names.known c.args.names.now) (heap_of c.args.heap.now)) (total (g.N.Names.known c.args.names.now) (heap_of c.args.heap.now)) (ties_are_one (g.N.Names.known c.args.names.now) (heap_of c.args.heap.now)) (map (value_in (extent_of c.args.heap.now)) c.args.vals.now) ys)) c.values_at.ensures.values
+    (λ ys. alone (value_cmp (g.N.Names.known c.args.names.now) (heap_of c.args.heap.now)) (total (g.N.Names.known c.args.names.now) (heap_of c.args.heap.now))
+    (ties_are_one (g.N.Names.known c.args.names.now) (heap_of c.args.heap.now)) (map (value_in (extent_of c.args.heap.now)) c.args.vals.now) ys))
+    c.values_at.ensures.values
 
 pub returns-clause-live : goal.returns-clause-live
 returns-clause-live g c = IfOk-weaker c.values_at.result _ _ (λ found live. live (extent_of c.args.heap.now) c.requires.live) c.values_at.ensures.live

@@ -6,7 +6,8 @@ use Rattle.icn_structfn.proofs.ordering.pairs_at.Given as goal
 
 abbrev pub invariant-loop-first : goal.invariant-loop-first
 invariant-loop-first l = record {
-  values : (all : Extent) → map (values_in all) l.found.items ++ map (pair_at (map (values_in all) l.pairs)) l.rest ≡ map (pair_at (map (values_in all) l.pairs)) l.places;
+  values : (all : Extent)
+      → map (values_in all) l.found.items ++ map (pair_at (map (values_in all) l.pairs)) l.rest ≡ map (pair_at (map (values_in all) l.pairs)) l.places;
   live : (all : Extent) → All (AreLive all) l.pairs → All (AreLive all) l.found.items;
 }
 

@@ -10,6 +10,8 @@ use Rattle.icn_structfn.proofs.ordering.places_by_value.Goals as goal
 
 pub returns-clause-sorted : goal.returns-clause-sorted
 returns-clause-sorted g c =
-    sorted_by_closure (λ i j. value_cmp (g.N.Names.known c.args.names.now) (heap_of c.args.heap.now) (arg (map (value_in (extent_of c.args.heap.now)) c.args.vals.now) i) (arg (map (value_in (extent_of c.args.heap.now)) c.args.vals.now) j))
-    (on_total (arg (map (value_in (extent_of c.args.heap.now)) c.args.vals.now)) (total (g.N.Names.known c.args.names.now) (heap_of c.args.heap.now))) c.sort_by.new.self.items
+    sorted_by_closure (λ i j. value_cmp (g.N.Names.known c.args.names.now) (heap_of c.args.heap.now)
+    (arg (map (value_in (extent_of c.args.heap.now)) c.args.vals.now) i) (arg (map (value_in (extent_of c.args.heap.now)) c.args.vals.now) j))
+    (on_total (arg (map (value_in (extent_of c.args.heap.now)) c.args.vals.now)) (total (g.N.Names.known c.args.names.now) (heap_of c.args.heap.now)))
+    c.sort_by.new.self.items
     c.in_ok-sort_by.ensures.sorted (λ a r q k. search rules)

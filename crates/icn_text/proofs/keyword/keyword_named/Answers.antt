@@ -3,7 +3,8 @@ use Rattle.icn_text.proofs.KeywordNames.{no_more, keyword_within}
 use Rattle.icn_text.proofs.keyword.keyword_named.Goals as goal
 
 pub loop-found-preserved : goal.loop-found-preserved
-loop-found-preserved c = no_more c.loop-found.found-index _ c.args.name.now c.name.result.now c.name.ensures (sym c.eq.ensures ∙ c.if-eq.false) c.loop-found.invariant
+loop-found-preserved c =
+    no_more c.loop-found.found-index _ c.args.name.now c.name.result.now c.name.ensures (sym c.eq.ensures ∙ c.if-eq.false) c.loop-found.invariant
 
 pub returns-clause-none : goal.returns-clause-none
 returns-clause-none c = λ any. c.loop-found.invariant any (le_trans (keyword_within any) c.loop-found-test.false)

@@ -6,5 +6,6 @@ use Rattle.icn_translate.proofs.file.proc_codes.Goals as goal
 
 pub loop-decl-preserved : goal.loop-decl-preserved
 loop-decl-preserved c =
-    part_step codes_in c.args.decls.now c.loop-decl.decl-index c.decl-item.result (map proc_seen c.loop-decl.codes.items) _ c.loop-decl-test.true c.decl-item.is c.in_ok-put_codes.ensures
+    part_step codes_in c.args.decls.now c.loop-decl.decl-index c.decl-item.result
+    (map proc_seen c.loop-decl.codes.items) _ c.loop-decl-test.true c.decl-item.is c.in_ok-put_codes.ensures
     ∙ c.loop-decl.invariant

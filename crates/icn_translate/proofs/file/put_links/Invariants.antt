@@ -5,4 +5,5 @@ use Rattle.icn_translate.specs.FileUnits.{item_text}
 use Rattle.icn_translate.proofs.file.put_links.Given as goal
 
 abbrev pub invariant-loop-item : goal.invariant-loop-item
-invariant-loop-item l = map decl_seen l.lines.items ++ map (λ item. LinkLine (item_text item)) (drop l.item-index l.items) ≡ map decl_seen l.initial.lines.items ++ map (λ item. LinkLine (item_text item)) l.items
+invariant-loop-item l = map decl_seen l.lines.items ++ map (λ item. LinkLine (item_text item)) (drop l.item-index l.items) ≡ map decl_seen l.initial.lines.items
+    ++ map (λ item. LinkLine (item_text item)) l.items

@@ -6,4 +6,5 @@ use Rattle.icn_translate.specs.FileUnits.{lines_in}
 use Rattle.icn_translate.proofs.file.unit_decls.Given as goal
 
 abbrev pub invariant-loop-decl : goal.invariant-loop-decl
-invariant-loop-decl l = map decl_seen l.lines.items ++ flat_map lines_in (map declaration_of (drop l.decl-index l.decls)) ≡ flat_map lines_in (map declaration_of l.decls)
+invariant-loop-decl l =
+    map decl_seen l.lines.items ++ flat_map lines_in (map declaration_of (drop l.decl-index l.decls)) ≡ flat_map lines_in (map declaration_of l.decls)

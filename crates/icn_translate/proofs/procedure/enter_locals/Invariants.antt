@@ -6,4 +6,5 @@ use Rattle.icn_translate.specs.ProcCodes.{local_texts}
 use Rattle.icn_translate.proofs.procedure.enter_locals.Given as goal
 
 abbrev pub invariant-loop-local : goal.invariant-loop-local
-invariant-loop-local l = with_names (map (λ name. name.now) l.names.keys) (flat_map local_texts (map locals_of (drop l.local-index l.locals))) ≡ with_names (map (λ name. name.now) l.initial.names.keys) (flat_map local_texts (map locals_of l.locals))
+invariant-loop-local l = with_names (map (λ name. name.now) l.names.keys) (flat_map local_texts (map locals_of (drop l.local-index l.locals)))
+    ≡ with_names (map (λ name. name.now) l.initial.names.keys) (flat_map local_texts (map locals_of l.locals))

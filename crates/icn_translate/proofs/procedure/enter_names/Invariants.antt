@@ -4,4 +4,5 @@ use Rattle.icn_translate.specs.ProcCodes.{texts_of}
 use Rattle.icn_translate.proofs.procedure.enter_names.Given as goal
 
 abbrev pub invariant-loop-entry : goal.invariant-loop-entry
-invariant-loop-entry l = with_names (map (λ name. name.now) l.names.keys) (texts_of (drop l.entry-index l.entries)) ≡ with_names (map (λ name. name.now) l.initial.names.keys) (texts_of l.entries)
+invariant-loop-entry l = with_names (map (λ name. name.now) l.names.keys) (texts_of (drop l.entry-index l.entries))
+    ≡ with_names (map (λ name. name.now) l.initial.names.keys) (texts_of l.entries)

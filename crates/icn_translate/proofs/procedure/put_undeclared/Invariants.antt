@@ -4,4 +4,5 @@ use Rattle.icn_translate.specs.ProcCodes.{entry_of}
 use Rattle.icn_translate.proofs.procedure.put_undeclared.Given as goal
 
 abbrev pub invariant-loop-name : goal.invariant-loop-name
-invariant-loop-name l = l.entries.items ++ map (entry_of Undeclared) (map (λ name. name.now) (drop l.name-index l.undeclared)) ≡ l.initial.entries.items ++ map (entry_of Undeclared) (map (λ name. name.now) l.undeclared)
+invariant-loop-name l = l.entries.items ++ map (entry_of Undeclared) (map (λ name. name.now) (drop l.name-index l.undeclared)) ≡ l.initial.entries.items
+    ++ map (entry_of Undeclared) (map (λ name. name.now) l.undeclared)

@@ -16,4 +16,6 @@ pub returns-clause-words : goal.returns-clause-words
 unfolding is_beginner
 returns-clause-words c =
     let begins_none = λ (word : Word). is_beginner (WordKind word) ≡ false in
-    all_next begins_none Then (Do ∷ Of ∷ To ∷ By ∷ Else ∷ []) refl (all_next begins_none Do (Of ∷ To ∷ By ∷ Else ∷ []) refl (all_next begins_none Of (To ∷ By ∷ Else ∷ []) refl (all_next begins_none To (By ∷ Else ∷ []) refl (all_next begins_none By (Else ∷ []) refl (all_next begins_none Else [] refl (all_none begins_none))))))
+    all_next begins_none Then
+    (Do ∷ Of ∷ To ∷ By ∷ Else ∷ []) refl (all_next begins_none Do (Of ∷ To ∷ By ∷ Else ∷ []) refl (all_next begins_none Of (To ∷ By ∷ Else ∷ []) refl
+    (all_next begins_none To (By ∷ Else ∷ []) refl (all_next begins_none By (Else ∷ []) refl (all_next begins_none Else [] refl (all_none begins_none))))))

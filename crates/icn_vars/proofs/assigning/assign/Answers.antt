@@ -13,14 +13,25 @@ use Rattle.icn_vars.proofs.assigning.assign.Goals as goal
 pub returns-in_err-assign_root-in-Whole-clause-assigned : goal.returns-in_err-assign_root-in-Whole-clause-assigned
 returns-in_err-assign_root-in-Whole-clause-assigned g c =
     rw c.in-Whole.is (λ outside.
-    assign_err (extent_of c.assign_root.new.w.heap) (λ refused. assigns_or refused (Whole (root_in (extent_of c.args.w.now.heap) c.in-Whole.root)) (value_in (extent_of c.args.w.now.heap) c.args.val)) (setting_of outside c.args.w.now (g.L.Locals.items c.args.l.now)) (setting_of outside c.assign_root.new.w (g.L.Locals.items c.assign_root.new.l)) c.in_err-assign_root-in-Whole.field-0.0 c.from_residual.result c.from_residual.ensures.1
-    (whole_stops (extent_of c.assign_root.new.w.heap) (root_in (extent_of c.args.w.now.heap) c.in-Whole.root) (value_in (extent_of c.args.w.now.heap) c.args.val) (setting_of outside c.args.w.now (g.L.Locals.items c.args.l.now)) (setting_of outside c.assign_root.new.w (g.L.Locals.items c.assign_root.new.l)) c.in_err-assign_root-in-Whole.field-0.0 (c.in_err-assign_root-in-Whole.ensures.assigned outside)))
+    assign_err (extent_of c.assign_root.new.w.heap)
+    (λ refused. assigns_or refused (Whole (root_in (extent_of c.args.w.now.heap) c.in-Whole.root)) (value_in (extent_of c.args.w.now.heap) c.args.val))
+    (setting_of outside c.args.w.now (g.L.Locals.items c.args.l.now)) (setting_of outside c.assign_root.new.w (g.L.Locals.items c.assign_root.new.l))
+    c.in_err-assign_root-in-Whole.field-0.0 c.from_residual.result c.from_residual.ensures.1
+    (whole_stops (extent_of c.assign_root.new.w.heap) (root_in (extent_of c.args.w.now.heap) c.in-Whole.root)
+    (value_in (extent_of c.args.w.now.heap) c.args.val) (setting_of outside c.args.w.now (g.L.Locals.items c.args.l.now))
+    (setting_of outside c.assign_root.new.w (g.L.Locals.items c.assign_root.new.l)) c.in_err-assign_root-in-Whole.field-0.0
+    (c.in_err-assign_root-in-Whole.ensures.assigned outside)))
 
 pub returns-then-branch-clause-assigned : goal.returns-then-branch-clause-assigned
 returns-then-branch-clause-assigned g c =
     let live = rw c.in-Whole.is at c.requires.variable.live in
-    rw c.in-Whole.is (λ outside. whole_done (root_in (extent_of c.args.w.now.heap) c.in-Whole.root) (value_in (extent_of c.args.w.now.heap) c.args.val) (setting_of outside c.args.w.now (g.L.Locals.items c.args.l.now)) (setting_of outside c.assign_root.new.w (g.L.Locals.items c.assign_root.new.l)) (Whole (root_in (extent_of c.assign_root.new.w.heap) c.in-Whole.root)) (ap Whole (root_kept c.assign_root.ensures.kept c.in-Whole.root live))
-    (root_true (extent_of c.assign_root.new.w.heap) (λ refused. assigns_root refused (root_in (extent_of c.args.w.now.heap) c.in-Whole.root) (value_in (extent_of c.args.w.now.heap) c.args.val)) (setting_of outside c.args.w.now (g.L.Locals.items c.args.l.now)) (setting_of outside c.assign_root.new.w (g.L.Locals.items c.assign_root.new.l)) c.in_ok-assign_root-in-Whole.field-0 c.if-branch.true (c.in_ok-assign_root-in-Whole.ensures.assigned outside)))
+    rw c.in-Whole.is (λ outside. whole_done (root_in (extent_of c.args.w.now.heap) c.in-Whole.root) (value_in (extent_of c.args.w.now.heap) c.args.val)
+    (setting_of outside c.args.w.now (g.L.Locals.items c.args.l.now)) (setting_of outside c.assign_root.new.w (g.L.Locals.items c.assign_root.new.l))
+    (Whole (root_in (extent_of c.assign_root.new.w.heap) c.in-Whole.root)) (ap Whole (root_kept c.assign_root.ensures.kept c.in-Whole.root live))
+    (root_true (extent_of c.assign_root.new.w.heap)
+    (λ refused. assigns_root refused (root_in (extent_of c.args.w.now.heap) c.in-Whole.root) (value_in (extent_of c.args.w.now.heap) c.args.val))
+    (setting_of outside c.args.w.now (g.L.Locals.items c.args.l.now)) (setting_of outside c.assign_root.new.w (g.L.Locals.items c.assign_root.new.l))
+    c.in_ok-assign_root-in-Whole.field-0 c.if-branch.true (c.in_ok-assign_root-in-Whole.ensures.assigned outside)))
 
 pub returns-then-branch-clause-live : goal.returns-then-branch-clause-live
 returns-then-branch-clause-live g c =
@@ -34,8 +45,12 @@ returns-then-branch-clause-holds g c =
 
 pub returns-else-branch-clause-assigned : goal.returns-else-branch-clause-assigned
 returns-else-branch-clause-assigned g c =
-    rw c.in-Whole.is (λ outside. whole_refused (root_in (extent_of c.args.w.now.heap) c.in-Whole.root) (value_in (extent_of c.args.w.now.heap) c.args.val) (setting_of outside c.args.w.now (g.L.Locals.items c.args.l.now)) (setting_of outside c.assign_root.new.w (g.L.Locals.items c.assign_root.new.l))
-    (root_false (extent_of c.assign_root.new.w.heap) (λ refused. assigns_root refused (root_in (extent_of c.args.w.now.heap) c.in-Whole.root) (value_in (extent_of c.args.w.now.heap) c.args.val)) (setting_of outside c.args.w.now (g.L.Locals.items c.args.l.now)) (setting_of outside c.assign_root.new.w (g.L.Locals.items c.assign_root.new.l)) c.in_ok-assign_root-in-Whole.field-0 c.if-branch.false (c.in_ok-assign_root-in-Whole.ensures.assigned outside)))
+    rw c.in-Whole.is (λ outside. whole_refused (root_in (extent_of c.args.w.now.heap) c.in-Whole.root) (value_in (extent_of c.args.w.now.heap) c.args.val)
+    (setting_of outside c.args.w.now (g.L.Locals.items c.args.l.now)) (setting_of outside c.assign_root.new.w (g.L.Locals.items c.assign_root.new.l))
+    (root_false (extent_of c.assign_root.new.w.heap)
+    (λ refused. assigns_root refused (root_in (extent_of c.args.w.now.heap) c.in-Whole.root) (value_in (extent_of c.args.w.now.heap) c.args.val))
+    (setting_of outside c.args.w.now (g.L.Locals.items c.args.l.now)) (setting_of outside c.assign_root.new.w (g.L.Locals.items c.assign_root.new.l))
+    c.in_ok-assign_root-in-Whole.field-0 c.if-branch.false (c.in_ok-assign_root-in-Whole.ensures.assigned outside)))
 
 pub returns-in-Part-clause-assigned : goal.returns-in-Part-clause-assigned
 returns-in-Part-clause-assigned g c = rw c.in-Part.is c.assign_part.ensures.assigned

@@ -12,8 +12,14 @@ use Rattle.icn_vars.proofs.exchanging.assign_both.Goals as goal
 
 pub returns-in_err-now-clause-exchanged : goal.returns-in_err-now-clause-exchanged
 returns-in_err-now-clause-exchanged g c = λ outside.
-    exchange_err (extent_of c.assign.new.w.heap) (λ refused. assigns_both refused (mover_of c.args.mover) (variable_in (extent_of c.args.w.now.heap) c.args.left) (variable_in (extent_of c.args.w.now.heap) c.args.right) (value_in (extent_of c.args.w.now.heap) c.args.to_left) (value_in (extent_of c.args.w.now.heap) c.args.to_right)) (setting_of outside c.args.w.now (g.L.Locals.items c.args.l.now)) (setting_of outside c.assign.new.w (g.L.Locals.items c.assign.new.l)) c.in_err-now.field-0.0 c.from_residual.result c.from_residual.ensures.1
-    (left_stops (extent_of c.assign.new.w.heap) (mover_of c.args.mover) (variable_in (extent_of c.args.w.now.heap) c.args.left) (variable_in (extent_of c.args.w.now.heap) c.args.right) (value_in (extent_of c.args.w.now.heap) c.args.to_left) (value_in (extent_of c.args.w.now.heap) c.args.to_right) (setting_of outside c.args.w.now (g.L.Locals.items c.args.l.now)) (setting_of outside c.assign.new.w (g.L.Locals.items c.assign.new.l)) c.in_err-now.field-0.0 (c.in_err-now.ensures.assigned outside))
+    exchange_err (extent_of c.assign.new.w.heap) (λ refused. assigns_both refused (mover_of c.args.mover)
+    (variable_in (extent_of c.args.w.now.heap) c.args.left) (variable_in (extent_of c.args.w.now.heap) c.args.right) (value_in (extent_of c.args.w.now.heap)
+    c.args.to_left) (value_in (extent_of c.args.w.now.heap) c.args.to_right)) (setting_of outside c.args.w.now (g.L.Locals.items c.args.l.now))
+    (setting_of outside c.assign.new.w (g.L.Locals.items c.assign.new.l)) c.in_err-now.field-0.0 c.from_residual.result c.from_residual.ensures.1
+    (left_stops (extent_of c.assign.new.w.heap) (mover_of c.args.mover) (variable_in (extent_of c.args.w.now.heap) c.args.left)
+    (variable_in (extent_of c.args.w.now.heap) c.args.right) (value_in (extent_of c.args.w.now.heap) c.args.to_left)
+    (value_in (extent_of c.args.w.now.heap) c.args.to_right) (setting_of outside c.args.w.now (g.L.Locals.items c.args.l.now))
+    (setting_of outside c.assign.new.w (g.L.Locals.items c.assign.new.l)) c.in_err-now.field-0.0 (c.in_err-now.ensures.assigned outside))
 
 pub assign_moved-requires-clause-right : goal.assign_moved-requires-clause-right
 assign_moved-requires-clause-right g c = variable_stays c.assign.ensures.kept c.args.right c.requires.right
@@ -27,34 +33,66 @@ assign_right-requires-in-Right-clause-right g c = variable_stays c.assign.ensure
 pub returns-in-Left-clause-exchanged : goal.returns-in-Left-clause-exchanged
 returns-in-Left-clause-exchanged g c = rw c.in-Left.is (λ outside.
     let assigned = rw c.in-Done.is at (c.in_ok-now.ensures.assigned outside) in
-    left_moves (extent_of c.assign_moved.new.w.heap) (variable_in (extent_of c.args.w.now.heap) c.args.left) (variable_in (extent_of c.args.w.now.heap) c.args.right) (variable_in (extent_of c.assign.new.w.heap) c.args.right) (variable_in (extent_of c.assign.new.w.heap) c.in-Done.now) (value_in (extent_of c.args.w.now.heap) c.args.to_left) (value_in (extent_of c.args.w.now.heap) c.args.to_right) (value_in (extent_of c.assign.new.w.heap) c.args.to_right) c.part_length.result (setting_of outside c.args.w.now (g.L.Locals.items c.args.l.now)) (setting_of outside c.assign.new.w (g.L.Locals.items c.assign.new.l)) (setting_of outside c.assign_moved.new.w (g.L.Locals.items c.assign_moved.new.l)) c.assign_moved.result (variable_kept c.assign.ensures.kept c.args.right c.requires.right) (c.assign.ensures.kept.extent.value c.args.to_right c.requires.to_right) (c.part_length.ensures (extent_of c.args.w.now.heap)) assigned (c.assign_moved.ensures.exchanged outside))
+    left_moves (extent_of c.assign_moved.new.w.heap) (variable_in (extent_of c.args.w.now.heap) c.args.left)
+    (variable_in (extent_of c.args.w.now.heap) c.args.right) (variable_in (extent_of c.assign.new.w.heap) c.args.right)
+    (variable_in (extent_of c.assign.new.w.heap) c.in-Done.now) (value_in (extent_of c.args.w.now.heap) c.args.to_left)
+    (value_in (extent_of c.args.w.now.heap) c.args.to_right) (value_in (extent_of c.assign.new.w.heap) c.args.to_right) c.part_length.result
+    (setting_of outside c.args.w.now (g.L.Locals.items c.args.l.now)) (setting_of outside c.assign.new.w (g.L.Locals.items c.assign.new.l))
+    (setting_of outside c.assign_moved.new.w (g.L.Locals.items c.assign_moved.new.l)) c.assign_moved.result
+    (variable_kept c.assign.ensures.kept c.args.right c.requires.right) (c.assign.ensures.kept.extent.value c.args.to_right c.requires.to_right)
+    (c.part_length.ensures (extent_of c.args.w.now.heap)) assigned (c.assign_moved.ensures.exchanged outside))
 
 pub returns-in-Left-clause-holds : goal.returns-in-Left-clause-holds
 returns-in-Left-clause-holds g c =
     let holds = rw c.in-Done.is at c.in_ok-now.ensures.holds in
-    hold_as (extent_of c.assign_moved.new.w.heap) (variable_in (extent_of c.args.w.now.heap) c.args.left) (variable_in (extent_of c.assign.new.w.heap) c.in-Done.now) (variable_in (extent_of c.args.w.now.heap) c.args.right) (variable_in (extent_of c.assign.new.w.heap) c.args.right) c.assign_moved.result holds (λ value. ap (λ variable. can_hold variable value) (variable_kept c.assign.ensures.kept c.args.right c.requires.right)) c.assign_moved.ensures.holds
+    hold_as (extent_of c.assign_moved.new.w.heap)
+    (variable_in (extent_of c.args.w.now.heap) c.args.left) (variable_in (extent_of c.assign.new.w.heap) c.in-Done.now)
+    (variable_in (extent_of c.args.w.now.heap) c.args.right) (variable_in (extent_of c.assign.new.w.heap) c.args.right) c.assign_moved.result holds
+    (λ value. ap (λ variable. can_hold variable value) (variable_kept c.assign.ensures.kept c.args.right c.requires.right)) c.assign_moved.ensures.holds
 
 pub returns-in-OutOfRange-clause-exchanged : goal.returns-in-OutOfRange-clause-exchanged
 returns-in-OutOfRange-clause-exchanged g c = λ outside.
     let refused = rw c.in-OutOfRange.is at (c.in_ok-now.ensures.assigned outside) in
-    left_refused (extent_of c.assign.new.w.heap) (mover_of c.args.mover) (variable_in (extent_of c.args.w.now.heap) c.args.left) (variable_in (extent_of c.args.w.now.heap) c.args.right) (value_in (extent_of c.args.w.now.heap) c.args.to_left) (value_in (extent_of c.args.w.now.heap) c.args.to_right) (setting_of outside c.args.w.now (g.L.Locals.items c.args.l.now)) (setting_of outside c.assign.new.w (g.L.Locals.items c.assign.new.l)) refused
+    left_refused (extent_of c.assign.new.w.heap) (mover_of c.args.mover) (variable_in (extent_of c.args.w.now.heap) c.args.left)
+    (variable_in (extent_of c.args.w.now.heap) c.args.right) (value_in (extent_of c.args.w.now.heap) c.args.to_left)
+    (value_in (extent_of c.args.w.now.heap) c.args.to_right) (setting_of outside c.args.w.now (g.L.Locals.items c.args.l.now))
+    (setting_of outside c.assign.new.w (g.L.Locals.items c.assign.new.l)) refused
 
 pub returns-in-Neither-clause-exchanged : goal.returns-in-Neither-clause-exchanged
 returns-in-Neither-clause-exchanged g c = rw c.in-Neither.is (λ outside.
     let assigned = rw c.in-Done.is at (c.in_ok-now.ensures.assigned outside) in
-    left_stays (extent_of c.assign_right.new.w.heap) Neither (variable_in (extent_of c.args.w.now.heap) c.args.left) (variable_in (extent_of c.args.w.now.heap) c.args.right) (variable_in (extent_of c.assign.new.w.heap) c.args.right) (variable_in (extent_of c.assign.new.w.heap) c.in-Done.now) (value_in (extent_of c.args.w.now.heap) c.args.to_left) (value_in (extent_of c.args.w.now.heap) c.args.to_right) (value_in (extent_of c.assign.new.w.heap) c.args.to_right) (setting_of outside c.args.w.now (g.L.Locals.items c.args.l.now)) (setting_of outside c.assign.new.w (g.L.Locals.items c.assign.new.l)) (setting_of outside c.assign_right.new.w (g.L.Locals.items c.assign_right.new.l)) c.assign_right.result tt (variable_kept c.assign.ensures.kept c.args.right c.requires.right) (c.assign.ensures.kept.extent.value c.args.to_right c.requires.to_right) assigned (c.assign_right.ensures.exchanged outside))
+    left_stays (extent_of c.assign_right.new.w.heap) Neither (variable_in (extent_of c.args.w.now.heap) c.args.left)
+    (variable_in (extent_of c.args.w.now.heap) c.args.right) (variable_in (extent_of c.assign.new.w.heap) c.args.right)
+    (variable_in (extent_of c.assign.new.w.heap) c.in-Done.now) (value_in (extent_of c.args.w.now.heap) c.args.to_left)
+    (value_in (extent_of c.args.w.now.heap) c.args.to_right) (value_in (extent_of c.assign.new.w.heap) c.args.to_right)
+    (setting_of outside c.args.w.now (g.L.Locals.items c.args.l.now)) (setting_of outside c.assign.new.w (g.L.Locals.items c.assign.new.l)) (setting_of outside
+    c.assign_right.new.w (g.L.Locals.items c.assign_right.new.l)) c.assign_right.result tt (variable_kept c.assign.ensures.kept c.args.right c.requires.right)
+    (c.assign.ensures.kept.extent.value c.args.to_right c.requires.to_right) assigned (c.assign_right.ensures.exchanged outside))
 
 pub returns-in-Neither-clause-holds : goal.returns-in-Neither-clause-holds
 returns-in-Neither-clause-holds g c =
     let holds = rw c.in-Done.is at c.in_ok-now.ensures.holds in
-    hold_as (extent_of c.assign_right.new.w.heap) (variable_in (extent_of c.args.w.now.heap) c.args.left) (variable_in (extent_of c.assign.new.w.heap) c.in-Done.now) (variable_in (extent_of c.args.w.now.heap) c.args.right) (variable_in (extent_of c.assign.new.w.heap) c.args.right) c.assign_right.result holds (λ value. ap (λ variable. can_hold variable value) (variable_kept c.assign.ensures.kept c.args.right c.requires.right)) c.assign_right.ensures.holds
+    hold_as (extent_of c.assign_right.new.w.heap)
+    (variable_in (extent_of c.args.w.now.heap) c.args.left) (variable_in (extent_of c.assign.new.w.heap) c.in-Done.now)
+    (variable_in (extent_of c.args.w.now.heap) c.args.right) (variable_in (extent_of c.assign.new.w.heap) c.args.right) c.assign_right.result holds
+    (λ value. ap (λ variable. can_hold variable value) (variable_kept c.assign.ensures.kept c.args.right c.requires.right)) c.assign_right.ensures.holds
 
 pub returns-in-Right-clause-exchanged : goal.returns-in-Right-clause-exchanged
 returns-in-Right-clause-exchanged g c = rw c.in-Right.is (λ outside.
     let assigned = rw c.in-Done.is at (c.in_ok-now.ensures.assigned outside) in
-    left_stays (extent_of c.assign_right-in-Right.new.w.heap) Right (variable_in (extent_of c.args.w.now.heap) c.args.left) (variable_in (extent_of c.args.w.now.heap) c.args.right) (variable_in (extent_of c.assign.new.w.heap) c.args.right) (variable_in (extent_of c.assign.new.w.heap) c.in-Done.now) (value_in (extent_of c.args.w.now.heap) c.args.to_left) (value_in (extent_of c.args.w.now.heap) c.args.to_right) (value_in (extent_of c.assign.new.w.heap) c.args.to_right) (setting_of outside c.args.w.now (g.L.Locals.items c.args.l.now)) (setting_of outside c.assign.new.w (g.L.Locals.items c.assign.new.l)) (setting_of outside c.assign_right-in-Right.new.w (g.L.Locals.items c.assign_right-in-Right.new.l)) c.assign_right-in-Right.result tt (variable_kept c.assign.ensures.kept c.args.right c.requires.right) (c.assign.ensures.kept.extent.value c.args.to_right c.requires.to_right) assigned (c.assign_right-in-Right.ensures.exchanged outside))
+    left_stays (extent_of c.assign_right-in-Right.new.w.heap) Right (variable_in (extent_of c.args.w.now.heap) c.args.left)
+    (variable_in (extent_of c.args.w.now.heap) c.args.right) (variable_in (extent_of c.assign.new.w.heap) c.args.right)
+    (variable_in (extent_of c.assign.new.w.heap) c.in-Done.now) (value_in (extent_of c.args.w.now.heap) c.args.to_left)
+    (value_in (extent_of c.args.w.now.heap) c.args.to_right) (value_in (extent_of c.assign.new.w.heap) c.args.to_right)
+    (setting_of outside c.args.w.now (g.L.Locals.items c.args.l.now)) (setting_of outside c.assign.new.w (g.L.Locals.items c.assign.new.l))
+    (setting_of outside c.assign_right-in-Right.new.w (g.L.Locals.items c.assign_right-in-Right.new.l)) c.assign_right-in-Right.result tt
+    (variable_kept c.assign.ensures.kept c.args.right c.requires.right) (c.assign.ensures.kept.extent.value c.args.to_right c.requires.to_right) assigned
+    (c.assign_right-in-Right.ensures.exchanged outside))
 
 pub returns-in-Right-clause-holds : goal.returns-in-Right-clause-holds
 returns-in-Right-clause-holds g c =
     let holds = rw c.in-Done.is at c.in_ok-now.ensures.holds in
-    hold_as (extent_of c.assign_right-in-Right.new.w.heap) (variable_in (extent_of c.args.w.now.heap) c.args.left) (variable_in (extent_of c.assign.new.w.heap) c.in-Done.now) (variable_in (extent_of c.args.w.now.heap) c.args.right) (variable_in (extent_of c.assign.new.w.heap) c.args.right) c.assign_right-in-Right.result holds (λ value. ap (λ variable. can_hold variable value) (variable_kept c.assign.ensures.kept c.args.right c.requires.right)) c.assign_right-in-Right.ensures.holds
+    hold_as (extent_of c.assign_right-in-Right.new.w.heap) (variable_in (extent_of c.args.w.now.heap) c.args.left)
+    (variable_in (extent_of c.assign.new.w.heap) c.in-Done.now) (variable_in (extent_of c.args.w.now.heap) c.args.right)
+    (variable_in (extent_of c.assign.new.w.heap) c.args.right) c.assign_right-in-Right.result holds (λ value.
+    ap (λ variable. can_hold variable value) (variable_kept c.assign.ensures.kept c.args.right c.requires.right)) c.assign_right-in-Right.ensures.holds

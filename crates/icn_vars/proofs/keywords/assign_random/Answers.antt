@@ -11,5 +11,6 @@ pub returns-in-Some-clause-assigned : goal.returns-in-Some-clause-assigned
 returns-in-Some-clause-assigned g c = λ outside.
     let fits : FitsSigned w64 c.in-Some.n = search rules in
     let state : c.cast_unsigned.result ≡ cast_unsigned w64 c.in-Some.n = c.cast_unsigned.ensures ∙ ap (cast_unsigned w64) (to_z-of_z w64 c.in-Some.n fits) in
-    random_assigned (value_in (extent_of c.args.w.now.heap) c.args.val) c.in-Some.n (c.cast_unsigned.result % 2 ^ 31) (setting_of outside c.args.w.now (g.L.Locals.items c.args.l.now))
+    random_assigned (value_in (extent_of c.args.w.now.heap) c.args.val) c.in-Some.n (c.cast_unsigned.result % 2 ^ 31)
+    (setting_of outside c.args.w.now (g.L.Locals.items c.args.l.now))
     (sym c.to_integer.ensures ∙ c.in-Some.is) (ap (λ n. n % 2 ^ 31) state)

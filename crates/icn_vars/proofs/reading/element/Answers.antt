@@ -9,5 +9,6 @@ use Rattle.icn_vars.proofs.reading.element.Goals as goal
 
 pub returns-clause-item : goal.returns-clause-item
 returns-clause-item c =
-    element_read (extent_of c.args.w.now.heap) c.list.result.now (list_at (heap_of c.args.w.now.heap) c.args.list) c.args.number c.by_number.result c.list.ensures.items
+    element_read (extent_of c.args.w.now.heap) c.list.result.now
+    (list_at (heap_of c.args.w.now.heap) c.args.list) c.args.number c.by_number.result c.list.ensures.items
     (c.by_number.ensures.item ∙ ap (item_numbered c.list.result.now) (to_z-of_z w64 c.args.number c.ranges.number))

@@ -13,12 +13,14 @@ field-requires-clause-there g c =
 pub returns-in-Global-clause-value : goal.returns-in-Global-clause-value
 returns-in-Global-clause-value g c =
     let live = rw c.in-Global.is at c.requires.live.live in
-    rw c.in-Global.is (value_read (extent_of c.args.w.now.heap) c.args.w.now.globals.items c.in-Global.place c.index.result.now c.index.result.now live c.index.ensures)
+    rw c.in-Global.is
+    (value_read (extent_of c.args.w.now.heap) c.args.w.now.globals.items c.in-Global.place c.index.result.now c.index.result.now live c.index.ensures)
 
 pub returns-in-Static-clause-value : goal.returns-in-Static-clause-value
 returns-in-Static-clause-value g c =
     let live = rw c.in-Static.is at c.requires.live.live in
-    rw c.in-Static.is (value_read (extent_of c.args.w.now.heap) c.args.w.now.statics.items c.in-Static.place c.index-in-Static.result.now c.index-in-Static.result.now live c.index-in-Static.ensures)
+    rw c.in-Static.is (value_read (extent_of c.args.w.now.heap) c.args.w.now.statics.items c.in-Static.place c.index-in-Static.result.now
+    c.index-in-Static.result.now live c.index-in-Static.ensures)
 
 pub returns-in-Local-clause-value : goal.returns-in-Local-clause-value
 returns-in-Local-clause-value g c =

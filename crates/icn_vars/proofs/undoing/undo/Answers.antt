@@ -10,8 +10,12 @@ use Rattle.icn_vars.proofs.undoing.undo.Goals as goal
 
 pub returns-in_err-assign-clause-undone : goal.returns-in_err-assign-clause-undone
 returns-in_err-assign-clause-undone g c = λ outside.
-    stops_at (extent_of c.assign.new.w.heap) (undoes (variable_in (extent_of c.args.w.now.heap) c.args.variable) (value_in (extent_of c.args.w.now.heap) c.args.old)) (setting_of outside c.args.w.now (g.L.Locals.items c.args.l.now)) (setting_of outside c.assign.new.w (g.L.Locals.items c.assign.new.l)) c.in_err-assign.field-0.0 c.from_residual.result c.from_residual.ensures.1
-    (undo_stops (extent_of c.assign.new.w.heap) (variable_in (extent_of c.args.w.now.heap) c.args.variable) (value_in (extent_of c.args.w.now.heap) c.args.old) (setting_of outside c.args.w.now (g.L.Locals.items c.args.l.now)) (setting_of outside c.assign.new.w (g.L.Locals.items c.assign.new.l)) c.in_err-assign.field-0.0 (c.in_err-assign.ensures.assigned outside))
+    stops_at (extent_of c.assign.new.w.heap) (undoes (variable_in (extent_of c.args.w.now.heap) c.args.variable)
+    (value_in (extent_of c.args.w.now.heap) c.args.old)) (setting_of outside c.args.w.now (g.L.Locals.items c.args.l.now))
+    (setting_of outside c.assign.new.w (g.L.Locals.items c.assign.new.l)) c.in_err-assign.field-0.0 c.from_residual.result c.from_residual.ensures.1
+    (undo_stops (extent_of c.assign.new.w.heap) (variable_in (extent_of c.args.w.now.heap) c.args.variable)
+    (value_in (extent_of c.args.w.now.heap) c.args.old) (setting_of outside c.args.w.now (g.L.Locals.items c.args.l.now))
+    (setting_of outside c.assign.new.w (g.L.Locals.items c.assign.new.l)) c.in_err-assign.field-0.0 (c.in_err-assign.ensures.assigned outside))
 
 pub returns-in-Done-clause-undone : goal.returns-in-Done-clause-undone
 returns-in-Done-clause-undone g c = λ outside next.

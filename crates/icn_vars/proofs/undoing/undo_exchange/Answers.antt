@@ -11,8 +11,15 @@ use Rattle.icn_vars.proofs.undoing.undo_exchange.Goals as goal
 
 pub returns-in_err-assign_both-clause-undone : goal.returns-in_err-assign_both-clause-undone
 returns-in_err-assign_both-clause-undone g c = λ outside.
-    stops_at (extent_of c.assign_both.new.w.heap) (undoes_exchange (mover_of c.args.mover) (variable_in (extent_of c.args.w.now.heap) c.args.left) (variable_in (extent_of c.args.w.now.heap) c.args.right) (value_in (extent_of c.args.w.now.heap) c.args.old_left) (value_in (extent_of c.args.w.now.heap) c.args.old_right)) (setting_of outside c.args.w.now (g.L.Locals.items c.args.l.now)) (setting_of outside c.assign_both.new.w (g.L.Locals.items c.assign_both.new.l)) c.in_err-assign_both.field-0.0 c.from_residual.result c.from_residual.ensures.1
-    (undo_exchange_stops (extent_of c.assign_both.new.w.heap) (mover_of c.args.mover) (variable_in (extent_of c.args.w.now.heap) c.args.left) (variable_in (extent_of c.args.w.now.heap) c.args.right) (value_in (extent_of c.args.w.now.heap) c.args.old_left) (value_in (extent_of c.args.w.now.heap) c.args.old_right) (setting_of outside c.args.w.now (g.L.Locals.items c.args.l.now)) (setting_of outside c.assign_both.new.w (g.L.Locals.items c.assign_both.new.l)) c.in_err-assign_both.field-0.0 (c.in_err-assign_both.ensures.exchanged outside))
+    stops_at (extent_of c.assign_both.new.w.heap)
+    (undoes_exchange (mover_of c.args.mover) (variable_in (extent_of c.args.w.now.heap) c.args.left) (variable_in (extent_of c.args.w.now.heap) c.args.right)
+    (value_in (extent_of c.args.w.now.heap) c.args.old_left) (value_in (extent_of c.args.w.now.heap) c.args.old_right))
+    (setting_of outside c.args.w.now (g.L.Locals.items c.args.l.now)) (setting_of outside c.assign_both.new.w (g.L.Locals.items c.assign_both.new.l))
+    c.in_err-assign_both.field-0.0 c.from_residual.result c.from_residual.ensures.1
+    (undo_exchange_stops (extent_of c.assign_both.new.w.heap) (mover_of c.args.mover) (variable_in (extent_of c.args.w.now.heap) c.args.left)
+    (variable_in (extent_of c.args.w.now.heap) c.args.right) (value_in (extent_of c.args.w.now.heap) c.args.old_left)
+    (value_in (extent_of c.args.w.now.heap) c.args.old_right) (setting_of outside c.args.w.now (g.L.Locals.items c.args.l.now)) (setting_of outside
+    c.assign_both.new.w (g.L.Locals.items c.assign_both.new.l)) c.in_err-assign_both.field-0.0 (c.in_err-assign_both.ensures.exchanged outside))
 
 pub returns-in-Done-clause-undone : goal.returns-in-Done-clause-undone
 returns-in-Done-clause-undone g c = λ outside next.

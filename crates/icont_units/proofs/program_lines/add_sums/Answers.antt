@@ -6,7 +6,8 @@ use Rattle.icont_units.proofs.program_lines.add_sums.Goals as goal
 
 pub loop-i-init : goal.loop-i-init
 loop-i-init c = record {
-  is = λ later. ap (λ k. c.args.lines.now.items ++ numbered_from k (map sum_line (range_with_len 1 (c.args.count - 0)) ++ later)) (plus_none (3 * c.args.count + 3))
+  is = λ later. ap (λ k. c.args.lines.now.items ++ numbered_from k (map sum_line (range_with_len 1 (c.args.count - 0)) ++ later))
+      (plus_none (3 * c.args.count + 3))
       ∙ ap (λ n. c.args.lines.now.items ++ numbered_from (3 * c.args.count + 3) (map sum_line (range_with_len 1 n) ++ later)) (none_done c.args.count);
 }
 

@@ -6,7 +6,8 @@ use Rattle.icont_units.proofs.source.checked_source.Goals as goal
 
 pub returns-in-Ok-source_tokens-clause-comes : goal.returns-in-Ok-source_tokens-clause-comes
 returns-in-Ok-source_tokens-clause-comes g c =
-    if_some (g.F.Files.held c.args.files.now) _ (λ held e. is_source held c.args.base.now c.deref.result.now (scan_of c.in-Ok-source_tokens.source) c.checked_tokens.result
+    if_some (g.F.Files.held c.args.files.now)
+    _ (λ held e. is_source held c.args.base.now c.deref.result.now (scan_of c.in-Ok-source_tokens.source) c.checked_tokens.result
     (c.deref.ensures ∙ c.in-Ok.ensures) (at_some _ (g.F.Files.held c.args.files.now) held e c.in-Ok-source_tokens.ensures.read) c.checked_tokens.ensures.file)
 
 pub returns-clause-comes : goal.returns-clause-comes

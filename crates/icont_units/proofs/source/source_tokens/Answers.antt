@@ -9,6 +9,7 @@ pub returns-in-Err-clause-file_fault : goal.returns-in-Err-clause-file_fault
 returns-in-Err-clause-file_fault g c = record {
   later = c.in-Err.ensures.file_fault.later;
   rose = λ e. c.in-Err.ensures.file_fault.rose
-      (ap (λ f. Err f) (file_fault_from c.args.name.now c.in-Err.fault c.fault_answer.result c.fault_answer.ensures.given (same_Err c.fault_answer.result FileFault e)));
+      (ap (λ f. Err f)
+      (file_fault_from c.args.name.now c.in-Err.fault c.fault_answer.result c.fault_answer.ensures.given (same_Err c.fault_answer.result FileFault e)));
   stayed = λ n. c.in-Err.ensures.file_fault.stayed (λ e. n (ap (λ a. Err a) (c.fault_answer.ensures.file_fault (same_Err c.in-Err.fault Prep.FileFault e))));
 }

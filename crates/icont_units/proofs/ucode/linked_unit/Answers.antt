@@ -11,12 +11,14 @@ returns-in_default-clause-absence g c = no_cause (g.F.Files.absences c.args.file
 pub returns-in-Ok-unit_read-clause-links : goal.returns-in-Ok-unit_read-clause-links
 returns-in-Ok-unit_read-clause-links g c =
     if_some (g.F.Files.held c.args.files.now) _ (λ held e. linked held c.args.base.now c.in-Ok.base.now c.in-Ok-both_texts.texts c.in-Ok-unit_read.unit
-    c.in-Ok.ensures.cases.0 c.in-Ok.ensures.cases.1 (at_some _ (g.F.Files.held c.args.files.now) held e c.in-Ok-both_texts.ensures.texts) c.in-Ok-unit_read.ensures.judged)
+    c.in-Ok.ensures.cases.0 c.in-Ok.ensures.cases.1
+    (at_some _ (g.F.Files.held c.args.files.now) held e c.in-Ok-both_texts.ensures.texts) c.in-Ok-unit_read.ensures.judged)
 
 pub returns-in-Ok-both_texts-clause-links : goal.returns-in-Ok-both_texts-clause-links
 returns-in-Ok-both_texts-clause-links g c =
     if_some (g.F.Files.held c.args.files.now) _ (λ held e. not_linked held c.args.base.now c.in-Ok.base.now c.in-Ok-both_texts.texts c.in-Err-unit_read.answer
-    c.in-Ok.ensures.cases.0 c.in-Ok.ensures.cases.1 (at_some _ (g.F.Files.held c.args.files.now) held e c.in-Ok-both_texts.ensures.texts) c.in-Err-unit_read.ensures.judged)
+    c.in-Ok.ensures.cases.0 c.in-Ok.ensures.cases.1
+    (at_some _ (g.F.Files.held c.args.files.now) held e c.in-Ok-both_texts.ensures.texts) c.in-Err-unit_read.ensures.judged)
 
 pub returns-in-Err-Missing-clause-links : goal.returns-in-Err-Missing-clause-links
 returns-in-Err-Missing-clause-links g c =

@@ -20,12 +20,14 @@ returns-in-Ok-clause-judged c =
     found c.args.base.now c.args.texts.now.first.items c.args.texts.now.second.items c.deref.result.now c.deref-2.result.now
     c.deref-3.result.now c.deref-4.result.now c.is_too_long.result c.is_too_long-2.result (Whole (unit_seen c.in-Ok.unit))
     c.deref.ensures.value c.is_too_long.ensures c.if-is_too_long.false c.deref-2.ensures.value c.is_too_long-2.ensures c.if-is_too_long-2.false
-    c.deref-3.ensures.value c.deref-4.ensures.value (unit_is c.in-Ok.unit (unit_read c.args.base.now c.deref-3.result.now c.deref-4.result.now) c.in-Ok.ensures.exact)
+    c.deref-3.ensures.value c.deref-4.ensures.value
+    (unit_is c.in-Ok.unit (unit_read c.args.base.now c.deref-3.result.now c.deref-4.result.now) c.in-Ok.ensures.exact)
 
 pub returns-in-Err-Broken-clause-judged : goal.returns-in-Err-Broken-clause-judged
 returns-in-Err-Broken-clause-judged c =
     let outcome : UnitOutcome = unit_read c.args.base.now c.deref-3.result.now c.deref-4.result.now in
-    read_fault c.args.base.now c.args.texts.now.first.items c.args.texts.now.second.items c.in-Err-Broken.rule c.in-Err-Broken.second c.bad_ucode-in-Err-Broken.result
+    read_fault c.args.base.now c.args.texts.now.first.items c.args.texts.now.second.items c.in-Err-Broken.rule c.in-Err-Broken.second
+    c.bad_ucode-in-Err-Broken.result
     (found c.args.base.now c.args.texts.now.first.items c.args.texts.now.second.items c.deref.result.now c.deref-2.result.now
     c.deref-3.result.now c.deref-4.result.now c.is_too_long.result c.is_too_long-2.result (Faulty c.in-Err-Broken.rule c.in-Err-Broken.second)
     c.deref.ensures.value c.is_too_long.ensures c.if-is_too_long.false c.deref-2.ensures.value c.is_too_long-2.ensures c.if-is_too_long-2.false

@@ -7,7 +7,8 @@ pub returns-then-bytes-gt-LONGEST-clause-judged : goal.returns-then-bytes-gt-LON
 returns-then-bytes-gt-LONGEST-clause-judged c all t = too_many c.args.bytes.now all (omega arith) t
 
 pub returns-in-Ok-clause-judged : goal.returns-in-Ok-clause-judged
-returns-in-Ok-clause-judged c all t = code_judged c.args.bytes.now all (tables_of c.in-Ok.code) c.verified.result (omega arith) t c.in-Ok.ensures.exact c.verified.ensures.checked
+returns-in-Ok-clause-judged c all t =
+    code_judged c.args.bytes.now all (tables_of c.in-Ok.code) c.verified.result (omega arith) t c.in-Ok.ensures.exact c.verified.ensures.checked
 
 pub returns-in-Err-clause-judged : goal.returns-in-Err-clause-judged
 returns-in-Err-clause-judged c all t = rw c.fault_answer.ensures (fault_judged c.args.bytes.now all c.in-Err.fault (omega arith) t c.in-Err.ensures.exact)

@@ -28,13 +28,15 @@ returns-in-Err-clause-fault_line g c = asked_reports _ _ c.in-Err.ensures (repor
 
 pub returns-in-Err-clause-answered : goal.returns-in-Err-clause-answered
 returns-in-Err-clause-answered g c =
-    if_some (g.F.Files.held c.args.files.now) _ (λ held e. answer_put (Command c.in-Err.kind) c.refuse.result (by_words c.in-Err.kind (sym c.in-Err.ensures)) c.refuse.ensures.line)
+    if_some (g.F.Files.held c.args.files.now)
+    _ (λ held e. answer_put (Command c.in-Err.kind) c.refuse.result (by_words c.in-Err.kind (sym c.in-Err.ensures)) c.refuse.ensures.line)
 
 pub returns-in-Err-clause-causes : goal.returns-in-Err-clause-causes
 returns-in-Err-clause-causes g c = command_ends c.in-Err.kind c.refuse.result c.refuse.ensures.line
 
 pub returns-in-Err-clause-faultless : goal.returns-in-Err-clause-faultless
-returns-in-Err-clause-faultless g c = faultless_of c.refuse.result (command_ends {absences = 0} {left = g.I.Source.left c.args.input.now} {out = g.O.Sink.state c.args.out.now} c.in-Err.kind c.refuse.result c.refuse.ensures.line)
+returns-in-Err-clause-faultless g c = faultless_of c.refuse.result (command_ends {absences = 0} {left = g.I.Source.left c.args.input.now}
+    {out = g.O.Sink.state c.args.out.now} c.in-Err.kind c.refuse.result c.refuse.ensures.line)
 
 pub returns-in-Ok-clause-faultless : goal.returns-in-Ok-clause-faultless
 returns-in-Ok-clause-faultless g c = faultless_of c.image_answer.result c.image_answer.ensures.causes

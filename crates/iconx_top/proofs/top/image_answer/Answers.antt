@@ -13,14 +13,16 @@ pub returns-in-Err-clause-outcome : goal.returns-in-Err-clause-outcome
 returns-in-Err-clause-outcome g c words asks =
     if_some (g.F.Files.held c.args.files.now) _ (λ held e. if_some (g.I.Source.left c.args.input.now) _ (λ left d.
     refused c.args.run.image.now c.in-Err.answer c.refuse.result _ _ _ _ _ _ _
-    (asked_load (limits_of c.args.run.limits) c.args.run.image.now (map string_bytes c.args.run.arguments.now) c.in-Err.answer asks (at_some _ (g.F.Files.held c.args.files.now) held e c.in-Err.ensures.loaded)) c.in-Err.ensures.files e d c.refuse.ensures.line))
+    (asked_load (limits_of c.args.run.limits) c.args.run.image.now (map string_bytes c.args.run.arguments.now) c.in-Err.answer asks
+    (at_some _ (g.F.Files.held c.args.files.now) held e c.in-Err.ensures.loaded)) c.in-Err.ensures.files e d c.refuse.ensures.line))
 
 pub returns-in-Ok-clause-outcome : goal.returns-in-Ok-clause-outcome
 returns-in-Ok-clause-outcome g c words asks =
     if_some (g.F.Files.held c.args.files.now) _ (λ held e. if_some (g.I.Source.left c.args.input.now) _ (λ left d.
     held_as _ _ c.in-Ok.ensures.files
     (at_some _ (g.I.Source.left c.args.input.now) left d
-    (c.run_answer.ensures.outcome words held (g.F.Files.held c.args.files.now) asks (at_some _ (g.F.Files.held c.args.files.now) held e c.in-Ok.ensures.loaded) e))))
+    (c.run_answer.ensures.outcome words held (g.F.Files.held c.args.files.now) asks
+    (at_some _ (g.F.Files.held c.args.files.now) held e c.in-Ok.ensures.loaded) e))))
 
 pub returns-in-Err-clause-reported : goal.returns-in-Err-clause-reported
 returns-in-Err-clause-reported g c = reports_of (load_unrun c.in-Err.answer c.in-Err.ensures.others) c.refuse.ensures.line
@@ -31,11 +33,13 @@ returns-in-Ok-clause-reported g c = c.run_answer.ensures.reported c.args.run.ima
 pub returns-in-Err-clause-answered : goal.returns-in-Err-clause-answered
 returns-in-Err-clause-answered g c words asks =
     if_some (g.F.Files.held c.args.files.now) _ (λ held e. answer_put c.in-Err.answer c.refuse.result
-    (load_answered (limits_of c.args.run.limits) c.args.run.image.now (map string_bytes c.args.run.arguments.now) c.in-Err.answer asks (at_some _ (g.F.Files.held c.args.files.now) held e c.in-Err.ensures.loaded)) c.refuse.ensures.line)
+    (load_answered (limits_of c.args.run.limits) c.args.run.image.now (map string_bytes c.args.run.arguments.now) c.in-Err.answer asks
+    (at_some _ (g.F.Files.held c.args.files.now) held e c.in-Err.ensures.loaded)) c.refuse.ensures.line)
 
 pub returns-in-Ok-clause-answered : goal.returns-in-Ok-clause-answered
 returns-in-Ok-clause-answered g c words asks =
-    if_some (g.F.Files.held c.args.files.now) _ (λ held e. run_answered (limits_of c.args.run.limits) c.args.run.image.now (map string_bytes c.args.run.arguments.now) c.in-Ok.verified c.run_answer.result asks
+    if_some (g.F.Files.held c.args.files.now) _ (λ held e. run_answered (limits_of c.args.run.limits) c.args.run.image.now
+    (map string_bytes c.args.run.arguments.now) c.in-Ok.verified c.run_answer.result asks
     (at_some _ (g.F.Files.held c.args.files.now) held e c.in-Ok.ensures.loaded) c.run_answer.ensures.others)
 
 pub returns-in-Ok-clause-causes : goal.returns-in-Ok-clause-causes
@@ -52,4 +56,5 @@ returns-in-Ok-clause-causes g c = record {
 pub returns-in-Err-clause-causes : goal.returns-in-Err-clause-causes
 returns-in-Err-clause-causes g c =
     refused_ends c.in-Err.answer c.refuse.result (load_no_write c.in-Err.answer c.in-Err.ensures.others) (load_no_read c.in-Err.answer c.in-Err.ensures.others)
-    (err_counts c.in-Err.answer FileFault c.in-Err.ensures.file_fault) c.in-Err.ensures.absence (absence_of c.in-Err.answer c.refuse.result c.refuse.ensures.line) c.refuse.ensures.line
+    (err_counts c.in-Err.answer FileFault c.in-Err.ensures.file_fault) c.in-Err.ensures.absence
+    (absence_of c.in-Err.answer c.refuse.result c.refuse.ensures.line) c.refuse.ensures.line

@@ -6,6 +6,9 @@ use Rattle.iconx_top.proofs.words.options.Goals as goal
 
 pub loop-word-preserved : goal.loop-word-preserved
 loop-word-preserved c =
-    option_read c.loop-word.limits c.in-Some-limited.next c.loop-word.rest.now c.in-Some.others.now c.in-Some-split_first.behind.now c.in-Some.word.now c.in-Some-split_first.value.now c.in-Some-option_of.option _ c.limited.result
-    c.in-Some.ensures.cases.0 c.in-Some-split_first.ensures.cases.0 (ap option_of (sym c.as_str.ensures.value) ∙ (sym c.option_of.ensures ∙ c.in-Some-option_of.is))
-    (c.limited.ensures ∙ ap (with_limit c.in-Some-option_of.option (limits_of c.loop-word.limits)) c.as_str-in-Some.ensures.value) c.in-Some-limited.is c.loop-word.invariant
+    option_read c.loop-word.limits c.in-Some-limited.next c.loop-word.rest.now c.in-Some.others.now c.in-Some-split_first.behind.now c.in-Some.word.now
+    c.in-Some-split_first.value.now c.in-Some-option_of.option _ c.limited.result
+    c.in-Some.ensures.cases.0 c.in-Some-split_first.ensures.cases.0
+    (ap option_of (sym c.as_str.ensures.value) ∙ (sym c.option_of.ensures ∙ c.in-Some-option_of.is))
+    (c.limited.ensures ∙ ap (with_limit c.in-Some-option_of.option (limits_of c.loop-word.limits)) c.as_str-in-Some.ensures.value) c.in-Some-limited.is
+    c.loop-word.invariant

@@ -6,4 +6,5 @@ use Rattle.ops_rows.proofs.operands.items_of.Goals as goal
 pub loop-field-preserved : goal.loop-field-preserved
 loop-field-preserved c =
     All-same (IsLiveItem (reach_of c.args.w.now c.args.vals.now)) _ _ c.in_ok-add_item.ensures
-    (All-push (IsLiveItem (reach_of c.args.w.now c.args.vals.now)) _ _ c.loop-field.invariant (c.item_of-item.ensures (reach_of c.args.w.now c.args.vals.now) refl c.requires))
+    (All-push (IsLiveItem (reach_of c.args.w.now c.args.vals.now))
+    _ _ c.loop-field.invariant (c.item_of-item.ensures (reach_of c.args.w.now c.args.vals.now) refl c.requires))

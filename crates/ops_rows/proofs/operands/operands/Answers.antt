@@ -7,4 +7,5 @@ use Rattle.ops_rows.proofs.operands.operands.Goals as goal
 pub loop-field-preserved : goal.loop-field-preserved
 loop-field-preserved c =
     All-same (IsLive (extent_of c.operand.new.w.heap)) _ _ c.in_ok-add.ensures
-    (All-push (IsLive (extent_of c.operand.new.w.heap)) _ _ (live_kept c.operand.ensures.kept c.loop-field.vals.items c.loop-field.invariant) c.in_ok-val.ensures.live)
+    (All-push (IsLive (extent_of c.operand.new.w.heap)) _ _ (live_kept c.operand.ensures.kept c.loop-field.vals.items c.loop-field.invariant)
+    c.in_ok-val.ensures.live)

@@ -26,7 +26,9 @@ pub returns-clause-meant : goal.returns-clause-meant
 returns-clause-meant c = λ program launch seen m. means_leaves (from_outside launch.outside) program launch seen (extends_itself launch.outside) m
 
 pub returns-clause-on_stacks : goal.returns-clause-on_stacks
-returns-clause-on_stacks c = λ tables launch seen r. run_leaves flat tables (from_outside launch.outside) empty launch r.count seen (extends_itself launch.outside) r.is
+returns-clause-on_stacks c =
+    λ tables launch seen r. run_leaves flat tables (from_outside launch.outside) empty launch r.count seen (extends_itself launch.outside) r.is
 
 pub returns-clause-on_marks : goal.returns-clause-on_marks
-returns-clause-on_marks c = λ repeats tables launch seen r. run_leaves (linked repeats) tables (from_outside launch.outside) no_chain launch r.count seen (extends_itself launch.outside) r.is
+returns-clause-on_marks c = λ repeats tables launch seen r. run_leaves (linked repeats) tables (from_outside launch.outside) no_chain launch r.count seen
+    (extends_itself launch.outside) r.is

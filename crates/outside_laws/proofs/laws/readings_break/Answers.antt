@@ -12,4 +12,5 @@ returns-clause-meant c = λ program words bounds input seen before after m x.
 
 pub returns-clause-on_stacks : goal.returns-clause-on_stacks
 returns-clause-on_stacks c = λ tables words bounds input seen before after r x.
-    reading_breaks input seen before after (run_leaves flat tables (of_input input) empty (launch_of words bounds input) r.count seen (outside_begins input) r.is) x
+    reading_breaks input seen before after
+    (run_leaves flat tables (of_input input) empty (launch_of words bounds input) r.count seen (outside_begins input) r.is) x

@@ -3,7 +3,9 @@ use Rattle.structfn_tests.proofs.Worlds.{got_live, got_named}
 use Rattle.structfn_tests.proofs.arguments.earlier.Goals as goal
 
 pub returns-then-place-len-clause-live : goal.returns-then-place-len-clause-live
-returns-then-place-len-clause-live c = got_live (extent_of c.args.w.now.heap) c.args.w.now.globals.items c.deref.result.now _ c.value_at.result c.deref.ensures.value c.value_at.ensures c.args.w.now.sound.live_globals
+returns-then-place-len-clause-live c = got_live (extent_of c.args.w.now.heap) c.args.w.now.globals.items c.deref.result.now
+    _ c.value_at.result c.deref.ensures.value c.value_at.ensures c.args.w.now.sound.live_globals
 
 pub returns-then-place-len-clause-named : goal.returns-then-place-len-clause-named
-returns-then-place-len-clause-named c = got_named (extent_of c.args.w.now.heap) c.args.w.now.globals.items c.deref.result.now _ c.value_at.result c.deref.ensures.value c.value_at.ensures c.requires.world.globals
+returns-then-place-len-clause-named c = got_named (extent_of c.args.w.now.heap) c.args.w.now.globals.items c.deref.result.now
+    _ c.value_at.result c.deref.ensures.value c.value_at.ensures c.requires.world.globals

@@ -9,11 +9,13 @@ use Rattle.structfn_tests.proofs.Naming.{function_comes}
 use Rattle.structfn_tests.proofs.calls.applied_to.Goals as goal
 
 pub first-requires-clause-locals : goal.first-requires-clause-locals
-first-requires-clause-locals c = subst (λ (vals : List Val). All (IsLive (extent_of c.args.w.now.heap)) vals) (sym c.requires.locals) (All-nil (IsLive (extent_of c.args.w.now.heap)))
+first-requires-clause-locals c =
+    subst (λ (vals : List Val). All (IsLive (extent_of c.args.w.now.heap)) vals) (sym c.requires.locals) (All-nil (IsLive (extent_of c.args.w.now.heap)))
 
 pub first-requires-clause-named : goal.first-requires-clause-named
 first-requires-clause-named c = λ sorts. c.requires.named.world.heap
 
 pub returns-clause-named : goal.returns-clause-named
 returns-clause-named c =
-    function_comes c.args.func c.args.w.now c.first.new.w c.args.l.now.vals.items c.args.args.now c.first.result c.requires.named c.requires.args_named c.requires.args (c.first.ensures.row (outside_of []))
+    function_comes c.args.func c.args.w.now c.first.new.w c.args.l.now.vals.items c.args.args.now c.first.result c.requires.named c.requires.args_named
+    c.requires.args (c.first.ensures.row (outside_of []))

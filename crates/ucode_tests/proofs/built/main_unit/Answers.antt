@@ -14,7 +14,8 @@ unfolding keeps_rules
 main_keeps = refl
 
 -- one procedure and its declaration
-rules : (procs : List ProcCode) (decls : List UnitDecl) (proc : ProcCode) (name : List ℕ) → procs ≡ proc ∷ [] → decls ≡ ProcDecl name ∷ [] → proc_seen proc ≡ main → name ≡ codes "main" → keeps_rules (map proc_seen procs) (map decl_seen decls) ≡ true
+rules : (procs : List ProcCode) (decls : List UnitDecl) (proc : ProcCode) (name : List ℕ) → procs ≡ proc ∷ [] → decls ≡ ProcDecl name ∷ []
+    → proc_seen proc ≡ main → name ≡ codes "main" → keeps_rules (map proc_seen procs) (map decl_seen decls) ≡ true
 rules procs decls proc name p d seen n =
     ap (λ procs. keeps_rules (map proc_seen procs) (map decl_seen decls)) p
     ∙ (ap (λ decls. keeps_rules (proc_seen proc ∷ []) (map decl_seen decls)) d
@@ -22,6 +23,8 @@ rules procs decls proc name p d seen n =
 
 pub invariant_of-result : goal.invariant_of-result
 invariant_of-result c = record {
-  rules = rules c.push.new.self.items c.push-2.new.self.items c.in_ok-main_proc.field-0 c.in_ok-from_slice.field-0 (c.in_ok-push.ensures.items ∙ ap (λ items. items ++ c.in_ok-main_proc.field-0 ∷ []) c.new-procs.ensures.items)
-      (c.in_ok-push-2.ensures.items ∙ ap (λ items. items ++ ProcDecl c.in_ok-from_slice.field-0 ∷ []) c.new-decls.ensures.items) c.in_ok-main_proc.ensures c.in_ok-from_slice.ensures;
+  rules = rules c.push.new.self.items c.push-2.new.self.items c.in_ok-main_proc.field-0 c.in_ok-from_slice.field-0 (c.in_ok-push.ensures.items
+      ∙ ap (λ items. items ++ c.in_ok-main_proc.field-0 ∷ []) c.new-procs.ensures.items)
+      (c.in_ok-push-2.ensures.items ∙ ap (λ items. items ++ ProcDecl c.in_ok-from_slice.field-0 ∷ []) c.new-decls.ensures.items) c.in_ok-main_proc.ensures
+      c.in_ok-from_slice.ensures;
 }

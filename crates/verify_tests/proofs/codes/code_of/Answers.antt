@@ -20,6 +20,14 @@ invariant_of-result c =
     ap (λ n. is_start 0 n c.first_start.result) (length-map c.args.procs.items proc_of ∙ sym (ap length c.deref.ensures.value)) ∙ c.first_start.ensures in
     record {
       rules =
-          (λ i. keeps_rules (record { strings = (strings ∙ (λ j. main j ∷ write j ∷ hi j ∷ [])) i; csets = csets i; integers = integers i; fields = fields i; records = records_of (records i); globals = globals i; procs = procs_of c.args.procs.items }))
+          (λ i. keeps_rules (record {
+            strings = (strings ∙ (λ j. main j ∷ write j ∷ hi j ∷ [])) i;
+            csets = csets i;
+            integers = integers i;
+            fields = fields i;
+            records = records_of (records i);
+            globals = globals i;
+            procs = procs_of c.args.procs.items;
+          }))
           ∙ test_rules c.first_start.result (procs_of c.args.procs.items) starts c.requires.known;
     }

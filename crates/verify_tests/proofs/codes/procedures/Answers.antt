@@ -10,5 +10,6 @@ loop-body-init c = subst (λ items. AreKnown (procs_of items)) (sym c.new-procs.
 pub loop-body-preserved : goal.loop-body-preserved
 loop-body-preserved c =
     subst (λ items. AreKnown (procs_of items)) (sym c.in_ok-push-in-Some.ensures.items)
-    (known_push c.loop-body.procs.items c.in-Some.proc c.loop-body.invariant (λ h. let e = c.len.ensures in let ok = c.loop-body.procs.ok in let differ = c.if-len-eq65535.false in absurd (omega arith))
+    (known_push c.loop-body.procs.items c.in-Some.proc c.loop-body.invariant
+    (λ h. let e = c.len.ensures in let ok = c.loop-body.procs.ok in let differ = c.if-len-eq65535.false in absurd (omega arith))
     (subst (λ found. IfSome found (λ proc. IsKnown (proc_of proc))) c.in-Some.is c.in_ok-proc.ensures))

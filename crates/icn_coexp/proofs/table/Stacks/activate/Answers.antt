@@ -12,17 +12,22 @@ pub give_to-stack-requires-clause-can : goal.give_to-stack-requires-clause-can
 give_to-stack-requires-clause-can g c =
     let s = c.self.inside in
     let n = rw (← c.self.view_is) at c.requires.live in
-    let l : c.args.id < length c.wait.new.entries.items = omega (arith, n, length-map s.entries.items (coexp_seen {K = g.row.K.Denot}), c.wait.ensures.length, s.entries.ok, c.wait.new.entries.ok) in
-    let t = turned g.row.K.Denot s.entries.items c.wait.new.entries.items c.set_activator.new.entries.items s.active c.args.id s.running c.self.invariant (rw (← c.self.view_is) at c.requires.room) c.wait.ensures.is c.set_activator.ensures.is c.if-id-self.false l in
+    let l : c.args.id < length c.wait.new.entries.items =
+    omega (arith, n, length-map s.entries.items (coexp_seen {K = g.row.K.Denot}), c.wait.ensures.length, s.entries.ok, c.wait.new.entries.ok) in
+    let t = turned g.row.K.Denot s.entries.items c.wait.new.entries.items c.set_activator.new.entries.items s.active c.args.id s.running c.self.invariant
+    (rw (← c.self.view_is) at c.requires.room) c.wait.ensures.is c.set_activator.ensures.is c.if-id-self.false l in
     can_give g.row.K.Denot c.set_activator.new.entries.items c.args.id c.is_exhausted.result t.fits t.live
-    (subst (λ (w : Option (Status g.row.K.Denot)). IfSome w (λ x. c.is_exhausted.result ≡ exhausted_of (status_seen x))) (sym t.status) c.is_exhausted.ensures) c.if-is_exhausted.false
+    (subst (λ (w : Option (Status g.row.K.Denot)). IfSome w (λ x. c.is_exhausted.result ≡ exhausted_of (status_seen x))) (sym t.status) c.is_exhausted.ensures)
+    c.if-is_exhausted.false
 
 pub invariant_of-self : goal.invariant_of-self
 invariant_of-self g c =
     let s = c.self.inside in
     let n = rw (← c.self.view_is) at c.requires.live in
-    let l : c.args.id < length c.wait.new.entries.items = omega (arith, n, length-map s.entries.items (coexp_seen {K = g.row.K.Denot}), c.wait.ensures.length, s.entries.ok, c.wait.new.entries.ok) in
-    let t = turned g.row.K.Denot s.entries.items c.wait.new.entries.items c.set_activator.new.entries.items s.active c.args.id s.running c.self.invariant (rw (← c.self.view_is) at c.requires.room) c.wait.ensures.is c.set_activator.ensures.is c.if-id-self.false l in
+    let l : c.args.id < length c.wait.new.entries.items =
+    omega (arith, n, length-map s.entries.items (coexp_seen {K = g.row.K.Denot}), c.wait.ensures.length, s.entries.ok, c.wait.new.entries.ok) in
+    let t = turned g.row.K.Denot s.entries.items c.wait.new.entries.items c.set_activator.new.entries.items s.active c.args.id s.running c.self.invariant
+    (rw (← c.self.view_is) at c.requires.room) c.wait.ensures.is c.set_activator.ensures.is c.if-id-self.false l in
     kept_on g.row.K.Denot c.set_activator.new.entries.items _ c.args.id c.give_to-stack.result t.fits t.live c.give_to-stack.ensures.is
 
 pub returns : goal.returns
@@ -31,14 +36,17 @@ returns g c =
     let n = rw (← c.self.view_is) at c.requires.live in
     let o : c.args.id < length s.entries.items = omega (arith, n, length-map s.entries.items (coexp_seen {K = g.row.K.Denot})) in
     let l : c.args.id < length c.wait.new.entries.items = omega (arith, o, c.wait.ensures.length, s.entries.ok, c.wait.new.entries.ok) in
-    let t = turned g.row.K.Denot s.entries.items c.wait.new.entries.items c.set_activator.new.entries.items s.active c.args.id s.running c.self.invariant (rw (← c.self.view_is) at c.requires.room) c.wait.ensures.is c.set_activator.ensures.is c.if-id-self.false l in
+    let t = turned g.row.K.Denot s.entries.items c.wait.new.entries.items c.set_activator.new.entries.items s.active c.args.id s.running c.self.invariant
+    (rw (← c.self.view_is) at c.requires.room) c.wait.ensures.is c.set_activator.ensures.is c.if-id-self.false l in
     let after : Table = table_seen c.give_to-stack.new.entries.items c.args.id (On c.give_to-stack.result) in
-    let moved = enter_on g.row.K.Denot s.entries.items c.wait.new.entries.items c.set_activator.new.entries.items _ s.active c.args.id s.running c.args.v _ c.wait.ensures.is c.set_activator.ensures.is t.fits t.live c.give_to-stack.ensures.stack c.give_to-stack.ensures.is in
+    let moved = enter_on g.row.K.Denot s.entries.items c.wait.new.entries.items c.set_activator.new.entries.items _ s.active c.args.id s.running c.args.v
+    _ c.wait.ensures.is c.set_activator.ensures.is t.fits t.live c.give_to-stack.ensures.stack c.give_to-stack.ensures.is in
     record {
       went = subst (λ (w : SeenStacks). (c.args.id ≡ w.table.active → ⊥) × (exhausted_of (status_of c.args.id w.table) ≡ false)
           × (enter_other c.args.id c.args.v w.table ≡ Some after)) c.self.view_is (
             c.if-id-self.false,
-            status_other g.row.K.Denot s.entries.items c.args.id s.active (running_seen s.running) c.is_exhausted.result o c.is_exhausted.ensures c.if-is_exhausted.false,
+            status_other g.row.K.Denot s.entries.items c.args.id s.active
+                (running_seen s.running) c.is_exhausted.result o c.is_exhausted.ensures c.if-is_exhausted.false,
             moved,
           );
       others = subst (λ (w : SeenStacks). KeepsOthers w.table.active c.args.id w.table.coexps after.coexps) c.self.view_is (

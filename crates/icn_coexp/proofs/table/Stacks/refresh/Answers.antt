@@ -15,5 +15,6 @@ returns-clause-made g c =
     let all : length s ≡ length s = omega arith in
     let values = c.in_ok-extend_from_slice.ensures.items ∙ ap (λ (w : List Val). w ++ c.deref.result.now) c.new-values.ensures.items ∙ c.deref.ensures.value in
     subst (λ (w : Table). OnOk c.add.result (c.add.new.self.table ≡ w))
-    (copied_is g.row.K.Denot s c.args.self.now.table c.args.id c.index-entry.result.now _ (slice_get_read s (length s) c.args.id _ all l c.index-entry.ensures) (ap (λ (w : SeenStacks). w.table.coexps) (sym c.self.view_is)) values)
+    (copied_is g.row.K.Denot s c.args.self.now.table c.args.id c.index-entry.result.now _ (slice_get_read s (length s) c.args.id _ all l c.index-entry.ensures)
+    (ap (λ (w : SeenStacks). w.table.coexps) (sym c.self.view_is)) values)
     c.add.ensures.made

@@ -16,4 +16,5 @@ returns-in-Operand g c =
 pub returns-in_default : goal.returns-in_default
 returns-in_default g c =
     let m : FlatStack = record { cells = g.K.Stack.cells c.self.inside.cells; registers = c.self.inside.registers; place = c.self.inside.place } in
-    rw (← c.self.view_is) (sym (ap is_some (below_get m _ (omega arith) (within _ _ c.self.invariant.stands.leads.mark.to) c.get.ensures) ∙ no_operand c.get.result c.in_default.not-Operand))
+    rw (← c.self.view_is) (sym (ap is_some (below_get m _ (omega arith) (within _ _ c.self.invariant.stands.leads.mark.to) c.get.ensures)
+    ∙ no_operand c.get.result c.in_default.not-Operand))

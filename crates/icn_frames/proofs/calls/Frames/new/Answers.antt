@@ -7,5 +7,7 @@ use Rattle.icn_frames.proofs.calls.Frames.new.Goals as goal
 
 pub invariant_of-result : goal.invariant_of-result
 invariant_of-result g c = rw (c.at_frame.ensures)
-    (sound_frame c.args.locals.now _ None [] _ _ refl (c.in_ok-height.ensures.height ∙ add-one _ ∙ ap (λ (w : List Cell). suc (length w)) c.empty-cells.ensures.cells)
-    tt tt (c.in_ok-height.ensures.ok ∙ ap (λ (w : List Cell). put_above c.args.locals.now (Base c.args.proc (length c.args.locals.now) ∷ w)) c.empty-cells.ensures.cells))
+    (sound_frame c.args.locals.now _ None [] _ _ refl (c.in_ok-height.ensures.height
+    ∙ add-one _ ∙ ap (λ (w : List Cell). suc (length w)) c.empty-cells.ensures.cells)
+    tt tt (c.in_ok-height.ensures.ok
+    ∙ ap (λ (w : List Cell). put_above c.args.locals.now (Base c.args.proc (length c.args.locals.now) ∷ w)) c.empty-cells.ensures.cells))

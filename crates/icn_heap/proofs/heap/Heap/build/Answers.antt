@@ -24,7 +24,8 @@ returns-in-Ok-clause-step c = texts_charged (parts_of c.args.self.now) c.args.se
 
 pub returns-in-Ok-clause-limits : goal.returns-in-Ok-clause-limits
 unfolding heap_of
-returns-in-Ok-clause-limits c = limits_ok (texts_charged (parts_of c.args.self.now) c.args.self.now.sound _ c.build.ensures.kept _ c.in-Ok.ensures.sum c.build.ensures.within)
+returns-in-Ok-clause-limits c =
+    limits_ok (texts_charged (parts_of c.args.self.now) c.args.self.now.sound _ c.build.ensures.kept _ c.in-Ok.ensures.sum c.build.ensures.within)
 
 pub returns-in-Ok-clause-kept : goal.returns-in-Ok-clause-kept
 unfolding extent_of
@@ -32,11 +33,13 @@ returns-in-Ok-clause-kept c = keeps_as refl (texts_join (parts_of c.args.self.no
 
 pub returns-in-Err-clause-step : goal.returns-in-Err-clause-step
 unfolding heap_of
-returns-in-Err-clause-step c = rw c.full_of.ensures (text_refused (parts_of c.args.self.now) c.args.self.now.sound _ c.in-Err.ensures.full c.in-Err.ensures.memory)
+returns-in-Err-clause-step c =
+    rw c.full_of.ensures (text_refused (parts_of c.args.self.now) c.args.self.now.sound _ c.in-Err.ensures.full c.in-Err.ensures.memory)
 
 pub returns-in-Err-clause-limits : goal.returns-in-Err-clause-limits
 unfolding heap_of
-returns-in-Err-clause-limits c = text_limits (parts_of c.args.self.now) c.args.self.now.sound _ c.in-Err.ensures.full c.in-Err.ensures.memory _ (rw c.full_of.ensures refl)
+returns-in-Err-clause-limits c =
+    text_limits (parts_of c.args.self.now) c.args.self.now.sound _ c.in-Err.ensures.full c.in-Err.ensures.memory _ (rw c.full_of.ensures refl)
 
 pub returns-in-Err-clause-kept : goal.returns-in-Err-clause-kept
 unfolding extent_of

@@ -10,17 +10,22 @@ use Rattle.icn_heap.proofs.heap.Heap.copy_set.Goals as goal
 pub invariant_of-self-2 : goal.invariant_of-self-2
 unfolding extent_of heap_of
 invariant_of-self-2 c = record {
-  sound = sound_as (with_sets c.args.self.now _ c.in_ok-add_members.ensures.ok) (set_joins (parts_of c.args.self.now) c.args.self.now.sound (omega (arith, c.in_ok-sum.ensures.sum)) c.in_ok-sum.ensures.within _ (omega (arith, c.in_ok-sum.ensures.sum)) c.in_ok-members.ensures.sound c.in_ok-members.ensures.members);
+  sound = sound_as (with_sets c.args.self.now _ c.in_ok-add_members.ensures.ok)
+      (set_joins (parts_of c.args.self.now) c.args.self.now.sound (omega (arith, c.in_ok-sum.ensures.sum)) c.in_ok-sum.ensures.within
+      _ (omega (arith, c.in_ok-sum.ensures.sum)) c.in_ok-members.ensures.sound c.in_ok-members.ensures.members);
 }
 
 pub returns-clause-step : goal.returns-clause-step
 unfolding extent_of heap_of
 returns-clause-step c =
-    steps_as _ (having_members (set_at (heap_of c.args.self.now) c.args.set)) (ap (λ n. charged_cells (heap_of c.args.self.now) (1 + n)) (sym c.member_count.ensures.count) ∙ c.in_ok-sum.ensures.ok) (with_sets c.args.self.now _ c.in_ok-add_members.ensures.ok)
-    (set_joins (parts_of c.args.self.now) c.args.self.now.sound (omega (arith, c.in_ok-sum.ensures.sum)) c.in_ok-sum.ensures.within _ (omega (arith, c.in_ok-sum.ensures.sum)) c.in_ok-members.ensures.sound c.in_ok-members.ensures.members)
+    steps_as _ (having_members (set_at (heap_of c.args.self.now) c.args.set)) (ap (λ n. charged_cells (heap_of c.args.self.now) (1 + n))
+    (sym c.member_count.ensures.count) ∙ c.in_ok-sum.ensures.ok) (with_sets c.args.self.now _ c.in_ok-add_members.ensures.ok)
+    (set_joins (parts_of c.args.self.now) c.args.self.now.sound (omega (arith, c.in_ok-sum.ensures.sum)) c.in_ok-sum.ensures.within
+    _ (omega (arith, c.in_ok-sum.ensures.sum)) c.in_ok-members.ensures.sound c.in_ok-members.ensures.members)
 
 pub returns-clause-kept : goal.returns-clause-kept
 unfolding extent_of heap_of
 returns-clause-kept c =
     keeps_as (with_sets c.args.self.now _ c.in_ok-add_members.ensures.ok)
-    (set_joins (parts_of c.args.self.now) c.args.self.now.sound (omega (arith, c.in_ok-sum.ensures.sum)) c.in_ok-sum.ensures.within _ (omega (arith, c.in_ok-sum.ensures.sum)) c.in_ok-members.ensures.sound c.in_ok-members.ensures.members)
+    (set_joins (parts_of c.args.self.now) c.args.self.now.sound (omega (arith, c.in_ok-sum.ensures.sum)) c.in_ok-sum.ensures.within
+    _ (omega (arith, c.in_ok-sum.ensures.sum)) c.in_ok-members.ensures.sound c.in_ok-members.ensures.members)

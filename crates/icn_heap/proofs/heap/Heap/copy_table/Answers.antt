@@ -10,17 +10,22 @@ use Rattle.icn_heap.proofs.heap.Heap.copy_table.Goals as goal
 pub invariant_of-self-2 : goal.invariant_of-self-2
 unfolding extent_of heap_of
 invariant_of-self-2 c = record {
-  sound = sound_as (with_tables c.args.self.now _ c.in_ok-add_entries.ensures.ok) (table_joins (parts_of c.args.self.now) c.args.self.now.sound (omega (arith, c.in_ok-sum.ensures.sum)) c.in_ok-sum.ensures.within (omega (arith, c.in_ok-sum.ensures.sum)) c.in_ok-entries.ensures.sound c.in_ok-entries.ensures.table);
+  sound = sound_as (with_tables c.args.self.now _ c.in_ok-add_entries.ensures.ok)
+      (table_joins (parts_of c.args.self.now) c.args.self.now.sound (omega (arith, c.in_ok-sum.ensures.sum)) c.in_ok-sum.ensures.within
+      (omega (arith, c.in_ok-sum.ensures.sum)) c.in_ok-entries.ensures.sound c.in_ok-entries.ensures.table);
 }
 
 pub returns-clause-step : goal.returns-clause-step
 unfolding extent_of heap_of
 returns-clause-step c =
-    steps_as _ (having_table_of (table_at (heap_of c.args.self.now) c.args.table)) (ap (λ n. charged_cells (heap_of c.args.self.now) (1 + n)) (sym c.pair_count.ensures.count) ∙ c.in_ok-sum.ensures.ok) (with_tables c.args.self.now _ c.in_ok-add_entries.ensures.ok)
-    (table_joins (parts_of c.args.self.now) c.args.self.now.sound (omega (arith, c.in_ok-sum.ensures.sum)) c.in_ok-sum.ensures.within (omega (arith, c.in_ok-sum.ensures.sum)) c.in_ok-entries.ensures.sound c.in_ok-entries.ensures.table)
+    steps_as _ (having_table_of (table_at (heap_of c.args.self.now) c.args.table)) (ap (λ n. charged_cells (heap_of c.args.self.now) (1 + n))
+    (sym c.pair_count.ensures.count) ∙ c.in_ok-sum.ensures.ok) (with_tables c.args.self.now _ c.in_ok-add_entries.ensures.ok)
+    (table_joins (parts_of c.args.self.now) c.args.self.now.sound (omega (arith, c.in_ok-sum.ensures.sum)) c.in_ok-sum.ensures.within
+    (omega (arith, c.in_ok-sum.ensures.sum)) c.in_ok-entries.ensures.sound c.in_ok-entries.ensures.table)
 
 pub returns-clause-kept : goal.returns-clause-kept
 unfolding extent_of heap_of
 returns-clause-kept c =
     keeps_as (with_tables c.args.self.now _ c.in_ok-add_entries.ensures.ok)
-    (table_joins (parts_of c.args.self.now) c.args.self.now.sound (omega (arith, c.in_ok-sum.ensures.sum)) c.in_ok-sum.ensures.within (omega (arith, c.in_ok-sum.ensures.sum)) c.in_ok-entries.ensures.sound c.in_ok-entries.ensures.table)
+    (table_joins (parts_of c.args.self.now) c.args.self.now.sound (omega (arith, c.in_ok-sum.ensures.sum)) c.in_ok-sum.ensures.within
+    (omega (arith, c.in_ok-sum.ensures.sum)) c.in_ok-entries.ensures.sound c.in_ok-entries.ensures.table)

@@ -14,4 +14,5 @@ returns-clause-table c =
     ∙ (ap (λ vals. fold with_stored [] (map (values_in (extent_of c.args.self.now)) vals)) c.deref.ensures.value
     ∙ (ap (fold with_stored []) c.in_ok-pairs.ensures.pairs ∙ fold_pairs (table_at (heap_of c.args.self.now) c.args.table).pairs c.keys_differ.ensures)) in
     ap (λ pairs. let table : Table = record { default = value_in (extent_of c.args.self.now) c.default.result; pairs = pairs } in table) pairs
-    ∙ ap (λ default. let table : Table = record { default = default; pairs = (table_at (heap_of c.args.self.now) c.args.table).pairs } in table) c.default.ensures.value
+    ∙ ap (λ default. let table : Table = record { default = default; pairs = (table_at (heap_of c.args.self.now) c.args.table).pairs } in table)
+    c.default.ensures.value

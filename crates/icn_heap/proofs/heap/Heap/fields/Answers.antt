@@ -13,8 +13,10 @@ returns-clause-fields c =
 
 pub returns-clause-live : goal.returns-clause-live
 unfolding extent_of
-returns-clause-live c = rw (c.values.ensures, c.record_ref.ensures) (record_sound (parts_of c.args.self.now) c.args.self.now.sound c.args.rec c.requires.live).live
+returns-clause-live c =
+    rw (c.values.ensures, c.record_ref.ensures) (record_sound (parts_of c.args.self.now) c.args.self.now.sound c.args.rec c.requires.live).live
 
 pub returns-clause-few : goal.returns-clause-few
 unfolding extent_of
-returns-clause-few c = rw (c.values.ensures, c.record_ref.ensures) (record_sound (parts_of c.args.self.now) c.args.self.now.sound c.args.rec c.requires.live).few
+returns-clause-few c =
+    rw (c.values.ensures, c.record_ref.ensures) (record_sound (parts_of c.args.self.now) c.args.self.now.sound c.args.rec c.requires.live).few

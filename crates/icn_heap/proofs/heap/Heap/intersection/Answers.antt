@@ -11,7 +11,8 @@ use Rattle.icn_heap.proofs.heap.Heap.intersection.Goals as goal
 
 pub returns-clause-step : goal.returns-clause-step
 returns-clause-step c =
-    subst (λ (members : List Value). MatchResult c.set_from.result (λ _. made_set_of (heap_of c.args.self.now) members ≡ Ok (heap_of c.set_from.new.self)) (Refuses (made_set_of (heap_of c.args.self.now) members)))
+    subst (λ (members : List Value). MatchResult c.set_from.result (λ _. made_set_of (heap_of c.args.self.now) members ≡ Ok (heap_of c.set_from.new.self))
+    (Refuses (made_set_of (heap_of c.args.self.now) members)))
     (ap (λ vals. fold with_member [] (map (value_in (extent_of c.args.self.now)) vals)) c.deref.ensures.value
     ∙ (ap (fold with_member []) c.in_ok-members.ensures.members
     ∙ fold_some (stands true (set_at (heap_of c.args.self.now) c.args.second)) (set_at (heap_of c.args.self.now) c.args.first) c.members_differ.ensures))

@@ -6,4 +6,5 @@ use Rattle.icn_heap.proofs.heap.Heap.list.Goals as goal
 
 pub returns-clause-items : goal.returns-clause-items
 unfolding extent_of heap_of
-returns-clause-items c = ap (list_in (extent_of c.args.self.now)) c.list_ref.ensures ∙ sym (list_view (extent_of c.args.self.now) (parts_of c.args.self.now) c.args.id)
+returns-clause-items c =
+    ap (list_in (extent_of c.args.self.now)) c.list_ref.ensures ∙ sym (list_view (extent_of c.args.self.now) (parts_of c.args.self.now) c.args.id)

@@ -11,7 +11,8 @@ pub invariant_of-self-2 : goal.invariant_of-self-2
 unfolding extent_of
 invariant_of-self-2 c = record {
   sound = sound_as (with_lists c.args.self.now _ c.in_ok-add_list.ensures.ok)
-      (list_repeats (parts_of c.args.self.now) c.args.self.now.sound c.args.n c.args.fill c.in_ok-sum.ensures.sum c.in_ok-sum.ensures.within c.in_ok-list.ensures.items c.in_ok-list.ensures.number c.requires);
+      (list_repeats (parts_of c.args.self.now) c.args.self.now.sound c.args.n c.args.fill c.in_ok-sum.ensures.sum c.in_ok-sum.ensures.within
+      c.in_ok-list.ensures.items c.in_ok-list.ensures.number c.requires);
 }
 
 pub returns-clause-step : goal.returns-clause-step
@@ -20,10 +21,12 @@ returns-clause-step c =
     rw length-replicate
     (steps_as _ (having_list (replicate c.args.n (value_in (extent_of c.args.self.now) c.args.fill)))
     c.in_ok-sum.ensures.ok (with_lists c.args.self.now _ c.in_ok-add_list.ensures.ok)
-    (list_repeats (parts_of c.args.self.now) c.args.self.now.sound c.args.n c.args.fill c.in_ok-sum.ensures.sum c.in_ok-sum.ensures.within c.in_ok-list.ensures.items c.in_ok-list.ensures.number c.requires))
+    (list_repeats (parts_of c.args.self.now) c.args.self.now.sound c.args.n c.args.fill c.in_ok-sum.ensures.sum c.in_ok-sum.ensures.within
+    c.in_ok-list.ensures.items c.in_ok-list.ensures.number c.requires))
 
 pub returns-clause-kept : goal.returns-clause-kept
 unfolding extent_of
 returns-clause-kept c =
     keeps_as (with_lists c.args.self.now _ c.in_ok-add_list.ensures.ok)
-    (list_repeats (parts_of c.args.self.now) c.args.self.now.sound c.args.n c.args.fill c.in_ok-sum.ensures.sum c.in_ok-sum.ensures.within c.in_ok-list.ensures.items c.in_ok-list.ensures.number c.requires)
+    (list_repeats (parts_of c.args.self.now) c.args.self.now.sound c.args.n c.args.fill c.in_ok-sum.ensures.sum c.in_ok-sum.ensures.within
+    c.in_ok-list.ensures.items c.in_ok-list.ensures.number c.requires)

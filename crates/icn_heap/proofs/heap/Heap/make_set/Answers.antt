@@ -12,7 +12,8 @@ pub invariant_of-self-2 : goal.invariant_of-self-2
 unfolding extent_of
 invariant_of-self-2 c = record {
   sound = sound_as (with_sets c.args.self.now _ c.in_ok-add_set.ensures.ok)
-      (set_joins (parts_of c.args.self.now) c.args.self.now.sound (omega (arith, c.in_ok-sum.ensures.sum)) c.in_ok-sum.ensures.within [] (omega (arith, c.in_ok-sum.ensures.sum)) (All-nil (IsSoundMember (extent_of c.args.self.now))) refl);
+      (set_joins (parts_of c.args.self.now) c.args.self.now.sound (omega (arith, c.in_ok-sum.ensures.sum)) c.in_ok-sum.ensures.within []
+      (omega (arith, c.in_ok-sum.ensures.sum)) (All-nil (IsSoundMember (extent_of c.args.self.now))) refl);
 }
 
 pub returns-clause-step : goal.returns-clause-step
@@ -20,10 +21,12 @@ unfolding extent_of heap_of
 returns-clause-step c =
     (steps_as _ having_set
     c.in_ok-sum.ensures.ok (with_sets c.args.self.now _ c.in_ok-add_set.ensures.ok)
-    (set_joins (parts_of c.args.self.now) c.args.self.now.sound (omega (arith, c.in_ok-sum.ensures.sum)) c.in_ok-sum.ensures.within [] (omega (arith, c.in_ok-sum.ensures.sum)) (All-nil (IsSoundMember (extent_of c.args.self.now))) refl))
+    (set_joins (parts_of c.args.self.now) c.args.self.now.sound (omega (arith, c.in_ok-sum.ensures.sum)) c.in_ok-sum.ensures.within []
+    (omega (arith, c.in_ok-sum.ensures.sum)) (All-nil (IsSoundMember (extent_of c.args.self.now))) refl))
 
 pub returns-clause-kept : goal.returns-clause-kept
 unfolding extent_of
 returns-clause-kept c =
     keeps_as (with_sets c.args.self.now _ c.in_ok-add_set.ensures.ok)
-    (set_joins (parts_of c.args.self.now) c.args.self.now.sound (omega (arith, c.in_ok-sum.ensures.sum)) c.in_ok-sum.ensures.within [] (omega (arith, c.in_ok-sum.ensures.sum)) (All-nil (IsSoundMember (extent_of c.args.self.now))) refl)
+    (set_joins (parts_of c.args.self.now) c.args.self.now.sound (omega (arith, c.in_ok-sum.ensures.sum)) c.in_ok-sum.ensures.within []
+    (omega (arith, c.in_ok-sum.ensures.sum)) (All-nil (IsSoundMember (extent_of c.args.self.now))) refl)

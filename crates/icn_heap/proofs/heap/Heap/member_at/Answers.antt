@@ -7,7 +7,8 @@ use Rattle.icn_heap.proofs.heap.Heap.member_at.Goals as goal
 
 pub returns-clause-member : goal.returns-clause-member
 unfolding extent_of heap_of
-returns-clause-member c = ap (option_map (value_in (extent_of c.args.self.now))) c.member_at.ensures ∙ member_is (parts_of c.args.self.now) c.args.self.now.sound c.args.set c.requires.live c.args.place
+returns-clause-member c = ap (option_map (value_in (extent_of c.args.self.now))) c.member_at.ensures
+    ∙ member_is (parts_of c.args.self.now) c.args.self.now.sound c.args.set c.requires.live c.args.place
 
 pub returns-clause-live : goal.returns-clause-live
 unfolding extent_of

@@ -13,8 +13,10 @@ loop-val-preserved c =
     let live = c.requires c.loop-val.val-index NullVal c.loop-val-test.true in
     rw c.in_ok-join_member.ensures (record {
       members =
-          joins (extent_of c.args.self.now) c.in_ok-key.key c.in_ok-key.ensures.formed val live c.in_ok-key.ensures.value c.loop-val.members c.loop-val.invariant.sound
+          joins (extent_of c.args.self.now) c.in_ok-key.key c.in_ok-key.ensures.formed val live c.in_ok-key.ensures.value c.loop-val.members
+          c.loop-val.invariant.sound
           ∙ (ap (λ members. with_member members (value_in (extent_of c.args.self.now) val)) c.loop-val.invariant.members
           ∙ sym (fold_more with_member [] (value_in (extent_of c.args.self.now)) c.args.vals.now c.loop-val.val-index NullVal c.loop-val-test.true));
-      sound = joins_soundly (extent_of c.args.self.now) c.in_ok-key.key c.in_ok-key.ensures.formed val live c.in_ok-key.ensures.value c.loop-val.members c.loop-val.invariant.sound;
+      sound = joins_soundly (extent_of c.args.self.now) c.in_ok-key.key c.in_ok-key.ensures.formed val live c.in_ok-key.ensures.value c.loop-val.members
+          c.loop-val.invariant.sound;
     })

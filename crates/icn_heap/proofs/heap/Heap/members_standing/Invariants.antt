@@ -10,6 +10,7 @@ abbrev pub invariant-loop-member : goal.invariant-loop-member
 invariant-loop-member l = record {
   all : map (value_in (extent_of l.self)) l.member-items ≡ set_at (heap_of l.self) l.set;
   live_all : All (IsLive (extent_of l.self)) l.member-items;
-  members : map (value_in (extent_of l.self)) l.members.items ≡ filter (stands l.inside (set_at (heap_of l.self) l.other)) (map (value_in (extent_of l.self)) (take l.member-index l.member-items));
+  members : map (value_in (extent_of l.self)) l.members.items
+      ≡ filter (stands l.inside (set_at (heap_of l.self) l.other)) (map (value_in (extent_of l.self)) (take l.member-index l.member-items));
   live : All (IsLive (extent_of l.self)) l.members.items;
 }

@@ -14,8 +14,10 @@ returns-clause-pair c =
 
 pub returns-clause-live_key : goal.returns-clause-live_key
 unfolding extent_of
-returns-clause-live_key c = rw (c.vals_found.ensures, c.pair_at.ensures) (key_live (parts_of c.args.self.now) c.args.self.now.sound c.args.table c.requires.live c.args.place)
+returns-clause-live_key c =
+    rw (c.vals_found.ensures, c.pair_at.ensures) (key_live (parts_of c.args.self.now) c.args.self.now.sound c.args.table c.requires.live c.args.place)
 
 pub returns-clause-live_value : goal.returns-clause-live_value
 unfolding extent_of
-returns-clause-live_value c = rw (c.vals_found.ensures, c.pair_at.ensures) (value_live (parts_of c.args.self.now) c.args.self.now.sound c.args.table c.requires.live c.args.place)
+returns-clause-live_value c =
+    rw (c.vals_found.ensures, c.pair_at.ensures) (value_live (parts_of c.args.self.now) c.args.self.now.sound c.args.table c.requires.live c.args.place)

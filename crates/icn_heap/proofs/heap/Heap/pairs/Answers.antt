@@ -12,10 +12,15 @@ pub loop-place-preserved : goal.loop-place-preserved
 loop-place-preserved c =
     elim c.match-pair_at.branch [
       | in-Some+in_ok-push w ↦
-          (let more : c.match-pair_at.pairs.items ≡ c.loop-place.pairs.items ++ w.in-Some.pair ∷ [] = ap (λ vals. vals.items) w.pairs-is ∙ w.in_ok-push.ensures.items in
+          (let more : c.match-pair_at.pairs.items ≡ c.loop-place.pairs.items ++ w.in-Some.pair ∷ [] = ap (λ vals. vals.items) w.pairs-is
+          ∙ w.in_ok-push.ensures.items in
           rw more (record {
-            pairs = gathers (values_in (extent_of c.args.self.now)) c.loop-place.pairs.items (table_at (heap_of c.args.self.now) c.args.table).pairs 0 c.loop-place.place w.in-Some.pair (omega arith) c.loop-place.invariant.pairs w.in-Some.ensures.pair;
-            live = All-push (AreLive (extent_of c.args.self.now)) c.loop-place.pairs.items w.in-Some.pair c.loop-place.invariant.live (record { first = w.in-Some.ensures.live_key; second = w.in-Some.ensures.live_value });
+            pairs = gathers (values_in (extent_of c.args.self.now)) c.loop-place.pairs.items (table_at (heap_of c.args.self.now) c.args.table).pairs 0
+                c.loop-place.place w.in-Some.pair (omega arith) c.loop-place.invariant.pairs w.in-Some.ensures.pair;
+            live = All-push (AreLive (extent_of c.args.self.now)) c.loop-place.pairs.items w.in-Some.pair c.loop-place.invariant.live
+                (record { first = w.in-Some.ensures.live_key; second = w.in-Some.ensures.live_value });
           }))
-      | in_default w ↦ absurd (none_there (table_at (heap_of c.args.self.now) c.args.table).pairs c.loop-place.place (omega (arith, c.loop-place-test.true, c.pair_count-place-end.ensures.count)) (ap (option_map (values_in (extent_of c.args.self.now))) (sym w.in_default.is) ∙ c.pair_at.ensures.pair))
+      | in_default w ↦ absurd (none_there (table_at (heap_of c.args.self.now) c.args.table).pairs c.loop-place.place
+          (omega (arith, c.loop-place-test.true, c.pair_count-place-end.ensures.count))
+          (ap (option_map (values_in (extent_of c.args.self.now))) (sym w.in_default.is) ∙ c.pair_at.ensures.pair))
     ]

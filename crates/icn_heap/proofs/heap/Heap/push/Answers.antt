@@ -10,7 +10,8 @@ pub invariant_of-self-2 : goal.invariant_of-self-2
 unfolding extent_of
 invariant_of-self-2 c = record {
   sound = sound_as (with_lists c.args.self.now _ c.in_ok-push_at.ensures.ok)
-      (list_pushes (parts_of c.args.self.now) c.args.self.now.sound c.args.list c.requires.list.live c.in_ok-sum.ensures.sum c.in_ok-sum.ensures.within c.args.val c.requires.live);
+      (list_pushes (parts_of c.args.self.now) c.args.self.now.sound c.args.list c.requires.list.live c.in_ok-sum.ensures.sum c.in_ok-sum.ensures.within
+      c.args.val c.requires.live);
 }
 
 pub returns-clause-step : goal.returns-clause-step
@@ -18,4 +19,5 @@ unfolding extent_of heap_of
 returns-clause-step c =
     steps_as _ (λ heap. with_list c.args.list (with_left (list_at heap c.args.list) (value_in (extent_of c.args.self.now) c.args.val)) heap)
     c.in_ok-sum.ensures.ok (with_lists c.args.self.now _ c.in_ok-push_at.ensures.ok)
-    (list_pushes (parts_of c.args.self.now) c.args.self.now.sound c.args.list c.requires.list.live c.in_ok-sum.ensures.sum c.in_ok-sum.ensures.within c.args.val c.requires.live)
+    (list_pushes (parts_of c.args.self.now) c.args.self.now.sound c.args.list c.requires.list.live c.in_ok-sum.ensures.sum c.in_ok-sum.ensures.within c.args.val
+    c.requires.live)

@@ -8,15 +8,18 @@ pub invariant_of-self : goal.invariant_of-self
 unfolding extent_of
 invariant_of-self c = record {
   sound = sound_as (with_sets c.args.self.now _ c.member_removed_at.ensures.members)
-      (member_leaves (parts_of c.args.self.now) c.args.self.now.sound c.args.set c.requires.set.live c.args.key.now c.requires.formed c.keys_of_members_differ.ensures);
+      (member_leaves (parts_of c.args.self.now) c.args.self.now.sound c.args.set c.requires.set.live c.args.key.now c.requires.formed
+      c.keys_of_members_differ.ensures);
 }
 
 pub returns-clause-found : goal.returns-clause-found
 unfolding extent_of heap_of
-returns-clause-found c = c.member_removed_at.ensures.found ∙ has_is (parts_of c.args.self.now) c.args.self.now.sound c.args.set c.requires.set.live c.args.key.now c.requires.formed
+returns-clause-found c =
+    c.member_removed_at.ensures.found ∙ has_is (parts_of c.args.self.now) c.args.self.now.sound c.args.set c.requires.set.live c.args.key.now c.requires.formed
 
 pub returns-clause-step : goal.returns-clause-step
 unfolding extent_of heap_of
 returns-clause-step c =
     stands_as (with_sets c.args.self.now _ c.member_removed_at.ensures.members)
-    (member_leaves (parts_of c.args.self.now) c.args.self.now.sound c.args.set c.requires.set.live c.args.key.now c.requires.formed c.keys_of_members_differ.ensures)
+    (member_leaves (parts_of c.args.self.now) c.args.self.now.sound c.args.set c.requires.set.live c.args.key.now c.requires.formed
+    c.keys_of_members_differ.ensures)

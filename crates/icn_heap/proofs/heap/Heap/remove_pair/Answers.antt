@@ -13,7 +13,8 @@ invariant_of-self c = record {
 
 pub returns-clause-found : goal.returns-clause-found
 unfolding extent_of heap_of
-returns-clause-found c = c.entry_removed_at.ensures.found ∙ looked_found (parts_of c.args.self.now) c.args.self.now.sound c.args.table c.requires.table.live c.args.key.now c.requires.formed
+returns-clause-found c = c.entry_removed_at.ensures.found
+    ∙ looked_found (parts_of c.args.self.now) c.args.self.now.sound c.args.table c.requires.table.live c.args.key.now c.requires.formed
 
 pub returns-clause-step : goal.returns-clause-step
 unfolding extent_of heap_of

@@ -18,7 +18,8 @@ pub returns-clause-found : goal.returns-clause-found
 unfolding extent_of heap_of
 returns-clause-found c =
     let fits : FitsSigned w64 c.args.n = search rules in
-    rw (c.set_at.ensures.found, to_z-of_z w64 c.args.n fits) (numbered_is (parts_of c.args.self.now) c.args.self.now.sound c.args.list c.requires.list.live c.args.n)
+    rw (c.set_at.ensures.found, to_z-of_z w64 c.args.n fits)
+    (numbered_is (parts_of c.args.self.now) c.args.self.now.sound c.args.list c.requires.list.live c.args.n)
 
 pub returns-clause-step : goal.returns-clause-step
 unfolding extent_of heap_of

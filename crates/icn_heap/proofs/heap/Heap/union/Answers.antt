@@ -12,12 +12,16 @@ use Rattle.icn_heap.proofs.heap.Heap.union.Goals as goal
 
 pub returns-clause-step : goal.returns-clause-step
 returns-clause-step c =
-    let all : map (value_in (extent_of c.args.self.now)) c.deref-2.result.now ≡ set_at (heap_of c.args.self.now) c.args.first ++ set_at (heap_of c.args.self.now) c.args.second =
-    ap (map (value_in (extent_of c.args.self.now))) (c.deref-2.ensures.value ∙ (c.in_ok-extend_from_slice.ensures.items ∙ ap (λ vals. c.in_ok-members.members.items ++ vals) c.deref.ensures.value))
+    let all : map (value_in (extent_of c.args.self.now)) c.deref-2.result.now
+    ≡ set_at (heap_of c.args.self.now) c.args.first ++ set_at (heap_of c.args.self.now) c.args.second =
+    ap (map (value_in (extent_of c.args.self.now)))
+    (c.deref-2.ensures.value ∙ (c.in_ok-extend_from_slice.ensures.items ∙ ap (λ vals. c.in_ok-members.members.items ++ vals) c.deref.ensures.value))
     ∙ (map-append (value_in (extent_of c.args.self.now)) c.in_ok-members.members.items c.in_ok-others.others.items
     ∙ (ap (λ (values : List Value). values ++ map (value_in (extent_of c.args.self.now)) c.in_ok-others.others.items) c.in_ok-members.ensures.members
     ∙ ap (λ (values : List Value). set_at (heap_of c.args.self.now) c.args.first ++ values) c.in_ok-others.ensures.members)) in
-    subst (λ (members : List Value). MatchResult c.set_from.result (λ _. made_set_of (heap_of c.args.self.now) members ≡ Ok (heap_of c.set_from.new.self)) (Refuses (made_set_of (heap_of c.args.self.now) members)))
+    subst (λ (members : List Value). MatchResult c.set_from.result (λ _. made_set_of (heap_of c.args.self.now) members ≡ Ok (heap_of c.set_from.new.self))
+    (Refuses (made_set_of (heap_of c.args.self.now) members)))
     (ap (fold with_member []) all
-    ∙ fold_both (set_at (heap_of c.args.self.now) c.args.first) (set_at (heap_of c.args.self.now) c.args.second) c.members_differ.ensures c.members_differ-2.ensures)
+    ∙ fold_both (set_at (heap_of c.args.self.now) c.args.first)
+    (set_at (heap_of c.args.self.now) c.args.second) c.members_differ.ensures c.members_differ-2.ensures)
     c.set_from.ensures.step

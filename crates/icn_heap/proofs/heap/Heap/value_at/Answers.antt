@@ -8,7 +8,8 @@ use Rattle.icn_heap.proofs.heap.Heap.value_at.Goals as goal
 
 pub returns-clause-live : goal.returns-clause-live
 unfolding extent_of
-returns-clause-live c = rw (c.value_found.ensures, c.entry_at.ensures) (looked_live (parts_of c.args.self.now) c.args.self.now.sound c.args.table c.requires.table.live c.args.key.now c.requires.formed)
+returns-clause-live c = rw (c.value_found.ensures, c.entry_at.ensures)
+    (looked_live (parts_of c.args.self.now) c.args.self.now.sound c.args.table c.requires.table.live c.args.key.now c.requires.formed)
 
 pub returns-clause-value : goal.returns-clause-value
 unfolding extent_of heap_of

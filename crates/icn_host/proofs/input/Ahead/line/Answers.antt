@@ -32,5 +32,6 @@ loop-rest-preserved g c =
 
 pub returns-then-count-rest-clause-plain : goal.returns-then-count-rest-clause-plain
 returns-then-count-rest-clause-plain g c =
-    line_plain (slice_range c.fill.new.self.bytes c.fill.new.self.at c.fill.new.self.end) c.line_len-count.result c.extend_from_slice.new.self.items c.loop-rest.invariant c.line_len-count.ensures
+    line_plain (slice_range c.fill.new.self.bytes c.fill.new.self.at c.fill.new.self.end) c.line_len-count.result c.extend_from_slice.new.self.items
+    c.loop-rest.invariant c.line_len-count.ensures
     c.in_ok-extend_from_slice.ensures.items

@@ -13,7 +13,8 @@ returns-in_err-count-clause-err g c =
 pub returns-then-count-eq0-clause-ok : goal.returns-then-count-eq0-clause-ok
 returns-then-count-eq0-clause-ok g c =
     take_all_left c.fill.new.self.bytes c.fill.new.self.at c.fill.new.self.end c.in_ok-count.count _ c.take_first.new.into.items
-    c.loop-room.invariant c.fill.ensures.same c.fill.new.self.from_start c.fill.new.self.within c.loop-room-test.true c.in_ok-fill.ensures.end c.if-count-eq0.true
+    c.loop-room.invariant c.fill.ensures.same c.fill.new.self.from_start c.fill.new.self.within c.loop-room-test.true c.in_ok-fill.ensures.end
+    c.if-count-eq0.true
     c.in_ok-count.ensures.ok.2 c.in_ok-count.ensures.ok.1
 
 pub loop-room-preserved : goal.loop-room-preserved

@@ -8,5 +8,7 @@ pub returns : goal.returns
 returns c =
     let none = missing c.args.self.now.texts c.args.name.now c.in_ok-name.name.items c.in_ok-name.ensures.items c.requires in
     let m = c.args.self.now.texts in
-    defines m c.insert.new.self c.in_ok-name.name.items c.in_ok-text.text c.in_ok-insert.ensures.updates (added _ _ _ c.in_ok-insert.ensures.len (c.in_ok-insert.ensures.old ∙ none))
-    ∙ (ap (λ n. with_text (texts_in m) n c.in_ok-text.text.items) c.in_ok-name.ensures.items ∙ ap (with_text (texts_in m) c.args.name.now) c.in_ok-text.ensures.items)
+    defines m c.insert.new.self c.in_ok-name.name.items c.in_ok-text.text c.in_ok-insert.ensures.updates
+    (added _ _ _ c.in_ok-insert.ensures.len (c.in_ok-insert.ensures.old ∙ none))
+    ∙ (ap (λ n. with_text (texts_in m) n c.in_ok-text.text.items) c.in_ok-name.ensures.items
+    ∙ ap (with_text (texts_in m) c.args.name.now) c.in_ok-text.ensures.items)

@@ -31,27 +31,32 @@ pub put_arguments-returns-then-is_no_element-clause-count : goal.put_arguments-r
 put_arguments-returns-then-is_no_element-clause-count n c = no_count (all_of c.args.exprs.now) (sym c.is_no_element.ensures ∙ c.if-is_no_element.true)
 
 pub put_arguments-returns-then-is_no_element-clause-draft : goal.put_arguments-returns-then-is_no_element-clause-draft
-put_arguments-returns-then-is_no_element-clause-draft n c = no_arguments (open_of c.args.within) (all_of c.args.exprs.now) (draft_of c.args.self.now) (sym c.is_no_element.ensures ∙ c.if-is_no_element.true)
+put_arguments-returns-then-is_no_element-clause-draft n c =
+    no_arguments (open_of c.args.within) (all_of c.args.exprs.now) (draft_of c.args.self.now) (sym c.is_no_element.ensures ∙ c.if-is_no_element.true)
 
 pub put_arguments-returns-clause-count : goal.put_arguments-returns-clause-count
 put_arguments-returns-clause-count n c = c.in_ok-count.ensures ∙ all_counted c.args.exprs.now (sym c.is_no_element.ensures ∙ c.if-is_no_element.false)
 
 pub put_arguments-returns-clause-draft : goal.put_arguments-returns-clause-draft
-put_arguments-returns-clause-draft n c = c.in_ok-put_operands.ensures ∙ all_arguments (open_of c.args.within) (all_of c.args.exprs.now) (draft_of c.args.self.now) (sym c.is_no_element.ensures ∙ c.if-is_no_element.false)
+put_arguments-returns-clause-draft n c = c.in_ok-put_operands.ensures
+    ∙ all_arguments (open_of c.args.within) (all_of c.args.exprs.now) (draft_of c.args.self.now) (sym c.is_no_element.ensures ∙ c.if-is_no_element.false)
 
 pub put_creations-returns-then-is_no_element-clause-count : goal.put_creations-returns-then-is_no_element-clause-count
 put_creations-returns-then-is_no_element-clause-count n c = no_count (all_of c.args.exprs.now) (sym c.is_no_element.ensures ∙ c.if-is_no_element.true)
 
 pub put_creations-returns-then-is_no_element-clause-draft : goal.put_creations-returns-then-is_no_element-clause-draft
-put_creations-returns-then-is_no_element-clause-draft n c = no_creations (all_of c.args.exprs.now) (draft_of c.args.self.now) (sym c.is_no_element.ensures ∙ c.if-is_no_element.true)
+put_creations-returns-then-is_no_element-clause-draft n c =
+    no_creations (all_of c.args.exprs.now) (draft_of c.args.self.now) (sym c.is_no_element.ensures ∙ c.if-is_no_element.true)
 
 pub put_creations-returns-clause-count : goal.put_creations-returns-clause-count
 put_creations-returns-clause-count n c = c.in_ok-count.ensures ∙ all_counted c.args.exprs.now (sym c.is_no_element.ensures ∙ c.if-is_no_element.false)
 
 pub put_creations-returns-clause-draft : goal.put_creations-returns-clause-draft
-put_creations-returns-clause-draft n c = c.in_ok-put_other_creations.ensures ∙ all_creations (all_of c.args.exprs.now) (draft_of c.args.self.now) (sym c.is_no_element.ensures ∙ c.if-is_no_element.false)
+put_creations-returns-clause-draft n c = c.in_ok-put_other_creations.ensures
+    ∙ all_creations (all_of c.args.exprs.now) (draft_of c.args.self.now) (sym c.is_no_element.ensures ∙ c.if-is_no_element.false)
 
 pub put_compound-loop-place-preserved : goal.put_compound-loop-place-preserved
 put_compound-loop-place-preserved n c =
-    compound_step (open_of c.args.within) c.args.exprs.now c.loop-place.place c.index-exprs-place.result (draft_of c.loop-place.self) (draft_of c.put_part.new.self) c.loop-place-test.true c.index-exprs-place.is c.in_ok-put_part.ensures
+    compound_step (open_of c.args.within) c.args.exprs.now c.loop-place.place c.index-exprs-place.result (draft_of c.loop-place.self)
+    (draft_of c.put_part.new.self) c.loop-place-test.true c.index-exprs-place.is c.in_ok-put_part.ensures
     ∙ c.loop-place.invariant

@@ -9,7 +9,8 @@ pub invariant_of-result : goal.invariant_of-result
 invariant_of-result c = record {
   named = c.args.self.named;
   known = c.in_ok-meet.ensures.has
-      ∙ (entry_known (has c.args.self.names) c.args.self.proc.names.items (record { kind = c.args.kind; name = c.in_ok-from_slice.field-0 }) c.args.name.now c.args.self.known (sym c.in_ok-from_slice.ensures)
+      ∙ (entry_known (has c.args.self.names) c.args.self.proc.names.items
+      (record { kind = c.args.kind; name = c.in_ok-from_slice.field-0 }) c.args.name.now c.args.self.known (sym c.in_ok-from_slice.ensures)
       ∙ ap (λ names. has_name (entry_names names)) (sym c.in_ok-push.ensures.items));
   codeless = c.args.self.codeless;
 }

@@ -9,5 +9,6 @@ use Rattle.icn_ucode.proofs.proc_lists.Procs.with.Goals as goal
 pub invariant_of-result : goal.invariant_of-result
 invariant_of-result c = record {
   known = c.in_ok-meet.ensures.has
-      ∙ (proc_known (has c.args.self.names) c.args.self.procs.items c.args.proc c.args.name.now c.args.self.known c.requires ∙ ap (λ procs. has_name (proc_names (map proc_seen procs))) (sym c.in_ok-push.ensures.items));
+      ∙ (proc_known (has c.args.self.names) c.args.self.procs.items c.args.proc c.args.name.now c.args.self.known c.requires
+      ∙ ap (λ procs. has_name (proc_names (map proc_seen procs))) (sym c.in_ok-push.ensures.items));
 }

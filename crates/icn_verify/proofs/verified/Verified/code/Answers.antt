@@ -5,4 +5,5 @@ use Rattle.icn_verify.proofs.verified.Verified.code.Goals as goal
 
 pub returns-clause-shapes : goal.returns-clause-shapes
 returns-clause-shapes c = λ number proc at.
-    sound_shapes proc.instrs ((bounded (tables_of c.args.self.now.code) c.args.self.now.code.rules).labels number proc at) (c.args.self.now.verified number proc at)
+    sound_shapes proc.instrs ((bounded (tables_of c.args.self.now.code) c.args.self.now.code.rules).labels number proc at)
+    (c.args.self.now.verified number proc at)
