@@ -73,6 +73,7 @@ abbrev pub label_address_by : ℕ → Option ℕ → ℕ → ℕ
 label_address_by label None behind = suc behind
 label_address_by label (Some other) behind = if nat_eq label other then 0 else behind
 
+-- the instruction address of a label
 abbrev pub label_address : ℕ → List UnitInstr → ℕ
 label_address label [] = 0
 label_address label (instr ∷ instrs) = label_address_by label (own_label instr) (label_address label instrs)
