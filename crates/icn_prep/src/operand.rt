@@ -80,7 +80,7 @@ fn plain_run(operand: &[u8]) -> Option<&[u8]>
 
 // What stands in double quotes, up to the next one, where nothing stands behind it.
 fn quoted(operand: &[u8]) -> Option<&[u8]>
-    ensures { option_map (λ name. name.now) result ≡ quoted operand.now }
+    ensures { option_map (λ name. name.now) result ≡ text_in_quotes operand.now }
 {
     let (first, rest) = operand.split_first()?;
     let (name, end) = rest.split_at(unquoted_len(rest));
