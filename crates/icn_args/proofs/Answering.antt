@@ -13,7 +13,7 @@ use Rattle.icn_vars.specs.declared.stop.Stop.TheVariants.{Error, NoMemory}
 use Rattle.icn_vars.specs.Outcomes.{ComesToAnswer, HaltsRow, IsLiveAnswer, IsLiveHalt}
 use Rattle.icn_vars.specs.Stops.{IsLiveStop, StopsFinding, StopsPassing, halt_of}
 use Rattle.icn_vars.specs.Worlds.{Reach}
-use Rattle.icn_args.specs.Words.{Found, Passed}
+use Rattle.icn_args.specs.Words.{IsFound, IsPassed}
 
 -- Rows
 
@@ -75,7 +75,7 @@ stop_lives_on all stop (Err other) same is = subst (IsLiveStop all) (sym same) i
 
 pub found_err : {A B : Type 0} (all : Extent) (find : Finds A) (before after : Setting) (shown : B → A) (stop : Stop) (result : Result B Stop)
     → IsErrAnd result (λ other. other ≡ stop)
-    → StopsFinding all find before after stop → Found all find before after shown result
+    → StopsFinding all find before after stop → IsFound all find before after shown result
 found_err all find before after shown stop (Ok thing) same is = absurd same
 found_err all find before after shown stop (Err other) same is = subst (StopsFinding all find before after) (sym same) is
 
@@ -95,7 +95,7 @@ stops_behind all find thing rest before between after NoMemory first is = tt
 pub first_stops : {A B C : Type 0} (all : Extent) (find : Finds A) (rest : A → Finds B) (before after : Setting) (shown : C → B) (stop : Stop)
     (result : Result C Stop)
     → IsErrAnd result (λ other. other ≡ stop) → StopsFinding all find before after stop
-    → Found all (λ next. find (λ thing. rest thing next)) before after shown result
+    → IsFound all (λ next. find (λ thing. rest thing next)) before after shown result
 first_stops all find rest before after shown stop result same is =
     found_err all (λ next. find (λ thing. rest thing next)) before after shown stop result same (stops_within all find rest before after stop is)
 
@@ -103,7 +103,7 @@ first_stops all find rest before after shown stop result same is =
 pub then_stops : {A B C : Type 0} (all : Extent) (find : Finds A) (thing : A) (rest : A → Finds B) (before between after : Setting) (shown : C → B)
     (stop : Stop) (result : Result C Stop)
     → IsErrAnd result (λ other. other ≡ stop) → GoesOn find before thing between → StopsFinding all (rest thing) between after stop
-    → Found all (λ next. find (λ thing. rest thing next)) before after shown result
+    → IsFound all (λ next. find (λ thing. rest thing next)) before after shown result
 then_stops all find thing rest before between after shown stop result same first is =
     found_err all (λ next. find (λ thing. rest thing next)) before after shown stop result same
     (stops_behind all find thing rest before between after stop first is)
@@ -112,7 +112,7 @@ then_stops all find thing rest before between after shown stop result same first
 
 pub passed_err : {B : Type 0} (all : Extent) (part : Row → Row) (before after : Setting) (stop : Stop) (result : Result B Stop)
     → IsErrAnd result (λ other. other ≡ stop)
-    → StopsPassing all part before after stop → Passed all part before after result
+    → StopsPassing all part before after stop → IsPassed all part before after result
 passed_err all part before after stop (Ok thing) same is = absurd same
 passed_err all part before after stop (Err other) same is = subst (StopsPassing all part before after) (sym same) is
 
@@ -129,13 +129,13 @@ passing_behind all part rest before between after NoMemory first is = tt
 -- the first part is not passed
 pub first_part_stops : {B : Type 0} (all : Extent) (part rest : Row → Row) (before after : Setting) (stop : Stop) (result : Result B Stop)
     → IsErrAnd result (λ other. other ≡ stop)
-    → StopsPassing all part before after stop → Passed all (λ next. part (rest next)) before after result
+    → StopsPassing all part before after stop → IsPassed all (λ next. part (rest next)) before after result
 first_part_stops all part rest before after stop result same is =
     passed_err all (λ next. part (rest next)) before after stop result same (passing_within all part rest before after stop is)
 
 -- it is passed, and the next one is not
 pub then_part_stops : {B : Type 0} (all : Extent) (part rest : Row → Row) (before between after : Setting) (stop : Stop) (result : Result B Stop)
     → IsErrAnd result (λ other. other ≡ stop)
-    → Passes part before between → StopsPassing all rest between after stop → Passed all (λ next. part (rest next)) before after result
+    → Passes part before between → StopsPassing all rest between after stop → IsPassed all (λ next. part (rest next)) before after result
 then_part_stops all part rest before between after stop result same first is =
     passed_err all (λ next. part (rest next)) before after stop result same (passing_behind all part rest before between after stop first is)

@@ -16,7 +16,7 @@ use Rattle.icn_vars.specs.Facts.{IsSoundWorld}
 use Rattle.icn_vars.specs.Stops.{stop_of}
 use Rattle.icn_vars.proofs.Changing.{IsChange, stops}
 use Rattle.icn_vars.proofs.Growing.{setting_over}
-use Rattle.icn_args.specs.Words.{Passed}
+use Rattle.icn_args.specs.Words.{IsPassed}
 use Rattle.icn_args.proofs.Answering.{passed_err}
 
 -- a change that is refused
@@ -25,7 +25,7 @@ pub charge_stops : {B : Type 0} (old new : HeldHeap) (pair : Pair) (random : ℕ
     → Keeps (extent_of old) (extent_of new) → IsSoundWorld (extent_of old) pair random globals statics → All (IsLive (extent_of old)) locals
     → IsChange part change → heap_of new ≡ heap_of old
     → Refuses (change (heap_of old)) full → IsErrAnd result (λ stop. stop ≡ stop_of full) → (outside : Outside)
-    → Passed (extent_of new) part (setting_over outside old pair random globals statics locals)
+    → IsPassed (extent_of new) part (setting_over outside old pair random globals statics locals)
     (setting_over outside new pair random globals statics locals) result
 charge_stops old new pair random globals statics locals {part} full result keeps sound live is same why err outside =
     passed_err (extent_of new) part (setting_over outside old pair random globals statics locals) (setting_over outside new pair random globals statics locals)

@@ -15,7 +15,7 @@ use Rattle.icn_vars.specs.declared.stop.Stop.TheVariants.{Error, NoMemory}
 use Rattle.icn_vars.specs.Stops.{StopsFinding}
 use Rattle.icn_vars.specs.Worlds.{item_in}
 use Rattle.icn_args.specs.Gathering.{values_behind}
-use Rattle.icn_args.specs.Words.{Found}
+use Rattle.icn_args.specs.Words.{IsFound}
 use Rattle.icn_args.proofs.Answering.{found_err}
 
 nothing_left : (items : List HeldItem) → length items ≡ 0 → items ≡ []
@@ -36,7 +36,7 @@ module _ (all : Extent) (setting : Setting) (items : List HeldItem) where
       (result : Result B Stop) → IsErrAnd result (λ other. other ≡ stop)
       → rest ≡ first ∷ others
       → ((next : List Value → Row) → the_values (map (item_in all) items) next setting ≡ values_behind done (map (item_in all) rest) next setting)
-      → StopsFinding all (the_value (item_in all first)) setting setting stop → Found all (the_values (map (item_in all) items)) setting setting shown result
+      → StopsFinding all (the_value (item_in all first)) setting setting stop → IsFound all (the_values (map (item_in all) items)) setting setting shown result
   gather_stops done first others rest shown stop result err same so is =
       found_err all (the_values (map (item_in all) items)) setting setting shown stop result err (stops_at done first others rest stop same so is)
 

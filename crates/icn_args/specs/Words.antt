@@ -25,14 +25,14 @@ Answers old locals new locals' row result =
 
 -- A thing is found, shows as this, and the row goes on in the setting after it; or the row stops there. The
 -- extent is that of the setting after it.
-abbrev pub Found : {A B : Type 0} → Extent → Finds A → Setting → Setting → (B → A) → Result B Stop → Type 0
-Found all find before after shown (Ok thing) = GoesOn find before (shown thing) after
-Found all find before after shown (Err stop) = StopsFinding all find before after stop
+abbrev pub IsFound : {A B : Type 0} → Extent → Finds A → Setting → Setting → (B → A) → Result B Stop → Type 0
+IsFound all find before after shown (Ok thing) = GoesOn find before (shown thing) after
+IsFound all find before after shown (Err stop) = StopsFinding all find before after stop
 
 -- A part of a row is passed, and the row goes on in the setting after it; or the row stops there.
-abbrev pub Passed : {B : Type 0} → Extent → (Row → Row) → Setting → Setting → Result B Stop → Type 0
-Passed all part before after (Ok thing) = Passes part before after
-Passed all part before after (Err stop) = StopsPassing all part before after stop
+abbrev pub IsPassed : {B : Type 0} → Extent → (Row → Row) → Setting → Setting → Result B Stop → Type 0
+IsPassed all part before after (Ok thing) = Passes part before after
+IsPassed all part before after (Err stop) = StopsPassing all part before after stop
 
 -- the text of a value that has one
 abbrev pub the_text : Value → List ℕ

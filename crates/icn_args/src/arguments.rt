@@ -9,7 +9,7 @@ ghost use Rattle.icn_heap.specs.Extents.{Extent, IsLive, value_in};
 ghost use Rattle.icn_heap.specs.Heaps.{extent_of};
 ghost use Rattle.icn_vars.specs.Stops.{IsLiveStop};
 ghost use Rattle.icn_vars.specs.Worlds.{IsLiveItem, item_in, reach_of, setting_of};
-ghost use Rattle.icn_args.specs.Words.{Found};
+ghost use Rattle.icn_args.specs.Words.{IsFound};
 
 use icn_value::{Item, Val};
 use icn_vars::{Locals, Stop, World, deref};
@@ -49,7 +49,7 @@ pub fn values_of<L: Locals>(w: &World, l: &L, items: &[Item]) -> Result<Vec<Val>
     ensures live { IfOk result (λ vals. All (IsLive (extent_of w.now.heap)) vals.items) }
     ensures stops { IfErr result (IsLiveStop (extent_of w.now.heap)) }
     ensures found { (outside : Outside)
-        → Found (extent_of w.now.heap) (the_values (map (item_in (extent_of w.now.heap)) items.now))
+        → IsFound (extent_of w.now.heap) (the_values (map (item_in (extent_of w.now.heap)) items.now))
         (setting_of outside w.now (L.items l.now)) (setting_of outside w.now (L.items l.now))
         (λ vals. map (value_in (extent_of w.now.heap)) vals.items) result }
 {

@@ -7,7 +7,7 @@ ghost use Rattle.icn_heap.specs.Extents.{IsLive, IsText, text_in, value_in};
 ghost use Rattle.icn_heap.specs.Heaps.{extent_of};
 ghost use Rattle.icn_vars.specs.Stops.{IsLiveStop};
 ghost use Rattle.icn_vars.specs.Worlds.{KeepsItems, reach_of, setting_of};
-ghost use Rattle.icn_args.specs.Words.{HasText, Passed, the_text};
+ghost use Rattle.icn_args.specs.Words.{HasText, IsPassed, the_text};
 
 use icn_convert::to_text;
 use icn_value::{Span, Val};
@@ -24,7 +24,7 @@ pub fn text_of<L: Locals>(w: &mut World, l: &L, val: Val) -> Result<Span, Stop>
         (λ span. text_in (extent_of w.new.heap) span ≡ the_text (value_in (extent_of w.old.heap) val)) }
     ensures stops { IfErr result (IsLiveStop (extent_of w.new.heap)) }
     ensures step { (outside : Outside)
-        → Passed (extent_of w.new.heap) (costs_text (value_in (extent_of w.old.heap) val))
+        → IsPassed (extent_of w.new.heap) (costs_text (value_in (extent_of w.old.heap) val))
         (setting_of outside w.old (L.items l.now)) (setting_of outside w.new (L.items l.now)) result }
     ensures locals { All (IsLive (extent_of w.new.heap)) (L.items l.now) }
     ensures kept { KeepsItems (reach_of w.old (L.items l.now)) (reach_of w.new (L.items l.now)) }
@@ -50,7 +50,7 @@ pub fn texts_of<L: Locals>(w: &mut World, l: &L, a: Val, b: Val) -> Result<(Span
     ensures second_text { IfOk result
         (λ two. text_in (extent_of w.new.heap) two.1 ≡ the_text (value_in (extent_of w.old.heap) b)) }
     ensures stops { IfErr result (IsLiveStop (extent_of w.new.heap)) }
-    ensures step { (outside : Outside) → Passed (extent_of w.new.heap)
+    ensures step { (outside : Outside) → IsPassed (extent_of w.new.heap)
         (costs_texts (value_in (extent_of w.old.heap) a ∷ value_in (extent_of w.old.heap) b ∷ []))
         (setting_of outside w.old (L.items l.now)) (setting_of outside w.new (L.items l.now)) result }
     ensures locals { All (IsLive (extent_of w.new.heap)) (L.items l.now) }
@@ -68,7 +68,7 @@ pub fn build<L: Locals>(w: &mut World, l: &L, bytes: &[u8]) -> Result<Span, Stop
     ensures live { IfOk result (IsText (extent_of w.new.heap)) }
     ensures text { IfOk result (λ span. text_in (extent_of w.new.heap) span ≡ bytes.now) }
     ensures stops { IfErr result (IsLiveStop (extent_of w.new.heap)) }
-    ensures step { (outside : Outside) → Passed (extent_of w.new.heap) (costs_bytes (length bytes.now))
+    ensures step { (outside : Outside) → IsPassed (extent_of w.new.heap) (costs_bytes (length bytes.now))
         (setting_of outside w.old (L.items l.now)) (setting_of outside w.new (L.items l.now)) result }
     ensures locals { All (IsLive (extent_of w.new.heap)) (L.items l.now) }
     ensures kept { KeepsItems (reach_of w.old (L.items l.now)) (reach_of w.new (L.items l.now)) }
@@ -86,7 +86,7 @@ pub fn join<L: Locals>(w: &mut World, l: &L, a: Span, b: Span) -> Result<Span, S
     ensures text { IfOk result (λ span. text_in (extent_of w.new.heap) span ≡ text_in (extent_of w.old.heap) a
         ++ text_in (extent_of w.old.heap) b) }
     ensures stops { IfErr result (IsLiveStop (extent_of w.new.heap)) }
-    ensures step { (outside : Outside) → Passed (extent_of w.new.heap)
+    ensures step { (outside : Outside) → IsPassed (extent_of w.new.heap)
         (costs_bytes (length (text_in (extent_of w.old.heap) a ++ text_in (extent_of w.old.heap) b)))
         (setting_of outside w.old (L.items l.now)) (setting_of outside w.new (L.items l.now)) result }
     ensures locals { All (IsLive (extent_of w.new.heap)) (L.items l.now) }

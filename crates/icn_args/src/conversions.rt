@@ -7,7 +7,7 @@ ghost use Rattle.icn_defs.specs.Arguments.{cset, integer, number, string};
 ghost use Rattle.icn_defs.specs.Rows.{computed, natural};
 ghost use Rattle.icn_heap.specs.Extents.{Extent, IsLive, value_in};
 ghost use Rattle.icn_heap.specs.Heaps.{extent_of};
-ghost use Rattle.icn_args.specs.Words.{Found, HasText, the_text};
+ghost use Rattle.icn_args.specs.Words.{IsFound, HasText, the_text};
 ghost use Rattle.icn_vars.specs.Stops.{IsLiveStop};
 
 use icn_convert::{to_cset, to_integer};
@@ -19,7 +19,7 @@ use icn_vars::Stop;
 /// The integer that a value is or converts to. The error is 101 about the value. It takes no memory.
 pub fn integer_of(heap: &Heap, val: Val) -> Result<i64, Stop>
     requires { IsLive (extent_of heap.now) val }
-    ensures found { (setting : Setting) → Found (extent_of heap.now)
+    ensures found { (setting : Setting) → IsFound (extent_of heap.now)
         (integer (value_in (extent_of heap.now) val)) setting setting (λ (n : ℤ). n) result }
     ensures stops { IfErr result (IsLiveStop (extent_of heap.now)) }
 {
@@ -29,7 +29,7 @@ pub fn integer_of(heap: &Heap, val: Val) -> Result<i64, Stop>
 /// The integer that a value is or converts to, as arithmetic wants it. The error is 102 about the value. It takes no memory.
 pub fn number_of(heap: &Heap, val: Val) -> Result<i64, Stop>
     requires { IsLive (extent_of heap.now) val }
-    ensures found { (setting : Setting) → Found (extent_of heap.now)
+    ensures found { (setting : Setting) → IsFound (extent_of heap.now)
         (number (value_in (extent_of heap.now) val)) setting setting (λ (n : ℤ). n) result }
     ensures stops { IfErr result (IsLiveStop (extent_of heap.now)) }
 {
@@ -39,7 +39,7 @@ pub fn number_of(heap: &Heap, val: Val) -> Result<i64, Stop>
 /// The cset that a value is or converts to. The error is 104 about the value. It takes no memory.
 pub fn cset_of(heap: &Heap, val: Val) -> Result<Cset, Stop>
     requires { IsLive (extent_of heap.now) val }
-    ensures found { (setting : Setting) → Found (extent_of heap.now)
+    ensures found { (setting : Setting) → IsFound (extent_of heap.now)
         (cset (value_in (extent_of heap.now) val)) setting setting members_of result }
     ensures stops { IfErr result (IsLiveStop (extent_of heap.now)) }
 {
@@ -50,7 +50,8 @@ pub fn cset_of(heap: &Heap, val: Val) -> Result<Cset, Stop>
 /// after all checks.
 pub fn check_text(val: Val) -> Result<(), Stop>
     ensures found { (all : Extent) (setting : Setting)
-        → Found all (string (value_in all val)) setting setting (λ done. the_text (value_in all val)) result }
+        → IsFound all (string (value_in all val)) setting setting
+        (λ done. the_text (value_in all val)) result }
     ensures stops { (all : Extent) → IsLive all val → IfErr result (IsLiveStop all) }
     ensures has { (all : Extent) → OnOk result (HasText (value_in all val)) }
 {
@@ -63,7 +64,7 @@ pub fn check_text(val: Val) -> Result<(), Stop>
 /// An integer at or above 0. The error is 205 about the value that it comes from.
 pub fn natural_of(n: i64, val: Val) -> Result<u64, Stop>
     ensures found { (all : Extent) (setting : Setting)
-        → Found all (natural n (value_in all val)) setting setting (λ n. n) result }
+        → IsFound all (natural n (value_in all val)) setting setting (λ n. n) result }
     ensures stops { (all : Extent) → IsLive all val → IfErr result (IsLiveStop all) }
 {
     u64::try_from(n).map_err(|_| Stop::Error(205, Some(val)))
@@ -72,7 +73,7 @@ pub fn natural_of(n: i64, val: Val) -> Result<u64, Stop>
 /// What an operation on integers gives, or 201, 202 or 203 where it gives nothing.
 pub fn computed(given: Result<i64, Arith>) -> Result<i64, Stop>
     ensures found { (all : Extent) (setting : Setting)
-        → Found all (computed given) setting setting (λ (n : ℤ). n) result }
+        → IsFound all (computed given) setting setting (λ (n : ℤ). n) result }
     ensures stops { (all : Extent) → IfErr result (IsLiveStop all) }
 {
     match given {

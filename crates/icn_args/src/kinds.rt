@@ -6,7 +6,7 @@ ghost use Rattle.icn_heap.specs.Extents.{Extent, IsLive, value_in};
 ghost use Rattle.icn_heap.specs.Keys.{file_of};
 ghost use Rattle.icn_args.specs.Kinds.{IsLiveKeeper, keeper_in};
 ghost use Rattle.icn_value.specs.declared.val.Val.TheVariants.{List, Table};
-ghost use Rattle.icn_args.specs.Words.{Found};
+ghost use Rattle.icn_args.specs.Words.{IsFound};
 ghost use Rattle.icn_vars.specs.Stops.{IsLiveStop};
 
 use icn_value::{File, Val};
@@ -24,7 +24,7 @@ pub enum Keeper {
 /// The file that a value is. The error is 105 about the value.
 pub fn file_of(val: Val) -> Result<File, Stop>
     ensures found { (all : Extent) (setting : Setting)
-        → Found all (file (value_in all val)) setting setting file_of result }
+        → IsFound all (file (value_in all val)) setting setting file_of result }
     ensures stops { (all : Extent) → IsLive all val → IfErr result (IsLiveStop all) }
 {
     match val {
@@ -36,7 +36,7 @@ pub fn file_of(val: Val) -> Result<File, Stop>
 /// The number of the list that a value is. The error is 108 about the value.
 pub fn list_of(val: Val) -> Result<u32, Stop>
     ensures found { (all : Extent) (setting : Setting)
-        → Found all (list (value_in all val)) setting setting (λ (id : ℕ). id) result }
+        → IsFound all (list (value_in all val)) setting setting (λ (id : ℕ). id) result }
     ensures live { (all : Extent) → IsLive all val → IfOk result (λ id. IsLive all (List id)) }
     ensures stops { (all : Extent) → IsLive all val → IfErr result (IsLiveStop all) }
 {
@@ -49,7 +49,7 @@ pub fn list_of(val: Val) -> Result<u32, Stop>
 /// The number of the table that a value is. The error is 124 about the value.
 pub fn table_of(val: Val) -> Result<u32, Stop>
     ensures found { (all : Extent) (setting : Setting)
-        → Found all (table (value_in all val)) setting setting (λ (id : ℕ). id) result }
+        → IsFound all (table (value_in all val)) setting setting (λ (id : ℕ). id) result }
     ensures live { (all : Extent) → IsLive all val → IfOk result (λ id. IsLive all (Table id)) }
     ensures stops { (all : Extent) → IsLive all val → IfErr result (IsLiveStop all) }
 {
@@ -62,7 +62,7 @@ pub fn table_of(val: Val) -> Result<u32, Stop>
 /// The set or the table that a value is. The error is 122 about the value.
 pub fn keeper_of(val: Val) -> Result<Keeper, Stop>
     ensures found { (all : Extent) (setting : Setting)
-        → Found all (keeper (value_in all val)) setting setting keeper_in result }
+        → IsFound all (keeper (value_in all val)) setting setting keeper_in result }
     ensures live { (all : Extent) → IsLive all val → IfOk result (IsLiveKeeper all) }
     ensures stops { (all : Extent) → IsLive all val → IfErr result (IsLiveStop all) }
 {

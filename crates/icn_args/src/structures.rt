@@ -7,7 +7,7 @@ ghost use Rattle.icn_heap.specs.Extents.{IsLive, value_in};
 ghost use Rattle.icn_heap.specs.Heaps.{extent_of};
 ghost use Rattle.icn_vars.specs.Stops.{IsLiveStop};
 ghost use Rattle.icn_vars.specs.Worlds.{KeepsItems, reach_of, setting_of};
-ghost use Rattle.icn_args.specs.Words.{Found};
+ghost use Rattle.icn_args.specs.Words.{IsFound};
 
 use icn_value::Val;
 use icn_vars::{Locals, Stop, World};
@@ -20,7 +20,7 @@ pub fn new_list<L: Locals>(w: &mut World, l: &L, items: &[Val]) -> Result<Val, S
     ensures live { IfOk result (IsLive (extent_of w.new.heap)) }
     ensures stops { IfErr result (IsLiveStop (extent_of w.new.heap)) }
     ensures found { (outside : Outside)
-        → Found (extent_of w.new.heap) (new_list_of (map (value_in (extent_of w.old.heap)) items.now))
+        → IsFound (extent_of w.new.heap) (new_list_of (map (value_in (extent_of w.old.heap)) items.now))
         (setting_of outside w.old (L.items l.now)) (setting_of outside w.new (L.items l.now))
         (value_in (extent_of w.new.heap)) result }
     ensures locals { All (IsLive (extent_of w.new.heap)) (L.items l.now) }

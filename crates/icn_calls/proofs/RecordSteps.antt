@@ -20,7 +20,7 @@ use Rattle.icn_heap.specs.Heaps.{extent_of, heap_of}
 use Rattle.icn_vars.specs.declared.stop.Stop.{Stop}
 use Rattle.icn_vars.specs.declared.world.World.{World}
 use Rattle.icn_vars.specs.Stops.{halt_of}
-use Rattle.icn_args.specs.Words.{Found}
+use Rattle.icn_args.specs.Words.{IsFound}
 use Rattle.icn_defs.specs.Rows.{gives_value}
 use Rattle.icn_defs.specs.Structures.{new_record_of}
 use Rattle.icn_value.specs.Store.{Outside, outside_of}
@@ -76,7 +76,7 @@ record_halts w v m kind at count entry vals fields stop a c e made_so st same =
     (made_so st (λ value m st. push_item flat (rows.Val value) m st) same)
 
 pub record_counted : (w v : World) (locals : List Val) (kind : ℕ) (fields : List Value) (result : Result Val Stop)
-    → ((outside : Outside) → Found (extent_of v.heap) (new_record_of (record { kind = kind; fields = fields })) (setting_of outside w locals)
+    → ((outside : Outside) → IsFound (extent_of v.heap) (new_record_of (record { kind = kind; fields = fields })) (setting_of outside w locals)
     (setting_of outside v locals) (value_in (extent_of v.heap)) result)
     → OnOk result (KeepsCounts w v)
 record_counted w v locals kind fields (Ok val) f =

@@ -16,7 +16,7 @@ use Rattle.icn_verify.specs.Given as V
 use Rattle.icn_simulation.specs.Translation.{Names, size, bounded_size}
 use Rattle.icn_simulation.specs.Translation as C
 use Rattle.icn_simulation.specs.Linkage.{Linkage}
-use Rattle.icn_code_sound.specs.Noted.{Note, marked, start, bounded_notes, body, procedure, instrs}
+use Rattle.icn_code_sound.specs.Noted.{Note, in_mark, start, bounded_notes, body, procedure, instrs}
 use Rattle.icn_code_sound.specs.Fit.{FitAll}
 use Rattle.icn_code_sound.specs.Laws.{FitInitial}
 use Rattle.icn_code_sound.specs.Bridge.{plain_at, CodesSound}
@@ -35,7 +35,7 @@ module _ (L : Linkage) (j : ℕ) (N : Names) where
   body_block NoTrees p p' e f = record { end = suc p'; is = plain _ refl (nil _ refl) }
   body_block (More T.Empty es) p p' e f = body_block es (p + 0) p' (omega arith) f.1
   body_block (More x es) p p' e f =
-      let n = neat L j N x [] [] [] true (marked (start false)) tt f.0 (p + 1) (suc p') (omega arith) nowhere in
+      let n = neat L j N x [] [] [] true (in_mark (start false)) tt f.0 (p + 1) (suc p') (omega arith) nowhere in
       let b : Neat [] p' (bounded_notes N p x) (p' + (size [] x + 2)) = label _ (suc (suc p' + size [] x)) e_mark (omega arith) (omega arith)
       (before n (omega arith) (skip _ refl over)) (append n (plain _ refl (nil _ (omega arith))) nowhere) in
       let r = body_block es (p + (size [] x + 2)) (p' + (size [] x + 2)) (omega arith) f.1 in
@@ -44,7 +44,7 @@ module _ (L : Linkage) (j : ℕ) (N : Names) where
   procedure_block : (i : Initial) (es : Trees) → FitInitial L j N i → FitAll L j N [] true es → Block 0 (procedure N i es)
   procedure_block NoInitial es f g = body_block es 0 0 refl g
   procedure_block (Initially place x) es f g =
-      let n = neat L j N x [] [] [] true (marked (start false)) tt f 2 2 refl nowhere in
+      let n = neat L j N x [] [] [] true (in_mark (start false)) tt f 2 2 refl nowhere in
       let q = suc (2 + size [] x) in
       let r = body_block es (size [] x + 3) q (omega arith) g in
       let k = r.is in let en = k.ends in

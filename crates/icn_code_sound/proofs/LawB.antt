@@ -15,7 +15,7 @@ use Rattle.icn_tree.specs.Trees as T
 use Rattle.icn_tree.specs.Trees.{Tree, Trees, MaybeTree, Clause, Clauses, Absent, Present, NoTrees, More, Default, Guarded, NoClauses, MoreClauses}
 use Rattle.icn_simulation.specs.Translation.{bodies_size, Names, Depth, Ways, loop_of, ways, deeper, opened_in, dropped_by_next, around, last_way, next_way, size, sizes, elements_size, conjunction_size, compound_size, creates_size, subscripts_size, by_size, body_size, clauses_size, default_size, elements, count_of, keyword_code, section_op, Form, Both, Scanning, Either, Limiting, Applying, PrefixForm, Activating, Repeating, Operating}
 use Rattle.icn_simulation.specs.Linkage.{Linkage, Loads, l_null, l_integer, l_string, l_cset, l_local, l_static, l_global}
-use Rattle.icn_code_sound.specs.Noted.{bodies_code, Shape, o, start, many, more, marked, within, Limited, scanned, drops, unmarks, create_notes, code, operands, elements_code, conjunction, compound, creates, subscripts, by_code, body_code, clauses_code, clause_code, default_code, prefix_code, plain_code, augmented_code}
+use Rattle.icn_code_sound.specs.Noted.{bodies_code, Shape, o, start, many, more, in_mark, within, Limited, with_scan, drops, unmarks, create_notes, code, operands, elements_code, conjunction, compound, creates, subscripts, by_code, body_code, clauses_code, clause_code, default_code, prefix_code, plain_code, augmented_code}
 use Rattle.icn_code_sound.specs.Fit.{Infixes, x_both, x_scan, x_either, x_limit, x_at, x_bang, x_op, Augments, u_both, u_scan, u_at, u_op, Prefixes, p_at, p_bar, p_op, Some_trees, Fit, FitAll, FitCreates, FitBy, FitMaybe, FitClauses, FitDefault}
 use Rattle.icn_code_sound.specs.Verified.{Pushes, u_null, u_int, u_str, u_cset, u_local, u_static, u_global, u_keyword, Takes, t_op, t_list, t_field, t_invoke, t_appl, t_coact, Fine, f_push, f_pop, f_dup, f_takes, f_mark, f_mark0, f_unmark, f_eret, f_esusp, f_limit, f_lsusp, f_efail, f_chfail, f_goto, f_loop, f_bscan, f_escan, f_ccase, f_psusp, f_pret, f_pfail, f_create, f_coret, f_cofail, d_zero, d_suc, n_no, n_yes, Ctx, c_create, c_loop, Has, AllFine}
 use Rattle.icn_code_sound.proofs.Basics.{none_unmarks}
@@ -66,8 +66,8 @@ module _ (At : ℕ → Shape → Type 0) (L : Linkage) (j : ℕ) (N : Names) whe
       let y = g r D W B c (more s) (push At s a) f (p + 1) (suc p') (omega arith) (omega arith) k.0 k.1.0 in
       (h.0, (f_push s u_null y.0, k.2 y.1 (f_takes 2 s t_coact (to _ z (omega arith)), tt)))
   prefix_fine r D W B c s x g a p_bar f p p' e b h z =
-      let k = cut At _ _ (suc p') (size (deeper D) x) (len N x (deeper D) W (p + 1) (marked s)) h.1 in
-      let y = g r (deeper D) W B c (marked s) (under At _ a) f (p + 1) (suc p') (omega arith) (omega arith) k.0 k.1.0 in
+      let k = cut At _ _ (suc p') (size (deeper D) x) (len N x (deeper D) W (p + 1) (in_mark s)) h.1 in
+      let y = g r (deeper D) W B c (in_mark s) (under At _ a) f (p + 1) (suc p') (omega arith) (omega arith) k.0 k.1.0 in
       (h.0, (f_mark0 s y.0, k.2 y.1 (f_chfail s k.1.1.0 (to _ h.0 e) (omega arith), (f_esusp s (to _ z (omega arith)), tt))))
   prefix_fine r D W B c s x g a (p_op {o = op} i w) f p p' e b h z =
       let k = cut At _ _ p' (size D x) (len N x D W p s) h in
@@ -100,15 +100,15 @@ module _ (At : ℕ → Shape → Type 0) (L : Linkage) (j : ℕ) (N : Names) whe
       (u.0, k.2 u.1 (f_pop s w.0, w.1))
   plain_fine r D W B c s x y g v a x_scan f t p p' e b h z =
       let k = cut At _ _ p' (size D x) (len N x D W p s) h in
-      let m = cut At _ _ (suc (p' + size D x)) (size D y) (len N y D W (p + size D x + 1) (scanned s)) k.1.1 in
-      let w = v r D W B c (scanned s) (scan At s a) t (p + size D x + 1) (suc (p' + size D x)) (omega arith) (omega arith) m.0 m.1.0 in
+      let m = cut At _ _ (suc (p' + size D x)) (size D y) (len N y D W (p + size D x + 1) (with_scan s)) k.1.1 in
+      let w = v r D W B c (with_scan s) (scan At s a) t (p + size D x + 1) (suc (p' + size D x)) (omega arith) (omega arith) m.0 m.1.0 in
       let u = g r D W B c s a f p p' e (omega arith) k.0 k.1.0 in
       (u.0, k.2 u.1 (f_bscan s w.0, m.2 w.1 (f_escan s (to _ z (omega arith)), tt)))
   plain_fine r D W B c s x y g v a x_either f t p p' e b h z =
-      let k = cut At _ _ (suc p') (size (deeper D) x) (len N x (deeper D) W (p + 1) (marked s)) h.1 in
+      let k = cut At _ _ (suc p') (size (deeper D) x) (len N x (deeper D) W (p + 1) (in_mark s)) h.1 in
       let m = suc (suc (suc p' + size (deeper D) x)) in
       let w = v r D W B c s a t (p + size (deeper D) x + 3) m (omega arith) (omega arith) k.1.1.1 (to _ z (omega arith)) in
-      let u = g r (deeper D) W B c (marked s) (under At _ a) f (p + 1) (suc p') (omega arith) (omega arith) k.0 k.1.0 in
+      let u = g r (deeper D) W B c (in_mark s) (under At _ a) f (p + 1) (suc p') (omega arith) (omega arith) k.0 k.1.0 in
       (h.0, (f_mark s u.0 (to _ w.0 (omega arith)) (omega arith), k.2 u.1 (f_esusp s k.1.1.0, (f_goto (more s) (to _ z (omega arith)) (omega arith), w.1))))
   plain_fine r D W B c s x y g v a x_limit f t p p' e b h z =
       let k = cut At _ _ p' (size D y) (len N y D W p s) h in
@@ -151,8 +151,8 @@ module _ (At : ℕ → Shape → Type 0) (L : Linkage) (j : ℕ) (N : Names) whe
       (u.0, k.2 u.1 (m.2 w.1 (f_takes 2 s t_op (to _ z (omega arith)), tt)))
   augmented_fine r D W B c s x y g v a u_scan f t p p' e b h z =
       let k = cut At _ _ p' (size D x) (len N x D W p s) h in
-      let m = cut At _ _ (suc (suc (p' + size D x))) (size D y) (len N y D W (p + size D x + 2) (scanned (more s))) k.1.1.1 in
-      let w = v r D W B c (scanned (more s)) (scan At (more s) (push At s a)) t (p + size D x + 2) (suc (suc (p' + size D x))) (omega arith)
+      let m = cut At _ _ (suc (suc (p' + size D x))) (size D y) (len N y D W (p + size D x + 2) (with_scan (more s))) k.1.1.1 in
+      let w = v r D W B c (with_scan (more s)) (scan At (more s) (push At s a)) t (p + size D x + 2) (suc (suc (p' + size D x))) (omega arith)
       (omega arith) m.0 m.1.0 in
       let u = g r D W B c s a f p p' e (omega arith) k.0 k.1.0 in
       (u.0, k.2 u.1 (f_dup s k.1.1.0, (f_bscan (more s) w.0, m.2 w.1 (f_escan (more s) m.1.1.0, (f_takes 2 s t_op (to _ z (omega arith)), tt)))))
@@ -170,18 +170,18 @@ module _ (At : ℕ → Shape → Type 0) (L : Linkage) (j : ℕ) (N : Names) whe
       (u.0, k.2 u.1 (f_dup s w.0, m.2 w.1 (f_takes 2 (more s) (takes _ q) m.1.1.0, (f_takes 2 s t_op (to _ z (omega arith)), tt))))
 
   created_fine : (s : Shape) (x : Tree) → Goal x → Fit L j N [] false x
-      → (p p' : ℕ) → p' ≡ p → Has At p' (create_notes p (size [] x) s (code N [] [] (p + 2) (marked (start true)) x)) → At (p' + (size [] x + 5)) (more s)
-      → At p' s × AllFine At p' (create_notes p (size [] x) s (code N [] [] (p + 2) (marked (start true)) x))
+      → (p p' : ℕ) → p' ≡ p → Has At p' (create_notes p (size [] x) s (code N [] [] (p + 2) (in_mark (start true)) x)) → At (p' + (size [] x + 5)) (more s)
+      → At p' s × AllFine At p' (create_notes p (size [] x) s (code N [] [] (p + 2) (in_mark (start true)) x))
   created_fine s x g f p p' e h z =
-      let k = cut At _ _ (suc (suc p')) (size [] x) (len N x [] [] (p + 2) (marked (start true))) h.1.1 in
-      let u = g (suc (suc p') + size [] x) [] [] [] false (marked (start true)) (c_create (marked (start true)) refl) f (p + 2) (suc (suc p')) (omega arith)
+      let k = cut At _ _ (suc (suc p')) (size [] x) (len N x [] [] (p + 2) (in_mark (start true))) h.1.1 in
+      let u = g (suc (suc p') + size [] x) [] [] [] false (in_mark (start true)) (c_create (in_mark (start true)) refl) f (p + 2) (suc (suc p')) (omega arith)
       (omega arith) k.0 k.1.0 in (
         h.0,
         (
           f_create s h.1.0 (to _ z (omega arith)) (omega arith),
           (
             f_mark (start true) u.0 (to _ k.1.1.1.0 (omega arith)) (omega arith),
-            k.2 u.1 (f_coret (marked (start true)) refl k.1.1.0, (f_efail _, (f_cofail (start true) refl, tt))),
+            k.2 u.1 (f_coret (in_mark (start true)) refl k.1.1.0, (f_efail _, (f_cofail (start true) refl, tt))),
           ),
         ),
       )
@@ -266,8 +266,8 @@ module _ (At : ℕ → Shape → Type 0) (L : Linkage) (j : ℕ) (N : Names) whe
         (v.0, k.2 v.1 (f_takes 1 s t_field (to _ z (omega arith)), tt))
     fine (T.Prefix place op x) r D W B c s a f p p' e b h z = prefix_fine r D W B c s x (fine x) a f.0 f.1 p p' e b h z
     fine (T.Not place x) r D W B c s a f p p' e b h z =
-        let k = cut At _ _ (suc p') (size (deeper D) x) (len N x (deeper D) W (p + 1) (marked s)) h.1 in
-        let v = fine x r (deeper D) W B c (marked s) (under At _ a) f (p + 1) (suc p') (omega arith) (omega arith) k.0 k.1.0 in
+        let k = cut At _ _ (suc p') (size (deeper D) x) (len N x (deeper D) W (p + 1) (in_mark s)) h.1 in
+        let v = fine x r (deeper D) W B c (in_mark s) (under At _ a) f (p + 1) (suc p') (omega arith) (omega arith) k.0 k.1.0 in
         (h.0, (f_mark s v.0 (to _ k.1.1.1.0 (omega arith)) (omega arith), k.2 v.1 (f_unmark _ s k.1.1.0, (f_efail s, (f_push s u_null (to _ z (omega arith)), tt)))))
     fine (T.Binary place (Plain op) x y) r D W B c s a f p p' e b h z = plain_fine r D W B c s x y (fine x) (fine y) a f.0 f.1 f.2 p p' e b h z
     fine (T.Binary place (Augmented op) x y) r D W B c s a f p p' e b h z = augmented_fine r D W B c s x y (fine x) (fine y) a f.0 f.1 f.2 p p' e b h z
@@ -281,19 +281,19 @@ module _ (At : ℕ → Shape → Type 0) (L : Linkage) (j : ℕ) (N : Names) whe
         let v = fine x r D W B c s a f.0 p p' e (omega arith) k.0 u.0 in
         (v.0, k.2 v.1 (m.2 u.1 (l.2 t.1 (f_takes 3 s t_op (to _ z (omega arith)), tt))))
     fine (T.If place x y Absent) r D W B c s a f p p' e b h z =
-        let k = cut At _ _ (suc p') (size (deeper D) x) (len N x (deeper D) W (p + 1) (marked s)) h.1 in
+        let k = cut At _ _ (suc p') (size (deeper D) x) (len N x (deeper D) W (p + 1) (in_mark s)) h.1 in
         let u = fine y r D W B c s a f.1 (p + size (deeper D) x + 2) (suc (suc p' + size (deeper D) x)) (omega arith) (omega arith) k.1.1
         (to _ z (omega arith)) in
-        let v = fine x r (deeper D) W B c (marked s) (under At _ a) f.0 (p + 1) (suc p') (omega arith) (omega arith) k.0 k.1.0 in
+        let v = fine x r (deeper D) W B c (in_mark s) (under At _ a) f.0 (p + 1) (suc p') (omega arith) (omega arith) k.0 k.1.0 in
         (h.0, (f_mark0 s v.0, k.2 v.1 (f_unmark _ s u.0, u.1)))
     fine (T.If place x y (Present w)) r D W B c s a f p p' e b h z =
-        let k = cut At _ _ (suc p') (size (deeper D) x) (len N x (deeper D) W (p + 1) (marked s)) h.1 in
+        let k = cut At _ _ (suc p') (size (deeper D) x) (len N x (deeper D) W (p + 1) (in_mark s)) h.1 in
         let q = suc (suc p' + size (deeper D) x) in
         let m = cut At _ _ q (size D y) (len N y D W (p + size (deeper D) x + 2) s) k.1.1 in
         let t = fine w r D W B c s a f.2 (p + (size (deeper D) x + size D y) + 3) (suc (q + size D y)) (omega arith) (omega arith) m.1.1
         (to _ z (omega arith)) in
         let u = fine y r D W B c s a f.1 (p + size (deeper D) x + 2) q (omega arith) (omega arith) m.0 m.1.0 in
-        let v = fine x r (deeper D) W B c (marked s) (under At _ a) f.0 (p + 1) (suc p') (omega arith) (omega arith) k.0 k.1.0 in (
+        let v = fine x r (deeper D) W B c (in_mark s) (under At _ a) f.0 (p + 1) (suc p') (omega arith) (omega arith) k.0 k.1.0 in (
           h.0,
           (
             f_mark s v.0 (to _ t.0 (omega arith)) (omega arith),
@@ -301,7 +301,7 @@ module _ (At : ℕ → Shape → Type 0) (L : Linkage) (j : ℕ) (N : Names) whe
           ),
         )
     fine (T.Case place x cases) r D W B c s a f p p' e b h z =
-        let k = cut At _ _ (suc p') (size (deeper D) x) (len N x (deeper D) W (p + 1) (marked s)) h.1 in
+        let k = cut At _ _ (suc p') (size (deeper D) x) (len N x (deeper D) W (p + 1) (in_mark s)) h.1 in
         let q = suc (suc p' + size (deeper D) x) in
         let last = p + size (deeper D) x + clauses_size D cases + default_size D cases + 3 in
         let m = cut At _ _ q (clauses_size D cases) (clauses_len N cases D W (p + size (deeper D) x + 2) last s) k.1.1 in
@@ -309,54 +309,54 @@ module _ (At : ℕ → Shape → Type 0) (L : Linkage) (j : ℕ) (N : Names) whe
         (omega arith) m.1.1 (to _ z (omega arith)) in
         let u = cases_fine cases r D W B c s a f.1 (p + size (deeper D) x + 2) q last (omega arith) (omega arith) (omega arith) m.0
         (to _ z (omega arith)) m.1.0 in
-        let v = fine x r (deeper D) W B c (marked s) (under At _ a) f.0 (p + 1) (suc p') (omega arith) (omega arith) k.0 k.1.0 in
+        let v = fine x r (deeper D) W B c (in_mark s) (under At _ a) f.0 (p + 1) (suc p') (omega arith) (omega arith) k.0 k.1.0 in
         (h.0, (f_mark0 s v.0, k.2 v.1 (f_eret s u.0, m.2 u.1 (f_pop s t.0, t.1))))
     fine (T.Loop place While x b) r D W B c s a f p p' e i h z =
         let n = size (loop_of 1 0 ∷ D) x in let y = body_size (loop_of 1 0 ∷ D) b in
         let V = ways (p + n + y + 3) (p + n + y + 2) in
-        let k = cut At _ _ (suc p') n (len N x (loop_of 1 0 ∷ D) (V ∷ W) (p + 1) (marked s)) h.1 in
+        let k = cut At _ _ (suc p') n (len N x (loop_of 1 0 ∷ D) (V ∷ W) (p + 1) (in_mark s)) h.1 in
         let q = suc (suc p' + n) in
         let m = cut At _ _ q y (body_len N b (loop_of 1 0 ∷ D) (V ∷ W) (p + n + 2) s) k.1.1 in
         let l = q + y in
-        let C : Ctx At l (loop_of 1 0 ∷ D) (V ∷ W) (true ∷ B) c (marked s) = c_loop (d_suc _ d_zero) (omega arith) (omega arith) (to _ z (omega arith))
+        let C : Ctx At l (loop_of 1 0 ∷ D) (V ∷ W) (true ∷ B) c (in_mark s) = c_loop (d_suc _ d_zero) (omega arith) (omega arith) (to _ z (omega arith))
         (n_yes (omega arith) (d_suc _ d_zero) (to _ m.1.0 (omega arith))) (weaken At (omega arith) a) in
         let u = body_fine b l (loop_of 1 0 ∷ D) (V ∷ W) (true ∷ B) c s C f.1 (p + n + 2) q (omega arith) (omega arith) m.0 m.1.0 in
-        let v = fine x l (loop_of 1 0 ∷ D) (V ∷ W) (true ∷ B) c (marked s) C f.0 (p + 1) (suc p') (omega arith) (omega arith) k.0 k.1.0 in
+        let v = fine x l (loop_of 1 0 ∷ D) (V ∷ W) (true ∷ B) c (in_mark s) C f.0 (p + 1) (suc p') (omega arith) (omega arith) k.0 k.1.0 in
         (h.0, (f_mark0 s v.0, k.2 v.1 (f_unmark _ s u.0, m.2 u.1 (f_loop s (to _ h.0 e) (omega arith), tt))))
     fine (T.Loop place Until x b) r D W B c s a f p p' e i h z =
         let n = size (loop_of 1 0 ∷ D) x in let y = body_size (loop_of 1 0 ∷ D) b in
         let V = ways (p + n + y + 4) (p + n + y + 3) in
-        let k = cut At _ _ (suc p') n (len N x (loop_of 1 0 ∷ D) (V ∷ W) (p + 1) (marked s)) h.1 in
+        let k = cut At _ _ (suc p') n (len N x (loop_of 1 0 ∷ D) (V ∷ W) (p + 1) (in_mark s)) h.1 in
         let q = suc (suc (suc p' + n)) in
         let m = cut At _ _ q y (body_len N b (loop_of 1 0 ∷ D) (V ∷ W) (p + n + 3) s) k.1.1.1 in
         let l = q + y in
-        let C : Ctx At l (loop_of 1 0 ∷ D) (V ∷ W) (true ∷ B) c (marked s) = c_loop (d_suc _ d_zero) (omega arith) (omega arith) (to _ z (omega arith))
+        let C : Ctx At l (loop_of 1 0 ∷ D) (V ∷ W) (true ∷ B) c (in_mark s) = c_loop (d_suc _ d_zero) (omega arith) (omega arith) (to _ z (omega arith))
         (n_yes (omega arith) (d_suc _ d_zero) (to _ m.1.0 (omega arith))) (weaken At (omega arith) a) in
         let u = body_fine b l (loop_of 1 0 ∷ D) (V ∷ W) (true ∷ B) c s C f.1 (p + n + 3) q (omega arith) (omega arith) m.0 m.1.0 in
-        let v = fine x l (loop_of 1 0 ∷ D) (V ∷ W) (true ∷ B) c (marked s) C f.0 (p + 1) (suc p') (omega arith) (omega arith) k.0 k.1.0 in
+        let v = fine x l (loop_of 1 0 ∷ D) (V ∷ W) (true ∷ B) c (in_mark s) C f.0 (p + 1) (suc p') (omega arith) (omega arith) k.0 k.1.0 in
         (h.0, (f_mark s v.0 (to _ u.0 (omega arith)) (omega arith), k.2 v.1 (f_unmark _ s k.1.1.0, (f_efail s, m.2 u.1 (f_loop s (to _ h.0 e) (omega arith), tt)))))
     fine (T.Loop place Every x b) r D W B c s a f p p' e i h z =
         let n = size (loop_of 1 1 ∷ D) x in let y = body_size (loop_of 2 1 ∷ D) b in
         let V = ways (p + n + y + 3) (p + n + y + 2) in
-        let k = cut At _ _ (suc p') n (len N x (loop_of 1 1 ∷ D) (V ∷ W) (p + 1) (marked s)) h.1 in
+        let k = cut At _ _ (suc p') n (len N x (loop_of 1 1 ∷ D) (V ∷ W) (p + 1) (in_mark s)) h.1 in
         let q = suc (suc p' + n) in
-        let m = cut At _ _ q y (body_len N b (loop_of 2 1 ∷ D) (V ∷ W) (p + n + 2) (marked s)) k.1.1 in
+        let m = cut At _ _ q y (body_len N b (loop_of 2 1 ∷ D) (V ∷ W) (p + n + 2) (in_mark s)) k.1.1 in
         let l = q + y in
-        let C : Ctx At l (loop_of 1 1 ∷ D) (V ∷ W) (false ∷ B) c (marked s) = c_loop (d_suc _ d_zero) (omega arith) (omega arith) (to _ z (omega arith)) n_no
+        let C : Ctx At l (loop_of 1 1 ∷ D) (V ∷ W) (false ∷ B) c (in_mark s) = c_loop (d_suc _ d_zero) (omega arith) (omega arith) (to _ z (omega arith)) n_no
         (weaken At (omega arith) a) in
-        let C' : Ctx At l (loop_of 2 1 ∷ D) (V ∷ W) (true ∷ B) c (marked (marked s)) = c_loop (d_suc _ (d_suc _ d_zero)) (omega arith) (omega arith)
+        let C' : Ctx At l (loop_of 2 1 ∷ D) (V ∷ W) (true ∷ B) c (in_mark (in_mark s)) = c_loop (d_suc _ (d_suc _ d_zero)) (omega arith) (omega arith)
         (to _ z (omega arith)) (n_yes (omega arith) (d_suc _ d_zero) (to _ m.1.0 (omega arith))) (weaken At (omega arith) a) in
-        let u = body_fine b l (loop_of 2 1 ∷ D) (V ∷ W) (true ∷ B) c (marked s) C' f.1 (p + n + 2) q (omega arith) (omega arith) m.0 m.1.0 in
-        let v = fine x l (loop_of 1 1 ∷ D) (V ∷ W) (false ∷ B) c (marked s) C f.0 (p + 1) (suc p') (omega arith) (omega arith) k.0 k.1.0 in
-        (h.0, (f_mark0 s v.0, k.2 v.1 (f_pop (marked s) u.0, m.2 u.1 (f_efail (marked s), tt))))
+        let u = body_fine b l (loop_of 2 1 ∷ D) (V ∷ W) (true ∷ B) c (in_mark s) C' f.1 (p + n + 2) q (omega arith) (omega arith) m.0 m.1.0 in
+        let v = fine x l (loop_of 1 1 ∷ D) (V ∷ W) (false ∷ B) c (in_mark s) C f.0 (p + 1) (suc p') (omega arith) (omega arith) k.0 k.1.0 in
+        (h.0, (f_mark0 s v.0, k.2 v.1 (f_pop (in_mark s) u.0, m.2 u.1 (f_efail (in_mark s), tt))))
     fine (T.Repeat place x) r D W B c s a f p p' e i h z =
         let n = size (loop_of 1 0 ∷ D) x in
         let V = ways (p + n + 3) (p + n + 2) in
-        let k = cut At _ _ (suc p') n (len N x (loop_of 1 0 ∷ D) (V ∷ W) (p + 1) (marked s)) h.1 in
+        let k = cut At _ _ (suc p') n (len N x (loop_of 1 0 ∷ D) (V ∷ W) (p + 1) (in_mark s)) h.1 in
         let l = suc (suc p' + n) in
-        let C : Ctx At l (loop_of 1 0 ∷ D) (V ∷ W) (true ∷ B) c (marked s) = c_loop (d_suc _ d_zero) (omega arith) (omega arith) (to _ z (omega arith))
+        let C : Ctx At l (loop_of 1 0 ∷ D) (V ∷ W) (true ∷ B) c (in_mark s) = c_loop (d_suc _ d_zero) (omega arith) (omega arith) (to _ z (omega arith))
         (n_yes (omega arith) (d_suc _ d_zero) (to _ k.1.1.0 (omega arith))) (weaken At (omega arith) a) in
-        let v = fine x l (loop_of 1 0 ∷ D) (V ∷ W) (true ∷ B) c (marked s) C f (p + 1) (suc p') (omega arith) (omega arith) k.0 k.1.0 in
+        let v = fine x l (loop_of 1 0 ∷ D) (V ∷ W) (true ∷ B) c (in_mark s) C f (p + 1) (suc p') (omega arith) (omega arith) k.0 k.1.0 in
         (h.0, (f_mark s v.0 (to _ k.1.1.0 (omega arith)) (omega arith), k.2 v.1 (f_unmark _ s k.1.1.0, (f_loop s (to _ h.0 e) (omega arith), tt))))
     fine (T.Create place x) r D W B c s a f p p' e b h z = created_fine s x (fine x) f p p' e h z
     fine (T.Next place) r D W [] c s a f p p' e i h z = absurd f
@@ -365,17 +365,17 @@ module _ (At : ℕ → Shape → Type 0) (L : Linkage) (j : ℕ) (N : Names) whe
     fine (T.Break place x) r D W [] c s a f p p' e i h z = absurd f
     fine (T.Break place x) r D W (b ∷ B) c s a f p p' e i h z = break_fine r D W b B c s x (fine x) a f p p' e i h
     fine (T.Return place x) r D W B c s a f p p' e b h z =
-        let k = cut At _ _ (suc p') (size (deeper D) x) (len N x (deeper D) W (p + 1) (marked s)) h.1 in
-        let v = fine x r (deeper D) W B c (marked s) (under At _ a) f.1 (p + 1) (suc p') (omega arith) (omega arith) k.0 k.1.0 in
-        (h.0, (f_mark s v.0 (to _ k.1.1.0 (omega arith)) (omega arith), k.2 v.1 (f_pret (marked s) (proper At a f.0), (f_pfail s (proper At a f.0), tt))))
+        let k = cut At _ _ (suc p') (size (deeper D) x) (len N x (deeper D) W (p + 1) (in_mark s)) h.1 in
+        let v = fine x r (deeper D) W B c (in_mark s) (under At _ a) f.1 (p + 1) (suc p') (omega arith) (omega arith) k.0 k.1.0 in
+        (h.0, (f_mark s v.0 (to _ k.1.1.0 (omega arith)) (omega arith), k.2 v.1 (f_pret (in_mark s) (proper At a f.0), (f_pfail s (proper At a f.0), tt))))
     fine (T.Suspend place x b) r D W B c s a f p p' e i h z =
-        let k = cut At _ _ (suc p') (size (deeper D) x) (len N x (deeper D) W (p + 1) (marked s)) h.1 in
+        let k = cut At _ _ (suc p') (size (deeper D) x) (len N x (deeper D) W (p + 1) (in_mark s)) h.1 in
         let q = suc (suc (suc p' + size (deeper D) x)) in
-        let m = cut At _ _ q (body_size (deeper (deeper D)) b) (body_len N b (deeper (deeper D)) W (p + size (deeper D) x + 3) (marked s)) k.1.1.1 in
-        let u = body_fine b r (deeper (deeper D)) W B c (marked s) (under At _ (under At _ a)) f.2 (p + size (deeper D) x + 3) q (omega arith)
+        let m = cut At _ _ q (body_size (deeper (deeper D)) b) (body_len N b (deeper (deeper D)) W (p + size (deeper D) x + 3) (in_mark s)) k.1.1.1 in
+        let u = body_fine b r (deeper (deeper D)) W B c (in_mark s) (under At _ (under At _ a)) f.2 (p + size (deeper D) x + 3) q (omega arith)
         (omega arith) m.0 m.1.0 in
-        let v = fine x r (deeper D) W B c (marked s) (under At _ a) f.1 (p + 1) (suc p') (omega arith) (omega arith) k.0 k.1.0 in
-        (h.0, (f_mark0 s v.0, k.2 v.1 (f_psusp (marked s) (proper At a f.0) k.1.1.0, (f_pop (marked s) u.0, m.2 u.1 (f_efail (marked s), tt)))))
+        let v = fine x r (deeper D) W B c (in_mark s) (under At _ a) f.1 (p + 1) (suc p') (omega arith) (omega arith) k.0 k.1.0 in
+        (h.0, (f_mark0 s v.0, k.2 v.1 (f_psusp (in_mark s) (proper At a f.0) k.1.1.0, (f_pop (in_mark s) u.0, m.2 u.1 (f_efail (in_mark s), tt)))))
 
     conjunction_fine : (es : Trees) (r : ℕ) (D : List Depth) (W : List Ways) (B : List Bool) (c : Bool) (s : Shape) → Ctx At r D W B c s → FitAll L j N B c es
         → (p p' : ℕ) → p' ≡ p → p' + conjunction_size D es ≤ r → Some_trees es → Has At p' (conjunction N D W p s es) → At (p' + conjunction_size D es) (more s)
@@ -397,11 +397,11 @@ module _ (At : ℕ → Shape → Type 0) (L : Linkage) (j : ℕ) (N : Names) whe
     compound_fine (More T.Empty (More y es)) r D W B c s a f p p' e b t h z =
         compound_fine (More y es) r D W B c s a f.1 p p' e (omega arith) tt h (to _ z (omega arith))
     compound_fine (More x (More y es)) r D W B c s a f p p' e b t h z =
-        let k = cut At (code N (deeper D) W (p + 1) (marked s) x) (o (more (marked s)) I.Unmark ∷ compound N D W (p + size (deeper D) x + 2) s (More y es))
-        (suc p') (size (deeper D) x) (len N x (deeper D) W (p + 1) (marked s)) h.1 in
+        let k = cut At (code N (deeper D) W (p + 1) (in_mark s) x) (o (more (in_mark s)) I.Unmark ∷ compound N D W (p + size (deeper D) x + 2) s (More y es))
+        (suc p') (size (deeper D) x) (len N x (deeper D) W (p + 1) (in_mark s)) h.1 in
         let u = compound_fine (More y es) r D W B c s a f.1 (p + size (deeper D) x + 2) (suc (suc p' + size (deeper D) x)) (omega arith) (omega arith) tt k.1.1
         (to _ z (omega arith)) in
-        let v = fine x r (deeper D) W B c (marked s) (under At _ a) f.0 (p + 1) (suc p') (omega arith) (omega arith) k.0 k.1.0 in
+        let v = fine x r (deeper D) W B c (in_mark s) (under At _ a) f.0 (p + 1) (suc p') (omega arith) (omega arith) k.0 k.1.0 in
         (h.0, (f_mark s v.0 (to _ u.0 (omega arith)) (omega arith), k.2 v.1 (f_unmark _ s u.0, u.1)))
 
     elements_fine : (es : Trees) (r : ℕ) (D : List Depth) (W : List Ways) (B : List Bool) (c : Bool) (s : Shape) → Ctx At r D W B c s → FitAll L j N B c es
@@ -432,8 +432,8 @@ module _ (At : ℕ → Shape → Type 0) (L : Linkage) (j : ℕ) (N : Names) whe
     creates_fine NoTrees D s f p p' e h z = (to _ z (omega arith), tt)
     creates_fine (More T.Empty NoTrees) D s f p p' e h z = (to _ z (omega arith), tt)
     creates_fine (More x es) D s f p p' e h z =
-        let k = cut At (create_notes p (size [] x) s (code N [] [] (p + 2) (marked (start true)) x)) (creates N (p + size [] x + 5) (more s) es) p'
-        (size [] x + 5) (created_len p (size [] x) s (code N [] [] (p + 2) (marked (start true)) x) (len N x [] [] (p + 2) (marked (start true)))) h in
+        let k = cut At (create_notes p (size [] x) s (code N [] [] (p + 2) (in_mark (start true)) x)) (creates N (p + size [] x + 5) (more s) es) p'
+        (size [] x + 5) (created_len p (size [] x) s (code N [] [] (p + 2) (in_mark (start true)) x) (len N x [] [] (p + 2) (in_mark (start true)))) h in
         let u = creates_fine_all es D (more s) f.1 (p + size [] x + 5) (p' + (size [] x + 5)) (omega arith) k.1
         (as_many At (count_of es) s (to _ z (omega arith))) in
         let v = created_fine s x (fine x) f.0 p p' e k.0 u.0 in
@@ -443,8 +443,8 @@ module _ (At : ℕ → Shape → Type 0) (L : Linkage) (j : ℕ) (N : Names) whe
         → At (p' + creates_size D es) (many (count_of es) s) → At p' s × AllFine At p' (creates N p s es)
     creates_fine_all NoTrees D s f p p' e h z = (to _ z (omega arith), tt)
     creates_fine_all (More x es) D s f p p' e h z =
-        let k = cut At (create_notes p (size [] x) s (code N [] [] (p + 2) (marked (start true)) x)) (creates N (p + size [] x + 5) (more s) es) p'
-        (size [] x + 5) (created_len p (size [] x) s (code N [] [] (p + 2) (marked (start true)) x) (len N x [] [] (p + 2) (marked (start true)))) h in
+        let k = cut At (create_notes p (size [] x) s (code N [] [] (p + 2) (in_mark (start true)) x)) (creates N (p + size [] x + 5) (more s) es) p'
+        (size [] x + 5) (created_len p (size [] x) s (code N [] [] (p + 2) (in_mark (start true)) x) (len N x [] [] (p + 2) (in_mark (start true)))) h in
         let u = creates_fine_all es D (more s) f.1 (p + size [] x + 5) (p' + (size [] x + 5)) (omega arith) k.1
         (as_many At (count_of es) s (to _ z (omega arith))) in
         let v = created_fine s x (fine x) f.0 p p' e k.0 u.0 in
@@ -466,13 +466,13 @@ module _ (At : ℕ → Shape → Type 0) (L : Linkage) (j : ℕ) (N : Names) whe
     by_fine Absent r D W B c s a f p p' e b h z = (h.0, (f_push s u_int (to _ z (omega arith)), tt))
     by_fine (Present x) r D W B c s a f p p' e b h z = fine x r D W B c s a f p p' e b h z
 
-    body_fine : (b : MaybeTree) (r : ℕ) (D : List Depth) (W : List Ways) (B : List Bool) (c : Bool) (s : Shape) → Ctx At r D W B c (marked s)
+    body_fine : (b : MaybeTree) (r : ℕ) (D : List Depth) (W : List Ways) (B : List Bool) (c : Bool) (s : Shape) → Ctx At r D W B c (in_mark s)
         → FitMaybe L j N B c b → (p p' : ℕ) → p' ≡ p → p' + body_size D b ≤ r → Has At p' (body_code N D W p s b) → At (p' + body_size D b) s
         → At p' s × AllFine At p' (body_code N D W p s b)
     body_fine Absent r D W B c s a f p p' e b h z = (to _ z (omega arith), tt)
     body_fine (Present x) r D W B c s a f p p' e b h z =
-        let k = cut At _ _ (suc p') (size D x) (len N x D W (p + 1) (marked s)) h.1 in
-        let v = fine x r D W B c (marked s) a f (p + 1) (suc p') (omega arith) (omega arith) k.0 k.1.0 in
+        let k = cut At _ _ (suc p') (size D x) (len N x D W (p + 1) (in_mark s)) h.1 in
+        let v = fine x r D W B c (in_mark s) a f (p + 1) (suc p') (omega arith) (omega arith) k.0 k.1.0 in
         (h.0, (f_mark s v.0 (to _ z (omega arith)) (omega arith), k.2 v.1 (f_unmark _ s (to _ z (omega arith)), tt)))
 
     cases_fine : (cases : Clauses) (r : ℕ) (D : List Depth) (W : List Ways) (B : List Bool) (c : Bool) (s : Shape) → Ctx At r D W B c s
@@ -486,14 +486,14 @@ module _ (At : ℕ → Shape → Type 0) (L : Linkage) (j : ℕ) (N : Names) whe
         let t = size (deeper D) x + size D w + 6 in
         let k = cut At (clause_code N D W p last s (Guarded place x w)) (clauses_code N D W (p + t) last s cases) p' t
         (clause_len N (Guarded place x w) D W p last s) h in
-        let m = cut At _ _ (suc (suc p')) (size (deeper D) x) (len N x (deeper D) W (p + 2) (more (marked (more s)))) k.0.1.1 in
+        let m = cut At _ _ (suc (suc p')) (size (deeper D) x) (len N x (deeper D) W (p + 2) (more (in_mark (more s)))) k.0.1.1 in
         let q = suc (suc (suc (suc (suc p') + size (deeper D) x))) in
         let v = cut At _ _ q (size D w) (len N w D W (p + size (deeper D) x + 5) s) m.1.1.1.1 in
         let u = cases_fine cases r D W B c s a f.1 (p + t) (p' + t) last (omega arith) (omega arith) (omega arith) k.1 y (to _ z (omega arith)) in
         let i = fine w r D W B c s a f.0.1 (p + size (deeper D) x + 5) q (omega arith) (omega arith) v.0 v.1.0 in
-        let l = fine x r (deeper D) W B c (more (marked (more s))) (push At (marked (more s)) (under At _ (push At s a))) f.0.0 (p + 2) (suc (suc p'))
+        let l = fine x r (deeper D) W B c (more (in_mark (more s))) (push At (in_mark (more s)) (under At _ (push At s a))) f.0.0 (p + 2) (suc (suc p'))
         (omega arith) (omega arith) m.0 m.1.0 in
-        (k.0.0, k.2 (f_mark (more s) k.0.1.0 (to _ u.0 (omega arith)) (omega arith), (f_ccase s l.0, m.2 l.1 (f_takes 2 (marked (more s)) t_op m.1.1.0, (f_unmark _ (more s) m.1.1.1.0, (f_pop s i.0, v.2 i.1 (f_goto (more s) y (omega arith), tt)))))) u.1)
+        (k.0.0, k.2 (f_mark (more s) k.0.1.0 (to _ u.0 (omega arith)) (omega arith), (f_ccase s l.0, m.2 l.1 (f_takes 2 (in_mark (more s)) t_op m.1.1.0, (f_unmark _ (more s) m.1.1.1.0, (f_pop s i.0, v.2 i.1 (f_goto (more s) y (omega arith), tt)))))) u.1)
 
     default_fine : (cases : Clauses) (r : ℕ) (D : List Depth) (W : List Ways) (B : List Bool) (c : Bool) (s : Shape)
         → Ctx At r D W B c s → FitDefault L j N B c cases → (p p' : ℕ) → p' ≡ p → p' + default_size D cases ≤ r → Has At p' (default_code N D W p s cases)

@@ -3,18 +3,18 @@ use Rattle.std.proofs.Common.{◌≡◌, ℕ, ◌+◌, List, [], ◌∷◌, ◌+
 use Rattle.icn_code.specs.declared.instr.Instr.TheVariants as I
 use Rattle.icn_tree.specs.Trees.{Tree}
 use Rattle.icn_simulation.specs.Translation.{Names, size}
-use Rattle.icn_code_sound.specs.Noted.{Shape, Note, o, more, marked, start, create_notes, code}
+use Rattle.icn_code_sound.specs.Noted.{Shape, Note, o, more, in_mark, start, create_notes, code}
 use Rattle.icn_code_sound.proofs.Notes.{len}
 
 -- the body of a `create`
 pub created_len : (p n : ℕ) (s : Shape) (xs : List Note) → length xs ≡ n → length (create_notes p n s xs) ≡ n + 5
 created_len p n s xs e =
-    let a = length-append xs (o (more (marked (start true))) I.Coret ∷ o (more (marked (start true))) I.Efail ∷ o (start true) I.Cofail ∷ []) in omega arith
+    let a = length-append xs (o (more (in_mark (start true))) I.Coret ∷ o (more (in_mark (start true))) I.Efail ∷ o (start true) I.Cofail ∷ []) in omega arith
 
 -- a bounded expression of a body
 pub bounded_len : (N : Names) (p : ℕ) (x : Tree)
-    → length (o (start false) (I.Mark (p + size [] x + 2)) ∷ code N [] [] (p + 1) (marked (start false)) x ++ o (more (marked (start false))) I.Unmark ∷ [])
+    → length (o (start false) (I.Mark (p + size [] x + 2)) ∷ code N [] [] (p + 1) (in_mark (start false)) x ++ o (more (in_mark (start false))) I.Unmark ∷ [])
     ≡ size [] x + 2
 bounded_len N p x =
-    let a = length-append (code N [] [] (p + 1) (marked (start false)) x) (o (more (marked (start false))) I.Unmark ∷ []) in
-    let b = len N x [] [] (p + 1) (marked (start false)) in omega arith
+    let a = length-append (code N [] [] (p + 1) (in_mark (start false)) x) (o (more (in_mark (start false))) I.Unmark ∷ []) in
+    let b = len N x [] [] (p + 1) (in_mark (start false)) in omega arith

@@ -3,7 +3,7 @@ use Rattle.std.proofs.Common.{◌≡◌, ℕ, zero, suc, ◌+◌, ◌<◌, ◌�
 use Rattle.icn_code.specs.declared.instr.Instr.{Instr}
 use Rattle.icn_code.specs.declared.instr.Instr.TheVariants as I
 use Rattle.icn_simulation.specs.Translation.{Ways, ways}
-use Rattle.icn_code_sound.specs.Noted.{Note, Shape, dropped, unmarks}
+use Rattle.icn_code_sound.specs.Noted.{Note, Shape, without_mark, unmarks}
 use Rattle.icn_code_sound.proofs.Basics.{no}
 
 pub data Leads : Instr → ℕ → Type 0 where
@@ -267,4 +267,4 @@ narrow {W = W} {p = p} {q = q} {xs = xs} l h n =
 
 pub unmarks_neat : (W : List Ways) (n : ℕ) (s : Shape) (p : ℕ) → Neat W p (unmarks n s) (p + n)
 unmarks_neat W zero s p = nil _ (omega arith)
-unmarks_neat W (suc n) s p = plain _ refl (to _ (omega arith) (unmarks_neat W n (dropped s) (suc p)))
+unmarks_neat W (suc n) s p = plain _ refl (to _ (omega arith) (unmarks_neat W n (without_mark s) (suc p)))

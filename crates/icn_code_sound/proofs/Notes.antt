@@ -9,7 +9,7 @@ use Rattle.icn_code.specs.declared.instr.Instr.{Instr}
 use Rattle.icn_code.specs.declared.instr.Instr.TheVariants as I
 use Rattle.icn_simulation.specs.Translation.{bodies_size, Names, Depth, Ways, loop_of, deeper, opened_in, dropped_by_next, around, last_way, next_way, is_empty, is_nothing, is_no_element, elements, Form, Both, Scanning, Either, Limiting, Applying, form_of, PrefixForm, Activating, Repeating, Operating, prefix_of, section_op, size, sizes, elements_size, conjunction_size, compound_size, creates_size, subscripts_size, by_size, if_size, body_size, clauses_size, clause_size, default_size, is_default_size, ways, bounded_size}
 use Rattle.icn_simulation.specs.Translation as C
-use Rattle.icn_code_sound.specs.Noted.{bodies_code, Shape, Note, start, more, marked, within, Limited, scanned, drops, dropped, unmarks, create_notes, code, operands, elements_code, conjunction, compound, creates, subscripts, by_code, body_code, clauses_code, clause_code, default_code, prefix_code, plain_code, augmented_code, instrs, bounded_notes, body, procedure}
+use Rattle.icn_code_sound.specs.Noted.{bodies_code, Shape, Note, start, more, in_mark, within, Limited, with_scan, drops, without_mark, unmarks, create_notes, code, operands, elements_code, conjunction, compound, creates, subscripts, by_code, body_code, clauses_code, clause_code, default_code, prefix_code, plain_code, augmented_code, instrs, bounded_notes, body, procedure}
 use Rattle.icn_simulation.proofs.Sizes as Z
 
 cat : (xs ys : List Note) → instrs (xs ++ ys) ≡ instrs xs ++ instrs ys
@@ -28,7 +28,7 @@ choose false xs ys A B e f = f
 
 unmarked : (n : ℕ) (s : Shape) → instrs (unmarks n s) ≡ replicate n I.Unmark
 unmarked zero s = refl
-unmarked (suc n) s = next I.Unmark (unmarked n (dropped s))
+unmarked (suc n) s = next I.Unmark (unmarked n (without_mark s))
 
 abbrev Noted : Names → Tree → Type 0
 Noted N e = (D : List Depth) (W : List Ways) (p : ℕ) (s : Shape) → instrs (code N D W p s e) ≡ C.code N D W p e
@@ -41,7 +41,7 @@ prefix_noted : (N : Names) (D : List Depth) (W : List Ways) (p : ℕ) (s : Shape
       | Operating op ↦ C.code N D W p e ++ I.Op op ∷ []
     ]
 prefix_noted N D W p s e Activating g = next I.Pnull (join _ _ (g D W (p + 1) (more s)) refl)
-prefix_noted N D W p s e Repeating g = next I.Mark0 (join _ _ (g (deeper D) W (p + 1) (marked s)) refl)
+prefix_noted N D W p s e Repeating g = next I.Mark0 (join _ _ (g (deeper D) W (p + 1) (in_mark s)) refl)
 prefix_noted N D W p s e (Operating op) g = join _ _ (g D W p s) refl
 
 plain_noted : (N : Names) (D : List Depth) (W : List Ways) (p : ℕ) (s : Shape) (a b : Tree) (f : Form) → Noted N a → Noted N b
@@ -55,9 +55,9 @@ plain_noted : (N : Names) (D : List Depth) (W : List Ways) (p : ℕ) (s : Shape)
       | Applying i ↦ C.code N D W p a ++ (C.code N D W (p + size D a) b ++ i ∷ [])
     ]
 plain_noted N D W p s a b Both g h = join _ _ (g D W p s) (next I.Pop (h D W (p + size D a + 1) s))
-plain_noted N D W p s a b Scanning g h = join _ _ (g D W p s) (next I.Bscan (join _ _ (h D W (p + size D a + 1) (scanned s)) refl))
+plain_noted N D W p s a b Scanning g h = join _ _ (g D W p s) (next I.Bscan (join _ _ (h D W (p + size D a + 1) (with_scan s)) refl))
     ∙ sym (append_assoc (C.code N D W p a) (I.Bscan ∷ C.code N D W (p + size D a + 1) b) (I.Escan ∷ []))
-plain_noted N D W p s a b Either g h = next _ (join _ _ (g (deeper D) W (p + 1) (marked s)) (next I.Esusp (next _ (h D W (p + size (deeper D) a + 3) s))))
+plain_noted N D W p s a b Either g h = next _ (join _ _ (g (deeper D) W (p + 1) (in_mark s)) (next I.Esusp (next _ (h D W (p + size (deeper D) a + 3) s))))
 plain_noted N D W p s a b Limiting g h = join _ _ (h D W p s) (next I.Limit (join _ _ (g (deeper D) W (p + size D b + 1) (within Limited s)) refl))
     ∙ sym (append_assoc (C.code N D W p b) (I.Limit ∷ C.code N (deeper D) W (p + size D b + 1) a) (I.Lsusp ∷ []))
 plain_noted N D W p s a b (Applying i) g h = join _ _ (g D W p s) (join _ _ (h D W (p + size D a) (more s)) refl)
@@ -72,7 +72,7 @@ augmented_noted : (N : Names) (D : List Depth) (W : List Ways) (p : ℕ) (s : Sh
       | Applying i ↦ C.code N D W p a ++ (I.Dup ∷ C.code N D W (p + size D a + 1) b ++ (i ∷ I.Op Ops.Assign ∷ []))
     ]
 augmented_noted N D W p s a b Both g h = join _ _ (g D W p s) (join _ _ (h D W (p + size D a) (more s)) refl)
-augmented_noted N D W p s a b Scanning g h = join _ _ (g D W p s) (next I.Dup (next I.Bscan (join _ _ (h D W (p + size D a + 2) (scanned (more s))) refl)))
+augmented_noted N D W p s a b Scanning g h = join _ _ (g D W p s) (next I.Dup (next I.Bscan (join _ _ (h D W (p + size D a + 2) (with_scan (more s))) refl)))
 augmented_noted N D W p s a b Either g h = refl
 augmented_noted N D W p s a b Limiting g h = refl
 augmented_noted N D W p s a b (Applying i) g h = join _ _ (g D W p s) (next I.Dup (join _ _ (h D W (p + size D a + 1) (more (more s))) refl))
@@ -96,38 +96,39 @@ mutual
       join _ _ (noted N e D W p s) (join _ _ (noted N i D W (p + size D e) (more s)) (join _ _ (noted N j D W (p + size D e + size D i) (more (more s))) refl))
   noted N (Field place e name) D W p s = join _ _ (noted N e D W p s) refl
   noted N (Prefix place operator e) D W p s = prefix_noted N D W p s e (prefix_of operator) (noted N e)
-  noted N (Not place e) D W p s = next _ (join _ _ (noted N e (deeper D) W (p + 1) (marked s)) refl)
+  noted N (Not place e) D W p s = next _ (join _ _ (noted N e (deeper D) W (p + 1) (in_mark s)) refl)
   noted N (Binary place (Plain operator) a b) D W p s = plain_noted N D W p s a b (form_of operator) (noted N a) (noted N b)
   noted N (Binary place (Augmented operator) a b) D W p s = augmented_noted N D W p s a b (form_of operator) (noted N a) (noted N b)
   noted N (To place a b by) D W p s = join _ _ (noted N a D W p s)
       (join _ _ (noted N b D W (p + size D a) (more s)) (join _ _ (by_noted N by D W (p + size D a + size D b) (more (more s))) refl))
-  noted N (If place c a Absent) D W p s = next _ (join _ _ (noted N c (deeper D) W (p + 1) (marked s)) (next _ (noted N a D W (p + size (deeper D) c + 2) s)))
-  noted N (If place c a (Present b)) D W p s = next _ (join _ _ (noted N c (deeper D) W (p + 1) (marked s))
+  noted N (If place c a Absent) D W p s = next _ (join _ _ (noted N c (deeper D) W (p + 1) (in_mark s)) (next _ (noted N a D W (p + size (deeper D) c + 2) s)))
+  noted N (If place c a (Present b)) D W p s = next _ (join _ _ (noted N c (deeper D) W (p + 1) (in_mark s))
       (next _ (join _ _ (noted N a D W (p + size (deeper D) c + 2) s) (next _ (noted N b D W (p + (size (deeper D) c + size D a) + 3) s)))))
   noted N (Case place e cases) D W p s = let last = p + size (deeper D) e + clauses_size D cases + default_size D cases + 3 in
-      next _ (join _ _ (noted N e (deeper D) W (p + 1) (marked s)) (next _ (join _ _ (clauses_noted N cases D W (p + size (deeper D) e + 2) last s)
+      next _ (join _ _ (noted N e (deeper D) W (p + 1) (in_mark s)) (next _ (join _ _ (clauses_noted N cases D W (p + size (deeper D) e + 2) last s)
       (next _ (default_noted N cases D W (p + size (deeper D) e + 3 + clauses_size D cases) s)))))
   noted N (Loop place While c b) D W p s =
       let E = loop_of 1 0 ∷ D in let m = size (loop_of 1 0 ∷ D) c in let n = body_size (loop_of 1 0 ∷ D) b in
       let V = ways (p + m + n + 3) (p + m + n + 2) ∷ W in
-      next _ (join _ _ (noted N c E V (p + 1) (marked s)) (next _ (join _ _ (body_noted N b E V (p + m + 2) s) refl)))
+      next _ (join _ _ (noted N c E V (p + 1) (in_mark s)) (next _ (join _ _ (body_noted N b E V (p + m + 2) s) refl)))
   noted N (Loop place Until c b) D W p s =
       let E = loop_of 1 0 ∷ D in let m = size (loop_of 1 0 ∷ D) c in let n = body_size (loop_of 1 0 ∷ D) b in
       let V = ways (p + m + n + 4) (p + m + n + 3) ∷ W in
-      next _ (join _ _ (noted N c E V (p + 1) (marked s)) (next _ (next _ (join _ _ (body_noted N b E V (p + m + 3) s) refl))))
+      next _ (join _ _ (noted N c E V (p + 1) (in_mark s)) (next _ (next _ (join _ _ (body_noted N b E V (p + m + 3) s) refl))))
   noted N (Loop place Every c b) D W p s =
       let m = size (loop_of 1 1 ∷ D) c in let n = body_size (loop_of 2 1 ∷ D) b in let V = ways (p + m + n + 3) (p + m + n + 2) ∷ W in
-      next _ (join _ _ (noted N c (loop_of 1 1 ∷ D) V (p + 1) (marked s)) (next _ (join _ _ (body_noted N b (loop_of 2 1 ∷ D) V (p + m + 2) (marked s)) refl)))
+      next
+      _ (join _ _ (noted N c (loop_of 1 1 ∷ D) V (p + 1) (in_mark s)) (next _ (join _ _ (body_noted N b (loop_of 2 1 ∷ D) V (p + m + 2) (in_mark s)) refl)))
   noted N (Repeat place b) D W p s =
-      let n = size (loop_of 1 0 ∷ D) b in let V = ways (p + n + 3) (p + n + 2) ∷ W in next _ (join _ _ (noted N b (loop_of 1 0 ∷ D) V (p + 1) (marked s)) refl)
-  noted N (Create place e) D W p s = created_noted p (size [] e) s _ _ (noted N e [] [] (p + 2) (marked (start true)))
+      let n = size (loop_of 1 0 ∷ D) b in let V = ways (p + n + 3) (p + n + 2) ∷ W in next _ (join _ _ (noted N b (loop_of 1 0 ∷ D) V (p + 1) (in_mark s)) refl)
+  noted N (Create place e) D W p s = created_noted p (size [] e) s _ _ (noted N e [] [] (p + 2) (in_mark (start true)))
   noted N (Next place) D W p s = join _ _ (unmarked (dropped_by_next D) s) refl
   noted N (Fail place) D W p s = refl
   noted N (Break place e) D W p s =
       join _ _ (unmarked (opened_in D) s) (join _ _ (noted N e (around D) (around W) (p + opened_in D) (drops (opened_in D) s)) refl)
-  noted N (Return place e) D W p s = next _ (join _ _ (noted N e (deeper D) W (p + 1) (marked s)) refl)
-  noted N (Suspend place e b) D W p s = next _ (join _ _ (noted N e (deeper D) W (p + 1) (marked s))
-      (next _ (next _ (join _ _ (body_noted N b (deeper (deeper D)) W (p + size (deeper D) e + 3) (marked s)) refl))))
+  noted N (Return place e) D W p s = next _ (join _ _ (noted N e (deeper D) W (p + 1) (in_mark s)) refl)
+  noted N (Suspend place e b) D W p s = next _ (join _ _ (noted N e (deeper D) W (p + 1) (in_mark s))
+      (next _ (next _ (join _ _ (body_noted N b (deeper (deeper D)) W (p + size (deeper D) e + 3) (in_mark s)) refl))))
 
   operands_noted : (N : Names) (es : Trees) (D : List Depth) (W : List Ways) (p : ℕ) (s : Shape) → instrs (operands N D W p s es) ≡ C.operands N D W p es
   operands_noted N NoTrees D W p s = refl
@@ -148,20 +149,22 @@ mutual
   compound_noted : (N : Names) (es : Trees) (D : List Depth) (W : List Ways) (p : ℕ) (s : Shape) → instrs (compound N D W p s es) ≡ C.compound N D W p es
   compound_noted N NoTrees D W p s = refl
   compound_noted N (More e es) D W p s = choose (is_nothing es) _ _ _ _ (noted N e D W p s) (choose (is_empty e) _ _ _ _ (compound_noted N es D W p s)
-      (next _ (join _ _ (noted N e (deeper D) W (p + 1) (marked s)) (next I.Unmark (compound_noted N es D W (p + size (deeper D) e + 2) s)))))
+      (next _ (join _ _ (noted N e (deeper D) W (p + 1) (in_mark s)) (next I.Unmark (compound_noted N es D W (p + size (deeper D) e + 2) s)))))
 
   pub creates_noted : (N : Names) (es : Trees) (p : ℕ) (s : Shape) → instrs (creates N p s es) ≡ C.creates N p es
   creates_noted N NoTrees p s = refl
   creates_noted N (More e es) p s =
-      join (create_notes p (size [] e) s (code N [] [] (p + 2) (marked (start true)) e)) (creates N (p + size [] e + 5) (more s) es)
-      (created_noted p (size [] e) s (code N [] [] (p + 2) (marked (start true)) e) (C.code N [] [] (p + 2) e) (noted N e [] [] (p + 2) (marked (start true))))
+      join (create_notes p (size [] e) s (code N [] [] (p + 2) (in_mark (start true)) e)) (creates N (p + size [] e + 5) (more s) es)
+      (created_noted p (size [] e) s (code N [] [] (p + 2) (in_mark (start true)) e) (C.code N [] [] (p + 2) e)
+      (noted N e [] [] (p + 2) (in_mark (start true))))
       (creates_noted N es (p + size [] e + 5) (more s))
 
   pub bodies_noted : (N : Names) (es : Trees) (p : ℕ) (s : Shape) → instrs (bodies_code N p s es) ≡ C.bodies_code N p es
   bodies_noted N NoTrees p s = refl
   bodies_noted N (More e es) p s = choose (is_no_element (More e es))
-      _ _ _ _ refl (join (create_notes p (size [] e) s (code N [] [] (p + 2) (marked (start true)) e)) (creates N (p + size [] e + 5) (more s) es)
-      (created_noted p (size [] e) s (code N [] [] (p + 2) (marked (start true)) e) (C.code N [] [] (p + 2) e) (noted N e [] [] (p + 2) (marked (start true))))
+      _ _ _ _ refl (join (create_notes p (size [] e) s (code N [] [] (p + 2) (in_mark (start true)) e)) (creates N (p + size [] e + 5) (more s) es)
+      (created_noted p (size [] e) s (code N [] [] (p + 2) (in_mark (start true)) e) (C.code N [] [] (p + 2) e)
+      (noted N e [] [] (p + 2) (in_mark (start true))))
       (creates_noted N es (p + size [] e + 5) (more s)))
 
   subscripts_noted : (N : Names) (es : Trees) (D : List Depth) (W : List Ways) (p : ℕ) (s : Shape) → instrs (subscripts N D W p s es) ≡ C.subscripts N D W p es
@@ -174,7 +177,7 @@ mutual
 
   pub body_noted : (N : Names) (b : MaybeTree) (D : List Depth) (W : List Ways) (p : ℕ) (s : Shape) → instrs (body_code N D W p s b) ≡ C.body_code N D W p b
   body_noted N Absent D W p s = refl
-  body_noted N (Present b) D W p s = next _ (join _ _ (noted N b D W (p + 1) (marked s)) refl)
+  body_noted N (Present b) D W p s = next _ (join _ _ (noted N b D W (p + 1) (in_mark s)) refl)
 
   pub clauses_noted : (N : Names) (cs : Clauses) (D : List Depth) (W : List Ways) (p last : ℕ) (s : Shape)
       → instrs (clauses_code N D W p last s cs) ≡ C.clauses_code N D W p last cs
@@ -184,7 +187,7 @@ mutual
   pub clause_noted : (N : Names) (c : Clause) (D : List Depth) (W : List Ways) (p last : ℕ) (s : Shape)
       → instrs (clause_code N D W p last s c) ≡ C.clause_code N D W p last c
   clause_noted N (Default place e) D W p last s = refl
-  clause_noted N (Guarded place c b) D W p last s = next _ (next _ (join _ _ (noted N c (deeper D) W (p + 2) (more (marked (more s))))
+  clause_noted N (Guarded place c b) D W p last s = next _ (next _ (join _ _ (noted N c (deeper D) W (p + 2) (more (in_mark (more s))))
       (next _ (next _ (next _ (join _ _ (noted N b D W (p + size (deeper D) c + 5) s) refl))))))
 
   default_noted : (N : Names) (cs : Clauses) (D : List Depth) (W : List Ways) (p : ℕ) (s : Shape)
@@ -194,7 +197,7 @@ mutual
   default_noted N (MoreClauses (Guarded place c b) cs) D W p s = default_noted N cs D W p s
 
 bounded_noted : (N : Names) (p : ℕ) (e : Tree) → instrs (bounded_notes N p e) ≡ C.bounded_code N p e
-bounded_noted N p e = choose (is_empty e) _ _ _ _ refl (next _ (join _ _ (noted N e [] [] (p + 1) (marked (start false))) refl))
+bounded_noted N p e = choose (is_empty e) _ _ _ _ refl (next _ (join _ _ (noted N e [] [] (p + 1) (in_mark (start false))) refl))
 
 body_of_noted : (N : Names) (p : ℕ) (es : Trees) → instrs (body N p es) ≡ C.body N p es
 body_of_noted N p NoTrees = refl
@@ -202,7 +205,7 @@ body_of_noted N p (More e es) = join _ _ (bounded_noted N p e) (body_of_noted N 
 
 pub procedure_noted : (N : Names) (i : Initial) (es : Trees) → instrs (procedure N i es) ≡ C.procedure N i es
 procedure_noted N NoInitial es = body_of_noted N 0 es
-procedure_noted N (Initially place e) es = next _ (next _ (join _ _ (noted N e [] [] 2 (marked (start false))) (next _ (body_of_noted N (size [] e + 3) es))))
+procedure_noted N (Initially place e) es = next _ (next _ (join _ _ (noted N e [] [] 2 (in_mark (start false))) (next _ (body_of_noted N (size [] e + 3) es))))
 
 -- Lengths
 

@@ -2,7 +2,7 @@
 use Rattle.std.proofs.Common.{◌≡◌, ℕ, zero, suc, ◌+◌, ◌-◌, ◌≤◌, Bool, true, false, List, [], ◌∷◌, ◌++◌, length, refl, sym, ap, ◌∙◌, subst, arith}
 use Rattle.icn_code.specs.declared.instr.Instr.TheVariants as I
 use Rattle.icn_simulation.specs.Translation.{Depth, Ways, deeper}
-use Rattle.icn_code_sound.specs.Noted.{Level, Shape, Note, more, many, scanned, drops, unmarks}
+use Rattle.icn_code_sound.specs.Noted.{Level, Shape, Note, more, many, with_scan, drops, unmarks}
 use Rattle.icn_code_sound.specs.Verified.{inside, Fine, f_unmark, f_takes, t_invoke, Drop, d_zero, d_suc, n_no, n_yes, Ctx, c_proper, c_create, c_loop, Has, AllFine}
 use Rattle.icn_code_sound.proofs.Basics.{no}
 
@@ -65,7 +65,7 @@ module _ (At : ℕ → Shape → Type 0) where
   pub push : {r : ℕ} {D : List Depth} {W : List Ways} {B : List Bool} {c : Bool} (s : Shape) → Ctx At r D W B c s → Ctx At r D W B c (more s)
   push s a = level (record s.inner { operands = suc s.inner.operands }) a
 
-  pub scan : {r : ℕ} {D : List Depth} {W : List Ways} {B : List Bool} {c : Bool} (s : Shape) → Ctx At r D W B c s → Ctx At r D W B c (scanned s)
+  pub scan : {r : ℕ} {D : List Depth} {W : List Ways} {B : List Bool} {c : Bool} (s : Shape) → Ctx At r D W B c s → Ctx At r D W B c (with_scan s)
   scan s a = level (record s.inner { scans = suc s.inner.scans }) a
 
   pub weaken : {r q : ℕ} {D : List Depth} {W : List Ways} {B : List Bool} {c : Bool} {s : Shape} → q ≤ r → Ctx At r D W B c s → Ctx At q D W B c s

@@ -8,7 +8,7 @@ use Rattle.icn_tree.specs.Trees as T
 use Rattle.icn_tree.specs.Trees.{Tree, Trees, NoTrees, More, Initial, NoInitial, Initially}
 use Rattle.icn_simulation.specs.Translation.{Names, size, bounded_size}
 use Rattle.icn_simulation.specs.Linkage.{Linkage}
-use Rattle.icn_code_sound.specs.Noted.{Shape, Note, o, more, marked, start, code, bounded_notes, body, procedure, instrs}
+use Rattle.icn_code_sound.specs.Noted.{Shape, Note, o, more, in_mark, start, code, bounded_notes, body, procedure, instrs}
 use Rattle.icn_code_sound.specs.Fit.{FitAll}
 use Rattle.icn_code_sound.specs.Verified.{Fine, f_mark, f_unmark, f_init, f_pfail, c_proper, Has, AllFine}
 use Rattle.icn_code_sound.specs.Laws.{FitInitial, At, CodesVerified}
@@ -32,10 +32,11 @@ module _ (A : ℕ → Shape → Type 0) (L : Linkage) (j : ℕ) (N : Names) wher
   body_fine (More T.Empty es) p p' e f h = body_fine es (p + 0) p' (omega arith) f.1 h
   body_fine (More x es) p p' e f h =
       let k = cut A (bounded_notes N p x) (body N (p + bounded_size x) es) p' (size [] x + 2) (bounded_len N p x) h in
-      let m = cut A (code N [] [] (p + 1) (marked (start false)) x) (o (more (marked (start false))) I.Unmark ∷ []) (suc p') (size [] x)
-      (len N x [] [] (p + 1) (marked (start false))) k.0.1 in
+      let m = cut A (code N [] [] (p + 1) (in_mark (start false)) x) (o (more (in_mark (start false))) I.Unmark ∷ []) (suc p') (size [] x)
+      (len N x [] [] (p + 1) (in_mark (start false))) k.0.1 in
       let u = body_fine es (p + (size [] x + 2)) (p' + (size [] x + 2)) (omega arith) f.1 k.1 in
-      let v = fine A L j N x (suc p' + size [] x) [] [] [] true (marked (start false)) (c_proper (marked (start false)) refl) f.0 (p + 1) (suc p') (omega arith)
+      let v = fine A L j N x (suc p' + size [] x) [] [] [] true (in_mark (start false)) (c_proper (in_mark (start false)) refl) f.0 (p + 1) (suc p')
+      (omega arith)
       (omega arith) m.0 m.1.0 in
       (k.0.0, k.2 (f_mark (start false) v.0 (to _ u.0 (omega arith)) (omega arith), m.2 v.1 (f_unmark _ (start false) (to _ u.0 (omega arith)), tt)) u.1)
 
@@ -43,10 +44,10 @@ module _ (A : ℕ → Shape → Type 0) (L : Linkage) (j : ℕ) (N : Names) wher
       → A 0 (start false) × AllFine A 0 (procedure N i es)
   procedure_fine NoInitial es f g h = body_fine es 0 0 refl g h
   procedure_fine (Initially place x) es f g h =
-      let k = cut A (code N [] [] 2 (marked (start false)) x) (o (more (marked (start false))) I.Unmark ∷ body N (size [] x + 3) es) 2 (size [] x)
-      (len N x [] [] 2 (marked (start false))) h.1.1 in
+      let k = cut A (code N [] [] 2 (in_mark (start false)) x) (o (more (in_mark (start false))) I.Unmark ∷ body N (size [] x + 3) es) 2 (size [] x)
+      (len N x [] [] 2 (in_mark (start false))) h.1.1 in
       let u = body_fine es (size [] x + 3) (suc (2 + size [] x)) (omega arith) g k.1.1 in
-      let v = fine A L j N x (2 + size [] x) [] [] [] true (marked (start false)) (c_proper (marked (start false)) refl) f 2 2 refl (omega arith) k.0 k.1.0 in (
+      let v = fine A L j N x (2 + size [] x) [] [] [] true (in_mark (start false)) (c_proper (in_mark (start false)) refl) f 2 2 refl (omega arith) k.0 k.1.0 in (
         h.0,
         (
           f_init (start false) refl h.1.0 (to _ u.0 (omega arith)) (omega arith),

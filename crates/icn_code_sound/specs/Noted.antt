@@ -41,27 +41,27 @@ many zero s = s
 many (suc n) s = more (many n s)
 
 -- with an open scan more
-abbrev pub scanned : Shape → Shape
-scanned s = record s { inner = record s.inner { scans = suc s.inner.scans } }
+abbrev pub with_scan : Shape → Shape
+with_scan s = record s { inner = record s.inner { scans = suc s.inner.scans } }
 
 -- inside a mark
 abbrev pub within : Kind → Shape → Shape
 within kind s = record { in_create = s.in_create; inner = level_of kind; outer = s.inner ∷ s.outer }
 
-abbrev pub marked : Shape → Shape
-marked s = within Marked s
+abbrev pub in_mark : Shape → Shape
+in_mark s = within Marked s
 
 abbrev pub outside_of : Bool → Shape → List Level → Shape
 outside_of c s [] = s
 outside_of c s (level ∷ levels) = record { in_create = c; inner = level; outer = levels }
 
 -- without the innermost mark
-abbrev pub dropped : Shape → Shape
-dropped s = outside_of s.in_create s s.outer
+abbrev pub without_mark : Shape → Shape
+without_mark s = outside_of s.in_create s s.outer
 
 abbrev pub drops : ℕ → Shape → Shape
 drops zero s = s
-drops (suc n) s = drops n (dropped s)
+drops (suc n) s = drops n (without_mark s)
 
 pub record Note : Type 0 where
   pub instr : Instr
@@ -72,17 +72,17 @@ pub record Note : Type 0 where
 abbrev pub o : Shape → Instr → Note
 o s i = record { instr = i; flag = false; shape = s }
 
-abbrev pub flagged : Shape → Instr → Note
-flagged s i = record { instr = i; flag = true; shape = s }
+abbrev pub flagged_note : Shape → Instr → Note
+flagged_note s i = record { instr = i; flag = true; shape = s }
 
 abbrev pub unmarks : ℕ → Shape → List Note
 unmarks zero s = []
-unmarks (suc n) s = o s I.Unmark ∷ unmarks n (dropped s)
+unmarks (suc n) s = o s I.Unmark ∷ unmarks n (without_mark s)
 
 -- a co-expression with a body of some size
 abbrev pub create_notes : ℕ → ℕ → Shape → List Note → List Note
 create_notes p n s body = o s (I.Create (p + n + 5)) ∷ o (start true) (I.Mark (p + n + 4))
-    ∷ body ++ (o (more (marked (start true))) I.Coret ∷ o (more (marked (start true))) I.Efail
+    ∷ body ++ (o (more (in_mark (start true))) I.Coret ∷ o (more (in_mark (start true))) I.Efail
     ∷ o (start true) I.Cofail ∷ [])
 
 -- the code of a part, in loops with these depths, from a place, with a shape
@@ -91,17 +91,17 @@ Part = List Depth → ℕ → Shape → List Note
 
 abbrev pub prefix_code : List Depth → ℕ → Shape → Part → PrefixForm → List Note
 prefix_code D p s c Activating = o s I.Pnull ∷ c D (p + 1) (more s) ++ o (more (more s)) I.Coact ∷ []
-prefix_code D p s c Repeating = flagged s I.Mark0 ∷ c (deeper D) (p + 1) (marked s)
-    ++ (o (more (marked s)) (I.Chfail p) ∷ o (more (marked s)) I.Esusp ∷ [])
+prefix_code D p s c Repeating = flagged_note s I.Mark0 ∷ c (deeper D) (p + 1) (in_mark s)
+    ++ (o (more (in_mark s)) (I.Chfail p) ∷ o (more (in_mark s)) I.Esusp ∷ [])
 prefix_code D p s c (Operating op) = c D p s ++ o (more s) (I.Op op) ∷ []
 
 -- by the sizes of the parts, and that of the first one in a mark
 abbrev pub plain_code : List Depth → ℕ → Shape → (m n k : ℕ) → (a b : Part) → Form → List Note
 plain_code D p s m n k a b Both = a D p s ++ o (more s) I.Pop ∷ b D (p + m + 1) s
 plain_code D p s m n k a b Scanning =
-    a D p s ++ (o (more s) I.Bscan ∷ b D (p + m + 1) (scanned s) ++ o (more (scanned s)) I.Escan ∷ [])
-plain_code D p s m n k a b Either = o s (I.Mark (p + k + 3)) ∷ a (deeper D) (p + 1) (marked s)
-    ++ (o (more (marked s)) I.Esusp ∷ o (more s) (I.Goto (p + k + 3 + n)) ∷ b D (p + k + 3) s)
+    a D p s ++ (o (more s) I.Bscan ∷ b D (p + m + 1) (with_scan s) ++ o (more (with_scan s)) I.Escan ∷ [])
+plain_code D p s m n k a b Either = o s (I.Mark (p + k + 3)) ∷ a (deeper D) (p + 1) (in_mark s)
+    ++ (o (more (in_mark s)) I.Esusp ∷ o (more s) (I.Goto (p + k + 3 + n)) ∷ b D (p + k + 3) s)
 plain_code D p s m n k a b Limiting = b D p s ++ (o (more s) I.Limit
     ∷ a (deeper D) (p + n + 1) (within Limited s) ++ o (more (within Limited s)) I.Lsusp ∷ [])
 plain_code D p s m n k a b (Applying i) = a D p s ++ (b D (p + m) (more s) ++ o (more (more s)) i ∷ [])
@@ -110,8 +110,8 @@ abbrev pub augmented_code : List Depth → ℕ → Shape → ℕ → (a b : Part
 augmented_code D p s m a b Both =
     a D p s ++ (b D (p + m) (more s) ++ o (more (more s)) (I.Op Ops.Assign) ∷ [])
 augmented_code D p s m a b Scanning =
-    a D p s ++ (o (more s) I.Dup ∷ o (more (more s)) I.Bscan ∷ b D (p + m + 2) (scanned (more s))
-    ++ (o (more (scanned (more s))) I.Escan ∷ o (more (more s)) (I.Op Ops.Assign) ∷ []))
+    a D p s ++ (o (more s) I.Dup ∷ o (more (more s)) I.Bscan ∷ b D (p + m + 2) (with_scan (more s))
+    ++ (o (more (with_scan (more s))) I.Escan ∷ o (more (more s)) (I.Op Ops.Assign) ∷ []))
 augmented_code D p s m a b Either = []
 augmented_code D p s m a b Limiting = []
 augmented_code D p s m a b (Applying i) = a D p s ++ (o (more s) I.Dup ∷ b D (p + m + 1) (more (more s))
@@ -141,8 +141,8 @@ abbrev mutual
   code N D W p s (Prefix place operator e) =
       prefix_code D p s (λ D' p' s'. code N D' W p' s' e) (prefix_of operator)
   code N D W p s (Not place e) =
-      o s (I.Mark (p + size (deeper D) e + 3)) ∷ code N (deeper D) W (p + 1) (marked s) e
-      ++ (o (more (marked s)) I.Unmark ∷ o s I.Efail ∷ o s I.Pnull ∷ [])
+      o s (I.Mark (p + size (deeper D) e + 3)) ∷ code N (deeper D) W (p + 1) (in_mark s) e
+      ++ (o (more (in_mark s)) I.Unmark ∷ o s I.Efail ∷ o s I.Pnull ∷ [])
   code N D W p s (Binary place (Plain operator) a b) =
       plain_code D p s (size D a) (size D b) (size (deeper D) a) (λ D' p' s'. code N D' W p' s' a)
       (λ D' p' s'. code N D' W p' s' b) (form_of operator)
@@ -151,35 +151,35 @@ abbrev mutual
   code N D W p s (To place a b by) = code N D W p s a
       ++ (code N D W (p + size D a) (more s) b ++ (by_code N D W (p + size D a + size D b) (more (more s)) by
       ++ o (more (more (more s))) (I.Op Ops.ToBy) ∷ []))
-  code N D W p s (If place c a b) = if_code (code N (deeper D) W (p + 1) (marked s) c)
+  code N D W p s (If place c a b) = if_code (code N (deeper D) W (p + 1) (in_mark s) c)
       (code N D W (p + size (deeper D) c + 2) s a) (size (deeper D) c + size D a) N D W p s b
   code N D W p s (Case place e clauses) =
-      o s I.Mark0 ∷ code N (deeper D) W (p + 1) (marked s) e
-      ++ (o (more (marked s)) I.Eret ∷ clauses_code N D W (p + size (deeper D) e + 2) (p + size (deeper D) e
+      o s I.Mark0 ∷ code N (deeper D) W (p + 1) (in_mark s) e
+      ++ (o (more (in_mark s)) I.Eret ∷ clauses_code N D W (p + size (deeper D) e + 2) (p + size (deeper D) e
       + clauses_size D clauses + default_size D clauses + 3) s clauses ++ (o (more s) I.Pop
       ∷ default_code N D W (p + size (deeper D) e + 3 + clauses_size D clauses) s clauses))
   code N D W p s (Loop place While c b) =
       let m = size (loop_of 1 0 ∷ D) c in let n = body_size (loop_of 1 0 ∷ D) b in
       let w = ways (p + m + n + 3) (p + m + n + 2) in
-      o s I.Mark0 ∷ code N (loop_of 1 0 ∷ D) (w ∷ W) (p + 1) (marked s) c ++ (o (more (marked s)) I.Unmark
+      o s I.Mark0 ∷ code N (loop_of 1 0 ∷ D) (w ∷ W) (p + 1) (in_mark s) c ++ (o (more (in_mark s)) I.Unmark
       ∷ body_code N (loop_of 1 0 ∷ D) (w ∷ W) (p + m + 2) s b ++ o s (I.Loop p) ∷ [])
   code N D W p s (Loop place Until c b) =
       let m = size (loop_of 1 0 ∷ D) c in let n = body_size (loop_of 1 0 ∷ D) b in
       let w = ways (p + m + n + 4) (p + m + n + 3) in
-      o s (I.Mark (p + m + 3)) ∷ code N (loop_of 1 0 ∷ D) (w ∷ W) (p + 1) (marked s) c
-      ++ (o (more (marked s)) I.Unmark ∷ o s I.Efail ∷ body_code N (loop_of 1 0 ∷ D) (w ∷ W) (p + m + 3) s b
+      o s (I.Mark (p + m + 3)) ∷ code N (loop_of 1 0 ∷ D) (w ∷ W) (p + 1) (in_mark s) c
+      ++ (o (more (in_mark s)) I.Unmark ∷ o s I.Efail ∷ body_code N (loop_of 1 0 ∷ D) (w ∷ W) (p + m + 3) s b
       ++ o s (I.Loop p) ∷ [])
   code N D W p s (Loop place Every c b) =
       let m = size (loop_of 1 1 ∷ D) c in let n = body_size (loop_of 2 1 ∷ D) b in
       let w = ways (p + m + n + 3) (p + m + n + 2) in
-      o s I.Mark0 ∷ code N (loop_of 1 1 ∷ D) (w ∷ W) (p + 1) (marked s) c ++ (o (more (marked s)) I.Pop
-      ∷ body_code N (loop_of 2 1 ∷ D) (w ∷ W) (p + m + 2) (marked s) b ++ o (marked s) I.Efail ∷ [])
+      o s I.Mark0 ∷ code N (loop_of 1 1 ∷ D) (w ∷ W) (p + 1) (in_mark s) c ++ (o (more (in_mark s)) I.Pop
+      ∷ body_code N (loop_of 2 1 ∷ D) (w ∷ W) (p + m + 2) (in_mark s) b ++ o (in_mark s) I.Efail ∷ [])
   code N D W p s (Repeat place b) =
       let n = size (loop_of 1 0 ∷ D) b in let w = ways (p + n + 3) (p + n + 2) in
-      o s (I.Mark (p + n + 2)) ∷ code N (loop_of 1 0 ∷ D) (w ∷ W) (p + 1) (marked s) b
-      ++ (o (more (marked s)) I.Unmark ∷ o s (I.Loop p) ∷ [])
+      o s (I.Mark (p + n + 2)) ∷ code N (loop_of 1 0 ∷ D) (w ∷ W) (p + 1) (in_mark s) b
+      ++ (o (more (in_mark s)) I.Unmark ∷ o s (I.Loop p) ∷ [])
   code N D W p s (Create place e) =
-      create_notes p (size [] e) s (code N [] [] (p + 2) (marked (start true)) e)
+      create_notes p (size [] e) s (code N [] [] (p + 2) (in_mark (start true)) e)
   code N D W p s (Next place) =
       unmarks (dropped_by_next D) s ++ o (drops (dropped_by_next D) s) (I.Goto (next_way W)) ∷ []
   code N D W p s (Fail place) = o s I.Pfail ∷ []
@@ -187,11 +187,12 @@ abbrev mutual
       unmarks (opened_in D) s ++ (code N (around D) (around W) (p + opened_in D) (drops (opened_in D) s) e
       ++ o (more (drops (opened_in D) s)) (I.Goto (last_way W)) ∷ [])
   code N D W p s (Return place e) = o s (I.Mark (p + size (deeper D) e + 2))
-      ∷ code N (deeper D) W (p + 1) (marked s) e ++ (o (more (marked s)) I.Pret ∷ o s I.Pfail ∷ [])
+      ∷ code N (deeper D) W (p + 1) (in_mark s) e ++ (o (more (in_mark s)) I.Pret ∷ o s I.Pfail ∷ [])
   code N D W p s (Suspend place e b) =
-      o s I.Mark0 ∷ code N (deeper D) W (p + 1) (marked s) e ++ (o (more (marked s)) I.Psusp
-      ∷ o (more (marked s)) I.Pop ∷ body_code N (deeper (deeper D)) W (p + size (deeper D) e + 3) (marked s) b
-      ++ o (marked s) I.Efail ∷ [])
+      o s I.Mark0 ∷ code N (deeper D) W (p + 1) (in_mark s) e ++ (o (more (in_mark s)) I.Psusp
+      ∷ o (more (in_mark s)) I.Pop
+      ∷ body_code N (deeper (deeper D)) W (p + size (deeper D) e + 3) (in_mark s) b
+      ++ o (in_mark s) I.Efail ∷ [])
 
   pub operands : Names → List Depth → List Ways → ℕ → Shape → Trees → List Note
   operands N D W p s NoTrees = []
@@ -211,18 +212,18 @@ abbrev mutual
   compound N D W p s NoTrees = []
   compound N D W p s (More e es) =
       if is_nothing es then code N D W p s e else (if is_empty e then compound N D W p s es
-      else o s (I.Mark (p + size (deeper D) e + 2)) ∷ code N (deeper D) W (p + 1) (marked s) e
-      ++ o (more (marked s)) I.Unmark ∷ compound N D W (p + size (deeper D) e + 2) s es)
+      else o s (I.Mark (p + size (deeper D) e + 2)) ∷ code N (deeper D) W (p + 1) (in_mark s) e
+      ++ o (more (in_mark s)) I.Unmark ∷ compound N D W (p + size (deeper D) e + 2) s es)
 
   pub creates : Names → ℕ → Shape → Trees → List Note
   creates N p s NoTrees = []
-  creates N p s (More e es) = create_notes p (size [] e) s (code N [] [] (p + 2) (marked (start true)) e)
+  creates N p s (More e es) = create_notes p (size [] e) s (code N [] [] (p + 2) (in_mark (start true)) e)
       ++ creates N (p + size [] e + 5) (more s) es
 
   pub bodies_code : Names → ℕ → Shape → Trees → List Note
   bodies_code N p s NoTrees = []
   bodies_code N p s (More e es) = if is_no_element (More e es) then []
-      else create_notes p (size [] e) s (code N [] [] (p + 2) (marked (start true)) e)
+      else create_notes p (size [] e) s (code N [] [] (p + 2) (in_mark (start true)) e)
       ++ creates N (p + size [] e + 5) (more s) es
 
   pub subscripts : Names → List Depth → List Ways → ℕ → Shape → Trees → List Note
@@ -235,14 +236,14 @@ abbrev mutual
   by_code N D W p s (Present e) = code N D W p s e
 
   pub if_code : List Note → List Note → ℕ → Names → List Depth → List Ways → ℕ → Shape → MaybeTree → List Note
-  if_code c a n N D W p s Absent = o s I.Mark0 ∷ c ++ o (more (marked s)) I.Unmark ∷ a
-  if_code c a n N D W p s (Present b) = o s (I.Mark (p + n + 3)) ∷ c ++ (o (more (marked s)) I.Unmark ∷ a
+  if_code c a n N D W p s Absent = o s I.Mark0 ∷ c ++ o (more (in_mark s)) I.Unmark ∷ a
+  if_code c a n N D W p s (Present b) = o s (I.Mark (p + n + 3)) ∷ c ++ (o (more (in_mark s)) I.Unmark ∷ a
       ++ o (more s) (I.Goto (p + n + 3 + size D b)) ∷ code N D W (p + n + 3) s b)
 
   pub body_code : Names → List Depth → List Ways → ℕ → Shape → MaybeTree → List Note
   body_code N D W p s Absent = []
   body_code N D W p s (Present b) =
-      o s (I.Mark (p + size D b + 2)) ∷ code N D W (p + 1) (marked s) b ++ o (more (marked s)) I.Unmark ∷ []
+      o s (I.Mark (p + size D b + 2)) ∷ code N D W (p + 1) (in_mark s) b ++ o (more (in_mark s)) I.Unmark ∷ []
 
   -- the shape is that without the value that is compared
   pub clauses_code : Names → List Depth → List Ways → ℕ → ℕ → Shape → Clauses → List Note
@@ -254,8 +255,8 @@ abbrev mutual
   clause_code N D W p last s (Default place e) = []
   clause_code N D W p last s (Guarded place c b) =
       o (more s) (I.Mark (p + size (deeper D) c + size D b + 6))
-      ∷ o (marked (more s)) I.Ccase ∷ code N (deeper D) W (p + 2) (more (marked (more s))) c
-      ++ (o (more (more (marked (more s)))) (I.Op Ops.Equivalent) ∷ o (more (marked (more s))) I.Unmark
+      ∷ o (in_mark (more s)) I.Ccase ∷ code N (deeper D) W (p + 2) (more (in_mark (more s))) c
+      ++ (o (more (more (in_mark (more s)))) (I.Op Ops.Equivalent) ∷ o (more (in_mark (more s))) I.Unmark
       ∷ o (more s) I.Pop ∷ code N D W (p + size (deeper D) c + 5) s b ++ o (more s) (I.Goto last) ∷ [])
 
   pub default_code : Names → List Depth → List Ways → ℕ → Shape → Clauses → List Note
@@ -270,7 +271,7 @@ abbrev mutual
 -- a bounded expression of a body; an empty one has no code
 abbrev pub bounded_notes : Names → ℕ → Tree → List Note
 bounded_notes N p e = if is_empty e then [] else o (start false) (I.Mark (p + size [] e + 2))
-    ∷ code N [] [] (p + 1) (marked (start false)) e ++ o (more (marked (start false))) I.Unmark ∷ []
+    ∷ code N [] [] (p + 1) (in_mark (start false)) e ++ o (more (in_mark (start false))) I.Unmark ∷ []
 
 abbrev pub body : Names → ℕ → Trees → List Note
 body N p NoTrees = o (start false) I.Pfail ∷ []
@@ -280,8 +281,8 @@ body N p (More e es) = bounded_notes N p e ++ body N (p + bounded_size e) es
 abbrev pub procedure : Names → Initial → Trees → List Note
 procedure N NoInitial es = body N 0 es
 procedure N (Initially place e) es = o (start false) (I.Init (size [] e + 3))
-    ∷ o (start false) (I.Mark (size [] e + 3)) ∷ code N [] [] 2 (marked (start false)) e
-    ++ o (more (marked (start false))) I.Unmark ∷ body N (size [] e + 3) es
+    ∷ o (start false) (I.Mark (size [] e + 3)) ∷ code N [] [] 2 (in_mark (start false)) e
+    ++ o (more (in_mark (start false))) I.Unmark ∷ body N (size [] e + 3) es
 
 -- the instructions without what is noted
 abbrev pub instrs : List Note → List Instr

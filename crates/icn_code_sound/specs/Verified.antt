@@ -5,7 +5,7 @@ use Rattle.icn_code.specs.declared.instr.Instr.{Instr}
 use Rattle.icn_code.specs.declared.instr.Instr.TheVariants as I
 use Rattle.icn_defs.specs.Arities.{arity}
 use Rattle.icn_simulation.specs.Translation.{Depth, Ways, loop_of, ways}
-use Rattle.icn_code_sound.specs.Noted.{Limited, Level, Shape, Note, start, more, many, scanned, within, marked}
+use Rattle.icn_code_sound.specs.Noted.{Limited, Level, Shape, Note, start, more, many, with_scan, within, in_mark}
 
 -- the shape with a level inside it
 abbrev pub inside : Level → Shape → Shape
@@ -37,21 +37,21 @@ pub data Fine (At : ℕ → Shape → Type 0) : ℕ → Instr → Shape → Type
   f_pop : {p : ℕ} (s : Shape) → At (suc p) s → Fine At p I.Pop (more s)
   f_dup : {p : ℕ} (s : Shape) → At (suc p) (more (more s)) → Fine At p I.Dup (more s)
   f_takes : {p : ℕ} {i : Instr} (n : ℕ) (s : Shape) → Takes i n → At (suc p) (more s) → Fine At p i (many n s)
-  f_mark : {p l : ℕ} (s : Shape) → At (suc p) (marked s) → At l s → p < l → Fine At p (I.Mark l) s
-  f_mark0 : {p : ℕ} (s : Shape) → At (suc p) (marked s) → Fine At p I.Mark0 s
+  f_mark : {p l : ℕ} (s : Shape) → At (suc p) (in_mark s) → At l s → p < l → Fine At p (I.Mark l) s
+  f_mark0 : {p : ℕ} (s : Shape) → At (suc p) (in_mark s) → Fine At p I.Mark0 s
   f_unmark : {p : ℕ} (k : Level) (s : Shape) → At (suc p) s → Fine At p I.Unmark (inside k s)
-  f_eret : {p : ℕ} (s : Shape) → At (suc p) (more s) → Fine At p I.Eret (more (marked s))
-  f_esusp : {p : ℕ} (s : Shape) → At (suc p) (more s) → Fine At p I.Esusp (more (marked s))
+  f_eret : {p : ℕ} (s : Shape) → At (suc p) (more s) → Fine At p I.Eret (more (in_mark s))
+  f_esusp : {p : ℕ} (s : Shape) → At (suc p) (more s) → Fine At p I.Esusp (more (in_mark s))
   f_limit : {p : ℕ} (s : Shape) → At (suc p) (within Limited s) → Fine At p I.Limit (more s)
   f_lsusp : {p : ℕ} (s : Shape) → At (suc p) (more s) → Fine At p I.Lsusp (more (within Limited s))
   f_efail : {p : ℕ} (s : Shape) → Fine At p I.Efail s
-  f_chfail : {p l : ℕ} (s : Shape) → At (suc p) (more (marked s)) → At l s → l ≤ p
-      → Fine At p (I.Chfail l) (more (marked s))
+  f_chfail : {p l : ℕ} (s : Shape) → At (suc p) (more (in_mark s)) → At l s → l ≤ p
+      → Fine At p (I.Chfail l) (more (in_mark s))
   f_goto : {p l : ℕ} (s : Shape) → At l s → p < l → Fine At p (I.Goto l) s
   f_loop : {p l : ℕ} (s : Shape) → At l s → l ≤ p → Fine At p (I.Loop l) s
-  f_bscan : {p : ℕ} (s : Shape) → At (suc p) (scanned s) → Fine At p I.Bscan (more s)
-  f_escan : {p : ℕ} (s : Shape) → At (suc p) (more s) → Fine At p I.Escan (more (scanned s))
-  f_ccase : {p : ℕ} (s : Shape) → At (suc p) (more (marked (more s))) → Fine At p I.Ccase (marked (more s))
+  f_bscan : {p : ℕ} (s : Shape) → At (suc p) (with_scan s) → Fine At p I.Bscan (more s)
+  f_escan : {p : ℕ} (s : Shape) → At (suc p) (more s) → Fine At p I.Escan (more (with_scan s))
+  f_ccase : {p : ℕ} (s : Shape) → At (suc p) (more (in_mark (more s))) → Fine At p I.Ccase (in_mark (more s))
   f_init : {p l : ℕ} (s : Shape) → s.in_create ≡ false → At (suc p) s → At l s → p < l
       → Fine At p (I.Init l) s
   f_psusp : {p : ℕ} (s : Shape) → s.in_create ≡ false → At (suc p) (more s) → Fine At p I.Psusp (more s)

@@ -10,7 +10,7 @@ use Rattle.icn_coexp.specs.declared.entries.Entry.{Entry}
 use Rattle.icn_coexp.specs.declared.entries.Status.{Status}
 use Rattle.icn_coexp.specs.declared.entries.Status.TheVariants.{Fresh, Active, Waiting, Exhausted}
 use Rattle.icn_coexp.specs.declared.entries.Running.{Running}
-use Rattle.icn_coexp.specs.Keeping.{coexp_seen, HasBegun, IsBegun, StatusFits, Fits, AllFit, IsHere, Kept}
+use Rattle.icn_coexp.specs.Keeping.{coexp_seen, HasBegun, IsBegun, StatusFits, Fits, AllFit, IsHere, AreInOrder}
 use Rattle.icn_coexp.proofs.Puts.{live_entry}
 use Rattle.icn_coexp.proofs.Moves.{here_entry, begun_entry}
 
@@ -44,9 +44,10 @@ main_begun K es o all l =
     let e = live_entry (Entry K) es 0 l in
     subst IsBegun (sym e.1) (main_case K o e.0 e.0.status (all 0 e.0 e.1).status)
 
-pub kept_more : (K : Type 0) (es es' : List (Entry K)) (a : ℕ) (running : Running K) (e : Entry K) (stack : SeenStack) → Kept es a running → es' ≡ es ++ e ∷ []
+pub kept_more : (K : Type 0) (es es' : List (Entry K)) (a : ℕ) (running : Running K) (e : Entry K) (stack : SeenStack) → AreInOrder es a running
+    → es' ≡ es ++ e ∷ []
     → e.status ≡ Fresh stack
-    → stack.flat ≡ flat.begin e.proc e.values.items e.place → e.activator ≡ 0 → Kept es' a running
+    → stack.flat ≡ flat.begin e.proc e.values.items e.place → e.activator ≡ 0 → AreInOrder es' a running
 kept_more K es es' a running e stack k p q f r =
     let h = here_entry K running (slice_get es a) k.here in
     let inside : a < length es = slice_get_within es a h.0 h.1 in
@@ -63,7 +64,7 @@ kept_more K es es' a running e stack k p q f r =
     ] in
     let here : IsHere running (slice_get (es ++ e ∷ []) a) = subst (IsHere running) (sym (get_more (Entry K) es e h.0 a h.1))
     (subst (IsHere running) h.1 k.here) in
-    subst (λ (w : List (Entry K)). Kept w a running) (sym p) (record { all = all; here = here })
+    subst (λ (w : List (Entry K)). AreInOrder w a running) (sym p) (record { all = all; here = here })
 
 -- one more, made as another one was
 pub copied_is : (K : Type 0) (es : List (Entry K)) (t : Table) (id : ℕ) (e : Entry K) (values : List Val) → slice_get es id ≡ Some e

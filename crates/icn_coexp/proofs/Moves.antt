@@ -15,7 +15,7 @@ use Rattle.icn_coexp.specs.declared.entries.Status.TheVariants.{Fresh, Active, W
 use Rattle.icn_coexp.specs.declared.entries.Running.{Running}
 use Rattle.icn_coexp.specs.declared.entries.Running.TheVariants.{On, HopDue}
 use Rattle.icn_coexp.specs.Transfers.{Coexp, Table, give, exhaust, enter_other, with_activator, source, activator_in, status_in, status_of, with_waiting, enter_with, give_by, begin_by, on_stack, enter_failing, fail_by, exhausted_of}
-use Rattle.icn_coexp.specs.Keeping.{status_seen, coexp_seen, running_seen, room_of, table_seen, status_put, status_put_in, activator_put, status_at, HasBegun, IsBegun, StatusFits, Fits, AllFit, RunsAs, IsHere, Kept, CanBeGiven, IsGiven, CanFail, Comes, WaitsIn}
+use Rattle.icn_coexp.specs.Keeping.{status_seen, coexp_seen, running_seen, room_of, table_seen, status_put, status_put_in, activator_put, status_at, HasBegun, IsBegun, StatusFits, Fits, AllFit, RunsAs, IsHere, AreInOrder, CanBeGiven, IsGiven, CanFail, Comes, WaitsIn}
 use Rattle.icn_coexp.proofs.Puts.{live_entry, put_here, put_other, activator_put_is, activator_fits, seen_activator, begun_put, status_put_is, entry_after, wait_fits, exhausted_fits, active_fits, none_fits, seen_status}
 
 pub here_entry : (K : Type 0) (running : Running K) (o : Option (Entry K)) → IsHere running o → (e : Entry K) × (o ≡ Some e)
@@ -27,7 +27,7 @@ here_entry K running None h = absurd h
 source_in : (K : Type 0) (o : Option (Entry K)) (e : Entry K) → o ≡ Some e → activator_in (option_map coexp_seen o) ≡ e.activator
 source_in K o e p = ap (λ (w : Option (Entry K)). activator_in (option_map coexp_seen w)) p
 
-pub source_begun : (K : Type 0) (es : List (Entry K)) (a to : ℕ) (running : Running K) → Kept es a running → to ≡ source (table_seen es a running)
+pub source_begun : (K : Type 0) (es : List (Entry K)) (a to : ℕ) (running : Running K) → AreInOrder es a running → to ≡ source (table_seen es a running)
     → IsBegun (slice_get es to)
 source_begun K es a to running k p =
     let e = here_entry K running (slice_get es a) k.here in
@@ -41,7 +41,7 @@ begun_entry K None b = absurd b
 pub begun_live : (K : Type 0) (es : List (Entry K)) (n : ℕ) → IsBegun (slice_get es n) → n < length es
 begun_live K es n b = let e = begun_entry K (slice_get es n) b in slice_get_within es n e.0 e.1
 
-pub source_live : (K : Type 0) (es : List (Entry K)) (a to : ℕ) (running : Running K) → Kept es a running → to ≡ source (table_seen es a running)
+pub source_live : (K : Type 0) (es : List (Entry K)) (a to : ℕ) (running : Running K) → AreInOrder es a running → to ≡ source (table_seen es a running)
     → to < length es
 source_live K es a to running k p = begun_live K es to (source_begun K es a to running k p)
 
@@ -52,14 +52,14 @@ begun_after K es n i s e g h b =
 
 -- the active one waits
 
-pub left_fits : (K : Type 0) (es es' : List (Entry K)) (a : ℕ) (running : Running K) → Kept es a running → 0 < room_of running → WaitsIn a running es es'
+pub left_fits : (K : Type 0) (es es' : List (Entry K)) (a : ℕ) (running : Running K) → AreInOrder es a running → 0 < room_of running → WaitsIn a running es es'
     → AllFit es' None
 left_fits K es es' a HopDue k r w = absurd w
 left_fits K es es' a (On stack) k r w =
     let e = here_entry K (On stack) (slice_get es a) k.here in
     subst (λ (v : List (Entry K)). AllFit v None) (sym w) (wait_fits K es a stack e.0 e.1 k.all r)
 
-pub left_begun : (K : Type 0) (es es' : List (Entry K)) (a i : ℕ) (running : Running K) → Kept es a running → WaitsIn a running es es'
+pub left_begun : (K : Type 0) (es es' : List (Entry K)) (a i : ℕ) (running : Running K) → AreInOrder es a running → WaitsIn a running es es'
     → IsBegun (slice_get es i) → IsBegun (slice_get es' i)
 left_begun K es es' a i HopDue k w b = absurd w
 left_begun K es es' a i (On stack) k w b =
@@ -111,12 +111,12 @@ can_fail K es n b all h t p =
     (failed_case K n e.0 e.0.status (all n e.0 e.1).status (begun_status K es n e.0 e.1 h) (sym (tested K es n e.0 b e.1 t) ∙ p))
 
 pub kept_on : (K : Type 0) (es es' : List (Entry K)) (n : ℕ) (stack : SeenStack) → AllFit es None → n < length es → es' ≡ status_put n Active es
-    → Kept es' n (On stack)
+    → AreInOrder es' n (On stack)
 kept_on K es es' n stack all l p =
     let e = live_entry (Entry K) es n l in
-    let k : Kept (status_put n Active es) n (On stack) =
+    let k : AreInOrder (status_put n Active es) n (On stack) =
     record { all = active_fits K es n e.0 e.1 all; here = subst (IsHere (On stack)) (sym (entry_after K es n Active e.0 e.1)) tt } in
-    subst (λ (w : List (Entry K)). Kept w n (On stack)) (sym p) k
+    subst (λ (w : List (Entry K)). AreInOrder w n (On stack)) (sym p) k
 
 hop_case : (K : Type 0) (s : Status K) → exhausted_of (status_seen s) ≡ true → RunsAs HopDue s
 hop_case K (Fresh stack) x = cc
@@ -125,7 +125,7 @@ hop_case K (Waiting stack) x = cc
 hop_case K Exhausted x = tt
 
 pub kept_hop : (K : Type 0) (es : List (Entry K)) (n : ℕ) (b : Bool) → AllFit es None → n < length es
-    → IfSome (status_at n es) (λ s. b ≡ exhausted_of (status_seen s)) → b ≡ true → Kept es n HopDue
+    → IfSome (status_at n es) (λ s. b ≡ exhausted_of (status_seen s)) → b ≡ true → AreInOrder es n HopDue
 kept_hop K es n b all l t p =
     let e = live_entry (Entry K) es n l in
     record { all = none_fits K es n all; here = subst (IsHere HopDue) (sym e.1) (hop_case K e.0.status (sym (tested K es n e.0 b e.1 t) ∙ p)) }
@@ -229,13 +229,13 @@ give_hop K es es1 a to running left v b p w l t x h =
 
 -- The active one is exhausted.
 
-pub end_fits : (K : Type 0) (es es1 : List (Entry K)) (a : ℕ) (running : Running K) → Kept es a running → 0 < a → es1 ≡ status_put a Exhausted es
+pub end_fits : (K : Type 0) (es es1 : List (Entry K)) (a : ℕ) (running : Running K) → AreInOrder es a running → 0 < a → es1 ≡ status_put a Exhausted es
     → AllFit es1 None
 end_fits K es es1 a running k r p =
     let e = here_entry K running (slice_get es a) k.here in
     subst (λ (w : List (Entry K)). AllFit w None) (sym p) (exhausted_fits K es a e.0 e.1 k.all r)
 
-pub end_begun : (K : Type 0) (es es1 : List (Entry K)) (a i : ℕ) (running : Running K) → Kept es a running → es1 ≡ status_put a Exhausted es
+pub end_begun : (K : Type 0) (es es1 : List (Entry K)) (a i : ℕ) (running : Running K) → AreInOrder es a running → es1 ≡ status_put a Exhausted es
     → IsBegun (slice_get es i) → IsBegun (slice_get es1 i)
 end_begun K es es1 a i running k p b =
     let e = here_entry K running (slice_get es a) k.here in
@@ -264,13 +264,14 @@ exhaust_hop K es es1 a to running b p w l t x =
     ∙ ap (fail_by to (G (map coexp_seen es1))) (status_exhausted K es1 to a (running_seen running) b l t x)
 
 -- as a run begins
-pub kept_first : (K : Type 0) (es : List (Entry K)) (e : Entry K) (stack : SeenStack) → es ≡ e ∷ [] → e.status ≡ Active → e.activator ≡ 0 → Kept es 0 (On stack)
+pub kept_first : (K : Type 0) (es : List (Entry K)) (e : Entry K) (stack : SeenStack) → es ≡ e ∷ [] → e.status ≡ Active → e.activator ≡ 0
+    → AreInOrder es 0 (On stack)
 kept_first K es e stack p q r =
     let is_active : HasBegun e.status = subst HasBegun (sym q) tt in
     let b : IsBegun (slice_get (e ∷ []) e.activator) = subst (λ (w : ℕ). IsBegun (slice_get (e ∷ []) w)) (sym r) is_active in
     let here : IsHere (On stack) (slice_get (e ∷ []) 0) = subst (λ (w : Status K). RunsAs (On stack) w) (sym q) tt in
-    let k : Kept (e ∷ []) 0 (On stack) = record { all = λ n x g. only n x g b; here = here } in
-    subst (λ (w : List (Entry K)). Kept w 0 (On stack)) (sym p) k
+    let k : AreInOrder (e ∷ []) 0 (On stack) = record { all = λ n x g. only n x g b; here = here } in
+    subst (λ (w : List (Entry K)). AreInOrder w 0 (On stack)) (sym p) k
   where
     only : (n : ℕ) (x : Entry K) → slice_get (e ∷ []) n ≡ Some x → IsBegun (slice_get (e ∷ []) e.activator) → Fits (e ∷ []) (Some 0) n x
     only zero x g b =
@@ -291,7 +292,7 @@ active_case K stack (Some e) h = by_status e.status h
     by_status (Waiting f) h = absurd h
     by_status Exhausted h = absurd h
 
-pub active_begun : (K : Type 0) (es es' : List (Entry K)) (a : ℕ) (running : Running K) → Kept es a running → WaitsIn a running es es'
+pub active_begun : (K : Type 0) (es es' : List (Entry K)) (a : ℕ) (running : Running K) → AreInOrder es a running → WaitsIn a running es es'
     → IsBegun (slice_get es' a)
 active_begun K es es' a HopDue k w = absurd w
 active_begun K es es' a (On stack) k w = left_begun K es es' a a (On stack) k w (active_case K stack (slice_get es a) k.here)
@@ -310,7 +311,8 @@ pub record Turned (K : Type 0) (es es1 es2 : List (Entry K)) (a n : ℕ) (runnin
   pub live : n < length es2
   pub status : status_at n es2 ≡ status_at n es
 
-pub turned : (K : Type 0) (es es1 es2 : List (Entry K)) (a n : ℕ) (running : Running K) → Kept es a running → 0 < room_of running → WaitsIn a running es es1
+pub turned : (K : Type 0) (es es1 es2 : List (Entry K)) (a n : ℕ) (running : Running K) → AreInOrder es a running → 0 < room_of running
+    → WaitsIn a running es es1
     → es2 ≡ activator_put n a es1 → n ≢ a → n < length es1 → Turned K es es1 es2 a n running
 turned K es es1 es2 a n running k r w p d l =
     let e = live_entry (Entry K) es1 n l in

@@ -11,7 +11,7 @@ use Rattle.icn_coexp.specs.declared.entries.Status.TheVariants.{Fresh, Active, W
 use Rattle.icn_coexp.specs.declared.entries.Running.{Running}
 use Rattle.icn_coexp.specs.declared.entries.Running.TheVariants.{On, HopDue}
 use Rattle.icn_coexp.specs.Transfers.{Coexp, Table, status_in, status_of, source, with_status, with_status_in, with_activator, with_activator_in, with_waiting, wait_on, begin_by, give_by, fail_by, enter_other, enter_with, give, exhaust, exhausted_of, active_status, OneIsActive, KeepsOthers}
-use Rattle.icn_coexp.specs.Keeping.{status_seen, coexp_seen, running_seen, table_seen, StatusFits, RunsAs, IsHere, Kept}
+use Rattle.icn_coexp.specs.Keeping.{status_seen, coexp_seen, running_seen, table_seen, StatusFits, RunsAs, IsHere, AreInOrder}
 use Rattle.icn_coexp.proofs.Puts.{put_other}
 use Rattle.icn_coexp.proofs.Moves.{here_entry}
 
@@ -92,7 +92,7 @@ alone_case K a n e Active h x = cc
 alone_case K a n e (Waiting f) h x = cc
 alone_case K a n e Exhausted h x = cc
 
-pub one_is : (K : Type 0) (es : List (Entry K)) (a : ℕ) (running : Running K) → Kept es a running → OneIsActive (table_seen es a running)
+pub one_is : (K : Type 0) (es : List (Entry K)) (a : ℕ) (running : Running K) → AreInOrder es a running → OneIsActive (table_seen es a running)
 one_is K es a running k =
     let e = here_entry K running (slice_get es a) k.here in
     record {
@@ -118,11 +118,12 @@ goes_on_case K active e Active h = λ x. cc
 goes_on_case K active e (Waiting f) h = λ x. cc
 goes_on_case K active e Exhausted h = λ x. absurd (omega (arith, h))
 
-pub main_begun : (K : Type 0) (es : List (Entry K)) (a : ℕ) (running : Running K) → Kept es a running → status_of 0 (table_seen es a running) ≢ code.Fresh
+pub main_begun : (K : Type 0) (es : List (Entry K)) (a : ℕ) (running : Running K) → AreInOrder es a running → status_of 0 (table_seen es a running) ≢ code.Fresh
 main_begun K [] a running k = absurd k.here
 main_begun K (e ∷ es) a running k = begun_case K (Some a) e e.status (k.all 0 e refl).status
 
-pub main_goes_on : (K : Type 0) (es : List (Entry K)) (a : ℕ) (running : Running K) → Kept es a running → status_of 0 (table_seen es a running) ≢ code.Exhausted
+pub main_goes_on : (K : Type 0) (es : List (Entry K)) (a : ℕ) (running : Running K) → AreInOrder es a running
+    → status_of 0 (table_seen es a running) ≢ code.Exhausted
 main_goes_on K [] a running k = absurd k.here
 main_goes_on K (e ∷ es) a running k = goes_on_case K (Some a) e e.status (k.all 0 e refl).status
 

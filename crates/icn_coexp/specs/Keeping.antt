@@ -135,6 +135,7 @@ IsHere running (Some entry) = RunsAs running entry.status
 IsHere running None = ⊥
 
 -- all entries are in order, and the active one is as the stack that runs asks
-pub record Kept {K : Type 0} (entries : List (Entry K)) (active : ℕ) (running : Running K) : Type 0 where
+pub record AreInOrder {K : Type 0} (entries : List (Entry K)) (active : ℕ)
+    (running : Running K) : Type 0 where
   pub all : AllFit entries (Some active)
   pub here : IsHere running (slice_get entries active)

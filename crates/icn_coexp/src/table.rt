@@ -40,12 +40,12 @@ impl<K: Stack<Cell> + Drop> Model for Stacks<K> {
 
     ghost Value = { SeenStacks };
 
-    ghost use Rattle.icn_coexp.specs.Keeping.{table_seen, room_of, Kept};
+    ghost use Rattle.icn_coexp.specs.Keeping.{table_seen, room_of, AreInOrder};
 
     ghost view = { λ s.
         record { table = table_seen s.entries.items s.active s.running; spare = room_of s.running } };
 
-    ghost invariant = { λ s. Kept s.entries.items s.active s.running };
+    ghost invariant = { λ s. AreInOrder s.entries.items s.active s.running };
 }
 
 impl<K: Stack<Cell> + Drop> Stacks<K> {

@@ -26,7 +26,7 @@ use Rattle.icn_run.specs.Step.{State, Store, running, failing, stuck, with_world
 use Rattle.icn_control.specs.declared.failing.Due.{Due}
 use Rattle.icn_control.specs.declared.failing.Due.TheVariants as Dues
 use Rattle.icn_control.specs.Standing.{stack_in, reading_of, pair_in}
-use Rattle.icn_control.specs.Pairs.{paired}
+use Rattle.icn_control.specs.Pairs.{world_with_pair}
 use Rattle.icn_control.specs.Falls.{IsDue, FallsTo, DropsTo}
 use Rattle.icn_control.proofs.PartSteps.{same_world}
 use Rattle.icn_control.proofs.ReturnSteps.{present}
@@ -106,18 +106,18 @@ fall_proc w m n e tables st same =
     falls_by (extent_of w.heap) m n Proc e tables st ∙ ap (resume_by flat tables calls.Proc (stack_in (extent_of w.heap) n)) (same_world w st same)
 
 pub fall_scan : (w v : World) (m n : FlatStack) (pair : HeldPair) → held.resume m ≡ Some (Scan pair, n)
-    → world_of v ≡ paired (pair_in (extent_of w.heap) pair) (world_of w) → v.heap ≡ w.heap → (tables : Tables) (st : Store Frames)
+    → world_of v ≡ world_with_pair (pair_in (extent_of w.heap) pair) (world_of w) → v.heap ≡ w.heap → (tables : Tables) (st : Store Frames)
     → st.world ≡ world_of w → FallsTo tables (fails flat tables (stack_in (extent_of w.heap) m) st) st v n Dues.Failing
 fall_scan w v m n pair e back heap tables st same =
     let all : Extent = extent_of w.heap in
     let F : HeldHeap → State Frames Frames = λ x. failing (stack_in (extent_of x) n) (with_world (world_of v) st) in
     falls_by all m n (Scan pair) e tables st
-    ∙ ap (λ (x : StoreWorld). failing (stack_in all n) (with_world (paired (pair_in all pair) x) st)) same
+    ∙ ap (λ (x : StoreWorld). failing (stack_in all n) (with_world (world_with_pair (pair_in all pair) x) st)) same
     ∙ ap (λ (x : StoreWorld). failing (stack_in all n) (with_world x st)) (sym back)
     ∙ ap F (sym heap)
 
 pub fall_escan : (w v : World) (m k n : FlatStack) → held.resume m ≡ Some (Escan, k) → held.swap_by false w.pair k ≡ Some (v.pair, n)
-    → world_of v ≡ paired (pair_in (extent_of w.heap) v.pair) (world_of w) → v.heap ≡ w.heap
+    → world_of v ≡ world_with_pair (pair_in (extent_of w.heap) v.pair) (world_of w) → v.heap ≡ w.heap
     → (tables : Tables) (st : Store Frames) → st.world ≡ world_of w → FallsTo tables (fails flat tables (stack_in (extent_of w.heap) m) st) st v n Dues.Failing
 fall_escan w v m k n e f back heap tables st same =
     let all : Extent = extent_of w.heap in
@@ -126,7 +126,7 @@ fall_escan w v m k n e f back heap tables st same =
     ∙ ap (λ (p : calls.Pair). with_exchange (flat.swap_newest p (stack_in all k)) failing st) (present w st same)
     ∙ ap (λ (o : Option (calls.Pair × Frames)). with_exchange o failing st)
     (swap_newest_read (reading_of all) w.pair k ∙ ap (option_map (swapped_read (reading_of all))) f)
-    ∙ ap (λ (x : StoreWorld). failing (stack_in all n) (with_world (paired (pair_in all v.pair) x) st)) same
+    ∙ ap (λ (x : StoreWorld). failing (stack_in all n) (with_world (world_with_pair (pair_in all v.pair) x) st)) same
     ∙ ap (λ (x : StoreWorld). failing (stack_in all n) (with_world x st)) (sym back)
     ∙ ap F (sym heap)
 

@@ -23,7 +23,7 @@ use Rattle.icn_run.specs.Step.{Store, Status, Fresh, Active, Waiting, Exhausted,
 use Rattle.icn_control.specs.Machines.{status_in, coexp_in, store_in, IsLiveStatus, AreLiveStacks, IsLiveRunning}
 use Rattle.std.specs.Prelude.{Result, Ok, Err, OnOk}
 use Rattle.icn_vars.specs.declared.stop.Stop.{Stop}
-use Rattle.icn_args.specs.Words.{Found}
+use Rattle.icn_args.specs.Words.{IsFound}
 use Rattle.icn_value.specs.Store.{outside_of}
 use Rattle.icn_control.specs.Taking.{KeepsCounts}
 use Rattle.icn_control.proofs.KeptItems.{stack_same, stack_stays}
@@ -151,7 +151,7 @@ text_keeps w v outside locals item value e =
 
 pub list_counted : (w v : World) (locals : List Val) (values : List Value) (result : Result Val Stop)
     → ((outside : Outside)
-    → Found (extent_of v.heap) (new_list_of values) (setting_of outside w locals) (setting_of outside v locals) (value_in (extent_of v.heap)) result)
+    → IsFound (extent_of v.heap) (new_list_of values) (setting_of outside w locals) (setting_of outside v locals) (value_in (extent_of v.heap)) result)
     → OnOk result (KeepsCounts w v)
 list_counted w v locals values (Ok val) f =
     list_keeps w v (outside_of []) locals (ItemVal (value_in (extent_of v.heap) val)) values (f (outside_of []) gives_value)

@@ -26,7 +26,7 @@ use Rattle.icn_run_named.proofs.CallsNamed.{Maybe}
 use Rattle.icn_control.specs.declared.failing.Due.{Due}
 use Rattle.icn_control.specs.declared.failing.Due.TheVariants as Dues
 use Rattle.icn_control.specs.Standing.{stack_in, reading_of, pair_in}
-use Rattle.icn_control.specs.Pairs.{paired}
+use Rattle.icn_control.specs.Pairs.{world_with_pair}
 use Rattle.icn_control.specs.Falls.{DueNamed, FallsNamed}
 use Rattle.icn_control.specs.Machines.{running_of, store_in}
 
@@ -91,7 +91,7 @@ none_falls all m n k due p h = subst (λ (x : FlatStack). FallsNamed all x k due
 -- Worlds
 
 -- another pair in a world names nothing
-pub pair_named : (names : Names) (w v : World) (pair : Pair) → world_of v ≡ paired pair (world_of w) → WorldNamed names (world_of w)
+pub pair_named : (names : Names) (w v : World) (pair : Pair) → world_of v ≡ world_with_pair pair (world_of w) → WorldNamed names (world_of w)
     → WorldNamed names (world_of v)
 pair_named names w v pair e k =
     subst (λ (x : StoreWorld). WorldNamed names x) (sym e) (record { heap = k.heap; globals = k.globals; statics = k.statics })

@@ -21,7 +21,7 @@ use Rattle.icn_vars.specs.declared.stop.Stop.TheVariants.{Error as StopError, No
 use Rattle.icn_vars.specs.declared.outcome.Halt.{Halt}
 use Rattle.icn_vars.specs.Stops.{halt_of}
 use Rattle.icn_vars.specs.Worlds.{KeepsItems, reach_of, setting_of, world_of}
-use Rattle.icn_args.specs.Words.{Found, Passed, the_text}
+use Rattle.icn_args.specs.Words.{IsFound, IsPassed, the_text}
 use Rattle.icn_frames.specs.declared.layout.Why.TheVariants.{Scan}
 use Rattle.icn_frames.specs.Stacks as held
 use Rattle.icn_frames.specs.Stacks.{FlatStack}
@@ -32,7 +32,7 @@ use Rattle.icn_run.specs.Calls as calls
 use Rattle.icn_run.specs.Stacks.{Frames, flat}
 use Rattle.icn_run.specs.Step.{State, Store, running, here, with_made, with_pair, with_world, scan_opened}
 use Rattle.icn_control.specs.Living.{IsLivePair, IsLiveStack}
-use Rattle.icn_control.specs.Pairs.{paired}
+use Rattle.icn_control.specs.Pairs.{world_with_pair}
 use Rattle.icn_control.specs.Parts.{RunsWith, HaltsWith}
 use Rattle.icn_control.specs.Standing.{instruction_state, stack_in, reading_of, pair_in}
 use Rattle.icn_control.specs.Taking.{made_in, MakesValue}
@@ -51,9 +51,9 @@ use Rattle.icn_value.specs.Values.{Val as ItemVal}
 
 pub text_made : (t : Tables) (w v : World) (m : FlatStack) (val : Val) (span : Span) → KeepsItems (reach_of w (held.locals m)) (reach_of v (held.locals m))
     → IsLiveStack t (reach_of w []) m → held.set_locals (held.locals m) m ≡ m
-    → ((setting : Setting) → Found (extent_of w.heap) (string (value_in (extent_of w.heap) val)) setting setting
+    → ((setting : Setting) → IsFound (extent_of w.heap) (string (value_in (extent_of w.heap) val)) setting setting
     (λ (done : Unit {0}). the_text (value_in (extent_of w.heap) val)) (Ok tt))
-    → ((outside : Outside) → Passed (extent_of v.heap) (costs_text (value_in (extent_of w.heap) val)) (setting_of outside w (held.locals m))
+    → ((outside : Outside) → IsPassed (extent_of v.heap) (costs_text (value_in (extent_of w.heap) val)) (setting_of outside w (held.locals m))
     (setting_of outside v (held.locals m)) (Ok span))
     → text_in (extent_of v.heap) span ≡ the_text (value_in (extent_of w.heap) val)
     → MakesValue (text_row (value_in (extent_of w.heap) val)) w m v (Ok (TextVal span))
@@ -64,7 +64,7 @@ text_made t w v m val span k l s f p e st next same =
     (f before (λ text. costs_text value (gives_value (Text text))) ∙ p st.outside (gives_value (Text (the_text value)))
     ∙ ap (λ (x : List ℕ). gives_value (Text x) (setting_of st.outside v (held.locals m))) (sym e))
 
-pub text_unfit : (w : World) (m : FlatStack) (val : Val) (stop : Stop) → ((setting : Setting) → Found (extent_of w.heap)
+pub text_unfit : (w : World) (m : FlatStack) (val : Val) (stop : Stop) → ((setting : Setting) → IsFound (extent_of w.heap)
     (string (value_in (extent_of w.heap) val)) setting setting (λ (done : Unit {0}). the_text (value_in (extent_of w.heap) val)) (Err stop))
     → MakesValue (text_row (value_in (extent_of w.heap) val)) w m w (Err stop)
 text_unfit w m val (StopError number offending) f st next same =
@@ -73,9 +73,9 @@ text_unfit w m val (StopError number offending) f st next same =
     (f (setting_of st.outside w (held.locals m)) (λ text. costs_text value (gives_value (Text text))))
 text_unfit w m val StopNoMemory f st next same = tt
 
-pub text_dear : (w v : World) (m : FlatStack) (val : Val) (stop : Stop) → ((setting : Setting) → Found (extent_of w.heap)
+pub text_dear : (w v : World) (m : FlatStack) (val : Val) (stop : Stop) → ((setting : Setting) → IsFound (extent_of w.heap)
     (string (value_in (extent_of w.heap) val)) setting setting (λ (done : Unit {0}). the_text (value_in (extent_of w.heap) val)) (Ok tt))
-    → ((outside : Outside) → Passed {B = Span} (extent_of v.heap) (costs_text (value_in (extent_of w.heap) val)) (setting_of outside w (held.locals m))
+    → ((outside : Outside) → IsPassed {B = Span} (extent_of v.heap) (costs_text (value_in (extent_of w.heap) val)) (setting_of outside w (held.locals m))
     (setting_of outside v (held.locals m)) (Err stop))
     → MakesValue (text_row (value_in (extent_of w.heap) val)) w m v (Err stop)
 text_dear w v m val (StopError number offending) f p st next same =
@@ -87,12 +87,12 @@ text_dear w v m val StopNoMemory f p st next same = tt
 -- what the text of a value that has one comes to, and what it keeps
 
 abbrev pub HasOne : World → Val → Type 0
-HasOne w val = (setting : Setting) → Found (extent_of w.heap) (string (value_in (extent_of w.heap) val)) setting setting
+HasOne w val = (setting : Setting) → IsFound (extent_of w.heap) (string (value_in (extent_of w.heap) val)) setting setting
     (λ (done : Unit {0}). the_text (value_in (extent_of w.heap) val)) (Ok tt)
 
 abbrev pub PaysFor : World → World → List Val → Val → Result Span Stop → Type 0
 PaysFor w v locals val result = (outside : Outside)
-    → Passed (extent_of v.heap) (costs_text (value_in (extent_of w.heap) val)) (setting_of outside w locals) (setting_of outside v locals) result
+    → IsPassed (extent_of v.heap) (costs_text (value_in (extent_of w.heap) val)) (setting_of outside w locals) (setting_of outside v locals) result
 
 pub text_result : (t : Tables) (w v : World) (m : FlatStack) (val : Val) (result : Result Span Stop)
     → KeepsItems (reach_of w (held.locals m)) (reach_of v (held.locals m)) → IsLiveStack t (reach_of w []) m → held.set_locals (held.locals m) m ≡ m
@@ -125,7 +125,7 @@ stop_live (Ok a) stop P e p = absurd e
 
 pub opens : (w v : World) (m n : FlatStack) (span : Span) (pair : HeldPair) → held.given_to None (held.suspend_by (Scan w.pair) m) ≡ Some n
     → pair_in (extent_of w.heap) pair ≡ record { subject = text_in (extent_of w.heap) span; position = 1 }
-    → world_of v ≡ paired (pair_in (extent_of w.heap) pair) (world_of w) → v.heap ≡ w.heap → (st : Store Frames) → st.world ≡ world_of w
+    → world_of v ≡ world_with_pair (pair_in (extent_of w.heap) pair) (world_of w) → v.heap ≡ w.heap → (st : Store Frames) → st.world ≡ world_of w
     → RunsWith (scan_opened flat (Text (text_in (extent_of w.heap) span)) (stack_in (extent_of w.heap) m) st) st v n
 opens w v m n span pair e p back heap st same =
     let all : Extent = extent_of w.heap in
@@ -134,8 +134,8 @@ opens w v m n span pair e p back heap st same =
     ap (λ (x : calls.Pair). running (flat.suspend (calls.Scan x) (stack_in all m)) (with_pair begun st)) (present w st same)
     ∙ ap (λ (a : Frames). running a (with_pair begun st)) (suspend_read (reading_of all) (Scan w.pair) m)
     ∙ ap (λ (y : FlatStack). running (stack_in all y) (with_pair begun st)) (same_Some _ _ e)
-    ∙ ap (λ (s : StoreWorld). running (stack_in all n) (with_world (paired begun s) st)) same
-    ∙ ap (λ (x : calls.Pair). running (stack_in all n) (with_world (paired x (world_of w)) st)) (sym p)
+    ∙ ap (λ (s : StoreWorld). running (stack_in all n) (with_world (world_with_pair begun s) st)) same
+    ∙ ap (λ (x : calls.Pair). running (stack_in all n) (with_world (world_with_pair x (world_of w)) st)) (sym p)
     ∙ ap (λ (s : StoreWorld). running (stack_in all n) (with_world s st)) (sym back)
     ∙ ap F (sym heap)
 

@@ -36,7 +36,7 @@ use Rattle.icn_run.specs.Step.{State, Store, running, failing, with_value, with_
 use Rattle.icn_control.specs.declared.machine.Stage.{Stage}
 use Rattle.icn_control.specs.Living.{with_locals, IsLiveStack}
 use Rattle.icn_control.specs.Standing.{instruction_state, stack_in, reading_of, maybe_pair_in, pair_in}
-use Rattle.icn_control.specs.Pairs.{paired, maybe_paired}
+use Rattle.icn_control.specs.Pairs.{world_with_pair, maybe_paired}
 use Rattle.icn_control.specs.Parts.{RunsWith, FailsWith, StandsWith, HaltsWith, FindsValue}
 use Rattle.icn_control.specs.Results.{is_local_item, is_local_root}
 use Rattle.icn_control.proofs.StackSteps.{popped_runs, pushed_back}
@@ -163,7 +163,7 @@ all_left_is w v m pair e back st same =
 -- The pairs are exchanged, where a scan is open.
 
 pub swapped_on : (w v : World) (m n : FlatStack) → held.swap_by true w.pair m ≡ Some (v.pair, n)
-    → world_of v ≡ paired (pair_in (extent_of w.heap) v.pair) (world_of w) → v.heap ≡ w.heap → (st : Store Frames)
+    → world_of v ≡ world_with_pair (pair_in (extent_of w.heap) v.pair) (world_of w) → v.heap ≡ w.heap → (st : Store Frames)
     (next : Frames → Store Frames → State Frames Frames) → st.world ≡ world_of w
     → maybe_exchanged (flat.swap_oldest (pair_now st) (stack_in (extent_of w.heap) m)) (stack_in (extent_of w.heap) m) st next
     ≡ next (stack_in (extent_of v.heap) n) (with_world (world_of v) st)
@@ -173,7 +173,7 @@ swapped_on w v m n e back heap st next same =
     ap (λ (p : calls.Pair). maybe_exchanged (flat.swap_oldest p (stack_in all m)) (stack_in all m) st next) (present w st same)
     ∙ ap (λ (o : Option (calls.Pair × Frames)). maybe_exchanged o (stack_in all m) st next)
     (swap_oldest_read (reading_of all) w.pair m ∙ ap (option_map (swapped_read (reading_of all))) e)
-    ∙ ap (λ (x : StoreWorld). next (stack_in all n) (with_world (paired (pair_in all v.pair) x) st)) same
+    ∙ ap (λ (x : StoreWorld). next (stack_in all n) (with_world (world_with_pair (pair_in all v.pair) x) st)) same
     ∙ ap (λ (x : StoreWorld). next (stack_in all n) (with_world x st)) (sym back)
     ∙ ap F (sym heap)
 

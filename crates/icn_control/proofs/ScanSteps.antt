@@ -25,7 +25,7 @@ use Rattle.icn_run.specs.Stacks.{Frames, flat}
 use Rattle.icn_run.specs.Step.{State, Store, running, with_world, pair_now, with_exchange, push_item}
 use Rattle.icn_control.specs.Living.{with_locals, IsLiveStack}
 use Rattle.icn_control.specs.Standing.{instruction_state, stack_in, reading_of, pair_in}
-use Rattle.icn_control.specs.Pairs.{paired}
+use Rattle.icn_control.specs.Pairs.{world_with_pair}
 use Rattle.icn_control.specs.Parts.{RunsWith}
 use Rattle.icn_control.proofs.LiveCalls.{own, live_pop, live_push, live_suspend, suspend_owner}
 use Rattle.icn_control.proofs.LiveFrames.{live_swap}
@@ -51,7 +51,7 @@ pub open_after : (m n : FlatStack) (item : Item) → held.pop m ≡ Some (item, 
 open_after m n item e k = subst (λ (r : Registers). IsSome r.scan) (pop_registers m n item e) k
 
 pub escan_runs : (w v : World) (m k l n : FlatStack) (item : Item) → held.pop m ≡ Some (item, k) → held.swap_by false w.pair k ≡ Some (v.pair, l)
-    → world_of v ≡ paired (pair_in (extent_of w.heap) v.pair) (world_of w) → v.heap ≡ w.heap
+    → world_of v ≡ world_with_pair (pair_in (extent_of w.heap) v.pair) (world_of w) → v.heap ≡ w.heap
     → held.given_to (Some item) (held.suspend_by Escan l) ≡ Some n → (tables : Tables) (st : Store Frames) → st.world ≡ world_of w
     → RunsWith (instruction_state (extent_of w.heap) tables Instrs.Escan m st) st v n
 escan_runs w v m k l n item e f back heap g tables st same =
@@ -63,7 +63,7 @@ escan_runs w v m k l n item e f back heap g tables st same =
     ∙ ap (λ (p : calls.Pair). with_exchange (flat.swap_newest p (stack_in all k)) next st) (present w st same)
     ∙ ap (λ (o : Option (calls.Pair × Frames)). with_exchange o next st)
     (swap_newest_read (reading_of all) w.pair k ∙ ap (option_map (swapped_read (reading_of all))) f)
-    ∙ ap (λ (s : StoreWorld). next (stack_in all l) (with_world (paired (pair_in all v.pair) s) st)) same
+    ∙ ap (λ (s : StoreWorld). next (stack_in all l) (with_world (world_with_pair (pair_in all v.pair) s) st)) same
     ∙ ap (λ (s : StoreWorld). next (stack_in all l) (with_world s st)) (sym back)
     ∙ ap (λ (a : Frames). push_item flat x a (with_world (world_of v) st)) (suspend_read (reading_of all) Escan l)
     ∙ ap (λ (y : FlatStack). running (stack_in all y) (with_world (world_of v) st)) (same_Some _ _ g)

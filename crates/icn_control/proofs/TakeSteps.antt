@@ -18,7 +18,7 @@ use Rattle.icn_vars.specs.declared.stop.Stop.{Stop}
 use Rattle.icn_vars.specs.declared.stop.Stop.TheVariants.{Error as StopError, NoMemory as StopNoMemory}
 use Rattle.icn_vars.specs.Stops.{halt_of}
 use Rattle.icn_vars.specs.Worlds.{Reach, IsLiveItem, KeepsItems, item_in, reach_of, setting_of, world_of}
-use Rattle.icn_args.specs.Words.{Found}
+use Rattle.icn_args.specs.Words.{IsFound}
 use Rattle.icn_frames.specs.Stacks as held
 use Rattle.icn_frames.specs.Stacks.{FlatStack}
 use Rattle.icn_frames_laws.specs.Readings.{popped_read}
@@ -232,7 +232,7 @@ pub makes_value : (t : Tables) (w v : World) (m : FlatStack) (find : Finds Value
     → KeepsItems (reach_of w (held.locals m)) (reach_of v (held.locals m)) → IsLiveStack t (reach_of w []) m
     → held.set_locals (held.locals m) m ≡ m
     → ((outside : _)
-    → Found (extent_of v.heap) find (setting_of outside w (held.locals m)) (setting_of outside v (held.locals m)) (value_in (extent_of v.heap)) result)
+    → IsFound (extent_of v.heap) find (setting_of outside w (held.locals m)) (setting_of outside v (held.locals m)) (value_in (extent_of v.heap)) result)
     → MakesValue (find gives_value) w m v result
 makes_value t w v m find (Ok val) k l s f st next same =
     made_goes t w v m (find gives_value) val st next same (no_locals w v (held.locals m) k) l s (f st.outside gives_value)

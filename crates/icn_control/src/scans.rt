@@ -6,7 +6,7 @@ ghost use Rattle.icn_heap.specs.Heaps.{extent_of};
 ghost use Rattle.icn_vars.specs.Worlds.{reach_of, world_of};
 ghost use Rattle.icn_frames.specs.Stacks as flat;
 ghost use Rattle.icn_control.specs.Living.{IsLiveStack};
-ghost use Rattle.icn_control.specs.Pairs.{paired};
+ghost use Rattle.icn_control.specs.Pairs.{world_with_pair};
 ghost use Rattle.icn_control.specs.Parts.{DoesWith};
 ghost use Rattle.icn_control.specs.Standing.{pair_in, stack_in};
 ghost use Rattle.icn_run.specs.Stacks.{Frames as FramesRead, flat as calls};
@@ -28,7 +28,7 @@ pub fn swap_pairs<K: Stack<Cell> + Drop>(frames: &mut Frames<K>, world: &mut Wor
     ensures live { (tables : Tables) → IsLiveStack tables (reach_of world.old []) frames.old.flat
         → IsLiveStack tables (reach_of world.new []) frames.new.flat }
     ensures world { world_of world.new
-        ≡ paired (pair_in (extent_of world.old.heap) world.new.pair) (world_of world.old) }
+        ≡ world_with_pair (pair_in (extent_of world.old.heap) world.new.pair) (world_of world.old) }
     ensures heap { world.new.heap ≡ world.old.heap }
     ensures reach { reach_of world.new [] ≡ reach_of world.old [] }
 {

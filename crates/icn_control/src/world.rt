@@ -4,7 +4,7 @@ ghost use Rattle.icn_heap.specs.Heaps.{extent_of, heap_of};
 ghost use Rattle.icn_vars.specs.Worlds.{reach_of, world_of};
 ghost use Rattle.icn_control.specs.Living.{IsLivePair, MaybeLivePair};
 ghost use Rattle.icn_control.specs.Standing.{maybe_pair_in, pair_in};
-ghost use Rattle.icn_control.specs.Pairs.{maybe_paired, paired};
+ghost use Rattle.icn_control.specs.Pairs.{maybe_paired, world_with_pair};
 
 use icn_value::Pair;
 use icn_vars::World;
@@ -13,7 +13,7 @@ use icn_vars::World;
 pub fn set_pair(world: &mut World, pair: Pair)
     requires { IsLivePair (extent_of world.old.heap) pair }
     ensures world { world_of world.new
-        ≡ paired (pair_in (extent_of world.old.heap) pair) (world_of world.old) }
+        ≡ world_with_pair (pair_in (extent_of world.old.heap) pair) (world_of world.old) }
     ensures pair { world.new.pair ≡ pair }
     ensures heap { world.new.heap ≡ world.old.heap }
     ensures reach { reach_of world.new [] ≡ reach_of world.old [] }

@@ -12,7 +12,7 @@ use Rattle.icn_heap.specs.Extents.{Extent, IsLive, value_in}
 use Rattle.icn_vars.specs.declared.stop.Stop.{Stop}
 use Rattle.icn_vars.specs.declared.stop.Stop.TheVariants.{Error as ErrorStop, NoMemory as NoMemoryStop}
 use Rattle.icn_vars.specs.Stops.{IsLiveStop, StopsFinding}
-use Rattle.icn_args.specs.Words.{Found}
+use Rattle.icn_args.specs.Words.{IsFound}
 use Rattle.icn_iofn.specs.Checks.{one_piece}
 use Rattle.icn_iofn.specs.Putting.{piece_in, pieces_in}
 use Rattle.icn_iofn.proofs.PutSteps.{nothing_left}
@@ -59,7 +59,7 @@ module _ (vals rest : List Val) (first : Val) (others : List Val) (is : rest ≡
   -- one did not
   pub check_stops : (all : Extent) (setting : Setting) (result : Result (Unit {0}) Stop) (stop : Stop) → IsErrAnd result (λ other. other ≡ stop)
       → StopsFinding all (one_piece (value_in all first)) setting setting stop
-      → Found all (pieces (map (value_in all) vals)) setting setting (λ (done : Unit {0}). pieces_in (map (value_in all) vals)) result
+      → IsFound all (pieces (map (value_in all) vals)) setting setting (λ (done : Unit {0}). pieces_in (map (value_in all) vals)) result
   check_stops all setting (Ok done) stop same halt = absurd same
   check_stops all setting (Err other) stop same halt =
       subst (StopsFinding all (pieces (map (value_in all) vals)) setting setting) (sym same) (stops_so all setting stop halt)

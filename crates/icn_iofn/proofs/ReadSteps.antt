@@ -8,13 +8,13 @@ use Rattle.icn_heap.specs.Extents.{Extent}
 use Rattle.icn_vars.specs.Stops.{IsLiveStop}
 use Rattle.icn_vars.specs.declared.stop.Stop.{Stop}
 use Rattle.icn_vars.specs.declared.stop.Stop.TheVariants.{Error as ErrorStop, NoMemory as NoMemoryStop}
-use Rattle.icn_args.specs.Words.{Found}
+use Rattle.icn_args.specs.Words.{IsFound}
 
 -- a thing is found, and what is looked for then is answered so
 pub found_behind : {A B C : Type 0} (all : Extent) (find : Finds A) (thing : A) (rest : A → Finds B) (before between after : Setting) (shown : C → B)
     (result : Result C Stop)
-    → GoesOn find before thing between → Found all (rest thing) between after shown result
-    → Found all (λ next. find (λ thing. rest thing next)) before after shown result
+    → GoesOn find before thing between → IsFound all (rest thing) between after shown result
+    → IsFound all (λ next. find (λ thing. rest thing next)) before after shown result
 found_behind all find thing rest before between after shown (Ok value) goes is = λ next. goes (λ thing. rest thing next) ∙ is next
 found_behind all find thing rest before between after shown (Err (ErrorStop number offending)) goes is = λ next. goes (λ thing. rest thing next) ∙ is next
 found_behind all find thing rest before between after shown (Err NoMemoryStop) goes is = tt

@@ -4,9 +4,9 @@ use Rattle.icn_defs.specs.Running.{Launch}
 use Rattle.icn_defs.proofs.Observing.{Lasts, observed_once}
 use Rattle.icn_meaning.specs.Program.{Program}
 use Rattle.icn_meaning.specs.Contexts.{eval, succeed, fail, hop, over, lost}
-use Rattle.icn_meaning.specs.Meaning.{step, start, Observed, observed, Means}
+use Rattle.icn_meaning.specs.Meaning.{step, start, Observed, observation, Means}
 
-kept : (program : Program) → Lasts (step program) observed
+kept : (program : Program) → Lasts (step program) observation
 kept program (over ending st) seen e = e
 kept program (eval t s k r st) seen e = absurd (cc e)
 kept program (succeed x k r st) seen e = absurd (cc e)
@@ -15,4 +15,4 @@ kept program (hop c st) seen e = absurd (cc e)
 kept program lost seen e = e
 
 pub means_once : (program : Program) (launch : Launch) (a b : Observed) → Means program launch a → Means program launch b → a ≡ b
-means_once program launch a b x y = observed_once (step program) observed (kept program) (start program launch) a b x y
+means_once program launch a b x y = observed_once (step program) observation (kept program) (start program launch) a b x y

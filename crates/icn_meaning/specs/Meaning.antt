@@ -63,10 +63,10 @@ start program launch = main_at program (place_of (codes "main") (routine_names p
     (first_store program launch)
 
 -- what is seen of an evaluation that is over
-abbrev pub observed : State → Option Observed
-observed (over ending st) = Some (record { ending = ending; outside = st.outside })
-observed state = None
+abbrev pub observation : State → Option Observed
+observation (over ending st) = Some (record { ending = ending; outside = st.outside })
+observation state = None
 
 -- the meaning of a program that is begun so: the steps of its evaluation come to an end of which this is observed
 abbrev pub Means : Program → Launch → Observed → Type 0
-Means program launch seen = Observes (step program) observed (start program launch) seen
+Means program launch seen = Observes (step program) observation (start program launch) seen

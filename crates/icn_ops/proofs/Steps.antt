@@ -23,7 +23,7 @@ use Rattle.icn_defs.specs.Scanning.{stands, tabs_to}
 use Rattle.icn_heap.specs.Extents.{Extent, text_in}
 use Rattle.icn_vars.specs.declared.stop.Stop.{Stop}
 use Rattle.icn_vars.specs.declared.stop.Stop.TheVariants.{Error, NoMemory}
-use Rattle.icn_args.specs.Words.{Found, Passed, the_text}
+use Rattle.icn_args.specs.Words.{IsFound, IsPassed, the_text}
 use Rattle.icn_ops.specs.Operands.{one_text, texts_in, two_texts, two_values}
 
 -- 0 less an integer
@@ -38,9 +38,9 @@ compared value test t setting outcome same is = ap (λ met. passing met (gives_v
 -- the texts of two operands, by what each call says of them
 pub texts_found : (all : Extent) (x y : Item) (a b : Value) (before after : Setting) (result : Result (Span × Span) Stop)
     → GoesOn (two_values x y) before (a, b) before
-    → GoesOn (string a) before (the_text a) before → GoesOn (string b) before (the_text b) before → Passed all (costs_texts (a ∷ b ∷ [])) before after result
+    → GoesOn (string a) before (the_text a) before → GoesOn (string b) before (the_text b) before → IsPassed all (costs_texts (a ∷ b ∷ [])) before after result
     → IfOk result (λ two. text_in all two.0 ≡ the_text a) → IfOk result (λ two. text_in all two.1 ≡ the_text b)
-    → Found all (two_texts x y) before after (texts_in all) result
+    → IsFound all (two_texts x y) before after (texts_in all) result
 texts_found all x y a b before after (Ok two) values first second step is is' = λ next.
     values (λ v. string v.0 (λ s. string v.1 (λ t. costs_texts (v.0 ∷ v.1 ∷ []) (next (s, t)))))
     ∙ (first (λ s. string b (λ t. costs_texts (a ∷ b ∷ []) (next (s, t))))
@@ -56,8 +56,8 @@ texts_found all x y a b before after (Err NoMemory) values first second step is 
 
 -- the text of one operand
 pub text_found : (all : Extent) (x : Item) (a : Value) (before after : Setting) (result : Result Span Stop) → GoesOn (the_value x) before a before
-    → GoesOn (string a) before (the_text a) before → Passed all (costs_text a) before after result
-    → IfOk result (λ span. text_in all span ≡ the_text a) → Found all (one_text x) before after (text_in all) result
+    → GoesOn (string a) before (the_text a) before → IsPassed all (costs_text a) before after result
+    → IfOk result (λ span. text_in all span ≡ the_text a) → IsFound all (one_text x) before after (text_in all) result
 text_found all x a before after (Ok span) value first step is = λ next.
     value (λ v. string v (λ s. costs_text v (next s)))
     ∙ (first (λ s. costs_text a (next s)) ∙ (step (next (the_text a)) ∙ ap (λ (s : List ℕ). next s after) (sym is)))

@@ -8,7 +8,7 @@ ghost use Rattle.icn_heap.specs.Extents.{IsLive, IsText, text_in, values_in};
 ghost use Rattle.icn_heap.specs.Heaps.{extent_of};
 ghost use Rattle.icn_vars.specs.Stops.{IsLiveStop};
 ghost use Rattle.icn_vars.specs.Worlds.{IsLiveItem, IsShortItem, KeepsItems, item_in, reach_of, setting_of};
-ghost use Rattle.icn_args.specs.Words.{Found};
+ghost use Rattle.icn_args.specs.Words.{IsFound};
 ghost use Rattle.icn_ops.specs.Operands as operands;
 ghost use Rattle.icn_ops.specs.Operands.{ordered_text_in, texts_in, three_in};
 
@@ -26,7 +26,7 @@ pub fn two_values<L: Locals>(w: &World, l: &L, x: Item, y: Item) -> Result<(Val,
     ensures second_live { IfOk result (λ two. IsLive (extent_of w.now.heap) two.1) }
     ensures short { OnOk result (IsShortItem x) }
     ensures stops { IfErr result (IsLiveStop (extent_of w.now.heap)) }
-    ensures found { (outside : Outside) → Found (extent_of w.now.heap)
+    ensures found { (outside : Outside) → IsFound (extent_of w.now.heap)
         (operands.two_values (item_in (extent_of w.now.heap) x) (item_in (extent_of w.now.heap) y))
         (setting_of outside w.now (L.items l.now)) (setting_of outside w.now (L.items l.now))
         (values_in (extent_of w.now.heap)) result }
@@ -42,7 +42,7 @@ pub fn two_numbers<L: Locals>(w: &World, l: &L, x: Item, y: Item) -> Result<(i64
     requires first { IsLiveItem (reach_of w.now (L.items l.now)) x }
     requires second { IsLiveItem (reach_of w.now (L.items l.now)) y }
     ensures stops { IfErr result (IsLiveStop (extent_of w.now.heap)) }
-    ensures found { (outside : Outside) → Found (extent_of w.now.heap)
+    ensures found { (outside : Outside) → IsFound (extent_of w.now.heap)
         (operands.two_numbers (item_in (extent_of w.now.heap) x) (item_in (extent_of w.now.heap) y))
         (setting_of outside w.now (L.items l.now)) (setting_of outside w.now (L.items l.now))
         (λ (two : ℤ × ℤ). two) result }
@@ -64,7 +64,7 @@ pub fn compared_numbers<L: Locals>(
     requires first { IsLiveItem (reach_of w.now (L.items l.now)) x }
     requires second { IsLiveItem (reach_of w.now (L.items l.now)) y }
     ensures stops { IfErr result (IsLiveStop (extent_of w.now.heap)) }
-    ensures found { (outside : Outside) → Found (extent_of w.now.heap)
+    ensures found { (outside : Outside) → IsFound (extent_of w.now.heap)
         (operands.compared_numbers (item_in (extent_of w.now.heap) x) (item_in (extent_of w.now.heap) y))
         (setting_of outside w.now (L.items l.now)) (setting_of outside w.now (L.items l.now))
         (λ (two : Ordering × ℤ). two) result }
@@ -81,7 +81,7 @@ pub fn two_texts<L: Locals>(w: &mut World, l: &L, x: Item, y: Item) -> Result<(S
     ensures first_live { IfOk result (λ two. IsText (extent_of w.new.heap) two.0) }
     ensures second_live { IfOk result (λ two. IsText (extent_of w.new.heap) two.1) }
     ensures stops { IfErr result (IsLiveStop (extent_of w.new.heap)) }
-    ensures found { (outside : Outside) → Found (extent_of w.new.heap)
+    ensures found { (outside : Outside) → IsFound (extent_of w.new.heap)
         (operands.two_texts (item_in (extent_of w.old.heap) x) (item_in (extent_of w.old.heap) y))
         (setting_of outside w.old (L.items l.now)) (setting_of outside w.new (L.items l.now))
         (texts_in (extent_of w.new.heap)) result }
@@ -106,7 +106,7 @@ pub fn compared_texts<L: Locals>(
     requires second { IsLiveItem (reach_of w.old (L.items l.now)) y }
     ensures live { IfOk result (λ two. IsText (extent_of w.new.heap) two.1) }
     ensures stops { IfErr result (IsLiveStop (extent_of w.new.heap)) }
-    ensures found { (outside : Outside) → Found (extent_of w.new.heap)
+    ensures found { (outside : Outside) → IsFound (extent_of w.new.heap)
         (operands.compared_texts (item_in (extent_of w.old.heap) x) (item_in (extent_of w.old.heap) y))
         (setting_of outside w.old (L.items l.now)) (setting_of outside w.new (L.items l.now))
         (ordered_text_in (extent_of w.new.heap)) result }
@@ -123,7 +123,7 @@ pub fn one_text<L: Locals>(w: &mut World, l: &L, x: Item) -> Result<Span, Stop>
     requires first { IsLiveItem (reach_of w.old (L.items l.now)) x }
     ensures live { IfOk result (IsText (extent_of w.new.heap)) }
     ensures stops { IfErr result (IsLiveStop (extent_of w.new.heap)) }
-    ensures found { (outside : Outside) → Found (extent_of w.new.heap)
+    ensures found { (outside : Outside) → IsFound (extent_of w.new.heap)
         (operands.one_text (item_in (extent_of w.old.heap) x)) (setting_of outside w.old (L.items l.now))
         (setting_of outside w.new (L.items l.now)) (text_in (extent_of w.new.heap)) result }
     ensures locals { All (IsLive (extent_of w.new.heap)) (L.items l.now) }
@@ -142,7 +142,7 @@ pub fn two_lists<L: Locals>(w: &World, l: &L, x: Item, y: Item) -> Result<(u32, 
     ensures first_live { IfOk result (λ two. IsLive (extent_of w.now.heap) (List two.0)) }
     ensures second_live { IfOk result (λ two. IsLive (extent_of w.now.heap) (List two.1)) }
     ensures stops { IfErr result (IsLiveStop (extent_of w.now.heap)) }
-    ensures found { (outside : Outside) → Found (extent_of w.now.heap)
+    ensures found { (outside : Outside) → IsFound (extent_of w.now.heap)
         (operands.two_lists (item_in (extent_of w.now.heap) x) (item_in (extent_of w.now.heap) y))
         (setting_of outside w.now (L.items l.now)) (setting_of outside w.now (L.items l.now))
         (λ (two : ℕ × ℕ). two) result }
@@ -166,7 +166,7 @@ pub fn three_integers<L: Locals>(
     requires second { IsLiveItem (reach_of w.now (L.items l.now)) y }
     requires third { IsLiveItem (reach_of w.now (L.items l.now)) z }
     ensures stops { IfErr result (IsLiveStop (extent_of w.now.heap)) }
-    ensures found { (outside : Outside) → Found (extent_of w.now.heap)
+    ensures found { (outside : Outside) → IsFound (extent_of w.now.heap)
         (operands.three_integers (item_in (extent_of w.now.heap) x) (item_in (extent_of w.now.heap) y)
         (item_in (extent_of w.now.heap) z)) (setting_of outside w.now (L.items l.now))
         (setting_of outside w.now (L.items l.now)) (λ (three : ℤ × ℤ × ℤ). three) result }
@@ -195,7 +195,7 @@ pub fn three_values<L: Locals>(
     ensures third_live { IfOk result (λ three. IsLive (extent_of w.now.heap) three.2) }
     ensures short { OnOk result (IsShortItem x) }
     ensures stops { IfErr result (IsLiveStop (extent_of w.now.heap)) }
-    ensures found { (outside : Outside) → Found (extent_of w.now.heap)
+    ensures found { (outside : Outside) → IsFound (extent_of w.now.heap)
         (operands.three_values (item_in (extent_of w.now.heap) x) (item_in (extent_of w.now.heap) y)
         (item_in (extent_of w.now.heap) z)) (setting_of outside w.now (L.items l.now))
         (setting_of outside w.now (L.items l.now)) (three_in (extent_of w.now.heap)) result }

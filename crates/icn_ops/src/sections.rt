@@ -11,7 +11,7 @@ ghost use Rattle.icn_heap.specs.Heaps.{extent_of, heap_of};
 ghost use Rattle.icn_vars.specs.Outcomes.{IsLiveAnswer};
 ghost use Rattle.icn_vars.specs.Stops.{IsLiveStop};
 ghost use Rattle.icn_vars.specs.Worlds.{IsLiveItem, IsShortItem, KeepsItems, item_in, reach_of};
-ghost use Rattle.icn_args.specs.Words.{Answers, Found, HasText, the_text};
+ghost use Rattle.icn_args.specs.Words.{Answers, IsFound, HasText, the_text};
 ghost use Rattle.icn_ops.specs.Sections.{second_of};
 
 use crate::operands::three_values;
@@ -256,7 +256,7 @@ fn positions(kind: Second, heap: &Heap, from: Val, to: Val) -> Result<(i64, i64)
     requires from { IsLive (extent_of heap.now) from }
     requires to { IsLive (extent_of heap.now) to }
     ensures stops { IfErr result (IsLiveStop (extent_of heap.now)) }
-    ensures found { (setting : Setting) → Found (extent_of heap.now)
+    ensures found { (setting : Setting) → IsFound (extent_of heap.now)
         (positions (second_of kind) (value_in (extent_of heap.now) from) (value_in (extent_of heap.now) to))
         setting setting (λ (two : ℤ × ℤ). two) result }
 {

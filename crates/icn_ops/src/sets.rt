@@ -11,7 +11,7 @@ ghost use Rattle.icn_heap.specs.Heaps.{extent_of, heap_of};
 ghost use Rattle.icn_vars.specs.Outcomes.{IsLiveAnswer};
 ghost use Rattle.icn_vars.specs.Stops.{IsLiveStop};
 ghost use Rattle.icn_vars.specs.Worlds.{IsLiveItem, KeepsItems, item_in, reach_of, setting_of};
-ghost use Rattle.icn_args.specs.Words.{Answers, Found};
+ghost use Rattle.icn_args.specs.Words.{Answers, IsFound};
 ghost use Rattle.icn_ops.specs.Operands.{csets_in};
 ghost use Rattle.icn_ops.specs.Operands as operands;
 
@@ -110,7 +110,7 @@ fn two_csets(heap: &Heap, a: Val, b: Val) -> Result<(Cset, Cset), Stop>
     requires first { IsLive (extent_of heap.now) a }
     requires second { IsLive (extent_of heap.now) b }
     ensures stops { IfErr result (IsLiveStop (extent_of heap.now)) }
-    ensures found { (setting : Setting) → Found (extent_of heap.now)
+    ensures found { (setting : Setting) → IsFound (extent_of heap.now)
         (operands.two_csets (value_in (extent_of heap.now) a) (value_in (extent_of heap.now) b)) setting
         setting csets_in result }
 {
@@ -123,7 +123,7 @@ fn two_csets(heap: &Heap, a: Val, b: Val) -> Result<(Cset, Cset), Stop>
 fn one_cset(heap: &Heap, val: Val) -> Result<Cset, Stop>
     requires { IsLive (extent_of heap.now) val }
     ensures stops { IfErr result (IsLiveStop (extent_of heap.now)) }
-    ensures found { (setting : Setting) → Found (extent_of heap.now)
+    ensures found { (setting : Setting) → IsFound (extent_of heap.now)
         (operands.one_cset (value_in (extent_of heap.now) val)) setting setting members_of result }
 {
     to_cset(heap, val).ok_or(Stop::Error(120, Some(val)))
@@ -138,7 +138,7 @@ fn new_union<L: Locals>(w: &mut World, l: &L, first: u32, second: u32) -> Result
     ensures live { IfOk result (IsLive (extent_of w.new.heap)) }
     ensures stops { IfErr result (IsLiveStop (extent_of w.new.heap)) }
     ensures found { (outside : Outside)
-        → Found (extent_of w.new.heap) (new_set_of ((set_at (heap_of w.old.heap) first)
+        → IsFound (extent_of w.new.heap) (new_set_of ((set_at (heap_of w.old.heap) first)
         ++ difference (set_at (heap_of w.old.heap) second) (set_at (heap_of w.old.heap) first)))
         (setting_of outside w.old (L.items l.now)) (setting_of outside w.new (L.items l.now))
         (value_in (extent_of w.new.heap)) result }
@@ -156,7 +156,7 @@ fn new_difference<L: Locals>(w: &mut World, l: &L, first: u32, second: u32) -> R
     requires second { IsLive (extent_of w.old.heap) (Set second) }
     ensures live { IfOk result (IsLive (extent_of w.new.heap)) }
     ensures stops { IfErr result (IsLiveStop (extent_of w.new.heap)) }
-    ensures found { (outside : Outside) → Found (extent_of w.new.heap)
+    ensures found { (outside : Outside) → IsFound (extent_of w.new.heap)
         (new_set_of (difference (set_at (heap_of w.old.heap) first) (set_at (heap_of w.old.heap) second)))
         (setting_of outside w.old (L.items l.now)) (setting_of outside w.new (L.items l.now))
         (value_in (extent_of w.new.heap)) result }
@@ -174,7 +174,7 @@ fn new_intersection<L: Locals>(w: &mut World, l: &L, first: u32, second: u32) ->
     requires second { IsLive (extent_of w.old.heap) (Set second) }
     ensures live { IfOk result (IsLive (extent_of w.new.heap)) }
     ensures stops { IfErr result (IsLiveStop (extent_of w.new.heap)) }
-    ensures found { (outside : Outside) → Found (extent_of w.new.heap)
+    ensures found { (outside : Outside) → IsFound (extent_of w.new.heap)
         (new_set_of (intersection (set_at (heap_of w.old.heap) first) (set_at (heap_of w.old.heap) second)))
         (setting_of outside w.old (L.items l.now)) (setting_of outside w.new (L.items l.now))
         (value_in (extent_of w.new.heap)) result }

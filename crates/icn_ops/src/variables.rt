@@ -12,7 +12,7 @@ ghost use Rattle.icn_vars.specs.declared.outcome.Halt.TheVariants.{NoMemory};
 ghost use Rattle.icn_vars.specs.Outcomes.{IsLiveAnswer, IsOld, mover_of};
 ghost use Rattle.icn_vars.specs.Stops.{IsLiveStop};
 ghost use Rattle.icn_vars.specs.Worlds.{IsLiveItem, IsLiveVariable, KeepsItems, Reach, item_in, reach_of, variable_in};
-ghost use Rattle.icn_args.specs.Words.{Answers, Found};
+ghost use Rattle.icn_args.specs.Words.{Answers, IsFound};
 
 use icn_value::{Item, Mover, Residual, Val, VarRef};
 use icn_vars::{
@@ -23,7 +23,7 @@ use icn_vars::{
 // The variable that an item is. The error is 111 about the value that it is.
 fn variable_of(item: Item) -> Result<VarRef, Stop>
     ensures found { (all : Extent) (setting : Setting)
-        → Found all (the_variable (item_in all item)) setting setting (variable_in all) result }
+        → IsFound all (the_variable (item_in all item)) setting setting (variable_in all) result }
     ensures live { (reach : Reach) → IsLiveItem reach item → IfOk result (IsLiveVariable reach) }
     ensures stops { (reach : Reach) → IsLiveItem reach item → IfErr result (IsLiveStop reach.extent) }
     ensures item { IfOk result (λ variable. item ≡ VarItem variable) }

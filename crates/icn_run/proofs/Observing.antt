@@ -5,17 +5,17 @@ use Rattle.icn_defs.specs.Running.{Ending, Launch, Observed}
 use Rattle.icn_defs.proofs.Observing.{Lasts, observed_once}
 use Rattle.icn_value.specs.Store.{Outside}
 use Rattle.icn_run.specs.Calls.{Calls}
-use Rattle.icn_run.specs.Chains.{linked}
+use Rattle.icn_run.specs.Chains.{linked_calls}
 use Rattle.icn_run.specs.FlatStep as Flat
 use Rattle.icn_run.specs.LinkedStep as Linked
 use Rattle.icn_run.specs.Stacks.{flat}
-use Rattle.icn_run.specs.Step.{Program, State, running, failing, hopping, over, stuck, observed, step}
+use Rattle.icn_run.specs.Step.{Program, State, running, failing, hopping, over, stuck, observation, step}
 
 abbrev seen_as : Ending → Outside → Observed
 seen_as ending outside = record { ending = ending; outside = outside }
 
 -- where something is observed the run is over so
-pub over_seen : {K M : Type 0} (s : State K M) (seen : Observed) → observed s ≡ Some seen → s ≡ over seen.ending seen.outside
+pub over_seen : {K M : Type 0} (s : State K M) (seen : Observed) → observation s ≡ Some seen → s ≡ over seen.ending seen.outside
 over_seen (over ending outside) seen e = let h : seen_as ending outside ≡ seen = cc in ap (λ (o : Observed). over o.ending o.outside) h
 over_seen (running m st) seen e = absurd (cc e)
 over_seen (failing m st) seen e = absurd (cc e)
@@ -23,7 +23,7 @@ over_seen (hopping m st) seen e = absurd (cc e)
 over_seen stuck seen e = absurd (cc e)
 
 module _ {K M : Type 0} (C : Calls K M) (P : Program) where
-  pub kept : Lasts (step C P) observed
+  pub kept : Lasts (step C P) observation
   kept (over ending outside) seen e = e
   kept (running m st) seen e = absurd (cc e)
   kept (failing m st) seen e = absurd (cc e)
@@ -31,9 +31,9 @@ module _ {K M : Type 0} (C : Calls K M) (P : Program) where
   kept stuck seen e = e
 
 pub flat_once : (tables : Tables) (launch : Launch) (a b : Observed) → Flat.Runs tables launch a → Flat.Runs tables launch b → a ≡ b
-flat_once tables launch a b x y = observed_once (Flat.step tables) observed (kept flat tables) (Flat.start tables launch) a b x y
+flat_once tables launch a b x y = observed_once (Flat.step tables) observation (kept flat tables) (Flat.start tables launch) a b x y
 
 pub linked_once : (repeats : ℕ → ℕ → Bool) (tables : Tables) (launch : Launch) (a b : Observed) → Linked.Runs repeats tables launch a
     → Linked.Runs repeats tables launch b → a ≡ b
 linked_once repeats tables launch a b x y =
-    observed_once (Linked.step repeats tables) observed (kept (linked repeats) tables) (Linked.start repeats tables launch) a b x y
+    observed_once (Linked.step repeats tables) observation (kept (linked_calls repeats) tables) (Linked.start repeats tables launch) a b x y

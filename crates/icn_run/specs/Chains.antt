@@ -34,13 +34,13 @@ mutual
     limit : ℕ → Chain → Outer
 
 -- a stack that waits: its chain, with its place
-pub record Parked : Type 0 where
+pub record WaitingChain : Type 0 where
   pub chain : Chain
   pub place : ℕ
 
 -- The chain that runs with its place; and what changes, each in the list of its type at its number: the locals of each activation; of each repeated
 -- alternation whether it had a result; other labels that marks got; the results that each limit leaves; and saved pairs.
-pub record Linked : Type 0 where
+pub record LinkedStack : Type 0 where
   pub chain : Chain
   pub place : ℕ
   pub activations : List (List Value)
@@ -70,19 +70,19 @@ abbrev pub scans_of : Chain → List ℕ
 scans_of (chain items s scans outer) = scans
 
 -- the frame of the procedure that runs
-abbrev pub frame : Linked → Frame
+abbrev pub frame : LinkedStack → Frame
 frame m = frame_of (outer_of m.chain)
 
 -- the same with another chain
-abbrev pub with_chain : Chain → Linked → Linked
+abbrev pub with_chain : Chain → LinkedStack → LinkedStack
 with_chain new m = record m { chain = new }
 
 -- another pair in a cell of saved pairs
-abbrev pub with_saved : ℕ → Pair → Linked → Linked
+abbrev pub with_saved : ℕ → Pair → LinkedStack → LinkedStack
 with_saved n pair m = record m { saved = slice_set m.saved n pair }
 
 -- a new chain: a frame with a cell of its own for its locals
-abbrev pub begin : ℕ → List Value → ℕ → Linked → Linked
+abbrev pub begin : ℕ → List Value → ℕ → LinkedStack → LinkedStack
 begin proc values place m = record m {
   chain = chain [] none [] (base proc (length m.activations));
   place = place;
@@ -110,11 +110,11 @@ is_base_frame (at_base proc activation) = true
 is_base_frame (in_call proc activation level place caller) = false
 
 -- the locals of the procedure that runs
-abbrev pub locals : Linked → List Value
+abbrev pub locals : LinkedStack → List Value
 locals m = slice_index_or m.activations (activation_of (frame m)) []
 
 -- the procedure that runs has other locals
-abbrev pub set_locals : List Value → Linked → Linked
+abbrev pub set_locals : List Value → LinkedStack → LinkedStack
 set_locals values m = record m { activations = slice_set m.activations (activation_of (frame m)) values }
 
 -- one more operand
@@ -122,16 +122,16 @@ abbrev pub push_on : Item → Chain → Chain
 push_on item (chain items s scans outer) = chain (item ∷ items) s scans outer
 
 -- an operand is pushed
-abbrev pub push : Item → Linked → Linked
+abbrev pub push : Item → LinkedStack → LinkedStack
 push item m = with_chain (push_on item m.chain) m
 
 -- the newest operand, if there is one, and what is left
-abbrev pub pop_from : Linked → Chain → Option (Item × Linked)
+abbrev pub pop_from : LinkedStack → Chain → Option (Item × LinkedStack)
 pop_from m (chain [] s scans outer) = None
 pop_from m (chain (item ∷ items) s scans outer) = Some (item, with_chain (chain items s scans outer) m)
 
 -- the newest operand of the innermost mark, if there is one, and what is left
-abbrev pub pop : Linked → Option (Item × Linked)
+abbrev pub pop : LinkedStack → Option (Item × LinkedStack)
 pop m = pop_from m m.chain
 
 -- so many operands, the oldest first, in front of those that were found
@@ -141,12 +141,12 @@ take_top (suc n) [] found = None
 take_top (suc n) (item ∷ items) found = take_top n items (item ∷ found)
 
 -- so many operands of this chain, if there are as many, and what is left
-abbrev pub take_from : ℕ → Linked → Chain → Option (List Item × Linked)
+abbrev pub take_from : ℕ → LinkedStack → Chain → Option (List Item × LinkedStack)
 take_from n m (chain items s scans outer) =
     option_map (λ parts. (parts.0, with_chain (chain parts.1 s scans outer) m)) (take_top n items [])
 
 -- the newest operands of the innermost mark, if there are as many, and what is left
-abbrev pub take_items : ℕ → Linked → Option (List Item × Linked)
+abbrev pub take_items : ℕ → LinkedStack → Option (List Item × LinkedStack)
 take_items n m = take_from n m m.chain
 
 -- the newest operand of a chain, if there is one
@@ -162,24 +162,24 @@ below_outer (mark label outside) = first_of_chain outside
 below_outer (limit count outside) = first_of_chain outside
 
 -- the operand directly below the innermost mark
-abbrev pub below : Linked → Option Item
+abbrev pub below : LinkedStack → Option Item
 below m = below_outer (outer_of m.chain)
 
 -- Marks. One whose label may change, which the place of its instruction tells, has a cell.
 
 -- a mark with this label
-abbrev pub push_mark : Label → Linked → Linked
+abbrev pub push_mark : Label → LinkedStack → LinkedStack
 push_mark label m = with_chain (chain [] none (scans_of m.chain) (mark label m.chain)) m
 
 -- a mark is opened; where it repeats, it has a cell that tells whether there was a result
-abbrev pub open_mark : (ℕ → ℕ → Bool) → Option ℕ → Linked → Linked
+abbrev pub open_mark : (ℕ → ℕ → Bool) → Option ℕ → LinkedStack → LinkedStack
 open_mark repeats label m = if repeats (proc_of (frame m)) (pred m.place)
     then record (push_mark (flagged label (length m.flags) (pred m.place))
     m) { flags = m.flags ++ false ∷ [] }
     else push_mark (fixed label) m
 
 -- a mark that counts results down is opened
-abbrev pub open_limit : ℕ → Linked → Linked
+abbrev pub open_limit : ℕ → LinkedStack → LinkedStack
 open_limit count m = record m {
   chain = chain [] none (scans_of m.chain) (limit (length m.limits) m.chain);
   limits = m.limits ++ count ∷ [];
@@ -197,44 +197,44 @@ label_of flag [] = None
 label_of flag (entry ∷ others) = if entry.0 == flag then Some entry.1 else label_of flag others
 
 -- the place of the mark itself raises its flag; another label is kept apart
-abbrev pub relabelled_if : Bool → ℕ → ℕ → Linked → Linked
+abbrev pub relabelled_if : Bool → ℕ → ℕ → LinkedStack → LinkedStack
 relabelled_if true label flag m =
     record m { flags = slice_set m.flags flag true; relabels = forget_label flag m.relabels }
 relabelled_if false label flag m =
     record m { flags = slice_set m.flags flag false; relabels = (flag, label) ∷ forget_label flag m.relabels }
 
 -- the innermost mark gets another label, if it can change
-abbrev pub relabel_in : ℕ → Linked → Outer → Option Linked
+abbrev pub relabel_in : ℕ → LinkedStack → Outer → Option LinkedStack
 relabel_in label m (mark (flagged old flag place) outside) =
     Some (relabelled_if (label == place) label flag m)
 relabel_in label m outer = None
 
 -- the innermost mark gets another label
-abbrev pub relabel : ℕ → Linked → Option Linked
+abbrev pub relabel : ℕ → LinkedStack → Option LinkedStack
 relabel label m = relabel_in label m (outer_of m.chain)
 
 -- how many results a limit leaves after one more
-abbrev pub remaining : ℕ → Linked → ℕ
+abbrev pub remaining : ℕ → LinkedStack → ℕ
 remaining n m = pred (slice_index_or m.limits n 0)
 
 -- one result of a limit is counted, where the innermost mark is one
-abbrev pub count_in : Linked → Outer → Option (ℕ × Linked)
+abbrev pub count_in : LinkedStack → Outer → Option (ℕ × LinkedStack)
 count_in m (limit n outside) =
     Some (remaining n m, record m { limits = slice_set m.limits n (remaining n m) })
 count_in m outer = None
 
 -- one result of the innermost mark, which is a limit, is counted
-abbrev pub count_down : Linked → Option (ℕ × Linked)
+abbrev pub count_down : LinkedStack → Option (ℕ × LinkedStack)
 count_down m = count_in m (outer_of m.chain)
 
 -- Open scans
 
 -- the pair that a cell keeps
-abbrev pub saved_at : Linked → ℕ → Pair
+abbrev pub saved_at : LinkedStack → ℕ → Pair
 saved_at m n = slice_index_or m.saved n (record { subject = []; position = 1 })
 
 -- the pair that a scan saved, if there is a scan
-abbrev pub pair_at : Linked → Option ℕ → Option Pair
+abbrev pub pair_at : LinkedStack → Option ℕ → Option Pair
 pair_at m scan = option_map (saved_at m) scan
 
 -- the newest open scan, if there is one
@@ -258,47 +258,47 @@ abbrev pub oldest : Option ℕ → List ℕ → Option ℕ
 oldest until scans = if is_same (first_scan scans) until then None else oldest_from until scans
 
 -- the saved pair of a scan is exchanged, if there is a scan
-abbrev pub swap_at : Pair → Linked → Option ℕ → Option (Pair × Linked)
+abbrev pub swap_at : Pair → LinkedStack → Option ℕ → Option (Pair × LinkedStack)
 swap_at pair m None = None
 swap_at pair m (Some n) = Some (saved_at m n, with_saved n pair m)
 
 -- the saved pair of the newest open scan is exchanged
-abbrev pub swap_newest : Pair → Linked → Option (Pair × Linked)
+abbrev pub swap_newest : Pair → LinkedStack → Option (Pair × LinkedStack)
 swap_newest pair m = swap_at pair m (slice_get (scans_of m.chain) 0)
 
 -- the saved pair of the procedure's oldest open scan is exchanged
-abbrev pub swap_oldest : Pair → Linked → Option (Pair × Linked)
+abbrev pub swap_oldest : Pair → LinkedStack → Option (Pair × LinkedStack)
 swap_oldest pair m = swap_at pair m (oldest None (scans_of m.chain))
 
 -- Dropping a mark
 
 -- the mark is dropped, and the pair comes back that its oldest open scan saved
-abbrev pub unmark_in : Linked → Chain → Option (Linked × Option Pair)
+abbrev pub unmark_in : LinkedStack → Chain → Option (LinkedStack × Option Pair)
 unmark_in m outside =
     Some (with_chain outside m, pair_at m (oldest (first_scan (scans_of outside)) (scans_of m.chain)))
 
 -- the mark or the limit is dropped, if the innermost one is there
-abbrev pub unmark_from : Linked → Outer → Option (Linked × Option Pair)
+abbrev pub unmark_from : LinkedStack → Outer → Option (LinkedStack × Option Pair)
 unmark_from m (mark label outside) = unmark_in m outside
 unmark_from m (limit n outside) = unmark_in m outside
 unmark_from m outer = None
 
 -- the innermost mark is dropped with all that it suspended
-abbrev pub unmark : Linked → Option (Linked × Option Pair)
+abbrev pub unmark : LinkedStack → Option (LinkedStack × Option Pair)
 unmark m = unmark_from m (outer_of m.chain)
 
 -- to the label, or to what fails next outside
-abbrev pub dropped_to : Linked → Chain → Option ℕ → MarkDrop Linked
+abbrev pub dropped_to : LinkedStack → Chain → Option ℕ → MarkDrop LinkedStack
 dropped_to m outside (Some label) = Goes (record m { chain = outside; place = label })
 dropped_to m outside None = Outside (with_chain outside m)
 
 -- one that got another label is gone to it
-abbrev pub dropped_by : Linked → Chain → Option ℕ → Option ℕ → MarkDrop Linked
+abbrev pub dropped_by : LinkedStack → Chain → Option ℕ → Option ℕ → MarkDrop LinkedStack
 dropped_by m outside label (Some other) = Repeats (record m { chain = outside; place = other })
 dropped_by m outside label None = dropped_to m outside label
 
 -- where the flag is up it is put down, and the repeated alternation begins again behind its mark
-abbrev pub repeat_mark : Option ℕ → ℕ → ℕ → Chain → Linked → Bool → MarkDrop Linked
+abbrev pub repeat_mark : Option ℕ → ℕ → ℕ → Chain → LinkedStack → Bool → MarkDrop LinkedStack
 repeat_mark label flag place outside m true =
     Repeats (record m {
       chain = chain [] none (scans_of outside) (mark (flagged label flag place) outside);
@@ -308,7 +308,7 @@ repeat_mark label flag place outside m true =
 repeat_mark label flag place outside m false = dropped_by m outside label (label_of flag m.relabels)
 
 -- where failing goes on once the innermost mark is dropped, by what it is
-abbrev pub drop_from : Linked → Outer → MarkDrop Linked
+abbrev pub drop_from : LinkedStack → Outer → MarkDrop LinkedStack
 drop_from m (mark (fixed label) outside) = dropped_to m outside label
 drop_from m (mark (flagged label flag place) outside) =
     repeat_mark label flag place outside m (slice_index_or m.flags flag false)
@@ -316,7 +316,7 @@ drop_from m (limit n outside) = Outside (with_chain outside m)
 drop_from m outer = NoMark
 
 -- where failing goes on once the innermost mark is dropped
-abbrev pub drop_mark : Linked → MarkDrop Linked
+abbrev pub drop_mark : LinkedStack → MarkDrop LinkedStack
 drop_mark m = drop_from m (outer_of m.chain)
 
 -- Suspending
@@ -335,7 +335,7 @@ abbrev pub with_scan : ℕ → Chain → Chain
 with_scan n (chain items s scans outer) = chain items s (n ∷ scans) outer
 
 -- something is suspended in the innermost mark
-abbrev pub suspend : Why → Linked → Linked
+abbrev pub suspend : Why → LinkedStack → LinkedStack
 suspend (Scan pair) m = let n = length m.saved in
     record m {
       chain = with_scan n (suspend_in (suspension (scanning n) m.place m.chain) m.chain);
@@ -346,7 +346,7 @@ suspend Escan m =
 suspend why m = with_chain (suspend_in (suspension (because why) m.place m.chain) m.chain) m
 
 -- the innermost mark is left suspended in the one outside, if it is there
-abbrev pub suspend_outer : Linked → Outer → Option Linked
+abbrev pub suspend_outer : LinkedStack → Outer → Option LinkedStack
 suspend_outer m (mark label outside) =
     Some (with_chain (suspend_in (suspension (because Alt) m.place m.chain) outside) m)
 suspend_outer m (limit n outside) =
@@ -354,38 +354,38 @@ suspend_outer m (limit n outside) =
 suspend_outer m outer = None
 
 -- the innermost mark is left suspended in the one outside
-abbrev pub suspend_mark : Linked → Option Linked
+abbrev pub suspend_mark : LinkedStack → Option LinkedStack
 suspend_mark m = suspend_outer m (outer_of m.chain)
 
 -- the procedure is left suspended in its caller, if it has one
-abbrev pub suspend_frame : Linked → Frame → Option Linked
+abbrev pub suspend_frame : LinkedStack → Frame → Option LinkedStack
 suspend_frame m (at_base proc activation) = None
 suspend_frame m (in_call proc activation level place caller) =
     Some (record m { chain = suspend_in (suspension (because Proc) m.place m.chain) caller; place = place })
 
 -- the procedure is left suspended in its caller
-abbrev pub suspend_proc : Linked → Option Linked
+abbrev pub suspend_proc : LinkedStack → Option LinkedStack
 suspend_proc m = suspend_frame m (frame m)
 
 -- why it was suspended, with the pair that its scan saved
-abbrev pub why_of : Reason → Linked → Why
+abbrev pub why_of : Reason → LinkedStack → Why
 why_of (because why) m = why
 why_of (scanning n) m = Scan (saved_at m n)
 
 -- the newest suspension comes back, if there is one
-abbrev pub resume_from : Linked → Chain → Option (Why × Linked)
+abbrev pub resume_from : LinkedStack → Chain → Option (Why × LinkedStack)
 resume_from m (chain items none scans outer) = None
 resume_from m (chain items (suspension reason place inside) scans outer) =
     Some (why_of reason m, record m { chain = inside; place = place })
 
 -- the newest suspension of the innermost mark comes back
-abbrev pub resume : Linked → Option (Why × Linked)
+abbrev pub resume : LinkedStack → Option (Why × LinkedStack)
 resume m = resume_from m m.chain
 
 -- Calls
 
 -- a procedure is entered, with the way back to its caller
-abbrev pub enter : ℕ → List Value → Linked → Linked
+abbrev pub enter : ℕ → List Value → LinkedStack → LinkedStack
 enter proc values m = record m {
   chain = chain [] none [] (call proc (length m.activations) (suc (level_of (frame m))) m.place m.chain);
   place = 0;
@@ -393,16 +393,16 @@ enter proc values m = record m {
 }
 
 -- the way back to the caller, if there is one
-abbrev pub leave_frame : Linked → Frame → Option Linked
+abbrev pub leave_frame : LinkedStack → Frame → Option LinkedStack
 leave_frame m (at_base proc activation) = None
 leave_frame m (in_call proc activation level place caller) = Some (record m { chain = caller; place = place })
 
 -- the procedure ends and its caller goes on
-abbrev pub leave : Linked → Option Linked
+abbrev pub leave : LinkedStack → Option LinkedStack
 leave m = leave_frame m (frame m)
 
 -- no stack yet
-abbrev pub empty : Linked
+abbrev pub empty : LinkedStack
 empty = record {
   chain = chain [] none [] (base 0 0);
   place = 0;
@@ -415,8 +415,8 @@ empty = record {
 
 -- The calls, where it is told at which places of each procedure marks are opened whose labels may change. For translated code these are the places where
 -- repeated alternations begin, and then the cells are those of the meaning; where it is said of all places, no code lacks a cell.
-abbrev pub linked : (ℕ → ℕ → Bool) → Calls Parked Linked
-linked repeats = record {
+abbrev pub linked_calls : (ℕ → ℕ → Bool) → Calls WaitingChain LinkedStack
+linked_calls repeats = record {
   kept = λ m. record { chain = m.chain; place = m.place };
   taken_up = λ k m. record m { chain = k.chain; place = k.place };
   begin = begin;

@@ -24,4 +24,4 @@ start P launch = Step.start flat empty P launch
 
 -- the run of a code that is begun so comes to an end of which this is observed
 abbrev pub Runs : Tables → Launch → Observed → Type 0
-Runs tables launch seen = Observes (step tables) Step.observed (start tables launch) seen
+Runs tables launch seen = Observes (step tables) Step.observation (start tables launch) seen

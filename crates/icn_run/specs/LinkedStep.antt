@@ -5,30 +5,30 @@ use Rattle.icn_code.specs.declared.instr.Instr.{Instr}
 use Rattle.icn_code.specs.declared.instr.Instr.TheVariants.{Chfail}
 use Rattle.icn_code.specs.Codes.{Tables}
 use Rattle.icn_defs.specs.Running.{Observes}
-use Rattle.icn_run.specs.Chains.{Parked, Linked, linked, empty}
+use Rattle.icn_run.specs.Chains.{WaitingChain, LinkedStack, linked_calls, empty}
 use Rattle.icn_run.specs.Step as Step
 use Rattle.icn_run.specs.Step.{Program, Observed, Launch, instrs_of}
 
 -- a state of a run on linked marks
 abbrev pub State : Type 0
-State = Step.State Parked Linked
+State = Step.State WaitingChain LinkedStack
 
 -- The places at which marks are opened whose labels may change are told by `repeats`.
 abbrev pub step : (ℕ → ℕ → Bool) → Program → State → State
-step repeats P state = Step.step (linked repeats) P state
+step repeats P state = Step.step (linked_calls repeats) P state
 
 -- so many steps on linked marks
 abbrev pub steps : (ℕ → ℕ → Bool) → Program → ℕ → State → State
-steps repeats P n state = Step.steps (linked repeats) P n state
+steps repeats P n state = Step.steps (linked_calls repeats) P n state
 
 -- where a run on linked marks begins
 abbrev pub start : (ℕ → ℕ → Bool) → Program → Launch → State
-start repeats P launch = Step.start (linked repeats) empty P launch
+start repeats P launch = Step.start (linked_calls repeats) empty P launch
 
 -- the same of the run on linked marks
 abbrev pub Runs : (ℕ → ℕ → Bool) → Tables → Launch → Observed → Type 0
 Runs repeats tables launch seen =
-    Observes (step repeats tables) Step.observed (start repeats tables launch) seen
+    Observes (step repeats tables) Step.observation (start repeats tables launch) seen
 
 -- a label of a `chfail` stands there
 abbrev pub is_chfail_to : ℕ → Instr → Bool

@@ -672,9 +672,9 @@ abbrev pub steps : {K M : Type 0} → Calls K M → Program → ℕ → State K 
 steps C P n state = after_steps (step C P) n state
 
 -- what is observed of a run that is over
-abbrev pub observed : {K M : Type 0} → State K M → Option Observed
-observed (over ending outside) = Some (record { ending = ending; outside = outside })
-observed state = None
+abbrev pub observation : {K M : Type 0} → State K M → Option Observed
+observation (over ending outside) = Some (record { ending = ending; outside = outside })
+observation state = None
 
 -- The start
 

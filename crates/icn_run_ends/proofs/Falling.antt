@@ -9,7 +9,7 @@ use Rattle.icn_code.specs.declared.instr.Instr.TheVariants as Instrs
 use Rattle.icn_code.specs.Codes.{Tables, Proc as Procedure}
 use Rattle.icn_verify.specs.Given.{HaveShapes}
 use Rattle.icn_run.specs.Stacks.{Frames, flat, empty}
-use Rattle.icn_run.specs.Chains.{Parked, Linked, linked}
+use Rattle.icn_run.specs.Chains.{WaitingChain, LinkedStack, linked_calls}
 use Rattle.icn_run.specs.Step.{Launch, Store, State, running, failing, hopping, over, stuck, instruction, instruction_at, with_found, passed_failure, activator_of, step, first_store, main_of}
 use Rattle.icn_run.specs.FlatStep as Flat
 use Rattle.icn_run.specs.LinkedStep as Marks
@@ -117,13 +117,13 @@ module _ (tables : Tables) (have : HaveShapes tables) (ok : TablesOk tables) (ke
   turn_settled n stuck e = tt
 
   settled_next : (s : State Frames Frames) → IsNear s → Settled (made_turns s) (step flat tables s)
-  settled_next s x = by (one_step (linked repeats_anywhere) flat tables (Lacks repeats_anywhere (Opens tables)) (Unit {0})
+  settled_next s x = by (one_step (linked_calls repeats_anywhere) flat tables (Lacks repeats_anywhere (Opens tables)) (Unit {0})
       (linked_agrees repeats_anywhere (Opens tables)) rows_keep (λ lacks. tt) x.same)
     where
-      next : State Parked Linked
-      next = step (linked repeats_anywhere) tables x.state
+      next : State WaitingChain LinkedStack
+      next = step (linked_calls repeats_anywhere) tables x.state
 
-      by : Reaches (linked repeats_anywhere) flat tables (Lacks repeats_anywhere (Opens tables)) (Unit {0})
+      by : Reaches (linked_calls repeats_anywhere) flat tables (Lacks repeats_anywhere (Opens tables)) (Unit {0})
           (linked_agrees repeats_anywhere (Opens tables)) rows_keep (made_turns s) next (step flat tables s)
           → Settled (made_turns s) (step flat tables s)
       by (inl y) = near_settled (made_turns s) (step flat tables s)

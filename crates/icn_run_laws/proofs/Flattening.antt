@@ -4,8 +4,8 @@ use Rattle.icn_run.specs.Rows.{Item}
 use Rattle.icn_run.specs.Stacks as S
 use Rattle.icn_run.specs.Stacks.{Registers, Cell, Frames}
 use Rattle.icn_run.specs.Chains as L
-use Rattle.icn_run.specs.Chains.{Label, fixed, flagged, Reason, because, scanning, Chain, chain, Suspensions, none, Outer, Linked, Parked, Frame, at_base, in_call, frame_of, outer_of}
-use Rattle.icn_run_laws.specs.Rendered.{Kept, Flag, Changed, Count, Saved, Locals, Memory, held, flag_name, NCell, n_base, n_call, n_local, n_mark, n_limit, n_suspension, n_operand, World, shown_label, shown, render, AllOk, locs, Bare, FlatScans, f_no_scan, f_scan, IsFlat, f_chain, f_susp, FlatOuter, f_base, f_call, f_mark, f_limit}
+use Rattle.icn_run.specs.Chains.{Label, fixed, flagged, Reason, because, scanning, Chain, chain, Suspensions, none, Outer, LinkedStack, WaitingChain, Frame, at_base, in_call, frame_of, outer_of}
+use Rattle.icn_run_laws.specs.Rendered.{Content, Flag, Changed, Count, Saved, Locals, Memory, content_of, flag_name, NCell, n_base, n_call, n_local, n_mark, n_limit, n_suspension, n_operand, World, shown_label, shown_cell, render, AllOk, locs, Bare, FlatScans, f_no_scan, f_scan, IsFlat, f_chain, f_susp, FlatOuter, f_base, f_call, f_mark, f_limit}
 use Rattle.icn_run_laws.proofs.Lists.{r_cut, r_get}
 
 -- No operand stands on top
@@ -14,7 +14,7 @@ abbrev pub Blank : List Cell → Type 0
 Blank (S.operand item ∷ cells) = ⊥
 Blank cells = Unit {0}
 
-blank_label : (k : Option Kept) (l : Option ℕ) (q : ℕ) (r : Registers) (z : List Cell) → Blank (shown_label k l q r ∷ z)
+blank_label : (k : Option Content) (l : Option ℕ) (q : ℕ) (r : Registers) (z : List Cell) → Blank (shown_label k l q r ∷ z)
 blank_label None l q r z = tt
 blank_label (Some (Flag true)) l q r z = tt
 blank_label (Some (Flag false)) l q r z = tt
@@ -30,7 +30,7 @@ blank F (n_base p a n ∷ z) b = tt
 blank F (n_call p a n l r q ∷ z) b = tt
 blank F (n_local a i ∷ z) b = tt
 blank F (n_mark (fixed l) r ∷ z) b = tt
-blank F (n_mark (flagged l f q) r ∷ z) b = blank_label (held F (flag_name f)) l q r (render F z)
+blank F (n_mark (flagged l f q) r ∷ z) b = blank_label (content_of F (flag_name f)) l q r (render F z)
 blank F (n_limit n r ∷ z) b = tt
 blank F (n_suspension (because w) r q ∷ z) b = tt
 blank F (n_suspension (scanning n) r q ∷ z) b = tt
@@ -62,11 +62,11 @@ copied F [] z y b = copy_blank (render F z) (render F y) (blank F z b)
 copied F (x ∷ items) z y b = ap (λ l. S.operand x ∷ l) (copied F items z y b)
 
 -- a mark is shown as one
-pub as_mark : (F : Memory) (label : Label) (r : Registers) → (l : Option ℕ) × (b : Bool) × (shown F (n_mark label r) ≡ S.mark l b r)
+pub as_mark : (F : Memory) (label : Label) (r : Registers) → (l : Option ℕ) × (b : Bool) × (shown_cell F (n_mark label r) ≡ S.mark l b r)
 as_mark F (fixed l) r = (l, false, refl)
-as_mark F (flagged l f q) r = of_kept (held F (flag_name f))
+as_mark F (flagged l f q) r = of_kept (content_of F (flag_name f))
   where
-    of_kept : (k : Option Kept) → (l' : Option ℕ) × (b : Bool) × (shown_label k l q r ≡ S.mark l' b r)
+    of_kept : (k : Option Content) → (l' : Option ℕ) × (b : Bool) × (shown_label k l q r ≡ S.mark l' b r)
     of_kept None = (l, false, refl)
     of_kept (Some (Flag true)) = (Some q, true, refl)
     of_kept (Some (Flag false)) = (l, false, refl)
@@ -133,7 +133,7 @@ module _ (repeats : ℕ → ℕ → Bool) (Opens : ℕ → ℕ → Option ℕ �
 
   -- the frame's cell
   pub frame_at : (F : Memory) {b : ℕ} {cells : List NCell} (a n : ℕ) (c : NCell) (above below : List NCell) → cells ≡ above ++ locs a 0 n (c ∷ below)
-      → b ≡ suc (length below) → S.cell_at b (render F cells) ≡ Some (shown F c)
+      → b ≡ suc (length below) → S.cell_at b (render F cells) ≡ Some (shown_cell F c)
   frame_at F a n c above below e g = r_get F (above ++ locs a 0 n []) c below _ (under above (locs a 0 n []) (c ∷ below) e (locs_split a 0 n (c ∷ below))) g
 
   pub same_proc : (F : Memory) {t : Frame} {cells : List NCell} {b : ℕ} → Found t cells b → L.proc_of t ≡ S.proc_of (S.cell_at b (render F cells))
@@ -158,12 +158,12 @@ module _ (repeats : ℕ → ℕ → Bool) (Opens : ℕ → ℕ → Option ℕ �
       → L.below_outer o ≡ S.below_in (S.cut h (render F cells))
   same_below F xs e (f_base {p} {a} n above f g k) = sym (ap S.below_in
       (r_cut F ((xs ++ above) ++ locs a 0 n []) (n_base p a n) [] _ (under (xs ++ above) (locs a 0 n []) _ (under xs above _ e f) (locs_split a 0 n _)) g))
-  same_below F xs e (f_call {p} {a} {level} {q} n r above below f g k i) = below_chain F (shown F (n_call p a n level r q)) i ∙ sym (ap S.below_in (r_cut F
+  same_below F xs e (f_call {p} {a} {level} {q} n r above below f g k i) = below_chain F (shown_cell F (n_call p a n level r q)) i ∙ sym (ap S.below_in (r_cut F
       ((xs ++ above) ++ locs a 0 n []) (n_call p a n level r q) below _ (under (xs ++ above) (locs a 0 n []) _ (under xs above _ e f) (locs_split a 0 n _)) g))
   same_below F xs e (f_mark {label = label} r above below f g k l i) =
-      below_chain F (shown F (n_mark label r)) i ∙ sym (ap S.below_in (r_cut F (xs ++ above) (n_mark label r) below _ (under xs above _ e f) g))
+      below_chain F (shown_cell F (n_mark label r)) i ∙ sym (ap S.below_in (r_cut F (xs ++ above) (n_mark label r) below _ (under xs above _ e f) g))
   same_below F xs e (f_limit {n = n} r above below f g k i) =
-      below_chain F (shown F (n_limit n r)) i ∙ sym (ap S.below_in (r_cut F (xs ++ above) (n_limit n r) below _ (under xs above _ e f) g))
+      below_chain F (shown_cell F (n_limit n r)) i ∙ sym (ap S.below_in (r_cut F (xs ++ above) (n_limit n r) below _ (under xs above _ e f) g))
 
   -- a suspension on cells that stand above those of a chain
   pub suspended_on : {k inside : Chain} {below cells : List NCell} {r r' : Registers} (reason : Reason) (q h : ℕ) (xs : List NCell)

@@ -4,7 +4,7 @@ use Rattle.std.specs.Prelude.{slice_get, slice_set, slice_index_or, drop}
 use Rattle.std.proofs.Math.Seq.{drop-append_seam}
 use Rattle.std.proofs.lemmas.List.{map-append}
 use Rattle.icn_run.specs.Stacks.{cut, cell_at, set_cell, Cell}
-use Rattle.icn_run_laws.specs.Rendered.{Memory, NCell, shown, render}
+use Rattle.icn_run_laws.specs.Rendered.{Memory, NCell, shown_cell, render}
 
 pub no_some : {A B : Type 0} (x : A) → None ≡ Some x → B
 no_some x e = let z : ⊥ = cc in absurd z
@@ -63,20 +63,21 @@ cut_off xs ys h e = let d : length (xs ++ ys) - h ≡ length xs = omega (arith, 
 -- the same of cells that are shown
 
 pub render_at : (F : Memory) {cells : List NCell} (above : List NCell) (c : NCell) (below : List NCell) → cells ≡ above ++ c ∷ below
-    → render F cells ≡ render F above ++ shown F c ∷ render F below
-render_at F above c below e = ap (render F) e ∙ map-append (shown F) above (c ∷ below)
+    → render F cells ≡ render F above ++ shown_cell F c ∷ render F below
+render_at F above c below e = ap (render F) e ∙ map-append (shown_cell F) above (c ∷ below)
 
 height : (F : Memory) (below : List NCell) (h : ℕ) → h ≡ suc (length below) → h ≡ suc (length (render F below))
-height F below h e = e ∙ ap suc (sym (length_map (shown F) below))
+height F below h e = e ∙ ap suc (sym (length_map (shown_cell F) below))
 
 pub r_cut : (F : Memory) {cells : List NCell} (above : List NCell) (c : NCell) (below : List NCell) (h : ℕ) → cells ≡ above ++ c ∷ below
-    → h ≡ suc (length below) → cut h (render F cells) ≡ shown F c ∷ render F below
-r_cut F above c below h e g = ap (cut h) (render_at F above c below e) ∙ cut_at (render F above) (shown F c) (render F below) h (height F below h g)
+    → h ≡ suc (length below) → cut h (render F cells) ≡ shown_cell F c ∷ render F below
+r_cut F above c below h e g = ap (cut h) (render_at F above c below e) ∙ cut_at (render F above) (shown_cell F c) (render F below) h (height F below h g)
 
 pub r_get : (F : Memory) {cells : List NCell} (above : List NCell) (c : NCell) (below : List NCell) (h : ℕ) → cells ≡ above ++ c ∷ below
-    → h ≡ suc (length below) → cell_at h (render F cells) ≡ Some (shown F c)
-r_get F above c below h e g = ap (cell_at h) (render_at F above c below e) ∙ get_at (render F above) (shown F c) (render F below) h (height F below h g)
+    → h ≡ suc (length below) → cell_at h (render F cells) ≡ Some (shown_cell F c)
+r_get F above c below h e g = ap (cell_at h) (render_at F above c below e) ∙ get_at (render F above) (shown_cell F c) (render F below) h (height F below h g)
 
 pub r_set : (F : Memory) {cells : List NCell} (above : List NCell) (c : NCell) (below : List NCell) (h : ℕ) (d : Cell) → cells ≡ above ++ c ∷ below
     → h ≡ suc (length below) → set_cell h d (render F cells) ≡ render F above ++ d ∷ render F below
-r_set F above c below h d e g = ap (set_cell h d) (render_at F above c below e) ∙ set_at (render F above) (shown F c) d (render F below) h (height F below h g)
+r_set F above c below h d e g =
+    ap (set_cell h d) (render_at F above c below e) ∙ set_at (render F above) (shown_cell F c) d (render F below) h (height F below h g)

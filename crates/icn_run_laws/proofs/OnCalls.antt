@@ -6,14 +6,14 @@ use Rattle.icn_run.specs.Rows.{Item}
 use Rattle.icn_run.specs.Stacks as S
 use Rattle.icn_run.specs.Stacks.{Registers, Cell, Frames}
 use Rattle.icn_run.specs.Chains as L
-use Rattle.icn_run.specs.Chains.{Label, fixed, flagged, Reason, because, scanning, Chain, chain, Suspensions, none, Outer, Linked, Parked, Frame, at_base, in_call, frame_of, outer_of}
-use Rattle.icn_run_laws.specs.Rendered.{Flag, memory_of, linked_with, NCell, n_base, n_call, n_mark, n_limit, n_operand, World, shown_label, count_of, shown, render, AllOk, locs, Bare, FlatScans, LabelOk, IsFlat, f_chain, FlatSusps, f_none, FlatOuter, f_base, f_call, f_mark, f_limit, Now, now, Next}
+use Rattle.icn_run.specs.Chains.{Label, fixed, flagged, Reason, because, scanning, Chain, chain, Suspensions, none, Outer, LinkedStack, WaitingChain, Frame, at_base, in_call, frame_of, outer_of}
+use Rattle.icn_run_laws.specs.Rendered.{Flag, memory_of, linked_with, NCell, n_base, n_call, n_mark, n_limit, n_operand, World, shown_label, count_of, shown_cell, render, AllOk, locs, Bare, FlatScans, LabelOk, IsFlat, f_chain, FlatSusps, f_none, FlatOuter, f_base, f_call, f_mark, f_limit, Now, now, Next}
 use Rattle.icn_run_laws.specs.Laws.{Both, Then, With}
 use Rattle.icn_run_laws.proofs.Lists.{length_map}
 use Rattle.icn_run_laws.proofs.Worlds.{Moves, made_moves, made_next, made_flag, flag_made, made_limit, limit_made, all_moves, render_moves, use_all}
 use Rattle.icn_run_laws.proofs.Flattening.{blank, popped_blank, taken_blank, locs_split, under, raise_scans, found, same_proc, same_level, same_base, same_below}
 
-abbrev pub Li : World → Chain → ℕ → Linked
+abbrev pub Li : World → Chain → ℕ → LinkedStack
 Li w c q = linked_with w.kept c q
 
 abbrev pub Fr : World → List NCell → Registers → ℕ → Frames
@@ -23,13 +23,13 @@ pub idle : (s : ℕ) (w : World) → Next s w w
 idle s w t n h k d o = o
 
 module _ (repeats : ℕ → ℕ → Bool) (Opens : ℕ → ℕ → Option ℕ → Type 0) where
-  abbrev pub N : World → ℕ → Linked → Frames → Type 0
+  abbrev pub N : World → ℕ → LinkedStack → Frames → Type 0
   N w s m' m = Now repeats Opens w s m' m
 
-  abbrev pub T : World → ℕ → Linked → Frames → Type 0
+  abbrev pub T : World → ℕ → LinkedStack → Frames → Type 0
   T w s m' m = Then Next N w s m' m
 
-  abbrev pub WithT : {A : Type 0} → World → ℕ → A × Linked → A × Frames → Type 0
+  abbrev pub WithT : {A : Type 0} → World → ℕ → A × LinkedStack → A × Frames → Type 0
   WithT w s x y = With Next N w s x y
 
   -- cells that are shown so
@@ -60,33 +60,33 @@ module _ (repeats : ℕ → ℕ → Bool) (Opens : ℕ → ℕ → Option ℕ �
 
   -- Reading
 
-  pub on_proc : (w : World) (s : ℕ) (m' : Linked) (m : Frames) → N w s m' m → L.proc_of (L.frame m') ≡ S.proc m
+  pub on_proc : (w : World) (s : ℕ) (m' : LinkedStack) (m : Frames) → N w s m' m → L.proc_of (L.frame m') ≡ S.proc m
   on_proc w s m' m (now cells f o) = same_proc repeats Opens w.kept (found repeats Opens f)
 
-  pub on_level : (w : World) (s : ℕ) (m' : Linked) (m : Frames) → N w s m' m → L.level_of (L.frame m') ≡ S.level m
+  pub on_level : (w : World) (s : ℕ) (m' : LinkedStack) (m : Frames) → N w s m' m → L.level_of (L.frame m') ≡ S.level m
   on_level w s m' m (now cells f o) = same_level repeats Opens w.kept (found repeats Opens f)
 
-  pub on_base : (w : World) (s : ℕ) (m' : Linked) (m : Frames) → N w s m' m → L.is_base_frame (L.frame m') ≡ S.is_base m
+  pub on_base : (w : World) (s : ℕ) (m' : LinkedStack) (m : Frames) → N w s m' m → L.is_base_frame (L.frame m') ≡ S.is_base m
   on_base w s m' m (now cells f o) = same_base repeats Opens w.kept (found repeats Opens f)
 
-  pub on_place : (w : World) (s : ℕ) (m' : Linked) (m : Frames) → N w s m' m → m'.place ≡ m.place
+  pub on_place : (w : World) (s : ℕ) (m' : LinkedStack) (m : Frames) → N w s m' m → m'.place ≡ m.place
   on_place w s m' m (now cells f o) = refl
 
-  pub on_below : (w : World) (s : ℕ) (m' : Linked) (m : Frames) → N w s m' m → L.below m' ≡ S.below m
+  pub on_below : (w : World) (s : ℕ) (m' : LinkedStack) (m : Frames) → N w s m' m → L.below m' ≡ S.below m
   on_below w s m' m (now cells (f_chain {items = items} z e b out su sc) o) = same_below repeats Opens w.kept (map n_operand items) e out
 
-  pub on_go : (q : ℕ) (w : World) (s : ℕ) (m' : Linked) (m : Frames) → N w s m' m → T w s (record m' { place = q }) (S.go q m)
+  pub on_go : (q : ℕ) (w : World) (s : ℕ) (m' : LinkedStack) (m : Frames) → N w s m' m → T w s (record m' { place = q }) (S.go q m)
   on_go q w s m' m (now cells f o) = (w, idle s w, now cells f o)
 
   -- Operands
 
-  pub on_push : (item : Item) (w : World) (s : ℕ) (m' : Linked) (m : Frames) → N w s m' m → T w s (L.push item m') (S.push item m)
+  pub on_push : (item : Item) (w : World) (s : ℕ) (m' : LinkedStack) (m : Frames) → N w s m' m → T w s (L.push item m') (S.push item m)
   on_push item w s m' m (now cells (f_chain {items = items} z e b out su sc) o) =
       (w, idle s w, now (n_operand item ∷ cells) (f_chain z (ap (λ l. n_operand item ∷ l) e) b out su sc) (tt, o))
 
   module _ (w : World) (s q : ℕ) (r : Registers) (su : Suspensions) (scans : List ℕ) (outer : Outer) (z : List NCell) (b : Bare z)
       (out : FlatOuter repeats Opens outer z r.mark r.base) (fs : FlatSusps repeats Opens su z r.newest) (sc : FlatScans scans z r.scan) where
-    pop_items : (m' : Linked) (m : Frames) → m'.place ≡ q → memory_of m' ≡ w.kept → m.registers ≡ r → m.place ≡ q → (items : List Item)
+    pop_items : (m' : LinkedStack) (m : Frames) → m'.place ≡ q → memory_of m' ≡ w.kept → m.registers ≡ r → m.place ≡ q → (items : List Item)
         → AllOk w s (map n_operand items ++ z)
         → Both ⊥ (WithT w s) (L.pop_from (Li w (chain items su scans outer) q) (chain items su scans outer))
         (S.pop_from (Fr w (map n_operand items ++ z) r q) (render w.kept (map n_operand items ++ z)))
@@ -94,7 +94,7 @@ module _ (repeats : ℕ → ℕ → Bool) (Opens : ℕ → ℕ → Option ℕ �
         subst (λ x. Both ⊥ (WithT {A = Item} w s) None x) (sym (popped_blank (Fr w z r q) (render w.kept z) (blank w.kept z b))) tt
     pop_items m' m p1 p2 p3 p4 (x ∷ items) o = (refl, (w, idle s w, now (map n_operand items ++ z) (f_chain z refl b out fs sc) o.1))
 
-    take_items : (m' : Linked) (m : Frames) → ((items : List Item) → AllOk w s (map n_operand items ++ z)
+    take_items : (m' : LinkedStack) (m : Frames) → ((items : List Item) → AllOk w s (map n_operand items ++ z)
         → T w s (L.with_chain (chain items su scans outer) m') (record m { cells = render w.kept (map n_operand items ++ z) }))
         → (n : ℕ) (items found : List Item) → AllOk w s (map n_operand items ++ z)
         → Both ⊥ (WithT {A = List Item} w s) (option_map (λ (parts : List Item × List Item). (parts.0, L.with_chain (chain parts.1 su scans outer) m'))
@@ -104,13 +104,13 @@ module _ (repeats : ℕ → ℕ → Bool) (Opens : ℕ → ℕ → Option ℕ �
         subst (λ x. Both ⊥ (WithT {A = List Item} w s) None x) (sym (taken_blank n m (render w.kept z) found (blank w.kept z b))) tt
     take_items m' m f (suc n) (x ∷ items) found o = take_items m' m f n items (x ∷ found) o.1
 
-  pub on_pop : (w : World) (s : ℕ) (m' : Linked) (m : Frames) → N w s m' m → Both ⊥ (WithT w s) (L.pop m') (S.pop m)
+  pub on_pop : (w : World) (s : ℕ) (m' : LinkedStack) (m : Frames) → N w s m' m → Both ⊥ (WithT w s) (L.pop m') (S.pop m)
   on_pop w s m' m (now {q = q} {r = r} cells (f_chain {items = items} {s = su} {scans = scans} {outer = outer} z e b out fs sc) o) =
       subst (λ l. Both ⊥ (WithT w s) (L.pop_from (Li w (chain items su scans outer) q) (chain items su scans outer))
       (S.pop_from (Fr w l r q) (render w.kept l))) (sym e)
       (pop_items w s q r su scans outer z b out fs sc (Li w (chain items su scans outer) q) (Fr w cells r q) refl refl refl refl items (subst (AllOk w s) e o))
 
-  pub on_take : (n : ℕ) (w : World) (s : ℕ) (m' : Linked) (m : Frames) → N w s m' m → Both ⊥ (WithT w s) (L.take_items n m') (S.take n m)
+  pub on_take : (n : ℕ) (w : World) (s : ℕ) (m' : LinkedStack) (m : Frames) → N w s m' m → Both ⊥ (WithT w s) (L.take_items n m') (S.take n m)
   on_take n w s m' m (now {q = q} {r = r} cells (f_chain {items = items} {s = su} {scans = scans} {outer = outer} z e b out fs sc) o) =
       let m2 = Fr w cells r q in let m1 = Li w (chain items su scans outer) q in
       subst (λ l. Both ⊥ (WithT {A = List Item} w s) (L.take_from n m1 (chain items su scans outer)) (S.take_top n m2 (render w.kept l) [])) (sym e)
@@ -128,7 +128,7 @@ module _ (repeats : ℕ → ℕ → Bool) (Opens : ℕ → ℕ → Option ℕ �
     w,
     idle s w,
     now (n_mark (fixed label) r ∷ cells) (f_chain {items = []} (n_mark (fixed label) r ∷ cells) refl tt (f_mark r [] cells refl
-        (ap suc (length_map (shown w.kept) cells)) refl (pred q, e, opens) f) f_none (raise_scans (n_mark (fixed label) r ∷ []) refl sc)) (tt, o),
+        (ap suc (length_map (shown_cell w.kept) cells)) refl (pred q, e, opens) f) f_none (raise_scans (n_mark (fixed label) r ∷ []) refl sc)) (tt, o),
   )
   mark_if label w s q r c cells f sc o opens true e =
       let h = suc (length cells) in let w2 = made_flag w s h in let d = flag_made w s h in let top = n_mark (flagged label (length w.kept.flags) (pred q)) r in
@@ -140,7 +140,7 @@ module _ (repeats : ℕ → ℕ → Bool) (Opens : ℕ → ℕ → Option ℕ �
             (record r { mark = suc (length (render w.kept cells)); newest = None }) (S.mark label false r ∷ render w.kept cells) (top ∷ cells)
             (ap (λ l. S.mark label false r ∷ l) (sym (render_moves (λ n. Unit {0}) s w w2 moves cells (use_all cells) o))
             ∙ ap (λ k. shown_label k label (pred q) r ∷ render w2.kept cells) (sym owned.holds))
-            (f_chain {items = []} (top ∷ cells) refl tt (f_mark r [] cells refl (ap suc (length_map (shown w.kept) cells)) refl opens f) f_none
+            (f_chain {items = []} (top ∷ cells) refl tt (f_mark r [] cells refl (ap suc (length_map (shown_cell w.kept) cells)) refl opens f) f_none
             (raise_scans (top ∷ []) refl sc))
             ((Flag false, owned, tt), all_moves (λ n. Unit {0}) s w w2 moves cells (use_all cells) o),
       )
@@ -148,13 +148,13 @@ module _ (repeats : ℕ → ℕ → Bool) (Opens : ℕ → ℕ → Option ℕ �
   pub scans_all : {c : Chain} {cells : List NCell} {r : Registers} → IsFlat repeats Opens c cells r → FlatScans (L.scans_of c) cells r.scan
   scans_all (f_chain {items = items} z e b out su sc) = raise_scans (map n_operand items) e sc
 
-  pub on_mark : (label : Option ℕ) (w : World) (s : ℕ) (m' : Linked) (m : Frames) → N w s m' m → Opens (S.proc m) (pred m.place) label
+  pub on_mark : (label : Option ℕ) (w : World) (s : ℕ) (m' : LinkedStack) (m : Frames) → N w s m' m → Opens (S.proc m) (pred m.place) label
       → T w s (L.open_mark repeats label m') (S.open_mark label m)
   on_mark label w s m' m (now {c = c} {q = q} {r = r} cells f o) opens =
       mark_if label w s q r c cells f (scans_all f) o (subst (λ p. Opens p (pred q) label) (sym (same_proc repeats Opens w.kept (found repeats Opens f))) opens)
       (repeats (L.proc_of (frame_of (outer_of c))) (pred q)) refl
 
-  pub on_limit : (count : ℕ) (w : World) (s : ℕ) (m' : Linked) (m : Frames) → N w s m' m → T w s (L.open_limit count m') (S.open_limit count m)
+  pub on_limit : (count : ℕ) (w : World) (s : ℕ) (m' : LinkedStack) (m : Frames) → N w s m' m → T w s (L.open_limit count m') (S.open_limit count m)
   on_limit count w s m' m (now {c = c} {q = q} {r = r} cells f o) =
       let h = suc (length cells) in let w2 = made_limit w s h count in let d = limit_made w s h count in let top = n_limit (length w.kept.limits) r in
       let owned = d.new in
@@ -165,7 +165,7 @@ module _ (repeats : ℕ → ℕ → Bool) (Opens : ℕ → ℕ → Option ℕ �
             (S.limit count r ∷ render w.kept cells) (top ∷ cells)
             (ap (λ l. S.limit count r ∷ l) (sym (render_moves (λ n. Unit {0}) s w w2 moves cells (use_all cells) o))
             ∙ ap (λ k. S.limit (count_of k) r ∷ render w2.kept cells) (sym owned.holds))
-            (f_chain {items = []} (top ∷ cells) refl tt (f_limit r [] cells refl (ap suc (length_map (shown w.kept) cells)) refl f) f_none
+            (f_chain {items = []} (top ∷ cells) refl tt (f_limit r [] cells refl (ap suc (length_map (shown_cell w.kept) cells)) refl f) f_none
             (raise_scans (top ∷ []) refl (scans_all f)))
             ((count, owned), all_moves (λ n. Unit {0}) s w w2 moves cells (use_all cells) o),
       )

@@ -7,8 +7,8 @@ use Rattle.icn_run.specs.Calls.{Pair, Why, Alt, Op, Scan, Escan, Proc}
 use Rattle.icn_run.specs.Stacks as S
 use Rattle.icn_run.specs.Stacks.{Registers, Cell, Frames}
 use Rattle.icn_run.specs.Chains as L
-use Rattle.icn_run.specs.Chains.{Label, fixed, flagged, Reason, because, scanning, Chain, chain, Suspensions, none, Outer, Linked, Parked, Frame, at_base, in_call, frame_of, outer_of}
-use Rattle.icn_run_laws.specs.Rendered.{Name, activation_name, flag_name, limit_name, saved_name, Kept, Count, Saved, Locals, Memory, held, values_of, NCell, n_base, n_call, n_local, n_mark, n_limit, n_suspension, n_operand, World, Owned, saved_in, shown, render, Ok, AllOk, locs, FlatScans, f_no_scan, f_scan, IsFlat, f_chain, FlatSusps, f_none, f_susp, f_call, now, Next}
+use Rattle.icn_run.specs.Chains.{Label, fixed, flagged, Reason, because, scanning, Chain, chain, Suspensions, none, Outer, LinkedStack, WaitingChain, Frame, at_base, in_call, frame_of, outer_of}
+use Rattle.icn_run_laws.specs.Rendered.{Name, activation_name, flag_name, limit_name, saved_name, Content, Count, Saved, Locals, Memory, content_of, values_of, NCell, n_base, n_call, n_local, n_mark, n_limit, n_suspension, n_operand, World, IsOwned, saved_in, shown_cell, render, Ok, AllOk, locs, FlatScans, f_no_scan, f_scan, IsFlat, f_chain, FlatSusps, f_none, f_susp, f_call, now, Next}
 use Rattle.icn_run_laws.specs.Laws.{Both, With}
 use Rattle.icn_run_laws.proofs.Lists.{length_map, r_cut, r_get}
 use Rattle.icn_run_laws.proofs.Worlds.{Moves, made_moves, made_next, change_moves, change_next, made_saved, saved_made, made_locals, locals_made, put_saved, saved_put, put_locals, locals_put, got_values, got_pair, index_got, all_moves, render_moves, use_all}
@@ -24,23 +24,23 @@ use Rattle.std.proofs.lemmas.List.{map-append}
 -- Locals
 
 -- so many locals are shown as the values that their number holds
-shown_from : (F : Memory) (a : ℕ) (us vs : List Value) (z : List NCell) → values_of (held F (activation_name a)) ≡ us ++ vs
+shown_from : (F : Memory) (a : ℕ) (us vs : List Value) (z : List NCell) → values_of (content_of F (activation_name a)) ≡ us ++ vs
     → render F (locs a (length us) (length vs) z) ≡ S.put_above vs (render F z)
 shown_from F a us [] z e = refl
 shown_from F a us (v ∷ vs) z e =
     let us' = us ++ v ∷ [] in
     let n : length us' ≡ suc (length us) = omega (arith, length-append us (v ∷ [])) in
-    let i : slice_index_or (values_of (held F (activation_name a))) (length us) Null ≡ v = ap (λ l. slice_index_or l (length us) Null) e
+    let i : slice_index_or (values_of (content_of F (activation_name a))) (length us) Null ≡ v = ap (λ l. slice_index_or l (length us) Null) e
     ∙ index_seam us v vs Null in
     ap (λ k. render F (locs a k (length vs) (n_local a (length us) ∷ z))) (sym n)
     ∙ shown_from F a us' vs (n_local a (length us) ∷ z) (e ∙ sym (append_assoc us (v ∷ []) vs))
     ∙ ap (λ x. S.put_above vs (S.local x ∷ render F z)) i
 
-pub shown_locals : (F : Memory) (a n : ℕ) (vs : List Value) (z : List NCell) → held F (activation_name a) ≡ Some (Locals vs) → length vs ≡ n
+pub shown_locals : (F : Memory) (a n : ℕ) (vs : List Value) (z : List NCell) → content_of F (activation_name a) ≡ Some (Locals vs) → length vs ≡ n
     → render F (locs a 0 n z) ≡ S.put_above vs (render F z)
 shown_locals F a n vs z e l = ap (λ k. render F (locs a 0 k z)) (sym l) ∙ shown_from F a [] vs z (ap values_of e)
 
-pub locs_ok : (w : World) (s a b : ℕ) (vs : List Value) → Owned w (activation_name a) s b (Locals vs) → (i n : ℕ) (z : List NCell) → length z ≡ b + i
+pub locs_ok : (w : World) (s a b : ℕ) (vs : List Value) → IsOwned w (activation_name a) s b (Locals vs) → (i n : ℕ) (z : List NCell) → length z ≡ b + i
     → i + n ≤ length vs → AllOk w s z → AllOk w s (locs a i n z)
 locs_ok w s a b vs owned i zero z e le o = o
 locs_ok w s a b vs owned i (suc n) z e le o =
@@ -57,14 +57,14 @@ append_nil [] = refl
 append_nil (x ∷ xs) = ap (λ l. x ∷ l) (append_nil xs)
 
 pub locals_at : (F : Memory) (a n b : ℕ) (c : NCell) (above below cells : List NCell) (vs : List Value) → cells ≡ above ++ locs a 0 n (c ∷ below)
-    → b ≡ suc (length below) → held F (activation_name a) ≡ Some (Locals vs) → length vs ≡ n
+    → b ≡ suc (length below) → content_of F (activation_name a) ≡ Some (Locals vs) → length vs ≡ n
     → S.locals_down n (S.cut (b + n) (render F cells)) [] ≡ vs
 locals_at F a n b c above below cells vs e g h l =
     let y = locs a 0 n (c ∷ below) in
-    let k : b + n ≡ length (render F y) = (let x = locs_length a 0 n (c ∷ below) in let x2 = length_map (shown F) y in omega arith) in
+    let k : b + n ≡ length (render F y) = (let x = locs_length a 0 n (c ∷ below) in let x2 = length_map (shown_cell F) y in omega arith) in
     let k2 : n ≡ length vs + 0 = omega arith in
     ap (λ z. S.locals_down n (S.cut (b + n) (render F z)) []) e
-    ∙ ap (λ z. S.locals_down n (S.cut (b + n) z) []) (map-append (shown F) above y)
+    ∙ ap (λ z. S.locals_down n (S.cut (b + n) z) []) (map-append (shown_cell F) above y)
     ∙ ap (λ z. S.locals_down n z []) (cut_off (render F above) (render F y) (b + n) k ∙ shown_locals F a n vs (c ∷ below) h l)
     ∙ ap (λ j. S.locals_down j (S.put_above vs (render F (c ∷ below))) []) k2
     ∙ down vs 0 (render F (c ∷ below)) [] ∙ append_nil vs
@@ -93,17 +93,17 @@ set_all (x ∷ ws) (v ∷ vs) above z h e g =
     ∙ set_all ws vs above (S.local x ∷ z) (suc h) (omega arith) (ap suc g)
 
 -- cells outside of a frame's have other numbers
-apart : (w : World) (a s b h : ℕ) (vs : List Value) → Owned w (activation_name a) s b (Locals vs) → (c : NCell) → (h < b) ⊎ (b + length vs < h) → Ok w s h c
+apart : (w : World) (a s b h : ℕ) (vs : List Value) → IsOwned w (activation_name a) s b (Locals vs) → (c : NCell) → (h < b) ⊎ (b + length vs < h) → Ok w s h c
     → Uses (λ m. m ≢ activation_name a) c
 apart w a s b h vs owned c side o = by_cell c o
   where
-    differs : (n : Name) (k : Kept) → Owned w n s h k → n ≢ activation_name a
-    differs n k p e = let same = one_height w (activation_name a) s s b h (Locals vs) k owned (subst (λ m. Owned w m s h k) e p) in
+    differs : (n : Name) (k : Content) → IsOwned w n s h k → n ≢ activation_name a
+    differs n k p e = let same = one_height w (activation_name a) s s b h (Locals vs) k owned (subst (λ m. IsOwned w m s h k) e p) in
         elim side as (λ x. ⊥) [ inl lt ↦ omega arith | inr gt ↦ omega arith ]
 
-    abbreviated : (n : Name) (i b' : ℕ) (us : List Value) → Owned w n s b' (Locals us) → h ≡ suc (b' + i) → i < length us → n ≢ activation_name a
+    abbreviated : (n : Name) (i b' : ℕ) (us : List Value) → IsOwned w n s b' (Locals us) → h ≡ suc (b' + i) → i < length us → n ≢ activation_name a
     abbreviated n i b' us p g lt e =
-        let q : Owned w (activation_name a) s b' (Locals us) = subst (λ m. Owned w m s b' (Locals us)) e p in
+        let q : IsOwned w (activation_name a) s b' (Locals us) = subst (λ m. IsOwned w m s b' (Locals us)) e p in
         let same = one_height w (activation_name a) s s b b' (Locals vs) (Locals us) owned q in
         let kept : length us ≡ length vs = ap (λ k. length (values_of k)) (sym q.holds ∙ owned.holds) in
         elim side as (λ x. ⊥) [ inl lt ↦ omega arith | inr gt ↦ omega arith ]
@@ -119,13 +119,13 @@ apart w a s b h vs owned c side o = by_cell c o
     by_cell (n_suspension (scanning n) r q) o = differs (saved_name n) (Saved o.0) o.1
     by_cell (n_operand item) o = tt
 
-apart_below : (w : World) (a s b : ℕ) (vs : List Value) → Owned w (activation_name a) s b (Locals vs) → (cs : List NCell) → length cs < b → AllOk w s cs
+apart_below : (w : World) (a s b : ℕ) (vs : List Value) → IsOwned w (activation_name a) s b (Locals vs) → (cs : List NCell) → length cs < b → AllOk w s cs
     → UsesAll (λ m. m ≢ activation_name a) cs
 apart_below w a s b vs owned [] lt o = tt
 apart_below w a s b vs owned (c ∷ cs) lt o = (apart w a s b (suc (length cs)) vs owned c (inl lt) o.0, apart_below w a s b vs owned cs (omega arith) o.1)
 
 -- the cells above keep what they show
-above_keeps : (w : World) (a s b : ℕ) (vs ws : List Value) → Owned w (activation_name a) s b (Locals vs) → (y : List NCell) → b + length vs ≤ length y
+above_keeps : (w : World) (a s b : ℕ) (vs ws : List Value) → IsOwned w (activation_name a) s b (Locals vs) → (y : List NCell) → b + length vs ≤ length y
     → AllOk (put_locals w a ws) s y → (above : List NCell) → AllOk w s (above ++ y)
     → AllOk (put_locals w a ws) s (above ++ y) × (render (put_locals w a ws).kept above ≡ render w.kept above)
 above_keeps w a s b vs ws owned y le oy [] o = (oy, refl)
@@ -136,7 +136,7 @@ above_keeps w a s b vs ws owned y le oy (c ∷ above) o =
     let u = apart w a s b h vs owned c (inr (omega (arith, length-append above y))) o.0 in (
       (ok_moves (λ m. m ≢ activation_name a) s h w (put_locals w a ws) (change_moves d s) c u o.0, rest.0),
       ap (λ x. x ∷ render (put_locals w a ws).kept above) (shown_moves (λ m. m ≢ activation_name a) s h w (put_locals w a ws) (change_moves d s) c u o.0)
-          ∙ ap (λ l. shown w.kept c ∷ l) rest.1,
+          ∙ ap (λ l. shown_cell w.kept c ∷ l) rest.1,
     )
 
 pub ok_operands : (w : World) (s : ℕ) (items : List Item) (z : List NCell) → AllOk w s z → AllOk w s (map n_operand items ++ z)
@@ -148,13 +148,13 @@ first_get [] = refl
 first_get (n ∷ scans) = refl
 
 module _ (repeats : ℕ → ℕ → Bool) (Opens : ℕ → ℕ → Option ℕ → Type 0) where
-  abbrev Nw : World → ℕ → Linked → Frames → Type 0
+  abbrev Nw : World → ℕ → LinkedStack → Frames → Type 0
   Nw w s m' m = N repeats Opens w s m' m
 
-  abbrev Tn : World → ℕ → Linked → Frames → Type 0
+  abbrev Tn : World → ℕ → LinkedStack → Frames → Type 0
   Tn w s m' m = T repeats Opens w s m' m
 
-  abbrev Wt : {A : Type 0} → World → ℕ → A × Linked → A × Frames → Type 0
+  abbrev Wt : {A : Type 0} → World → ℕ → A × LinkedStack → A × Frames → Type 0
   Wt w s x y = With Next Nw w s x y
 
   -- Suspensions
@@ -185,7 +185,7 @@ module _ (repeats : ℕ → ℕ → Bool) (Opens : ℕ → ℕ → Option ℕ �
     hh = suc (length (render w.kept cells))
 
     hh_is : hh ≡ suc (length cells)
-    hh_is = ap suc (length_map (shown w.kept) cells)
+    hh_is = ap suc (length_map (shown_cell w.kept) cells)
 
     all : FlatScans scans cells r.scan
     all = scans_all repeats Opens f
@@ -325,7 +325,7 @@ module _ (repeats : ℕ → ℕ → Bool) (Opens : ℕ → ℕ → Option ℕ �
     swap_found pair no_scan = tt
     swap_found pair (scan_at {n} {h} q' r' above below e g) =
         let x = (ok_sub w s above (n_suspension (scanning n) r' q' ∷ below) e o).0 in
-        let owned : Owned w (saved_name n) s h (Saved x.0) = subst (λ h. Owned w (saved_name n) s h (Saved x.0)) (sym g) x.1 in
+        let owned : IsOwned w (saved_name n) s h (Saved x.0) = subst (λ h. IsOwned w (saved_name n) s h (Saved x.0)) (sym g) x.1 in
         let d = saved_put w n x.0 pair in
         let none_there : Pair = record { subject = []; position = 1 } in
         let there = d.itself s h owned in
@@ -382,8 +382,8 @@ module _ (repeats : ℕ → ℕ → Bool) (Opens : ℕ → ℕ → Option ℕ �
 
     -- the frame c of activation a gets other locals
     locals_set : (values vs : List Value) (a n : ℕ) (top : NCell) (above below : List NCell) → cells ≡ above ++ locs a 0 n (top ∷ below)
-        → r.base ≡ suc (length below) → Owned w (activation_name a) s (suc (length below)) (Locals vs) → length vs ≡ n → length values ≡ n
-        → shown (put_locals w a values).kept top ≡ shown w.kept top → Ok (put_locals w a values) s (suc (length below)) top
+        → r.base ≡ suc (length below) → IsOwned w (activation_name a) s (suc (length below)) (Locals vs) → length vs ≡ n → length values ≡ n
+        → shown_cell (put_locals w a values).kept top ≡ shown_cell w.kept top → Ok (put_locals w a values) s (suc (length below)) top
         → Tn w s (Li (put_locals w a values) c q) (S.set_locals values (Fr w cells r q))
     locals_set values vs a n top above below e g owned lv lw shows ok =
         let b = suc (length below) in let w2 = put_locals w a values in let F2 = w2.kept in let d = locals_put w a vs values in
@@ -399,12 +399,12 @@ module _ (repeats : ℕ → ℕ → Bool) (Opens : ℕ → ℕ → Option ℕ �
         let high : b + length vs ≤ length y = (let x = locs_length a 0 n (top ∷ below) in omega arith) in
         let up = above_keeps w a s b vs values owned y high ok_y above oy in
         let old : render w.kept cells ≡ render w.kept above ++ S.put_above vs (render w.kept (top ∷ below)) = ap (render w.kept) e
-        ∙ map-append (shown w.kept) above y ∙ ap (λ l. render w.kept above ++ l) (shown_locals w.kept a n vs (top ∷ below) owned.holds lv) in
+        ∙ map-append (shown_cell w.kept) above y ∙ ap (λ l. render w.kept above ++ l) (shown_locals w.kept a n vs (top ∷ below) owned.holds lv) in
         let new : render F2 cells ≡ render w.kept above ++ S.put_above values (render w.kept (top ∷ below)) =
-        ap (render F2) e ∙ map-append (shown F2) above y ∙ ap (λ l. l ++ render F2 y) up.1
+        ap (render F2) e ∙ map-append (shown_cell F2) above y ∙ ap (λ l. l ++ render F2 y) up.1
         ∙ ap (λ l. render w.kept above ++ l) (shown_locals F2 a n values (top ∷ below) owned2.holds lw
-        ∙ ap (λ x. S.put_above values (x ∷ render F2 below)) shows ∙ ap (λ l. S.put_above values (shown w.kept top ∷ l)) same_below) in
-        let height : r.base ≡ length (render w.kept (top ∷ below)) = g ∙ sym (length_map (shown w.kept) (top ∷ below)) in (
+        ∙ ap (λ x. S.put_above values (x ∷ render F2 below)) shows ∙ ap (λ l. S.put_above values (shown_cell w.kept top ∷ l)) same_below) in
+        let height : r.base ≡ length (render w.kept (top ∷ below)) = g ∙ sym (length_map (shown_cell w.kept) (top ∷ below)) in (
           w2,
           change_next s b owned d,
           now_as repeats Opens w2 s c q r (S.set_from r.base values (render w.kept cells)) cells

@@ -5,8 +5,8 @@ use Rattle.icn_run.specs.Calls.{Pair, Why}
 use Rattle.icn_run.specs.Stacks as S
 use Rattle.icn_run.specs.Stacks.{Registers, Cell, Frames}
 use Rattle.icn_run.specs.Chains as L
-use Rattle.icn_run.specs.Chains.{Label, fixed, flagged, Reason, because, scanning, Chain, chain, Suspensions, none, Outer, Linked, Parked, Frame, at_base, in_call, frame_of, outer_of}
-use Rattle.icn_run_laws.specs.Rendered.{Name, Kept, Memory, memory_of, linked_with, n_base, n_operand, World, Owned, locs, f_no_scan, IsFlat, f_chain, f_none, f_base, now, Away, away, Next}
+use Rattle.icn_run.specs.Chains.{Label, fixed, flagged, Reason, because, scanning, Chain, chain, Suspensions, none, Outer, LinkedStack, WaitingChain, Frame, at_base, in_call, frame_of, outer_of}
+use Rattle.icn_run_laws.specs.Rendered.{Name, Content, Memory, memory_of, linked_with, n_base, n_operand, World, IsOwned, locs, f_no_scan, IsFlat, f_chain, f_none, f_base, now, Away, away, Next}
 use Rattle.icn_run_laws.specs.Laws.{Both, With}
 use Rattle.icn_run_laws.proofs.Worlds.{Moves, made_next, made_locals, locals_made, all_moves, render_moves, use_all}
 use Rattle.icn_run_laws.proofs.Flattening.{locs_bare, raise_scans, found}
@@ -19,39 +19,39 @@ use Rattle.icn_run_laws.proofs.OnMarks.{Lacks, on_relabel, on_count, on_unmark, 
 use Rattle.icn_run_laws.proofs.OnFrames.{suspend_why, mark_view, proc_found, leave_found, resume_at, swap_found, entered, locals_found, set_found, first_get, shown_locals, locs_ok}
 
 module _ (repeats : ℕ → ℕ → Bool) (Opens : ℕ → ℕ → Option ℕ → Type 0) where
-  abbrev Nw : World → ℕ → Linked → Frames → Type 0
+  abbrev Nw : World → ℕ → LinkedStack → Frames → Type 0
   Nw w s m' m = N repeats Opens w s m' m
 
-  abbrev Tn : World → ℕ → Linked → Frames → Type 0
+  abbrev Tn : World → ℕ → LinkedStack → Frames → Type 0
   Tn w s m' m = T repeats Opens w s m' m
 
-  abbrev Wt : {A : Type 0} → World → ℕ → A × Linked → A × Frames → Type 0
+  abbrev Wt : {A : Type 0} → World → ℕ → A × LinkedStack → A × Frames → Type 0
   Wt w s x y = With Next Nw w s x y
 
-  abbrev Aw : World → ℕ → Parked → Frames → Type 0
+  abbrev Aw : World → ℕ → WaitingChain → Frames → Type 0
   Aw w s k' k = Away repeats Opens w s k' k
 
-  abbrev Holds : World → Linked → Type 0
+  abbrev Holds : World → LinkedStack → Type 0
   Holds w m' = memory_of m' ≡ w.kept
 
-  on_holds : (w : World) (s : ℕ) (m' : Linked) (m : Frames) → Nw w s m' m → Holds w m'
+  on_holds : (w : World) (s : ℕ) (m' : LinkedStack) (m : Frames) → Nw w s m' m → Holds w m'
   on_holds w s m' m (now cells f o) = refl
 
-  on_stays : (w w' : World) (s t : ℕ) (k' : Parked) (k : Frames) → Next s w w' → t ≢ s → Aw w t k' k → Aw w' t k' k
+  on_stays : (w w' : World) (s t : ℕ) (k' : WaitingChain) (k : Frames) → Next s w w' → t ≢ s → Aw w t k' k → Aw w' t k' k
   on_stays w w' s t k' k next d (away {c} {q} {r} cells f o) =
-      let moves : Moves (λ n. Unit {0}) t w w' = λ (n : Name) (h : ℕ) (k : Kept) (u : Unit {0}) (p : Owned w n t h k). next t n h k d p in
+      let moves : Moves (λ n. Unit {0}) t w w' = λ (n : Name) (h : ℕ) (k : Content) (u : Unit {0}) (p : IsOwned w n t h k). next t n h k d p in
       subst (λ l. Aw w' t (record { chain = c; place = q }) (record { cells = l; registers = r; place = q }))
       (render_moves (λ n. Unit {0}) t w w' moves cells (use_all cells) o)
       (away cells f (all_moves (λ n. Unit {0}) t w w' moves cells (use_all cells) o))
 
-  on_kept : (w : World) (s : ℕ) (m' : Linked) (m : Frames) → Nw w s m' m → Aw w s (record { chain = m'.chain; place = m'.place }) m
+  on_kept : (w : World) (s : ℕ) (m' : LinkedStack) (m : Frames) → Nw w s m' m → Aw w s (record { chain = m'.chain; place = m'.place }) m
   on_kept w s m' m (now cells f o) = away cells f o
 
-  on_taken_up : (w : World) (s : ℕ) (k' : Parked) (k : Frames) (m' : Linked) (m : Frames) → Aw w s k' k → Holds w m'
+  on_taken_up : (w : World) (s : ℕ) (k' : WaitingChain) (k : Frames) (m' : LinkedStack) (m : Frames) → Aw w s k' k → Holds w m'
       → Nw w s (record m' { chain = k'.chain; place = k'.place }) k
   on_taken_up w s k' k m' m (away {c} {q} {r} cells f o) e = subst (λ F. Nw w s (linked_with F c q) (Fr w cells r q)) (sym e) (now cells f o)
 
-  on_begin : (p : ℕ) (values : List Value) (q : ℕ) (w : World) (s : ℕ) (m' : Linked) (m : Frames) → Holds w m'
+  on_begin : (p : ℕ) (values : List Value) (q : ℕ) (w : World) (s : ℕ) (m' : LinkedStack) (m : Frames) → Holds w m'
       → Tn w s (L.begin p values q m') (S.begin p values q m)
   on_begin p values q w s m' m e =
       let w2 = made_locals w s 1 values in let d = locals_made w s 1 values in let a = length w.kept.activations in let n = length values in
@@ -66,56 +66,56 @@ module _ (repeats : ℕ → ℕ → Bool) (Opens : ℕ → ℕ → Option ℕ �
             (locs_ok w2 s a 1 values owned 0 n (top ∷ []) refl (omega arith) ((values, owned, refl), tt)),
       )
 
-  on_suspend : (why : Why) (w : World) (s : ℕ) (m' : Linked) (m : Frames) → Nw w s m' m → Tn w s (L.suspend why m') (S.suspend why m)
+  on_suspend : (why : Why) (w : World) (s : ℕ) (m' : LinkedStack) (m : Frames) → Nw w s m' m → Tn w s (L.suspend why m') (S.suspend why m)
   on_suspend why w s m' m (now {q} {r} cells (f_chain {items} {s = su} {scans} {outer} z e b out fs sc) o) =
       suspend_why repeats Opens w s q r items su scans outer cells (f_chain z e b out fs sc) o why
 
-  on_suspend_mark : (w : World) (s : ℕ) (m' : Linked) (m : Frames) → Nw w s m' m → Both ⊥ (Tn w s) (L.suspend_mark m') (S.suspend_mark m)
+  on_suspend_mark : (w : World) (s : ℕ) (m' : LinkedStack) (m : Frames) → Nw w s m' m → Both ⊥ (Tn w s) (L.suspend_mark m') (S.suspend_mark m)
   on_suspend_mark w s m' m (now {q} {r} cells (f_chain {items} {s = su} {scans} {outer} z e b out fs sc) o) =
       mark_view repeats Opens w s q r items su scans outer cells (f_chain z e b out fs sc) o (view repeats Opens (map n_operand items) e out)
 
-  on_suspend_proc : (w : World) (s : ℕ) (m' : Linked) (m : Frames) → Nw w s m' m → Both ⊥ (Tn w s) (L.suspend_proc m') (S.suspend_proc m)
+  on_suspend_proc : (w : World) (s : ℕ) (m' : LinkedStack) (m : Frames) → Nw w s m' m → Both ⊥ (Tn w s) (L.suspend_proc m') (S.suspend_proc m)
   on_suspend_proc w s m' m (now {q} {r} cells (f_chain {items} {s = su} {scans} {outer} z e b out fs sc) o) =
       let f : IsFlat repeats Opens (chain items su scans outer) cells r = f_chain z e b out fs sc in
       proc_found repeats Opens w s q r items su scans outer cells f o (found repeats Opens f)
 
-  on_leave : (w : World) (s : ℕ) (m' : Linked) (m : Frames) → Nw w s m' m → Both ⊥ (Tn w s) (L.leave m') (S.leave m)
+  on_leave : (w : World) (s : ℕ) (m' : LinkedStack) (m : Frames) → Nw w s m' m → Both ⊥ (Tn w s) (L.leave m') (S.leave m)
   on_leave w s m' m (now {q} {r} cells (f_chain {items} {s = su} {scans} {outer} z e b out fs sc) o) =
       let f : IsFlat repeats Opens (chain items su scans outer) cells r = f_chain z e b out fs sc in
       leave_found repeats Opens w s q r items su scans outer cells f o (found repeats Opens f)
 
-  on_resume : (w : World) (s : ℕ) (m' : Linked) (m : Frames) → Nw w s m' m → Both ⊥ (Wt w s) (L.resume m') (S.resume m)
+  on_resume : (w : World) (s : ℕ) (m' : LinkedStack) (m : Frames) → Nw w s m' m → Both ⊥ (Wt w s) (L.resume m') (S.resume m)
   on_resume w s m' m (now {q} {r} cells (f_chain {items} {s = su} {scans} {outer} z e b out fs sc) o) =
       resume_at repeats Opens w s q r items su scans outer cells (f_chain z e b out fs sc) o r.newest (map n_operand items) refl e fs
 
-  on_newest : (pair : Pair) (w : World) (s : ℕ) (m' : Linked) (m : Frames) → Nw w s m' m → Both ⊥ (Wt w s) (L.swap_newest pair m') (S.swap_newest pair m)
+  on_newest : (pair : Pair) (w : World) (s : ℕ) (m' : LinkedStack) (m : Frames) → Nw w s m' m → Both ⊥ (Wt w s) (L.swap_newest pair m') (S.swap_newest pair m)
   on_newest pair w s m' m (now {q} {r} cells (f_chain {items} {s = su} {scans} {outer} z e b out fs sc) o) =
       subst (λ x. Both ⊥ (Wt {A = Pair} w s) (L.swap_at pair (Li w (chain items su scans outer) q) x) (S.swap_newest pair (Fr w cells r q)))
       (sym (first_get scans))
       (swap_found repeats Opens w s q r items su scans outer cells (f_chain z e b out fs sc) o pair (first_at (raise_scans (map n_operand items) e sc)))
 
-  on_oldest : (pair : Pair) (w : World) (s : ℕ) (m' : Linked) (m : Frames) → Nw w s m' m → Both ⊥ (Wt w s) (L.swap_oldest pair m') (S.swap_oldest pair m)
+  on_oldest : (pair : Pair) (w : World) (s : ℕ) (m' : LinkedStack) (m : Frames) → Nw w s m' m → Both ⊥ (Wt w s) (L.swap_oldest pair m') (S.swap_oldest pair m)
   on_oldest pair w s m' m (now {q} {r} cells (f_chain {items} {s = su} {scans} {outer} z e b out fs sc) o) =
       swap_found repeats Opens w s q r items su scans outer cells (f_chain z e b out fs sc) o pair
       (oldest_at w s cells o no_scan r q (raise_scans (map n_operand items) e sc))
 
-  on_enter : (p : ℕ) (values : List Value) (w : World) (s : ℕ) (m' : Linked) (m : Frames) → Nw w s m' m → Tn w s (L.enter p values m') (S.enter p values m)
+  on_enter : (p : ℕ) (values : List Value) (w : World) (s : ℕ) (m' : LinkedStack) (m : Frames) → Nw w s m' m → Tn w s (L.enter p values m') (S.enter p values m)
   on_enter p values w s m' m (now {q} {r} cells (f_chain {items} {s = su} {scans} {outer} z e b out fs sc) o) =
       entered repeats Opens w s q r items su scans outer cells (f_chain z e b out fs sc) o p values
 
-  on_locals : (w : World) (s : ℕ) (m' : Linked) (m : Frames) → Nw w s m' m → L.locals m' ≡ S.locals m
+  on_locals : (w : World) (s : ℕ) (m' : LinkedStack) (m : Frames) → Nw w s m' m → L.locals m' ≡ S.locals m
   on_locals w s m' m (now {q} {r} cells (f_chain {items} {s = su} {scans} {outer} z e b out fs sc) o) =
       let f : IsFlat repeats Opens (chain items su scans outer) cells r = f_chain z e b out fs sc in
       locals_found repeats Opens w s q r items su scans outer cells f o (found repeats Opens f)
 
-  on_set_locals : (values : List Value) (w : World) (s : ℕ) (m' : Linked) (m : Frames) → Nw w s m' m → length values ≡ length (S.locals m)
+  on_set_locals : (values : List Value) (w : World) (s : ℕ) (m' : LinkedStack) (m : Frames) → Nw w s m' m → length values ≡ length (S.locals m)
       → Tn w s (L.set_locals values m') (S.set_locals values m)
   on_set_locals values w s m' m (now {q} {r} cells (f_chain {items} {s = su} {scans} {outer} z e b out fs sc) o) len =
       let f : IsFlat repeats Opens (chain items su scans outer) cells r = f_chain z e b out fs sc in
       set_found repeats Opens w s q r items su scans outer cells f o values (found repeats Opens f)
       (len ∙ sym (ap length (locals_found repeats Opens w s q r items su scans outer cells f o (found repeats Opens f))))
 
-  pub linked_agrees : Agrees (L.linked repeats) S.flat Opens (Lacks repeats Opens)
+  pub linked_agrees : Agrees (L.linked_calls repeats) S.flat Opens (Lacks repeats Opens)
   linked_agrees = record {
     W = World;
     Now = Nw;
@@ -157,7 +157,7 @@ module _ (repeats : ℕ → ℕ → Bool) (Opens : ℕ → ℕ → Option ℕ �
   }
 
   -- open scans are another each
-  pub now_apart : (w : linked_agrees.W) (s : ℕ) (m' : Linked) (m : Frames) → linked_agrees.Now w s m' m → ScansApart m'
+  pub now_apart : (w : linked_agrees.W) (s : ℕ) (m' : LinkedStack) (m : Frames) → linked_agrees.Now w s m' m → ScansApart m'
   unfolding linked_agrees
   now_apart w s m' m (now cells (f_chain {items} {s = su} {scans} {outer} z e b out fs sc) o) =
       scans_apart w s cells (raise_scans (map n_operand items) e sc) o outer

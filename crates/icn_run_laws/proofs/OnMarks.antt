@@ -6,8 +6,8 @@ use Rattle.icn_run.specs.Calls.{Pair, MarkDrop, NoMark, Outside}
 use Rattle.icn_run.specs.Stacks as S
 use Rattle.icn_run.specs.Stacks.{Registers, Cell, Frames}
 use Rattle.icn_run.specs.Chains as L
-use Rattle.icn_run.specs.Chains.{Label, fixed, flagged, Reason, because, scanning, Chain, chain, Suspensions, none, Outer, Linked, Parked, Frame, at_base, in_call, frame_of, outer_of}
-use Rattle.icn_run_laws.specs.Rendered.{Name, flag_name, limit_name, Kept, Flag, Changed, Count, Saved, Locals, flag_kept, NCell, n_base, n_call, n_mark, n_limit, n_operand, World, Owned, shown_label, count_of, shown, render, IsFlag, Ok, AllOk, FlatScans, IsFlat, f_chain, f_none, f_mark, now, Next}
+use Rattle.icn_run.specs.Chains.{Label, fixed, flagged, Reason, because, scanning, Chain, chain, Suspensions, none, Outer, LinkedStack, WaitingChain, Frame, at_base, in_call, frame_of, outer_of}
+use Rattle.icn_run_laws.specs.Rendered.{Name, flag_name, limit_name, Content, Flag, Changed, Count, Saved, Locals, flag_kept, NCell, n_base, n_call, n_mark, n_limit, n_operand, World, IsOwned, shown_label, count_of, shown_cell, render, IsFlag, Ok, AllOk, FlatScans, IsFlat, f_chain, f_none, f_mark, now, Next}
 use Rattle.icn_run_laws.specs.Laws.{Both, With, SameDropped}
 use Rattle.icn_run_laws.specs.SecondLaw.{LacksCell}
 use Rattle.icn_run_laws.proofs.Lists.{some_inj, get_set_same, length_map, r_cut, r_get, r_set}
@@ -17,15 +17,15 @@ use Rattle.icn_run_laws.proofs.OnScans.{first_at, ok_sub, oldest_at, same_pair}
 use Rattle.icn_run_laws.proofs.OnCalls.{on_proc, Li, Fr, idle, N, T, now_as, View, v_base, v_call, v_mark, v_limit, view, scans_all}
 
 -- a cell that stands in the midst changes in place
-pub changed_at : {w w' : World} {n : Name} {old k : Kept} (s h : ℕ) (c : NCell) (x : Cell) (above below cells : List NCell) → cells ≡ above ++ c ∷ below
-    → h ≡ suc (length below) → Change w w' n old k → Owned w n s h old → (IsLocals old → ⊥)
-    → shown w'.kept c ≡ x → Ok w' s h c → AllOk w s cells → (S.set_cell h x (render w.kept cells) ≡ render w'.kept cells) × AllOk w' s cells
+pub changed_at : {w w' : World} {n : Name} {old k : Content} (s h : ℕ) (c : NCell) (x : Cell) (above below cells : List NCell) → cells ≡ above ++ c ∷ below
+    → h ≡ suc (length below) → Change w w' n old k → IsOwned w n s h old → (IsLocals old → ⊥)
+    → shown_cell w'.kept c ≡ x → Ok w' s h c → AllOk w s cells → (S.set_cell h x (render w.kept cells) ≡ render w'.kept cells) × AllOk w' s cells
 changed_at {w} {w'} s h c x above below cells e g d owned nl shows ok o = (
   r_set w.kept above c below h x e g ∙ sym (ap (render w'.kept) e ∙ put_shown s h d owned nl c x shows above below g (subst (AllOk w s) e o)),
   subst (AllOk w' s) (sym e) (put_ok s h d owned nl c ok above below g (subst (AllOk w s) e o)),
 )
 
-abbrev pub changed_to : Bool → ℕ → Kept
+abbrev pub changed_to : Bool → ℕ → Content
 changed_to t label = if t then Flag true else Changed label
 
 changed_flag : (t : Bool) (label : ℕ) → IsFlag (changed_to t label)
@@ -40,7 +40,7 @@ changed_shows false label q l r e = refl
 true_not_false : true ≡ false → ⊥
 true_not_false e = cc
 
-flag_not_locals : (k : Kept) → IsFlag k → IsLocals k → ⊥
+flag_not_locals : (k : Content) → IsFlag k → IsLocals k → ⊥
 flag_not_locals (Flag x) f l = l
 flag_not_locals (Changed x) f l = l
 flag_not_locals (Count x) f l = f
@@ -48,25 +48,25 @@ flag_not_locals (Saved x) f l = f
 flag_not_locals (Locals x) f l = f
 
 module _ (repeats : ℕ → ℕ → Bool) (Opens : ℕ → ℕ → Option ℕ → Type 0) where
-  abbrev Nw : World → ℕ → Linked → Frames → Type 0
+  abbrev Nw : World → ℕ → LinkedStack → Frames → Type 0
   Nw w s m' m = N repeats Opens w s m' m
 
-  abbrev Tn : World → ℕ → Linked → Frames → Type 0
+  abbrev Tn : World → ℕ → LinkedStack → Frames → Type 0
   Tn w s m' m = T repeats Opens w s m' m
 
-  abbrev Wt : {A : Type 0} → World → ℕ → A × Linked → A × Frames → Type 0
+  abbrev Wt : {A : Type 0} → World → ℕ → A × LinkedStack → A × Frames → Type 0
   Wt w s x y = With Next Nw w s x y
 
   -- the innermost mark has no cell
-  abbrev pub Lacks : Linked → Type 0
+  abbrev pub Lacks : LinkedStack → Type 0
   Lacks m' = LacksCell repeats Opens (outer_of m'.chain) (L.proc_of (frame_of (outer_of m'.chain)))
 
   module _ (w : World) (s q : ℕ) (r : Registers) (c : Chain) (cells : List NCell) (f : IsFlat repeats Opens c cells r) (o : AllOk w s cells) where
     -- Labels
 
     relabel_to : {w' : World} (label : ℕ) (l : Option ℕ) (flag p : ℕ) (r' : Registers) (above below : List NCell)
-        → cells ≡ above ++ n_mark (flagged l flag p) r' ∷ below → r.mark ≡ suc (length below) → (old k : Kept) → IsFlag old → IsFlag k
-        → Owned w (flag_name flag) s r.mark old → Change w w' (flag_name flag) old k → shown_label (Some k) l p r' ≡ S.mark (Some label) true r'
+        → cells ≡ above ++ n_mark (flagged l flag p) r' ∷ below → r.mark ≡ suc (length below) → (old k : Content) → IsFlag old → IsFlag k
+        → IsOwned w (flag_name flag) s r.mark old → Change w w' (flag_name flag) old k → shown_label (Some k) l p r' ≡ S.mark (Some label) true r'
         → Tn w s (Li w' c q) (record { cells = S.set_cell r.mark (S.mark (Some label) true r') (render w.kept cells); registers = r; place = q })
     relabel_to {w'} label l flag p r' above below e g old k y z owned d shows =
         let there = d.itself s r.mark owned in
@@ -85,14 +85,14 @@ module _ (repeats : ℕ → ℕ → Bool) (Opens : ℕ → ℕ → Option ℕ �
         let x = (ok_sub w s above (n_mark (flagged l flag p) r' ∷ below) e o).0 in
         let b = flag_there w.kept flag x.0 (flag_at w.kept flag x.0 x.1.holds) in
         let d = flag_put w flag true (L.forget_label flag w.kept.relabels) (label_up w flag) (λ f. own_up w flag) x.0 (Flag true) b.0 b.1 refl in
-        relabel_to label l flag p r' above below e g x.0 (Flag true) x.2 tt (subst (λ h. Owned w (flag_name flag) s h x.0) (sym g) x.1) d
+        relabel_to label l flag p r' above below e g x.0 (Flag true) x.2 tt (subst (λ h. IsOwned w (flag_name flag) s h x.0) (sym g) x.1) d
         (changed_shows true label p l r' te)
     relabel_flagged label l flag p r' above below e g false te =
         let x = (ok_sub w s above (n_mark (flagged l flag p) r' ∷ below) e o).0 in
         let b = flag_there w.kept flag x.0 (flag_at w.kept flag x.0 x.1.holds) in
         let d = flag_put w flag false ((flag, label) ∷ L.forget_label flag w.kept.relabels) (label_set w flag label)
         (λ f. absurd (f (get_set_same w.kept.flags flag b.0 false b.1))) x.0 (Changed label) b.0 b.1 (ap (λ l. flag_kept l false) (own_set w flag label)) in
-        relabel_to label l flag p r' above below e g x.0 (Changed label) x.2 tt (subst (λ h. Owned w (flag_name flag) s h x.0) (sym g) x.1) d
+        relabel_to label l flag p r' above below e g x.0 (Changed label) x.2 tt (subst (λ h. IsOwned w (flag_name flag) s h x.0) (sym g) x.1) d
         (changed_shows false label p l r' te)
 
     relabel_view : (label : ℕ) {outer : Outer} → View repeats Opens cells r.mark r.base outer
@@ -116,7 +116,7 @@ module _ (repeats : ℕ → ℕ → Bool) (Opens : ℕ → ℕ → Option ℕ �
     -- Limits
 
     count_of_limit : (n count : ℕ) (r' : Registers) (above below : List NCell) → cells ≡ above ++ n_limit n r' ∷ below → r.mark ≡ suc (length below)
-        → Owned w (limit_name n) s r.mark (Count count)
+        → IsOwned w (limit_name n) s r.mark (Count count)
         → Both ⊥ (Wt {A = ℕ} w s) (Some (pred count, record (Li w c q) { limits = slice_set w.kept.limits n (pred count) }))
         (S.count_in (Fr w cells r q) (Some (S.limit count r')))
     count_of_limit n count r' above below e g owned =
@@ -145,12 +145,12 @@ module _ (repeats : ℕ → ℕ → Bool) (Opens : ℕ → ℕ → Option ℕ �
         (sym (r_get w.kept above (n_limit n r') below r.mark e g ∙ ap (λ k. Some (S.limit (count_of k) r')) x.1.holds))
         (subst (λ k. Both ⊥ (Wt {A = ℕ} w s) (Some (k, record (Li w c q) { limits = slice_set w.kept.limits n k }))
         (S.count_in (Fr w cells r q) (Some (S.limit x.0 r')))) (sym (ap pred (index_got w.kept.limits n x.0 0 (got_count w.kept n x.0 x.1.holds))))
-        (count_of_limit n x.0 r' above below e g (subst (λ h. Owned w (limit_name n) s h (Count x.0)) (sym g) x.1)))
+        (count_of_limit n x.0 r' above below e g (subst (λ h. IsOwned w (limit_name n) s h (Count x.0)) (sym g) x.1)))
 
     -- Marks that are dropped
 
     module _ (sc : FlatScans (L.scans_of c) cells r.scan) where
-      abbrev Left : Linked × Option Pair → Frames × Option Pair → Type 0
+      abbrev Left : LinkedStack × Option Pair → Frames × Option Pair → Type 0
       Left x y = Tn w s x.0 y.0 × (x.1 ≡ y.1)
 
       unmark_to : (outside : Chain) (r' : Registers) (xs below : List NCell) → cells ≡ xs ++ below → IsFlat repeats Opens outside below r'
@@ -174,7 +174,7 @@ module _ (repeats : ℕ → ℕ → Bool) (Opens : ℕ → ℕ → Option ℕ �
           subst (λ x. Both ⊥ Left (L.unmark_in (Li w c q) outside) (S.unmark_in (Fr w cells r q) x)) (sym (r_cut w.kept above (n_limit n r') below r.mark e g))
           (unmark_to outside r' (above ++ n_limit n r' ∷ []) below (under above (n_limit n r' ∷ []) below e refl) i)
 
-    abbrev Sd : MarkDrop Linked → MarkDrop Frames → Type 0
+    abbrev Sd : MarkDrop LinkedStack → MarkDrop Frames → Type 0
     Sd d' d = SameDropped S.flat Opens Next Nw w s d' d
 
     dropped_label : (l : Option ℕ) (outside : Chain) (r' : Registers) (below : List NCell) → IsFlat repeats Opens outside below r' → AllOk w s below
@@ -184,7 +184,7 @@ module _ (repeats : ℕ → ℕ → Bool) (Opens : ℕ → ℕ → Option ℕ �
 
     dropped_flagged : (l : Option ℕ) (flag p : ℕ) (outside : Chain) (r' : Registers) (below : List NCell) → IsFlat repeats Opens outside below r'
         → Opens (L.proc_of (frame_of (outer_of outside))) p l → AllOk w s (n_mark (flagged l flag p) r' ∷ below)
-        → (k : Kept) → Owned w (flag_name flag) s (suc (length below)) k → FlagAt w.kept flag k
+        → (k : Content) → IsOwned w (flag_name flag) s (suc (length below)) k → FlagAt w.kept flag k
         → Sd (L.repeat_mark l flag p outside (Li w c q) (slice_index_or w.kept.flags flag false))
         (S.drop_from (Fr w cells r q) (shown_label (Some k) l p r' ∷ render w.kept below))
     dropped_flagged l flag p outside r' below i opens ob k owned (is_down e u) =
@@ -215,7 +215,8 @@ module _ (repeats : ℕ → ℕ → Bool) (Opens : ℕ → ℕ → Option ℕ �
             change_next s h owned d,
             now_as repeats Opens w' s (chain [] none (L.scans_of outside) (L.mark (flagged l flag p) outside)) (suc p)
                 (record r' { mark = suc (length (render w.kept below)); newest = None }) (S.mark l false r' ∷ render w.kept below) (top ∷ below)
-                (sym shows) (f_chain {items = []} (top ∷ below) refl tt (f_mark r' [] below refl (ap suc (length_map (shown w.kept) below)) refl opens i) f_none
+                (sym shows)
+                (f_chain {items = []} (top ∷ below) refl tt (f_mark r' [] below refl (ap suc (length_map (shown_cell w.kept) below)) refl opens i) f_none
                 (raise_scans (top ∷ []) refl (scans_all repeats Opens i))) ok,
           ),
         ))
@@ -236,19 +237,20 @@ module _ (repeats : ℕ → ℕ → Bool) (Opens : ℕ → ℕ → Option ℕ �
         (sym (r_cut w.kept above (n_mark (flagged l flag p) r') below r.mark e g ∙ ap (λ y. shown_label y l p r' ∷ render w.kept below) x.1.holds))
         (dropped_flagged l flag p outside r' below i ok ob x.0 x.1 (flag_at w.kept flag x.0 x.1.holds))
 
-  pub on_relabel : (label : ℕ) (w : World) (s : ℕ) (m' : Linked) (m : Frames) → Nw w s m' m → Both (Lacks m') (Tn w s) (L.relabel label m') (S.relabel label m)
+  pub on_relabel : (label : ℕ) (w : World) (s : ℕ) (m' : LinkedStack) (m : Frames) → Nw w s m' m
+      → Both (Lacks m') (Tn w s) (L.relabel label m') (S.relabel label m)
   on_relabel label w s m' m (now {q} {r} cells (f_chain {items} {s = su} {scans} {outer} z e b out fs sc) o) =
       relabel_view w s q r (chain items su scans outer) cells (f_chain z e b out fs sc) o label (view repeats Opens (map n_operand items) e out)
 
-  pub on_count : (w : World) (s : ℕ) (m' : Linked) (m : Frames) → Nw w s m' m → Both ⊥ (Wt w s) (L.count_down m') (S.count_down m)
+  pub on_count : (w : World) (s : ℕ) (m' : LinkedStack) (m : Frames) → Nw w s m' m → Both ⊥ (Wt w s) (L.count_down m') (S.count_down m)
   on_count w s m' m (now {q} {r} cells (f_chain {items} {s = su} {scans} {outer} z e b out fs sc) o) =
       count_view w s q r (chain items su scans outer) cells (f_chain z e b out fs sc) o (view repeats Opens (map n_operand items) e out)
 
-  pub on_unmark : (w : World) (s : ℕ) (m' : Linked) (m : Frames) → Nw w s m' m → Both ⊥ (λ x y. Tn w s x.0 y.0 × (x.1 ≡ y.1)) (L.unmark m') (S.unmark m)
+  pub on_unmark : (w : World) (s : ℕ) (m' : LinkedStack) (m : Frames) → Nw w s m' m → Both ⊥ (λ x y. Tn w s x.0 y.0 × (x.1 ≡ y.1)) (L.unmark m') (S.unmark m)
   on_unmark w s m' m (now {q} {r} cells (f_chain {items} {s = su} {scans} {outer} z e b out fs sc) o) =
       unmark_view w s q r (chain items su scans outer) cells (f_chain z e b out fs sc) o (raise_scans (map n_operand items) e sc)
       (view repeats Opens (map n_operand items) e out)
 
-  pub on_drop : (w : World) (s : ℕ) (m' : Linked) (m : Frames) → Nw w s m' m → SameDropped S.flat Opens Next Nw w s (L.drop_mark m') (S.drop_mark m)
+  pub on_drop : (w : World) (s : ℕ) (m' : LinkedStack) (m : Frames) → Nw w s m' m → SameDropped S.flat Opens Next Nw w s (L.drop_mark m') (S.drop_mark m)
   on_drop w s m' m (now {q} {r} cells (f_chain {items} {s = su} {scans} {outer} z e b out fs sc) o) =
       drop_view w s q r (chain items su scans outer) cells (f_chain z e b out fs sc) o (view repeats Opens (map n_operand items) e out)

@@ -6,8 +6,8 @@ use Rattle.icn_run.specs.Calls.{Pair}
 use Rattle.icn_run.specs.Stacks as S
 use Rattle.icn_run.specs.Stacks.{Registers, Cell, Frames}
 use Rattle.icn_run.specs.Chains as L
-use Rattle.icn_run.specs.Chains.{Reason, scanning, Chain, Linked, Parked}
-use Rattle.icn_run_laws.specs.Rendered.{Saved, Memory, saved_name, memory_of, NCell, n_suspension, World, Owned, saved_in, shown, render, AllOk, FlatScans, f_no_scan, f_scan}
+use Rattle.icn_run.specs.Chains.{Reason, scanning, Chain, LinkedStack, WaitingChain}
+use Rattle.icn_run_laws.specs.Rendered.{Saved, Memory, saved_name, memory_of, NCell, n_suspension, World, IsOwned, saved_in, shown_cell, render, AllOk, FlatScans, f_no_scan, f_scan}
 use Rattle.icn_run_laws.proofs.Lists.{get_seam, above_all, length_map, r_get}
 use Rattle.icn_run_laws.proofs.Worlds.{ok_part, one_height, got_pair, index_got}
 use Rattle.icn_run_laws.proofs.Flattening.{raise_scans, under}
@@ -52,7 +52,7 @@ same_as w s cells o (scan_at {n} {h} q r above below e g) (scan_at {n = m} {h = 
     (λ i. let x = (ok_sub w s above (n_suspension (scanning n) r q ∷ below) e o).0 in
     let y = (ok_sub w s above' (n_suspension (scanning m) r' q' ∷ below') e' o).0 in
     g ∙ one_height w (saved_name n) s s (suc (length below)) (suc (length below')) (Saved x.0) (Saved y.0) x.1
-    (subst (λ j. Owned w (saved_name j) s (suc (length below')) (Saved y.0)) (sym i) y.1) ∙ sym g')
+    (subst (λ j. IsOwned w (saved_name j) s (suc (length below')) (Saved y.0)) (sym i) y.1) ∙ sym g')
     (h == k) (n == m) refl refl
 
 -- scans stand at most so high
@@ -106,10 +106,10 @@ pub oldest_at : (w : World) (s : ℕ) (cells : List NCell) → AllOk w s cells �
 oldest_at w s cells o {n = n} {u = u} a {scans = scans} r q k =
     chosen (S.is_same r.scan u) (L.is_same (L.first_scan scans) n) (same_as w s cells o (first_at k) a) no_scan
     (oldest_from_at w s cells o a (length (render w.kept cells)) k
-    (scan_height (length (render w.kept cells)) (let e = length_map (shown w.kept) cells in omega arith) k))
+    (scan_height (length (render w.kept cells)) (let e = length_map (shown_cell w.kept) cells in omega arith) k))
 
 -- the pair that is saved there
-pub same_pair : (w : World) (s : ℕ) (cells : List NCell) → AllOk w s cells → (m : Linked) → memory_of m ≡ w.kept → {n h : Option ℕ} → ScanAt cells n h
+pub same_pair : (w : World) (s : ℕ) (cells : List NCell) → AllOk w s cells → (m : LinkedStack) → memory_of m ≡ w.kept → {n h : Option ℕ} → ScanAt cells n h
     → L.pair_at m n ≡ S.pair_at (render w.kept cells) h
 same_pair w s cells o m f no_scan = refl
 same_pair w s cells o m f (scan_at {n} {h} q r above below e g) =

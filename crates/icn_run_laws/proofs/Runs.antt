@@ -1,7 +1,7 @@
 -- Every run of a code whose labels go forward ends by its bound.
 use Rattle.std.proofs.Common.{ℕ, Bool, refl}
 use Rattle.icn_run.specs.Stacks.{flat, empty}
-use Rattle.icn_run.specs.Chains.{linked}
+use Rattle.icn_run.specs.Chains.{linked_calls}
 use Rattle.icn_run.specs.Step.{Program, Launch}
 use Rattle.icn_run.specs.FlatStep as Flat
 use Rattle.icn_run.specs.LinkedStep as Linked
@@ -16,5 +16,6 @@ pub flat_ends : (N : ℕ) (P : Program) → Forward N P → (launch : Launch) �
 flat_ends N P code launch = ends flat N (flat_weighs N) P launch.bounds.turns code empty launch refl
 
 -- on linked marks
-pub linked_ends : (repeats : ℕ → ℕ → Bool) (N : ℕ) (P : Program) → Forward N P → (launch : Launch) → EndsFrom (linked repeats) P (Linked.start repeats P launch)
-linked_ends repeats N P code launch = ends (linked repeats) N (linked_weighs repeats N) P launch.bounds.turns code no_chain launch refl
+pub linked_ends : (repeats : ℕ → ℕ → Bool) (N : ℕ) (P : Program) → Forward N P → (launch : Launch)
+    → EndsFrom (linked_calls repeats) P (Linked.start repeats P launch)
+linked_ends repeats N P code launch = ends (linked_calls repeats) N (linked_weighs repeats N) P launch.bounds.turns code no_chain launch refl

@@ -3,8 +3,8 @@ use Rattle.std.proofs.Common.{◌≡◌, ℕ, suc, ◌≤◌, List, [], ◌∷�
 use Rattle.std.specs.Prelude.{◌==◌}
 use Rattle.std.proofs.lemmas.Bool.{eqb-true}
 use Rattle.icn_run.specs.Calls.{Pair}
-use Rattle.icn_run.specs.Chains.{scanning, Chain, chain, Outer, base, call, mark, limit, Linked, scans_of, first_scan}
-use Rattle.icn_run_laws.specs.Rendered.{NCell, n_suspension, World, Owned, Saved, saved_name, AllOk, FlatScans, f_no_scan, f_scan}
+use Rattle.icn_run.specs.Chains.{scanning, Chain, chain, Outer, base, call, mark, limit, LinkedStack, scans_of, first_scan}
+use Rattle.icn_run_laws.specs.Rendered.{NCell, n_suspension, World, IsOwned, Saved, saved_name, AllOk, FlatScans, f_no_scan, f_scan}
 use Rattle.icn_run_laws.proofs.Worlds.{one_height}
 use Rattle.icn_run_laws.proofs.OnScans.{ok_sub}
 use Rattle.icn_run_laws.proofs.ScansLeft.{Apart}
@@ -19,7 +19,7 @@ ApartIn scans (limit n outside) = (new : List ℕ) → scans ≡ new ++ scans_of
 abbrev pub ApartOf : Chain → Type 0
 ApartOf (chain items s scans outer) = ApartIn scans outer
 
-abbrev pub ScansApart : Linked → Type 0
+abbrev pub ScansApart : LinkedStack → Type 0
 ScansApart m = ApartOf m.chain
 
 no_cons : {B : Type 0} (x : ℕ) (xs : List ℕ) → [] ≡ x ∷ xs → B
@@ -37,7 +37,7 @@ tail_of (x ∷ xs) = xs
 record Stood (w : World) (s n size : ℕ) : Type 0 where
   height : ℕ
   pair : Pair
-  owned : Owned w (saved_name n) s height (Saved pair)
+  owned : IsOwned w (saved_name n) s height (Saved pair)
   low : height ≤ size
 
 stood : (w : World) (s k : ℕ) (old new : List ℕ) {scans : List ℕ} {cells : List NCell} {h : Option ℕ} → scans ≡ new ++ k ∷ old → FlatScans scans cells h
@@ -50,7 +50,7 @@ stood w s k old [] q (f_scan {n = m} p r above below e g f) o =
     record {
       height = suc (length below);
       pair = x.0;
-      owned = subst (λ j. Owned w (saved_name j) s (suc (length below)) (Saved x.0)) i x.1;
+      owned = subst (λ j. IsOwned w (saved_name j) s (suc (length below)) (Saved x.0)) i x.1;
       low = omega (arith, l, length-append above (n_suspension (scanning m) r p ∷ below));
     }
 stood w s k old (n ∷ new) q f_no_scan o = no_cons n (new ++ k ∷ old) q
@@ -61,14 +61,14 @@ stood w s k old (n ∷ new) q (f_scan {n = m} p r above below e g f) o =
     let z = y.low in
     record { height = y.height; pair = y.pair; owned = y.owned; low = omega (arith, l, length-append above (n_suspension (scanning m) r p ∷ below)) }
 
-differs : (w : World) (s n k size : ℕ) (pair : Pair) → Owned w (saved_name n) s (suc size) (Saved pair) → Stood w s k size → (n == k) ≡ false
+differs : (w : World) (s n k size : ℕ) (pair : Pair) → IsOwned w (saved_name n) s (suc size) (Saved pair) → Stood w s k size → (n == k) ≡ false
 differs w s n k size pair o y = by_test (n == k) refl
   where
     by_test : (b : Bool) → (n == k) ≡ b → (n == k) ≡ false
     by_test true e =
         let i : k ≡ n = sym (eqb-true n k e) in
         let same = one_height w (saved_name n) s s (suc size) y.height (Saved pair) (Saved y.pair) o
-        (subst (λ j. Owned w (saved_name j) s y.height (Saved y.pair)) i y.owned) in
+        (subst (λ j. IsOwned w (saved_name j) s y.height (Saved y.pair)) i y.owned) in
         let low = y.low in
         absurd (omega arith)
     by_test false e = e
@@ -80,7 +80,7 @@ apart_new w s k old (n ∷ new) q f_no_scan o = no_cons n (new ++ k ∷ old) q
 apart_new w s k old (n ∷ new) q (f_scan {n = m} p r above below e g f) o =
     let x = ok_sub w s above (n_suspension (scanning m) r p ∷ below) e o in
     let i : m ≡ n = ap (head_of n) q in (
-      differs w s n k (length below) x.0.0 (subst (λ j. Owned w (saved_name j) s (suc (length below)) (Saved x.0.0)) i x.0.1)
+      differs w s n k (length below) x.0.0 (subst (λ j. IsOwned w (saved_name j) s (suc (length below)) (Saved x.0.0)) i x.0.1)
           (stood w s k old new (ap tail_of q) f x.1),
       apart_new w s k old new (ap tail_of q) f x.1,
     )

@@ -2,10 +2,10 @@
 use Rattle.std.proofs.Common.{◌≡◌, ℕ, zero, suc, ◌⊎◌, inl, inr, List, [], ◌∷◌, length, arith, Bool, true, false, refl, sym, ap, ◌∙◌, subst}
 use Rattle.icn_code.specs.Codes.{Tables}
 use Rattle.icn_run.specs.Stacks.{Frames, flat, empty, locals as flat_locals, set_locals as flat_set_locals}
-use Rattle.icn_run.specs.Chains.{fixed, flagged, Outer, base, call, mark, limit, outer_of, Parked, Linked, linked, locals, set_locals, empty as no_chain}
+use Rattle.icn_run.specs.Chains.{fixed, flagged, Outer, base, call, mark, limit, outer_of, WaitingChain, LinkedStack, linked_calls, locals, set_locals, empty as no_chain}
 use Rattle.icn_run.specs.Rows.{Value}
 use Rattle.icn_run.specs.Calls.{Calls}
-use Rattle.icn_run.specs.Step.{Program, Launch, Observed, observed, State, running, failing, hopping, over, stuck, step, steps}
+use Rattle.icn_run.specs.Step.{Program, Launch, Observed, observation, State, running, failing, hopping, over, stuck, step, steps}
 use Rattle.icn_run.proofs.Observing.{over_seen, flat_once}
 use Rattle.icn_run.specs.FlatStep as F
 use Rattle.icn_run.specs.LinkedStep as L
@@ -21,93 +21,95 @@ module _ (keep : RowsKeep) (repeats : ℕ → ℕ → Bool) (tables : Tables) (l
   abbrev pub P : Program
   P = tables
 
-  abbrev pub May : Linked → Type 0
+  abbrev pub May : LinkedStack → Type 0
   May = Lacks repeats (Opens P)
 
   -- the two stacks before the first
-  abbrev Blank : Linked → Frames → Type 0
+  abbrev Blank : LinkedStack → Frames → Type 0
   Blank m' m = (m' ≡ no_chain) × (m ≡ empty)
 
-  abbrev Holds : Linked → Type 0
+  abbrev Holds : LinkedStack → Type 0
   Holds m' = (linked_agrees repeats (Opens P)).Holds (at_start repeats (Opens P)).0 m'
 
   no_values : (values : List Value) → length values ≡ 0 → values ≡ []
   no_values [] e = refl
   no_values (v ∷ values) e = absurd (omega arith)
 
-  no_locals : (m' : Linked) (m : Frames) → Blank m' m → locals m' ≡ flat_locals m
+  no_locals : (m' : LinkedStack) (m : Frames) → Blank m' m → locals m' ≡ flat_locals m
   no_locals m' m b = ap locals b.0 ∙ sym (ap flat_locals b.1)
 
-  set_none : (values : List Value) (m' : Linked) (m : Frames) → length values ≡ length (flat_locals m) → Blank m' m
+  set_none : (values : List Value) (m' : LinkedStack) (m : Frames) → length values ≡ length (flat_locals m) → Blank m' m
       → Blank (set_locals values m') (flat_set_locals values m)
   set_none values m' m e b =
       let none : values ≡ [] = no_values values (e ∙ ap (λ m. length (flat_locals m)) b.1) in
       (ap (λ v. set_locals v m') none ∙ ap (set_locals []) b.0, ap (λ v. flat_set_locals v m) none ∙ ap (flat_set_locals []) b.1)
 
   -- whatever is said of the state behind one that lacks something
-  pub starts_so : (Lost : Type 0) → Sm (linked repeats) flat P May Lost (linked_agrees repeats (Opens P)) keep (L.start repeats P launch) (F.start P launch)
-  starts_so Lost = same_start (linked repeats) flat P May Lost (linked_agrees repeats (Opens P)) keep (at_start repeats (Opens P)).0 Blank
+  pub starts_so : (Lost : Type 0)
+      → Sm (linked_calls repeats) flat P May Lost (linked_agrees repeats (Opens P)) keep (L.start repeats P launch) (F.start P launch)
+  starts_so Lost = same_start (linked_calls repeats) flat P May Lost (linked_agrees repeats (Opens P)) keep (at_start repeats (Opens P)).0 Blank
       (λ m' m b. subst Holds (sym b.0) (at_start repeats (Opens P)).1) no_locals set_none launch no_chain empty (refl, refl)
 
   abbrev Missing : Type 0
   Missing = MissingCell repeats tables launch
 
-  abbrev pub Sames : State Parked Linked → State Frames Frames → Type 0
-  Sames s' s = Sm (linked repeats) flat P May Missing (linked_agrees repeats (Opens P)) keep s' s
+  abbrev pub Sames : State WaitingChain LinkedStack → State Frames Frames → Type 0
+  Sames s' s = Sm (linked_calls repeats) flat P May Missing (linked_agrees repeats (Opens P)) keep s' s
 
   starts : Sames (L.start repeats P launch) (F.start P launch)
   starts = starts_so Missing
 
   -- a state of the run that lacks something is one in which a cell is missing
-  missing_at : (k : ℕ) (s : State Parked Linked) → L.steps repeats P k (L.start repeats P launch) ≡ s → IsLacking (linked repeats) P May s → Missing
+  missing_at : (k : ℕ) (s : State WaitingChain LinkedStack) → L.steps repeats P k (L.start repeats P launch) ≡ s → IsLacking (linked_calls repeats) P May s
+      → Missing
   missing_at k (running m st) e x = record { count = k; stack = m; store = st; comes = e; label = x.0; sets = x.1; missing = x.2 }
   missing_at k (failing m st) e x = absurd x
   missing_at k (hopping m st) e x = absurd x
   missing_at k (over ending outside) e x = absurd x
   missing_at k stuck e x = absurd x
 
-  missing_cell : (k : ℕ) → IsLacking (linked repeats) P May (steps (linked repeats) P k (L.start repeats P launch)) → Missing
+  missing_cell : (k : ℕ) → IsLacking (linked_calls repeats) P May (steps (linked_calls repeats) P k (L.start repeats P launch)) → Missing
   missing_cell k x = missing_at k (L.steps repeats P k (L.start repeats P launch)) refl x
 
   pub to_flat : (seen : Observed) → L.Runs repeats tables launch seen → F.Runs tables launch seen
   to_flat seen run =
-      let a = forward (linked repeats) flat P May Missing (linked_agrees repeats (Opens P)) keep run.count (L.start repeats P launch)
+      let a = forward (linked_calls repeats) flat P May Missing (linked_agrees repeats (Opens P)) keep run.count (L.start repeats P launch)
       (F.start P launch) missing_cell starts in
       record {
         count = a.0;
-        is = ap observed (was_over (linked repeats) flat P May Missing (linked_agrees repeats (Opens P)) keep seen.ending seen.outside
+        is = ap observation (was_over (linked_calls repeats) flat P May Missing (linked_agrees repeats (Opens P)) keep seen.ending seen.outside
             (F.steps P a.0 (F.start P launch)) (subst (λ s. Sames s (F.steps P a.0 (F.start P launch))) (over_seen _ seen run.is) a.1));
       }
 
   to_linked_or : (seen : Observed) → F.Runs tables launch seen → L.Runs repeats tables launch seen ⊎ (LinkedStuck repeats tables launch × Missing)
-  to_linked_or seen run = by_end (is_over (linked repeats) flat P May Missing (linked_agrees repeats (Opens P)) keep seen.ending seen.outside
+  to_linked_or seen run = by_end (is_over (linked_calls repeats) flat P May Missing (linked_agrees repeats (Opens P)) keep seen.ending seen.outside
       (L.steps repeats P a.0 (L.start repeats P launch)) a.1)
     where
       a : (k : ℕ) × Sames (L.steps repeats P k (L.start repeats P launch)) (over seen.ending seen.outside)
-      a = backward (linked repeats) flat P May Missing (linked_agrees repeats (Opens P)) keep (over seen.ending seen.outside) refl run.count
+      a = backward (linked_calls repeats) flat P May Missing (linked_agrees repeats (Opens P)) keep (over seen.ending seen.outside) refl run.count
           (L.start repeats P launch) (F.start P launch) missing_cell starts (over_seen _ seen run.is)
 
       by_end : ((L.steps repeats P a.0 (L.start repeats P launch)) ≡ over seen.ending seen.outside)
           ⊎ ((L.steps repeats P a.0 (L.start repeats P launch) ≡ stuck) × Missing)
           → L.Runs repeats tables launch seen ⊎ (LinkedStuck repeats tables launch × Missing)
-      by_end (inl e) = inl (record { count = a.0; is = ap observed e })
+      by_end (inl e) = inl (record { count = a.0; is = ap observation e })
       by_end (inr x) = inr (record { count = a.0; is = x.0 }, x.1)
 
   pub stuck_linked : FlatStuck tables launch → LinkedStuck repeats tables launch
   stuck_linked run =
-      let a = backward (linked repeats) flat P May Missing (linked_agrees repeats (Opens P)) keep stuck refl run.count (L.start repeats P launch)
+      let a = backward (linked_calls repeats) flat P May Missing (linked_agrees repeats (Opens P)) keep stuck refl run.count (L.start repeats P launch)
       (F.start P launch) missing_cell starts run.is in
       record {
         count = a.0;
-        is = is_stuck (linked repeats) flat P May Missing (linked_agrees repeats (Opens P)) keep (L.steps repeats P a.0 (L.start repeats P launch)) a.1;
+        is = is_stuck (linked_calls repeats) flat P May Missing (linked_agrees repeats (Opens P)) keep (L.steps repeats P a.0 (L.start repeats P launch)) a.1;
       }
 
   stuck_flat_or : LinkedStuck repeats tables launch → FlatStuck tables launch ⊎ Missing
-  stuck_flat_or run = by_end (was_stuck (linked repeats) flat P May Missing (linked_agrees repeats (Opens P)) keep (F.steps P a.0 (F.start P launch))
+  stuck_flat_or run = by_end (was_stuck (linked_calls repeats) flat P May Missing (linked_agrees repeats (Opens P)) keep (F.steps P a.0 (F.start P launch))
       (subst (λ s. Sames s (F.steps P a.0 (F.start P launch))) run.is a.1))
     where
       a : (k : ℕ) × Sames (L.steps repeats P run.count (L.start repeats P launch)) (F.steps P k (F.start P launch))
-      a = forward (linked repeats) flat P May Missing (linked_agrees repeats (Opens P)) keep run.count (L.start repeats P launch)
+      a = forward (linked_calls repeats) flat P May Missing (linked_agrees repeats (Opens P)) keep run.count (L.start repeats P launch)
           (F.start P launch) missing_cell starts
 
       by_end : (F.steps P a.0 (F.start P launch) ≡ stuck) ⊎ Missing → FlatStuck tables launch ⊎ Missing
@@ -136,7 +138,7 @@ module _ (keep : RowsKeep) (repeats : ℕ → ℕ → Bool) (tables : Tables) (l
 
 -- where labels may change everywhere none is
 pub none_anywhere : (tables : Tables) (launch : Launch) → MissingCell repeats_anywhere tables launch → ⊥
-none_anywhere tables launch x = none_here (outer_of x.stack.chain) ((linked repeats_anywhere).proc x.stack) x.missing
+none_anywhere tables launch x = none_here (outer_of x.stack.chain) ((linked_calls repeats_anywhere).proc x.stack) x.missing
   where
     none_here : (outer : Outer) (proc : ℕ) → LacksCell repeats_anywhere (Opens tables) outer proc → ⊥
     none_here (mark (fixed label) outside) proc h = let e : true ≡ false = h.2 in cc

@@ -5,7 +5,7 @@ use Rattle.std.specs.Option.{option_and_then}
 use Rattle.icn_run.specs.Rows.{Item}
 use Rattle.icn_run.specs.Calls.{Pair, Why, Alt, Proc}
 use Rattle.icn_run.specs.Stacks.{Cell, base, call, local, mark, limit, suspension, operand, Registers, Frames, cut, cell_at, copy_up, pair_at, oldest, scan_after, push, suspend, mark_suspended, suspend_mark, proc_suspended, suspend_proc, resume_from, resume, unmark_in, unmark}
-use Rattle.icn_run_laws.specs.StackLaws.{IsBare, AreOnTop, SameUpTo, IsCallFrom, Suspended, registers_within, Suspends, Resumed, Resumes, IsMarkOn, Unmarked, EndsLimit, Unmarks}
+use Rattle.icn_run_laws.specs.StackLaws.{IsBare, AreOnTop, SameUpTo, IsCallFrom, SuspendsTo, registers_within, Suspends, ResumesTo, Resumes, IsMarkOn, UnmarksTo, EndsLimit, Unmarks}
 use Rattle.icn_run.specs.Step.{Store, on_pair, with_found, running, scans_left}
 use Rattle.icn_run_laws.proofs.Lists.{no_some, some_inj, get_seam}
 
@@ -68,7 +68,7 @@ kept_below cells above below cell e height some low =
 suspended_by : (why : Why) (before : Frames) (outside : Registers) (place : ℕ) (items : List Item) (result : Item) (after : Frames)
     → after.cells ≡ operand result ∷ (map operand items ++ suspension why before.registers before.place ∷ before.cells)
     → after.registers ≡ record outside { newest = Some (suc (length before.cells)) } → after.place ≡ place
-    → Suspended why before outside place items result after
+    → SuspendsTo why before outside place items result after
 suspended_by why before outside place items result after e n at =
     let frame : Cell = suspension why before.registers before.place in
     let above : List Cell = operand result ∷ (map operand items ++ frame ∷ []) in
@@ -86,7 +86,7 @@ suspended_by why before outside place items result after e n at =
     joined (x ∷ xs) y ys = ap (λ l. x ∷ l) (joined xs y ys)
 
 suspends_in_mark : (why : Why) (m : Frames) (items : List Item) (result : Item) → AreOnTop items m.cells
-    → Suspended why m (registers_within why m) m.place items result (push result (suspend why m))
+    → SuspendsTo why m (registers_within why m) m.place items result (push result (suspend why m))
 suspends_in_mark why m items result h =
     suspended_by why m (registers_within why m) m.place items result (push result (suspend why m))
     (ap (λ l. operand result ∷ l) (copied items m.cells (suspension why m.registers m.place ∷ m.cells) h)) refl refl
@@ -98,7 +98,7 @@ outside_by : (why : Why) (m after : Frames) (outside : List Cell) (registers : R
       registers = record registers { newest = Some (suc (length m.cells)) };
       place = place;
     } ≡ after
-    → AreOnTop items outside → Suspended why m registers place items result (push result after)
+    → AreOnTop items outside → SuspendsTo why m registers place items result (push result after)
 outside_by why m after outside registers place items result e h =
     suspended_by why m registers place items result (push result after)
     (ap (λ (x : Frames). operand result ∷ x.cells) (sym e)
@@ -107,10 +107,11 @@ outside_by why m after outside registers place items result e h =
 
 mark_by : (m : Frames) (cell : Cell) (outside : List Cell) (registers : Registers) (items : List Item) (result : Item) (after : Frames)
     → mark_suspended m (cell ∷ outside) ≡ Some after → IsMarkOn registers cell → AreOnTop items outside
-    → Suspended Alt m registers m.place items result (push result after)
-mark_by m (mark l c r) outside registers items result after e is h = subst (λ (kept : Registers). Suspended Alt m kept m.place items result (push result after))
+    → SuspendsTo Alt m registers m.place items result (push result after)
+mark_by m (mark l c r) outside registers items result after e is h =
+    subst (λ (kept : Registers). SuspendsTo Alt m kept m.place items result (push result after))
     is (outside_by Alt m after outside r m.place items result (some_inj e) h)
-mark_by m (limit n r) outside registers items result after e is h = subst (λ (kept : Registers). Suspended Alt m kept m.place items result (push result after))
+mark_by m (limit n r) outside registers items result after e is h = subst (λ (kept : Registers). SuspendsTo Alt m kept m.place items result (push result after))
     is (outside_by Alt m after outside r m.place items result (some_inj e) h)
 mark_by m (base p n) outside registers items result after e is h = no_some after e
 mark_by m (call p n l r q) outside registers items result after e is h = no_some after e
@@ -120,10 +121,10 @@ mark_by m (operand x) outside registers items result after e is h = no_some afte
 
 proc_by : (m : Frames) (cell : Cell) (outside : List Cell) (registers : Registers) (place : ℕ) (items : List Item) (result : Item) (after : Frames)
     → proc_suspended m (cell ∷ outside) ≡ Some after → IsCallFrom registers place cell → AreOnTop items outside
-    → Suspended Proc m registers place items result (push result after)
+    → SuspendsTo Proc m registers place items result (push result after)
 proc_by m (call p n l r q) outside registers place items result after e is h =
-    subst (λ (kept : Registers). Suspended Proc m kept place items result (push result after)) is.0
-    (subst (λ (back : ℕ). Suspended Proc m r back items result (push result after)) is.1 (outside_by Proc m after outside r q items result (some_inj e) h))
+    subst (λ (kept : Registers). SuspendsTo Proc m kept place items result (push result after)) is.0
+    (subst (λ (back : ℕ). SuspendsTo Proc m r back items result (push result after)) is.1 (outside_by Proc m after outside r q items result (some_inj e) h))
 proc_by m (base p n) outside registers place items result after e is h = no_some after e
 proc_by m (mark l c r) outside registers place items result after e is h = no_some after e
 proc_by m (limit n r) outside registers place items result after e is h = no_some after e
@@ -142,11 +143,11 @@ suspends = record {
 -- Resuming
 
 resumed_by : (m : Frames) (height : ℕ) (why : Why) (after : Frames) (cells : List Cell) → m.registers.newest ≡ Some height → cut height m.cells ≡ cells
-    → resume_from cells ≡ Some (why, after) → Resumed m why after
+    → resume_from cells ≡ Some (why, after) → ResumesTo m why after
 resumed_by m height why after (suspension w r q ∷ below) n c e =
     let e' : (w, record { cells = below; registers = r; place = q }) ≡ (why, after) = some_inj e in
     let o = split (length m.cells - height) m.cells (suspension w r q) below c in
-    subst (λ (back : Why × Frames). Resumed m back.0 back.1) e' (record {
+    subst (λ (back : Why × Frames). ResumesTo m back.0 back.1) e' (record {
       height = height;
       newest = n;
       above = o.0;
@@ -165,7 +166,7 @@ resumed_by m height why after (operand x ∷ below) n c e = no_some (why, after)
 pub resumes : Resumes
 resumes m why after e = by m.registers.newest refl
   where
-    by : (o : Option ℕ) → m.registers.newest ≡ o → Resumed m why after
+    by : (o : Option ℕ) → m.registers.newest ≡ o → ResumesTo m why after
     by None n = no_some (why, after) (ap (λ o. option_and_then (λ height. resume_from (cut height m.cells)) o) (sym n) ∙ e)
     by (Some height) n =
         resumed_by m height why after (cut height m.cells) n refl (ap (λ o. option_and_then (λ height. resume_from (cut height m.cells)) o) (sym n) ∙ e)
@@ -174,10 +175,10 @@ resumes m why after e = by m.registers.newest refl
 
 unmarked_by : (m after : Frames) (cell : Cell) (registers : Registers) (below : List Cell) (pair : Option Pair) → IsMarkOn registers cell
     → cut m.registers.mark m.cells ≡ cell ∷ below
-    → record m { cells = below; registers = registers } ≡ after → pair_at m.cells (oldest registers.scan m) ≡ pair → Unmarked m after pair
+    → record m { cells = below; registers = registers } ≡ after → pair_at m.cells (oldest registers.scan m) ≡ pair → UnmarksTo m after pair
 unmarked_by m after cell registers below pair is c e f =
     let o = split (length m.cells - m.registers.mark) m.cells cell below c in
-    subst (λ (left : Frames). Unmarked m left pair) e (record {
+    subst (λ (left : Frames). UnmarksTo m left pair) e (record {
       above = o.0;
       marks = cell;
       is_mark = is;
@@ -189,7 +190,7 @@ unmarked_by m after cell registers below pair is c e f =
     })
 
 unmarked_at : (m after : Frames) (pair : Option Pair) (cells : List Cell) → cut m.registers.mark m.cells ≡ cells → unmark_in m cells ≡ Some (after, pair)
-    → Unmarked m after pair
+    → UnmarksTo m after pair
 unmarked_at m after pair (mark l b r ∷ below) c e = unmarked_by m after (mark l b r) r below pair refl c (ap (λ (x : Frames × Option Pair). x.0) (some_inj e))
     (ap (λ (x : Frames × Option Pair). x.1) (some_inj e))
 unmarked_at m after pair (limit k r ∷ below) c e = unmarked_by m after (limit k r) r below pair refl c (ap (λ (x : Frames × Option Pair). x.0) (some_inj e))
@@ -210,5 +211,5 @@ unmarks = record {
   };
 }
   where
-    drops : (m after : Frames) (pair : Option Pair) → unmark m ≡ Some (after, pair) → Unmarked m after pair
+    drops : (m after : Frames) (pair : Option Pair) → unmark m ≡ Some (after, pair) → UnmarksTo m after pair
     drops m after pair e = unmarked_at m after pair (cut m.registers.mark m.cells) refl e

@@ -8,7 +8,7 @@ use Rattle.icn_run.specs.Rows.{Value, Null}
 use Rattle.icn_run.specs.Calls.{Pair, Scan}
 use Rattle.icn_run.specs.Stacks.{Cell, local as c_local, limit as c_limit, suspension as c_suspension}
 use Rattle.icn_run.specs.Chains.{fixed, flagged, because, scanning, forget_label, label_of}
-use Rattle.icn_run_laws.specs.Rendered.{Name, activation_name, flag_name, limit_name, saved_name, Kept, Flag, Changed, Count, Saved, Locals, values_of, Memory, held, flag_kept, activation_kept, limit_kept, saved_kept, NCell, n_base, n_call, n_local, n_mark, n_limit, n_suspension, n_operand, World, Owned, shown_label, count_of, saved_in, shown, render, Ok, AllOk, Next}
+use Rattle.icn_run_laws.specs.Rendered.{Name, activation_name, flag_name, limit_name, saved_name, Content, Flag, Changed, Count, Saved, Locals, values_of, Memory, content_of, flag_kept, activation_kept, limit_kept, saved_kept, NCell, n_base, n_call, n_local, n_mark, n_limit, n_suspension, n_operand, World, IsOwned, shown_label, count_of, saved_in, shown_cell, render, Ok, AllOk, Next}
 use Rattle.icn_run_laws.proofs.Lists.{some_inj, no_some, get_more, get_seam, get_set_same, get_set_other}
 
 -- the number of a cell is one of these
@@ -25,7 +25,7 @@ Uses Q (n_operand item) = Unit {0}
 
 -- from one world to another these numbers of stack s hold what they held
 abbrev pub Moves : (Name → Type 0) → ℕ → World → World → Type 0
-Moves Q s w w' = (n : Name) (h : ℕ) (k : Kept) → Q n → Owned w n s h k → Owned w' n s h k
+Moves Q s w w' = (n : Name) (h : ℕ) (k : Content) → Q n → IsOwned w n s h k → IsOwned w' n s h k
 
 pub ok_moves : (Q : Name → Type 0) (s h : ℕ) (w w' : World) → Moves Q s w w' → (c : NCell) → Uses Q c → Ok w s h c → Ok w' s h c
 ok_moves Q s h w w' m (n_base p a n) u o = (o.0, m (activation_name a) h (Locals o.0) u o.1, o.2)
@@ -38,10 +38,11 @@ ok_moves Q s h w w' m (n_suspension (because why) r q) u o = tt
 ok_moves Q s h w w' m (n_suspension (scanning n) r q) u o = (o.0, m (saved_name n) h (Saved o.0) u o.1)
 ok_moves Q s h w w' m (n_operand item) u o = tt
 
-abbrev shown_local : Option Kept → ℕ → Cell
+abbrev shown_local : Option Content → ℕ → Cell
 shown_local k i = c_local (slice_index_or (values_of k) i Null)
 
-pub shown_moves : (Q : Name → Type 0) (s h : ℕ) (w w' : World) → Moves Q s w w' → (c : NCell) → Uses Q c → Ok w s h c → shown w'.kept c ≡ shown w.kept c
+pub shown_moves : (Q : Name → Type 0) (s h : ℕ) (w w' : World) → Moves Q s w w' → (c : NCell) → Uses Q c → Ok w s h c
+    → shown_cell w'.kept c ≡ shown_cell w.kept c
 shown_moves Q s h w w' m (n_base p a n) u o = refl
 shown_moves Q s h w w' m (n_call p a n level r q) u o = refl
 shown_moves Q s h w w' m (n_local a i) u o = let n = m (activation_name a) o.1 (Locals o.0) u o.2 in ap (λ k. shown_local k i) (n.holds ∙ sym o.2.holds)
@@ -80,27 +81,28 @@ pub render_moves : (Q : Name → Type 0) (s : ℕ) (w w' : World) → Moves Q s 
     → render w'.kept cs ≡ render w.kept cs
 render_moves Q s w w' m [] u o = refl
 render_moves Q s w w' m (c ∷ cs) u o =
-    ap (λ x. x ∷ render w'.kept cs) (shown_moves Q s (suc (length cs)) w w' m c u.0 o.0) ∙ ap (λ l. shown w.kept c ∷ l) (render_moves Q s w w' m cs u.1 o.1)
+    ap (λ x. x ∷ render w'.kept cs) (shown_moves Q s (suc (length cs)) w w' m c u.0 o.0)
+    ∙ ap (λ l. shown_cell w.kept c ∷ l) (render_moves Q s w w' m cs u.1 o.1)
 
 -- What changes
 
 -- a world with one more name
-pub record Made (w w' : World) (n : Name) (s h : ℕ) (k : Kept) : Type 0 where
-  pub keeps : (m : Name) (t b : ℕ) (v : Kept) → Owned w m t b v → Owned w' m t b v
-  pub new : Owned w' n s h k
+pub record Made (w w' : World) (n : Name) (s h : ℕ) (k : Content) : Type 0 where
+  pub keeps : (m : Name) (t b : ℕ) (v : Content) → IsOwned w m t b v → IsOwned w' m t b v
+  pub new : IsOwned w' n s h k
 
 -- a world where a name that held one thing holds another
-pub record Change (w w' : World) (n : Name) (old k : Kept) : Type 0 where
-  pub others : (m : Name) (t b : ℕ) (v : Kept) → m ≢ n → Owned w m t b v → Owned w' m t b v
-  pub itself : (s h : ℕ) → Owned w n s h old → Owned w' n s h k
+pub record Change (w w' : World) (n : Name) (old k : Content) : Type 0 where
+  pub others : (m : Name) (t b : ℕ) (v : Content) → m ≢ n → IsOwned w m t b v → IsOwned w' m t b v
+  pub itself : (s h : ℕ) → IsOwned w n s h old → IsOwned w' n s h k
 
-pub made_moves : {w w' : World} {n : Name} {s h : ℕ} {k : Kept} → Made w w' n s h k → (t : ℕ) → Moves (λ n. Unit {0}) t w w'
+pub made_moves : {w w' : World} {n : Name} {s h : ℕ} {k : Content} → Made w w' n s h k → (t : ℕ) → Moves (λ n. Unit {0}) t w w'
 made_moves d t m b v u o = d.keeps m t b v o
 
-pub made_next : {w w' : World} {n : Name} {s h : ℕ} {k : Kept} → Made w w' n s h k → Next s w w'
+pub made_next : {w w' : World} {n : Name} {s h : ℕ} {k : Content} → Made w w' n s h k → Next s w w'
 made_next d t m b v u o = d.keeps m t b v o
 
-pub change_moves : {w w' : World} {n : Name} {old k : Kept} → Change w w' n old k → (t : ℕ) → Moves (λ m. m ≢ n) t w w'
+pub change_moves : {w w' : World} {n : Name} {old k : Content} → Change w w' n old k → (t : ℕ) → Moves (λ m. m ≢ n) t w w'
 change_moves d t m b v u o = d.others m t b v u o
 
 unlike : (n m : ℕ) → n ≢ m → (n == m) ≡ false
@@ -139,17 +141,17 @@ height_of (Some p) = p.1
 height_of None = 0
 
 -- one number is shown in one stack at one height
-pub one_stack : (w : World) (n : Name) (s t h b : ℕ) (k v : Kept) → Owned w n s h k → Owned w n t b v → s ≡ t
+pub one_stack : (w : World) (n : Name) (s t h b : ℕ) (k v : Content) → IsOwned w n s h k → IsOwned w n t b v → s ≡ t
 one_stack w n s t h b k v o p = ap stack_of (sym o.owner ∙ p.owner)
 
-pub one_height : (w : World) (n : Name) (s t h b : ℕ) (k v : Kept) → Owned w n s h k → Owned w n t b v → h ≡ b
+pub one_height : (w : World) (n : Name) (s t h b : ℕ) (k v : Content) → IsOwned w n s h k → IsOwned w n t b v → h ≡ b
 one_height w n s t h b k v o p = ap height_of (sym o.owner ∙ p.owner)
 
-pub one_kept : (w : World) (n : Name) (s t h b : ℕ) (k v : Kept) → Owned w n s h k → Owned w n t b v → k ≡ v
+pub one_kept : (w : World) (n : Name) (s t h b : ℕ) (k v : Content) → IsOwned w n s h k → IsOwned w n t b v → k ≡ v
 one_kept w n s t h b k v o p = some_inj (sym o.holds ∙ p.holds)
 
-pub change_next : {w w' : World} {n : Name} {old k : Kept} (s h : ℕ) → Owned w n s h old → Change w w' n old k → Next s w w'
-change_next {w} {n = n} {old} s h o d t m b v u p = d.others m t b v (λ e. u (sym (one_stack w n s t h b old v o (subst (λ m. Owned w m t b v) e p)))) p
+pub change_next : {w w' : World} {n : Name} {old k : Content} (s h : ℕ) → IsOwned w n s h old → Change w w' n old k → Next s w w'
+change_next {w} {n = n} {old} s h o d t m b v u p = d.others m t b v (λ e. u (sym (one_stack w n s t h b old v o (subst (λ m. IsOwned w m t b v) e p)))) p
 
 -- what a name holds stands in its list
 
@@ -157,25 +159,25 @@ unmapped : {A B : Type 0} (f : A → B) (g : B → Option A) → ((x : A) → g 
 unmapped f g l None y e = no_some y e
 unmapped f g l (Some x) y e = sym (l x) ∙ ap g (some_inj e)
 
-abbrev the_values : Kept → Option (List Value)
+abbrev the_values : Content → Option (List Value)
 the_values (Locals values) = Some values
 the_values k = None
 
-abbrev the_count : Kept → Option ℕ
+abbrev the_count : Content → Option ℕ
 the_count (Count n) = Some n
 the_count k = None
 
-abbrev the_pair : Kept → Option Pair
+abbrev the_pair : Content → Option Pair
 the_pair (Saved pair) = Some pair
 the_pair k = None
 
-pub got_values : (F : Memory) (a : ℕ) (vs : List Value) → held F (activation_name a) ≡ Some (Locals vs) → slice_get F.activations a ≡ Some vs
+pub got_values : (F : Memory) (a : ℕ) (vs : List Value) → content_of F (activation_name a) ≡ Some (Locals vs) → slice_get F.activations a ≡ Some vs
 got_values F a vs e = unmapped activation_kept the_values (λ x. refl) (slice_get F.activations a) (Locals vs) e
 
-pub got_count : (F : Memory) (n count : ℕ) → held F (limit_name n) ≡ Some (Count count) → slice_get F.limits n ≡ Some count
+pub got_count : (F : Memory) (n count : ℕ) → content_of F (limit_name n) ≡ Some (Count count) → slice_get F.limits n ≡ Some count
 got_count F n count e = unmapped limit_kept the_count (λ x. refl) (slice_get F.limits n) (Count count) e
 
-pub got_pair : (F : Memory) (n : ℕ) (pair : Pair) → held F (saved_name n) ≡ Some (Saved pair) → slice_get F.saved n ≡ Some pair
+pub got_pair : (F : Memory) (n : ℕ) (pair : Pair) → content_of F (saved_name n) ≡ Some (Saved pair) → slice_get F.saved n ≡ Some pair
 got_pair F n pair e = unmapped saved_kept the_pair (λ x. refl) (slice_get F.saved n) (Saved pair) e
 
 pub index_got : {A : Type 0} (xs : List A) (n : ℕ) (x d : A) → slice_get xs n ≡ Some x → slice_index_or xs n d ≡ x
@@ -184,12 +186,12 @@ index_got (y ∷ xs) zero x d e = some_inj e
 index_got (y ∷ xs) (suc n) x d e = index_got xs n x d e
 
 -- how a flag is held
-pub data FlagAt (F : Memory) (n : ℕ) : Kept → Type 0 where
+pub data FlagAt (F : Memory) (n : ℕ) : Content → Type 0 where
   is_up : slice_get F.flags n ≡ Some true → FlagAt F n (Flag true)
   is_down : slice_get F.flags n ≡ Some false → label_of n F.relabels ≡ None → FlagAt F n (Flag false)
   is_labelled : (label : ℕ) → slice_get F.flags n ≡ Some false → label_of n F.relabels ≡ Some label → FlagAt F n (Changed label)
 
-pub flag_at : (F : Memory) (n : ℕ) (k : Kept) → held F (flag_name n) ≡ Some k → FlagAt F n k
+pub flag_at : (F : Memory) (n : ℕ) (k : Content) → content_of F (flag_name n) ≡ Some k → FlagAt F n k
 flag_at F n k e = by_flag (slice_get F.flags n) refl (ap (λ o. option_map (flag_kept (label_of n F.relabels)) o) refl ∙ e)
   where
     by_label : (l : Option ℕ) → label_of n F.relabels ≡ l → slice_get F.flags n ≡ Some false → Some (flag_kept l false) ≡ Some k → FlagAt F n k
@@ -201,7 +203,7 @@ flag_at F n k e = by_flag (slice_get F.flags n) refl (ap (λ o. option_map (flag
     by_flag (Some true) f e = subst (FlagAt F n) (some_inj e) (is_up f)
     by_flag (Some false) f e = by_label (label_of n F.relabels) refl f e
 
-pub flag_there : (F : Memory) (n : ℕ) (k : Kept) → FlagAt F n k → (b : Bool) × (slice_get F.flags n ≡ Some b)
+pub flag_there : (F : Memory) (n : ℕ) (k : Content) → FlagAt F n k → (b : Bool) × (slice_get F.flags n ≡ Some b)
 flag_there F n k (is_up f) = (true, f)
 flag_there F n k (is_down f g) = (false, f)
 flag_there F n k (is_labelled label f g) = (false, f)
@@ -273,7 +275,7 @@ module _ (w : World) (s h : ℕ) where
     };
   }
     where
-      keeps : (m : Name) (t b : ℕ) (v : Kept) → Owned w m t b v → Owned (made_locals vs) m t b v
+      keeps : (m : Name) (t b : ℕ) (v : Content) → IsOwned w m t b v → IsOwned (made_locals vs) m t b v
       keeps (activation_name n) t b v o =
           record { owner = get_more w.owners.activations (s, h) n (t, b) o.owner; holds = map_more activation_kept F.activations vs n v o.holds }
       keeps (flag_name n) t b v o = record { owner = o.owner; holds = o.holds }
@@ -286,7 +288,7 @@ module _ (w : World) (s h : ℕ) where
     new = record { owner = new_owner w.owners.limits F.limits w.same_limits; holds = ap (option_map limit_kept) (get_seam F.limits count []) };
   }
     where
-      keeps : (m : Name) (t b : ℕ) (v : Kept) → Owned w m t b v → Owned (made_limit count) m t b v
+      keeps : (m : Name) (t b : ℕ) (v : Content) → IsOwned w m t b v → IsOwned (made_limit count) m t b v
       keeps (limit_name n) t b v o = record { owner = get_more w.owners.limits (s, h) n (t, b) o.owner; holds = map_more limit_kept F.limits count n v o.holds }
       keeps (flag_name n) t b v o = record { owner = o.owner; holds = o.holds }
       keeps (activation_name n) t b v o = record { owner = o.owner; holds = o.holds }
@@ -298,7 +300,7 @@ module _ (w : World) (s h : ℕ) where
     new = record { owner = new_owner w.owners.saved F.saved w.same_saved; holds = ap (option_map saved_kept) (get_seam F.saved pair []) };
   }
     where
-      keeps : (m : Name) (t b : ℕ) (v : Kept) → Owned w m t b v → Owned (made_saved pair) m t b v
+      keeps : (m : Name) (t b : ℕ) (v : Content) → IsOwned w m t b v → IsOwned (made_saved pair) m t b v
       keeps (saved_name n) t b v o = record { owner = get_more w.owners.saved (s, h) n (t, b) o.owner; holds = map_more saved_kept F.saved pair n v o.holds }
       keeps (flag_name n) t b v o = record { owner = o.owner; holds = o.holds }
       keeps (limit_name n) t b v o = record { owner = o.owner; holds = o.holds }
@@ -316,7 +318,7 @@ module _ (w : World) (s h : ℕ) where
       none_new : label_of (length F.flags) F.relabels ≡ None
       none_new = w.unlabelled (length F.flags) (λ e. no_some false (sym (get_end F.flags) ∙ e))
 
-      keeps : (m : Name) (t b : ℕ) (v : Kept) → Owned w m t b v → Owned made_flag m t b v
+      keeps : (m : Name) (t b : ℕ) (v : Content) → IsOwned w m t b v → IsOwned made_flag m t b v
       keeps (flag_name n) t b v o =
           record { owner = get_more w.owners.flags (s, h) n (t, b) o.owner; holds = map_more (flag_kept (label_of n F.relabels)) F.flags false n v o.holds }
       keeps (saved_name n) t b v o = record { owner = o.owner; holds = o.holds }
@@ -346,7 +348,7 @@ locals_put w n us vs = record {
       record { owner = o.owner; holds = ap (option_map activation_kept) (get_set_same w.kept.activations n us vs (got_values w.kept n us o.holds)) };
 }
   where
-    others : (m : Name) (t b : ℕ) (v : Kept) → m ≢ activation_name n → Owned w m t b v → Owned (put_locals w n vs) m t b v
+    others : (m : Name) (t b : ℕ) (v : Content) → m ≢ activation_name n → IsOwned w m t b v → IsOwned (put_locals w n vs) m t b v
     others (activation_name m) t b v d o =
         record { owner = o.owner; holds = ap (option_map activation_kept) (get_set_other w.kept.activations m n vs (λ e. d (ap activation_name e))) ∙ o.holds }
     others (flag_name m) t b v d o = record { owner = o.owner; holds = o.holds }
@@ -359,7 +361,7 @@ count_put w n old count = record {
   itself = λ s h o. record { owner = o.owner; holds = ap (option_map limit_kept) (get_set_same w.kept.limits n old count (got_count w.kept n old o.holds)) };
 }
   where
-    others : (m : Name) (t b : ℕ) (v : Kept) → m ≢ limit_name n → Owned w m t b v → Owned (put_count w n count) m t b v
+    others : (m : Name) (t b : ℕ) (v : Content) → m ≢ limit_name n → IsOwned w m t b v → IsOwned (put_count w n count) m t b v
     others (limit_name m) t b v d o =
         record { owner = o.owner; holds = ap (option_map limit_kept) (get_set_other w.kept.limits m n count (λ e. d (ap limit_name e))) ∙ o.holds }
     others (flag_name m) t b v d o = record { owner = o.owner; holds = o.holds }
@@ -372,7 +374,7 @@ saved_put w n old pair = record {
   itself = λ s h o. record { owner = o.owner; holds = ap (option_map saved_kept) (get_set_same w.kept.saved n old pair (got_pair w.kept n old o.holds)) };
 }
   where
-    others : (m : Name) (t b : ℕ) (v : Kept) → m ≢ saved_name n → Owned w m t b v → Owned (put_saved w n pair) m t b v
+    others : (m : Name) (t b : ℕ) (v : Content) → m ≢ saved_name n → IsOwned w m t b v → IsOwned (put_saved w n pair) m t b v
     others (saved_name m) t b v d o =
         record { owner = o.owner; holds = ap (option_map saved_kept) (get_set_other w.kept.saved m n pair (λ e. d (ap saved_name e))) ∙ o.holds }
     others (flag_name m) t b v d o = record { owner = o.owner; holds = o.holds }
@@ -397,13 +399,13 @@ module _ (w : World) (n : ℕ) (up : Bool) (labels : List (ℕ × ℕ)) (others_
     unlabelled = none_labelled;
   }
 
-  pub flag_put : (old k : Kept) (b : Bool) → slice_get w.kept.flags n ≡ Some b → flag_kept (label_of n labels) up ≡ k → Change w put_flag (flag_name n) old k
+  pub flag_put : (old k : Content) (b : Bool) → slice_get w.kept.flags n ≡ Some b → flag_kept (label_of n labels) up ≡ k → Change w put_flag (flag_name n) old k
   flag_put old k b g e = record {
     others = others;
     itself = λ s h o. record { owner = o.owner; holds = ap (option_map (flag_kept (label_of n labels))) (get_set_same w.kept.flags n b up g) ∙ ap Some e };
   }
     where
-      others : (m : Name) (t b : ℕ) (v : Kept) → m ≢ flag_name n → Owned w m t b v → Owned put_flag m t b v
+      others : (m : Name) (t b : ℕ) (v : Content) → m ≢ flag_name n → IsOwned w m t b v → IsOwned put_flag m t b v
       others (flag_name m) t b v d o = let d2 : m ≢ n = λ i. d (ap flag_name i) in
           record {
             owner = o.owner;
@@ -429,25 +431,25 @@ label_set w n label m d =
 pub own_set : (w : World) (n label : ℕ) → label_of n ((n, label) ∷ forget_label n w.kept.relabels) ≡ Some label
 own_set w n label = ap (λ b. if b then Some label else label_of n (forget_label n w.kept.relabels)) (alike n)
 
-abbrev pub IsLocals : Kept → Type 0
+abbrev pub IsLocals : Content → Type 0
 IsLocals (Locals values) = Unit {0}
 IsLocals k = ⊥
 
 -- the cells at other heights have other numbers, where the cell that changes is not of locals
-pub uses_other : (w : World) (n : Name) (s h b : ℕ) (old : Kept) → Owned w n s h old → (IsLocals old → ⊥) → (c : NCell) → b ≢ h → Ok w s b c
+pub uses_other : (w : World) (n : Name) (s h b : ℕ) (old : Content) → IsOwned w n s h old → (IsLocals old → ⊥) → (c : NCell) → b ≢ h → Ok w s b c
     → Uses (λ m. m ≢ n) c
 uses_other w n s h b old o nl (n_base p a k) d x =
-    λ e. nl (subst IsLocals (sym (one_kept w n s s h b old (Locals x.0) o (subst (λ m. Owned w m s b (Locals x.0)) e x.1))) tt)
+    λ e. nl (subst IsLocals (sym (one_kept w n s s h b old (Locals x.0) o (subst (λ m. IsOwned w m s b (Locals x.0)) e x.1))) tt)
 uses_other w n s h b old o nl (n_call p a k level r q) d x =
-    λ e. nl (subst IsLocals (sym (one_kept w n s s h b old (Locals x.0) o (subst (λ m. Owned w m s b (Locals x.0)) e x.1))) tt)
+    λ e. nl (subst IsLocals (sym (one_kept w n s s h b old (Locals x.0) o (subst (λ m. IsOwned w m s b (Locals x.0)) e x.1))) tt)
 uses_other w n s h b old o nl (n_local a i) d x =
-    λ e. nl (subst IsLocals (sym (one_kept w n s s h x.1 old (Locals x.0) o (subst (λ m. Owned w m s x.1 (Locals x.0)) e x.2))) tt)
+    λ e. nl (subst IsLocals (sym (one_kept w n s s h x.1 old (Locals x.0) o (subst (λ m. IsOwned w m s x.1 (Locals x.0)) e x.2))) tt)
 uses_other w n s h b old o nl (n_mark (fixed l) r) d x = tt
-uses_other w n s h b old o nl (n_mark (flagged l f q) r) d x = λ e. d (sym (one_height w n s s h b old x.0 o (subst (λ m. Owned w m s b x.0) e x.1)))
-uses_other w n s h b old o nl (n_limit m r) d x = λ e. d (sym (one_height w n s s h b old (Count x.0) o (subst (λ m. Owned w m s b (Count x.0)) e x.1)))
+uses_other w n s h b old o nl (n_mark (flagged l f q) r) d x = λ e. d (sym (one_height w n s s h b old x.0 o (subst (λ m. IsOwned w m s b x.0) e x.1)))
+uses_other w n s h b old o nl (n_limit m r) d x = λ e. d (sym (one_height w n s s h b old (Count x.0) o (subst (λ m. IsOwned w m s b (Count x.0)) e x.1)))
 uses_other w n s h b old o nl (n_suspension (because why) r q) d x = tt
 uses_other w n s h b old o nl (n_suspension (scanning m) r q) d x =
-    λ e. d (sym (one_height w n s s h b old (Saved x.0) o (subst (λ m. Owned w m s b (Saved x.0)) e x.1)))
+    λ e. d (sym (one_height w n s s h b old (Saved x.0) o (subst (λ m. IsOwned w m s b (Saved x.0)) e x.1)))
 uses_other w n s h b old o nl (n_operand item) d x = tt
 
 -- all cells but one
@@ -455,15 +457,15 @@ pub ok_part : (w : World) (s : ℕ) (above : List NCell) (below : List NCell) �
 ok_part w s [] below o = o
 ok_part w s (c ∷ above) below o = ok_part w s above below o.1
 
-pub uses_below : (w : World) (n : Name) (s h : ℕ) (old : Kept) → Owned w n s h old → (IsLocals old → ⊥) → (cs : List NCell) → length cs < h → AllOk w s cs
+pub uses_below : (w : World) (n : Name) (s h : ℕ) (old : Content) → IsOwned w n s h old → (IsLocals old → ⊥) → (cs : List NCell) → length cs < h → AllOk w s cs
     → UsesAll (λ m. m ≢ n) cs
 uses_below w n s h old o nl [] lt x = tt
 uses_below w n s h old o nl (c ∷ cs) lt x =
     (uses_other w n s h (suc (length cs)) old o nl c (λ e. omega arith) x.0, uses_below w n s h old o nl cs (omega arith) x.1)
 
 -- a cell in the midst changes
-module _ {w w' : World} {n : Name} (s h : ℕ) {old k : Kept} (d : Change w w' n old k) (o : Owned w n s h old) (nl : IsLocals old → ⊥) where
-  pub put_shown : (c : NCell) (x : Cell) → shown w'.kept c ≡ x → (above below : List NCell) → h ≡ suc (length below)
+module _ {w w' : World} {n : Name} (s h : ℕ) {old k : Content} (d : Change w w' n old k) (o : IsOwned w n s h old) (nl : IsLocals old → ⊥) where
+  pub put_shown : (c : NCell) (x : Cell) → shown_cell w'.kept c ≡ x → (above below : List NCell) → h ≡ suc (length below)
       → AllOk w s (above ++ c ∷ below) → render w'.kept (above ++ c ∷ below) ≡ render w.kept above ++ x ∷ render w.kept below
   put_shown c x e [] below g y =
       ap (λ z. z ∷ render w'.kept below) e
@@ -471,7 +473,7 @@ module _ {w w' : World} {n : Name} (s h : ℕ) {old k : Kept} (d : Change w w' n
   put_shown c x e (z ∷ above) below g y =
       ap (λ z. z ∷ render w'.kept (above ++ c ∷ below)) (shown_moves (λ m. m ≢ n) s (suc (length (above ++ c ∷ below))) w w' (change_moves d s) z
       (uses_other w n s h (suc (length (above ++ c ∷ below))) old o nl z (λ e. omega (arith, length-append above (c ∷ below))) y.0) y.0)
-      ∙ ap (λ l. shown w.kept z ∷ l) (put_shown c x e above below g y.1)
+      ∙ ap (λ l. shown_cell w.kept z ∷ l) (put_shown c x e above below g y.1)
 
   pub put_ok : (c : NCell) → Ok w' s h c → (above below : List NCell) → h ≡ suc (length below) → AllOk w s (above ++ c ∷ below)
       → AllOk w' s (above ++ c ∷ below)

@@ -20,9 +20,9 @@ abbrev pub With : {W A M' M : Type 0} → (ℕ → W → W → Type 0) → (W �
 With Next Now w s x y = (x.0 ≡ y.0) × Then Next Now w s x.1 y.1
 
 -- a mark that may be reached again stands where the second machine goes on, and the first one has opened it
-abbrev pub Reopened : {K W M' M : Type 0} → Calls K M → (ℕ → ℕ → Option ℕ → Type 0) → (ℕ → W → W → Type 0)
+abbrev pub OpensAgain : {K W M' M : Type 0} → Calls K M → (ℕ → ℕ → Option ℕ → Type 0) → (ℕ → W → W → Type 0)
     → (W → ℕ → M' → M → Type 0) → W → ℕ → M' → M → Type 0
-Reopened C Opens Next Now w s m' m = (label : Option ℕ) × Opens (C.proc m) (C.place m) label
+OpensAgain C Opens Next Now w s m' m = (label : Option ℕ) × Opens (C.proc m) (C.place m) label
     × Then Next Now w s m' (C.mark label (C.go (suc (C.place m)) m))
 
 abbrev pub SameDropped : {K W M' M : Type 0} → Calls K M → (ℕ → ℕ → Option ℕ → Type 0) → (ℕ → W → W → Type 0)
@@ -31,7 +31,7 @@ SameDropped C Opens Next Now w s NoMark NoMark = Unit {0}
 SameDropped C Opens Next Now w s (Goes m') (Goes m) = Then Next Now w s m' m
 SameDropped C Opens Next Now w s (Outside m') (Outside m) = Then Next Now w s m' m
 SameDropped C Opens Next Now w s (Repeats m') (Repeats m) =
-    Then Next Now w s m' m ⊎ Reopened C Opens Next Now w s m' m
+    Then Next Now w s m' m ⊎ OpensAgain C Opens Next Now w s m' m
 SameDropped C Opens Next Now w s d' d = ⊥
 
 -- C' agrees with C, but for stacks of C' that lack what setting a label wants. A world tells what the stacks share.

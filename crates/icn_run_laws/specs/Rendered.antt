@@ -5,7 +5,7 @@ use Rattle.std.specs.Option.{option_map}
 use Rattle.icn_run.specs.Rows.{Value, Null, Item}
 use Rattle.icn_run.specs.Calls.{Pair, Scan}
 use Rattle.icn_run.specs.Stacks.{Registers, Cell, Frames, base as c_base, call as c_call, local as c_local, mark as c_mark, limit as c_limit, suspension as c_suspension, operand as c_operand}
-use Rattle.icn_run.specs.Chains.{Label, fixed, flagged, Reason, because, scanning, Chain, chain, Suspensions, none, suspension, Outer, base, call, mark, limit, Linked, Parked, frame_of, outer_of, proc_of, label_of}
+use Rattle.icn_run.specs.Chains.{Label, fixed, flagged, Reason, because, scanning, Chain, chain, Suspensions, none, suspension, Outer, base, call, mark, limit, LinkedStack, WaitingChain, frame_of, outer_of, proc_of, label_of}
 
 -- A frame has the number of its activation and how many locals stand above it, and these their activation and their place.
 pub data NCell : Type 0 where
@@ -26,14 +26,14 @@ pub data Name : Type 0 where
 
 -- whether a repeated alternation had a result, another label that a mark got, the results that a limit leaves, a saved pair, and the locals of an
 -- activation
-pub data Kept : Type 0 where
-  Flag : Bool → Kept
-  Changed : ℕ → Kept
-  Count : ℕ → Kept
-  Saved : Pair → Kept
-  Locals : List Value → Kept
+pub data Content : Type 0 where
+  Flag : Bool → Content
+  Changed : ℕ → Content
+  Count : ℕ → Content
+  Saved : Pair → Content
+  Locals : List Value → Content
 
-abbrev pub values_of : Option Kept → List Value
+abbrev pub values_of : Option Content → List Value
 values_of (Some (Locals values)) = values
 values_of cell = []
 
@@ -45,7 +45,7 @@ pub record Memory : Type 0 where
   pub limits : List ℕ
   pub saved : List Pair
 
-abbrev pub memory_of : Linked → Memory
+abbrev pub memory_of : LinkedStack → Memory
 memory_of m = record {
   activations = m.activations;
   flags = m.flags;
@@ -55,7 +55,7 @@ memory_of m = record {
 }
 
 -- a chain at a place, with what is held beside it
-abbrev pub linked_with : Memory → Chain → ℕ → Linked
+abbrev pub linked_with : Memory → Chain → ℕ → LinkedStack
 linked_with F c q = record {
   chain = c;
   place = q;
@@ -67,26 +67,26 @@ linked_with F c q = record {
 }
 
 -- where a flag is down, the mark may have got another label
-abbrev pub flag_kept : Option ℕ → Bool → Kept
+abbrev pub flag_kept : Option ℕ → Bool → Content
 flag_kept label true = Flag true
 flag_kept None false = Flag false
 flag_kept (Some label) false = Changed label
 
-abbrev pub activation_kept : List Value → Kept
+abbrev pub activation_kept : List Value → Content
 activation_kept values = Locals values
 
-abbrev pub limit_kept : ℕ → Kept
+abbrev pub limit_kept : ℕ → Content
 limit_kept count = Count count
 
-abbrev pub saved_kept : Pair → Kept
+abbrev pub saved_kept : Pair → Content
 saved_kept pair = Saved pair
 
 -- what a name holds
-abbrev pub held : Memory → Name → Option Kept
-held F (activation_name n) = option_map activation_kept (slice_get F.activations n)
-held F (flag_name n) = option_map (flag_kept (label_of n F.relabels)) (slice_get F.flags n)
-held F (limit_name n) = option_map limit_kept (slice_get F.limits n)
-held F (saved_name n) = option_map saved_kept (slice_get F.saved n)
+abbrev pub content_of : Memory → Name → Option Content
+content_of F (activation_name n) = option_map activation_kept (slice_get F.activations n)
+content_of F (flag_name n) = option_map (flag_kept (label_of n F.relabels)) (slice_get F.flags n)
+content_of F (limit_name n) = option_map limit_kept (slice_get F.limits n)
+content_of F (saved_name n) = option_map saved_kept (slice_get F.saved n)
 
 -- where each is shown: in which stack, and at which height
 pub record Owners : Type 0 where
@@ -112,56 +112,57 @@ pub record World : Type 0 where
   pub unlabelled : (n : ℕ) → (slice_get kept.flags n ≡ Some false → ⊥) → label_of n kept.relabels ≡ None
 
 -- name n is shown in stack s at height h, and holds k
-pub record Owned (w : World) (n : Name) (s h : ℕ) (k : Kept) : Type 0 where
+pub record IsOwned (w : World) (n : Name) (s h : ℕ) (k : Content) : Type 0 where
   pub owner : owner_of w.owners n ≡ Some (s, h)
-  pub holds : held w.kept n ≡ Some k
+  pub holds : content_of w.kept n ≡ Some k
 
 -- How a numbered cell looks
 
-abbrev pub shown_label : Option Kept → Option ℕ → ℕ → Registers → Cell
+abbrev pub shown_label : Option Content → Option ℕ → ℕ → Registers → Cell
 shown_label (Some (Flag true)) label place r = c_mark (Some place) true r
 shown_label (Some (Changed other)) label place r = c_mark (Some other) true r
 shown_label kept label place r = c_mark label false r
 
-abbrev pub count_of : Option Kept → ℕ
+abbrev pub count_of : Option Content → ℕ
 count_of (Some (Count n)) = n
 count_of kept = 0
 
-abbrev pub saved_in : Option Kept → Pair
+abbrev pub saved_in : Option Content → Pair
 saved_in (Some (Saved pair)) = pair
 saved_in kept = record { subject = []; position = 0 }
 
-abbrev pub shown : Memory → NCell → Cell
-shown F (n_base p a n) = c_base p n
-shown F (n_call p a n level r q) = c_call p n level r q
-shown F (n_local a i) = c_local (slice_index_or (values_of (held F (activation_name a))) i Null)
-shown F (n_mark (fixed l) r) = c_mark l false r
-shown F (n_mark (flagged l f q) r) = shown_label (held F (flag_name f)) l q r
-shown F (n_limit n r) = c_limit (count_of (held F (limit_name n))) r
-shown F (n_suspension (because why) r q) = c_suspension why r q
-shown F (n_suspension (scanning n) r q) = c_suspension (Scan (saved_in (held F (saved_name n)))) r q
-shown F (n_operand item) = c_operand item
+abbrev pub shown_cell : Memory → NCell → Cell
+shown_cell F (n_base p a n) = c_base p n
+shown_cell F (n_call p a n level r q) = c_call p n level r q
+shown_cell F (n_local a i) = c_local (slice_index_or (values_of (content_of F (activation_name a))) i Null)
+shown_cell F (n_mark (fixed l) r) = c_mark l false r
+shown_cell F (n_mark (flagged l f q) r) = shown_label (content_of F (flag_name f)) l q r
+shown_cell F (n_limit n r) = c_limit (count_of (content_of F (limit_name n))) r
+shown_cell F (n_suspension (because why) r q) = c_suspension why r q
+shown_cell F (n_suspension (scanning n) r q) =
+    c_suspension (Scan (saved_in (content_of F (saved_name n)))) r q
+shown_cell F (n_operand item) = c_operand item
 
 abbrev pub render : Memory → List NCell → List Cell
-render F cells = map (shown F) cells
+render F cells = map (shown_cell F) cells
 
-abbrev pub IsFlag : Kept → Type 0
+abbrev pub IsFlag : Content → Type 0
 IsFlag (Flag up) = Unit {0}
 IsFlag (Changed label) = Unit {0}
 IsFlag kept = ⊥
 
 -- the number that a cell at height h of stack s names holds what it should, and is shown there
 abbrev pub Ok : World → ℕ → ℕ → NCell → Type 0
-Ok w s h (n_base p a n) = (vs : List Value) × Owned w (activation_name a) s h (Locals vs) × (length vs ≡ n)
+Ok w s h (n_base p a n) = (vs : List Value) × IsOwned w (activation_name a) s h (Locals vs) × (length vs ≡ n)
 Ok w s h (n_call p a n level r q) =
-    (vs : List Value) × Owned w (activation_name a) s h (Locals vs) × (length vs ≡ n)
-Ok w s h (n_local a i) = (vs : List Value) × (b : ℕ) × Owned w (activation_name a) s b (Locals vs)
+    (vs : List Value) × IsOwned w (activation_name a) s h (Locals vs) × (length vs ≡ n)
+Ok w s h (n_local a i) = (vs : List Value) × (b : ℕ) × IsOwned w (activation_name a) s b (Locals vs)
     × (h ≡ suc (b + i)) × (i < length vs)
 Ok w s h (n_mark (fixed l) r) = Unit {0}
-Ok w s h (n_mark (flagged l f q) r) = (k : Kept) × Owned w (flag_name f) s h k × IsFlag k
-Ok w s h (n_limit n r) = (count : ℕ) × Owned w (limit_name n) s h (Count count)
+Ok w s h (n_mark (flagged l f q) r) = (k : Content) × IsOwned w (flag_name f) s h k × IsFlag k
+Ok w s h (n_limit n r) = (count : ℕ) × IsOwned w (limit_name n) s h (Count count)
 Ok w s h (n_suspension (because why) r q) = Unit {0}
-Ok w s h (n_suspension (scanning n) r q) = (pair : Pair) × Owned w (saved_name n) s h (Saved pair)
+Ok w s h (n_suspension (scanning n) r q) = (pair : Pair) × IsOwned w (saved_name n) s h (Saved pair)
 Ok w s h (n_operand item) = Unit {0}
 
 abbrev pub AllOk : World → ℕ → List NCell → Type 0
@@ -225,16 +226,16 @@ module _ (repeats : ℕ → ℕ → Bool) (Opens : ℕ → ℕ → Option ℕ �
           → IsFlat outside below r → FlatOuter (limit n outside) z h b
 
   -- the stack that runs, as number s
-  pub data Now (w : World) (s : ℕ) : Linked → Frames → Type 0 where
+  pub data Now (w : World) (s : ℕ) : LinkedStack → Frames → Type 0 where
     now : {c : Chain} {q : ℕ} {r : Registers} (cells : List NCell) → IsFlat c cells r → AllOk w s cells
         → Now w s (linked_with w.kept c q) (record { cells = render w.kept cells; registers = r; place = q })
 
   -- a stack that waits
-  pub data Away (w : World) (s : ℕ) : Parked → Frames → Type 0 where
+  pub data Away (w : World) (s : ℕ) : WaitingChain → Frames → Type 0 where
     away : {c : Chain} {q : ℕ} {r : Registers} (cells : List NCell) → IsFlat c cells r → AllOk w s cells
         → Away w s (record { chain = c; place = q })
         (record { cells = render w.kept cells; registers = r; place = q })
 
 -- from a world to one where the numbers of other stacks than s hold what they held
 abbrev pub Next : ℕ → World → World → Type 0
-Next s w w' = (t : ℕ) (n : Name) (h : ℕ) (k : Kept) → t ≢ s → Owned w n t h k → Owned w' n t h k
+Next s w w' = (t : ℕ) (n : Name) (h : ℕ) (k : Content) → t ≢ s → IsOwned w n t h k → IsOwned w' n t h k

@@ -34,7 +34,7 @@ IsCallFrom outside back cell = ⊥
 
 -- All that stood is as it was. On it are the frame, the operands of the mark that goes on, and the result; that mark's registers are those that it had, but
 -- that the frame is its newest suspension, and the code goes on at this place.
-pub record Suspended (why : Why) (before : Frames) (outside : Registers) (back : ℕ) (operands : List Item)
+pub record SuspendsTo (why : Why) (before : Frames) (outside : Registers) (back : ℕ) (operands : List Item)
     (result : Item)
     (after : Frames) : Type 0 where
   pub below : SameUpTo (length before.cells) before.cells after.cells
@@ -53,21 +53,21 @@ registers_within why m = record m.registers { scan = scan_after why (suc (length
 -- it, or that of the caller.
 pub record Suspends : Type 0 where
   pub in_mark : (why : Why) (m : Frames) (operands : List Item) (result : Item) → AreOnTop operands m.cells
-      → Suspended why m (registers_within why m) m.place operands result (push result (suspend why m))
+      → SuspendsTo why m (registers_within why m) m.place operands result (push result (suspend why m))
   pub mark : (m after : Frames) (cell : Cell) (outside : List Cell) (registers : Registers)
       (operands : List Item) (result : Item)
       → suspend_mark m ≡ Some after → cut m.registers.mark m.cells ≡ cell ∷ outside → IsMarkOn registers cell
       → AreOnTop operands outside
-      → Suspended Alt m registers m.place operands result (push result after)
+      → SuspendsTo Alt m registers m.place operands result (push result after)
   pub proc : (m after : Frames) (cell : Cell) (outside : List Cell) (registers : Registers) (place : ℕ)
       (operands : List Item) (result : Item)
       → suspend_proc m ≡ Some after → cut m.registers.base m.cells ≡ cell ∷ outside
       → IsCallFrom registers place cell
-      → AreOnTop operands outside → Suspended Proc m registers place operands result (push result after)
+      → AreOnTop operands outside → SuspendsTo Proc m registers place operands result (push result after)
 
 -- The newest suspension of the innermost mark came back: what stood above the start of its frame is gone with the frame, its registers and its place are
 -- there again, and each cell below, locals among them, is as it is now.
-pub record Resumed (before : Frames) (why : Why) (after : Frames) : Type 0 where
+pub record ResumesTo (before : Frames) (why : Why) (after : Frames) : Type 0 where
   pub height : ℕ
   pub newest : before.registers.newest ≡ Some height
   pub above : List Cell
@@ -77,11 +77,11 @@ pub record Resumed (before : Frames) (why : Why) (after : Frames) : Type 0 where
 
 -- resuming brings back what was suspended last, and all below it is as it was
 abbrev pub Resumes : Type 0
-Resumes = (m : Frames) (why : Why) (after : Frames) → resume m ≡ Some (why, after) → Resumed m why after
+Resumes = (m : Frames) (why : Why) (after : Frames) → resume m ≡ Some (why, after) → ResumesTo m why after
 
 -- The innermost mark is gone with all that stood above it, and what stood below it stands: what is resumed from now on stood below the mark. The pair that
 -- it gives is the one which the oldest scan that was opened in the mark, and is still open, has saved.
-pub record Unmarked (before after : Frames) (pair : Option Pair) : Type 0 where
+pub record UnmarksTo (before after : Frames) (pair : Option Pair) : Type 0 where
   pub above : List Cell
   pub marks : Cell
   pub is_mark : IsMarkOn after.registers marks
@@ -93,12 +93,12 @@ pub record Unmarked (before after : Frames) (pair : Option Pair) : Type 0 where
 
 -- the last result of a limit: the mark of the limit is gone, and the result stands on what was below
 pub record EndsLimit (item : Item) (m after : Frames) (pair : Option Pair) (st : Store Frames) : Type 0 where
-  pub unmarked : Unmarked m after pair
+  pub unmarked : UnmarksTo m after pair
   pub goes_on : limited_result flat item 0 m st ≡ running (push item after) (scans_left pair st)
 
 -- of `unmark`, and of the last result of a limit, which unmarks
 pub record Unmarks : Type 0 where
-  pub drops : (m after : Frames) (pair : Option Pair) → unmark m ≡ Some (after, pair) → Unmarked m after pair
+  pub drops : (m after : Frames) (pair : Option Pair) → unmark m ≡ Some (after, pair) → UnmarksTo m after pair
   pub last_result : (item : Item) (m after : Frames) (pair : Option Pair) (st : Store Frames)
       → unmark m ≡ Some (after, pair)
       → EndsLimit item m after pair st

@@ -8,7 +8,7 @@ ghost use Rattle.icn_run.specs.LinkedStep.{repeats_anywhere};
 ghost use Rattle.icn_run.specs.LinkedStep as Linked;
 ghost use Rattle.icn_run.specs.FlatStep as Flat;
 ghost use Rattle.icn_run.specs.Stacks.{flat};
-ghost use Rattle.icn_run.specs.Chains.{linked};
+ghost use Rattle.icn_run.specs.Chains.{linked_calls};
 ghost use Rattle.icn_run.specs.Step.{Program, Launch};
 ghost use Rattle.icn_run_laws.specs.Measure.{Forward, EndsFrom};
 ghost use Rattle.icn_run_laws.specs.OthersStay.{OthersStay};
@@ -28,7 +28,7 @@ pub fn runs_end()
     ensures on_stacks { (most : ℕ) (code : Program) → Forward most code → (launch : Launch)
         → EndsFrom flat code (Flat.start code launch) }
     ensures on_marks { (repeats : ℕ → ℕ → Bool) (most : ℕ) (code : Program) → Forward most code
-        → (launch : Launch) → EndsFrom (linked repeats) code (Linked.start repeats code launch) }
+        → (launch : Launch) → EndsFrom (linked_calls repeats) code (Linked.start repeats code launch) }
 {}
 
 /// An instruction that passes no control to another co-expression leaves what waits of each, its activator and its status as they were, and no co-expression
@@ -36,7 +36,7 @@ pub fn runs_end()
 /// marks, its chain.
 pub fn others_stay()
     ensures on_stacks { (code : Program) → OthersStay flat code }
-    ensures on_marks { (repeats : ℕ → ℕ → Bool) (code : Program) → OthersStay (linked repeats) code }
+    ensures on_marks { (repeats : ℕ → ℕ → Bool) (code : Program) → OthersStay (linked_calls repeats) code }
 {}
 
 /// What suspending, resuming and dropping a mark do to any flat stack.

@@ -4,7 +4,7 @@ use Rattle.icn_value.specs.Store.{Outside, outside_of}
 use Rattle.icn_code.specs.Codes.{Tables}
 use Rattle.icn_verify.specs.Given.{HaveShapes}
 use Rattle.icn_run.specs.Stacks.{Frames, flat}
-use Rattle.icn_run.specs.Chains.{Parked, Linked, linked}
+use Rattle.icn_run.specs.Chains.{WaitingChain, LinkedStack, linked_calls}
 use Rattle.icn_run.specs.Step.{Launch, State, Store, running, failing, hopping, over, stuck, instruction, instruction_at, with_found, step, steps}
 use Rattle.icn_run.specs.FlatStep as Flat
 use Rattle.icn_run.specs.LinkedStep as Marks
@@ -89,11 +89,11 @@ module _ (tables : Tables) where
 -- That it is so
 
 module _ (tables : Tables) (have : HaveShapes tables) (ok : TablesOk tables) (keep : RowsStayWithin) where
-  abbrev pub SafeState : State Parked Linked → Type 0
+  abbrev pub SafeState : State WaitingChain LinkedStack → Type 0
   SafeState s = Safe tables (shapes_of tables have) s
 
   -- what is safe does not ask for the outside
-  pub safe_over : (outside : Outside) (s : State Parked Linked) → SafeState s → SafeState (over_outside outside s)
+  pub safe_over : (outside : Outside) (s : State WaitingChain LinkedStack) → SafeState s → SafeState (over_outside outside s)
   safe_over outside (running m st) h = (h.0, h.1, h.2, h.3, h.4, record { world = h.5.world; coexps = h.5.coexps })
   safe_over outside (failing m st) h = (h.0, h.1, h.2, h.3, record { world = h.4.world; coexps = h.4.coexps })
   safe_over outside (hopping m st) h = (h.0, h.1, record { world = h.2.world; coexps = h.2.coexps })
@@ -101,7 +101,7 @@ module _ (tables : Tables) (have : HaveShapes tables) (ok : TablesOk tables) (ke
   safe_over outside stuck h = h
 
   -- states that are the same are so over another outside
-  pub same_outside : (outside : Outside) (l : State Parked Linked) (f : State Frames Frames) → Sames tables have ok keep l f
+  pub same_outside : (outside : Outside) (l : State WaitingChain LinkedStack) (f : State Frames Frames) → Sames tables have ok keep l f
       → Sames tables have ok keep (over_outside outside l) (over_outside outside f)
   same_outside outside l f (same_running st ks' h) = same_running (record st { outside = outside }) ks' h
   same_outside outside l f (same_failing st ks' h) = same_failing (record st { outside = outside }) ks' h
@@ -144,7 +144,7 @@ module _ (tables : Tables) (have : HaveShapes tables) (ok : TablesOk tables) (ke
 
   not_stuck : (f : State Frames Frames) → Follows tables have ok keep f → f ≢ stuck
   not_stuck f (inl x) e =
-      subst SafeState (is_stuck (linked repeats_anywhere) flat tables (Lacks repeats_anywhere (Opens tables)) (Unit {0})
+      subst SafeState (is_stuck (linked_calls repeats_anywhere) flat tables (Lacks repeats_anywhere (Opens tables)) (Unit {0})
       (linked_agrees repeats_anywhere (Opens tables)) rows_keep x.state
       (subst (λ s. Sames tables have ok keep x.state s) e x.same)) x.safe
   not_stuck f (inr x) e = subst (IsDue tables have ok keep) e x.0

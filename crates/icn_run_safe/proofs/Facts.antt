@@ -10,7 +10,7 @@ use Rattle.icn_verify.specs.Shapes.{PlainShape}
 use Rattle.icn_verify.specs.Given.{HaveShapes}
 use Rattle.icn_run.specs.Stacks.{Frames, flat}
 use Rattle.icn_run.specs.Rows.{Item}
-use Rattle.icn_run.specs.Chains.{Chain, chain, Outer, base, call, mark, limit, Parked, Linked, linked, outer_of, scans_of, take_top, take_from}
+use Rattle.icn_run.specs.Chains.{Chain, chain, Outer, base, call, mark, limit, WaitingChain, LinkedStack, linked_calls, outer_of, scans_of, take_top, take_from}
 use Rattle.icn_run.specs.Step.{Launch, State, Store, running, stuck, instruction_at, instruction, with_found, is_main, step, steps}
 use Rattle.icn_run.specs.FlatStep as Flat
 use Rattle.icn_run.specs.LinkedStep as Marks
@@ -24,7 +24,7 @@ use Rattle.icn_run_laws.proofs.OnMarks.{Lacks}
 use Rattle.icn_run_laws.proofs.OnSteps.{Sm, IsAtMark, Reaches, made_turns, one_step}
 use Rattle.icn_run_laws.proofs.SecondLaw.{starts_so}
 use Rattle.icn_run_safe.specs.Within.{RowsStayWithin}
-use Rattle.icn_run_safe.specs.Shaped.{Known, local_count, ChainOk, OuterOk, Safe, Shaped}
+use Rattle.icn_run_safe.specs.Shaped.{Known, local_count, ChainOk, OuterOk, Safe, KeepsShapes}
 use Rattle.icn_run_safe.specs.NoStuck.{TablesOk}
 use Rattle.icn_run_safe.specs.Facts.{operands_of, mark_count, marks, IsShapedAt, IsFlatShapedAt, IsMarkDue, GoesOn, Stands, AreShaped, shapes_of}
 use Rattle.icn_run_safe.proofs.Keeping.{here_proc, here_create, locals_ok, take_ok}
@@ -46,7 +46,7 @@ module _ (tables : Tables) (have : HaveShapes tables) (ok : TablesOk tables) (ke
   abbrev pub sh : ℕ → ℕ → Option PlainShape
   sh = shapes_of tables have
 
-  pub given : Shaped tables (shapes_of tables have)
+  pub given : KeepsShapes tables (shapes_of tables have)
   given = shaped tables have ok
 
   operand_count : (w : Known) (s p : ℕ) (S : PlainShape) (c : Chain) → ChainOk tables sh w s p S c → length (operands_of c) ≡ S.inner.operands
@@ -65,7 +65,7 @@ module _ (tables : Tables) (have : HaveShapes tables) (ok : TablesOk tables) (ke
   all_marks : (w : Known) (s p : ℕ) (S : PlainShape) (c : Chain) → ChainOk tables sh w s p S c → mark_count (outer_of c) ≡ length S.outer
   all_marks w s p S (chain items q scans o) h = outer_count w s p S.in_create S.inner.kind S.outer o h.4
 
-  abbrev facts_at : (m : Linked) (st : Store Parked) → Safe tables sh (running m st) → IsShapedAt tables sh m st
+  abbrev facts_at : (m : LinkedStack) (st : Store WaitingChain) → Safe tables sh (running m st) → IsShapedAt tables sh m st
   facts_at m st h =
       let same = here_proc tables sh h.0 st.active h.1 h.2 m h.3 in
       let there : sh (marks.proc m) m.place ≡ Some h.2 = ap (λ p. sh p m.place) same ∙ h.4 in
@@ -82,17 +82,18 @@ module _ (tables : Tables) (have : HaveShapes tables) (ok : TablesOk tables) (ke
 
   -- Flat stacks follow linked ones
 
-  abbrev pub Sames : State Parked Linked → State Frames Frames → Type 0
+  abbrev pub Sames : State WaitingChain LinkedStack → State Frames Frames → Type 0
   Sames l f =
-      Sm (linked repeats_anywhere) flat tables (Lacks repeats_anywhere (Opens tables)) (Unit {0}) (linked_agrees repeats_anywhere (Opens tables)) rows_keep l f
+      Sm (linked_calls repeats_anywhere) flat tables (Lacks repeats_anywhere (Opens tables)) (Unit {0})
+      (linked_agrees repeats_anywhere (Opens tables)) rows_keep l f
 
   pub record Near (f : State Frames Frames) : Type 0 where
-    pub state : State Parked Linked
+    pub state : State WaitingChain LinkedStack
     pub safe : Safe tables sh state
     pub same : Sames state f
 
   abbrev pub IsDue : State Frames Frames → Type 0
-  IsDue f = IsAtMark (linked repeats_anywhere) flat tables (Lacks repeats_anywhere (Opens tables)) (Unit {0})
+  IsDue f = IsAtMark (linked_calls repeats_anywhere) flat tables (Lacks repeats_anywhere (Opens tables)) (Unit {0})
       (linked_agrees repeats_anywhere (Opens tables)) rows_keep f
 
   -- it follows one, or its next step, which opens a mark, leads to one that does
@@ -101,16 +102,16 @@ module _ (tables : Tables) (have : HaveShapes tables) (ok : TablesOk tables) (ke
 
   pub follows_next : (f : State Frames Frames) → Follows f → Follows (step flat tables f)
   follows_next f (inr x) = inl x.1
-  follows_next f (inl x) = by (one_step (linked repeats_anywhere) flat tables (Lacks repeats_anywhere (Opens tables)) (Unit {0})
+  follows_next f (inl x) = by (one_step (linked_calls repeats_anywhere) flat tables (Lacks repeats_anywhere (Opens tables)) (Unit {0})
       (linked_agrees repeats_anywhere (Opens tables)) rows_keep (λ lacks. tt) x.same)
     where
-      next : State Parked Linked
+      next : State WaitingChain LinkedStack
       next = step marks tables x.state
 
       safe : Safe tables sh next
       safe = step_ok tables sh given keep ok x.state x.safe
 
-      by : Reaches (linked repeats_anywhere) flat tables (Lacks repeats_anywhere (Opens tables)) (Unit {0})
+      by : Reaches (linked_calls repeats_anywhere) flat tables (Lacks repeats_anywhere (Opens tables)) (Unit {0})
           (linked_agrees repeats_anywhere (Opens tables)) rows_keep (made_turns f) next (step flat tables f) → Follows (step flat tables f)
       by (inl y) = inl (record { state = next; safe = safe; same = y })
       by (inr y) = inr (y.0, record { state = next; safe = safe; same = y.1.0 })
@@ -139,7 +140,7 @@ module _ (tables : Tables) (have : HaveShapes tables) (ok : TablesOk tables) (ke
   map_none f (Some x) e = e
 
   -- more operands than there are can't be taken
-  none_taken : (m : Linked) (c : Chain) → m.chain ≡ c → (n : ℕ) → length (operands_of m.chain) < n → is_some (marks.take n m) ≡ false
+  none_taken : (m : LinkedStack) (c : Chain) → m.chain ≡ c → (n : ℕ) → length (operands_of m.chain) < n → is_some (marks.take n m) ≡ false
   none_taken m (chain items suspensions scans outer) e n less =
       let few : length items < n = subst (λ c. length (operands_of c) < n) e less in
       subst (λ c. is_some (take_from n m c) ≡ false) (sym e) (map_none _ (take_top n items []) (none_left n items [] few))
@@ -148,7 +149,7 @@ module _ (tables : Tables) (have : HaveShapes tables) (ok : TablesOk tables) (ke
   ShapedIn (running m st) = IsFlatShapedAt tables sh m st
   ShapedIn state = Unit {0}
 
-  pub shaped_in : (l : State Parked Linked) (f : State Frames Frames) → Sames l f → Safe tables sh l → ShapedIn f
+  pub shaped_in : (l : State WaitingChain LinkedStack) (f : State Frames Frames) → Sames l f → Safe tables sh l → ShapedIn f
   shaped_in l f (same_running {m'} {m} st ks' h) safe =
       let G = linked_agrees repeats_anywhere (Opens tables) in
       let facts = facts_at m' (lift st ks') safe in
@@ -167,7 +168,8 @@ module _ (tables : Tables) (have : HaveShapes tables) (ok : TablesOk tables) (ke
         locals = ap length (sym (G.locals h.world st.active m' m h.here)) ∙ facts.locals ∙ ap (local_count tables) proc;
       }
     where
-      some_taken : (m : Linked) (st : Store Parked) (h : Safe tables sh (running m st)) (n : ℕ) → n ≤ h.2.inner.operands → is_some (marks.take n m) ≡ true
+      some_taken : (m : LinkedStack) (st : Store WaitingChain) (h : Safe tables sh (running m st)) (n : ℕ) → n ≤ h.2.inner.operands
+          → is_some (marks.take n m) ≡ true
       some_taken m st h n l = ap is_some (take_ok tables sh n h.0 st.active h.1 h.2 m h.3 l).2
   shaped_in l f (same_failing st ks' h) safe = tt
   shaped_in l f (same_hopping st ks' h) safe = tt

@@ -6,11 +6,11 @@ use Rattle.icn_verify.specs.Shapes.{PlainShape, start_shape, with_more}
 use Rattle.icn_run.specs.Rows.{Value, Null, Integer, Text, Chars, Procedure as ProcedureValue, ARecord, AList, ACoexp, Val, Var, Outcome, Fails, Gives, Suspends, Error, Ends, again, coexpression_row}
 use Rattle.icn_run.specs.Calls.{Pair, Why, Alt, Op as Operation, Scan, Escan, Proc, MarkDrop, NoMark, Goes, Repeats, Outside as WithoutLabel}
 use Rattle.icn_run.specs.Chains as C
-use Rattle.icn_run.specs.Chains.{Chain, Linked, Parked}
+use Rattle.icn_run.specs.Chains.{Chain, LinkedStack, WaitingChain}
 use Rattle.icn_run.specs.Step.{Program, Status, Fresh, Active, Waiting, Exhausted, Coexp, Store, running, failing, hopping, here, with_at, with_made, outcome, push_item, pair_now, with_pair, with_exchange, maybe_exchanged, swapped_back, all_left, coexp_at, status_of, activator_of, with_coexp, with_status, with_activator, make_active, fail_by, passed_failure, give_by, passed_value, hop, exhaust_active, counted_result, result_given, is_main, is_create_body, with_new, coexp_made, refreshed_from, refresh, entered_by, entered_if, activation, return_to, proc_fails, without_mark, mark_dropped, resume_by, resumed_or_dropped, fails}
 use Rattle.icn_run_laws.proofs.RowsKeep.{rows_keep}
 use Rattle.icn_run_safe.specs.Within.{ValueWithin, CreatedWithin, RowsStayWithin}
-use Rattle.icn_run_safe.specs.Shaped.{Known, MemoryOf, LocalsOk, ParkedOk, StatusOk, IsFresh, Entered, StoreOk, Shaped}
+use Rattle.icn_run_safe.specs.Shaped.{Known, MemoryOf, LocalsOk, ParkedOk, StatusOk, IsFresh, Entered, StoreOk, KeepsShapes}
 use Rattle.icn_run_safe.proofs.Entries.{stands, index_there, set_length}
 use Rattle.icn_run_safe.proofs.Growing.{grow_chain}
 use Rattle.icn_run_safe.proofs.Keeping.{with_activation, grow_activation, here_create, set_locals_ok, locals_ok}
@@ -26,22 +26,22 @@ is_first : (n : ℕ) → false ≡ not (is_main n) → is_main n ≡ true
 is_first zero e = refl
 is_first (suc n) e = not_true e
 
-module _ (P : Program) (sh : ℕ → ℕ → Option PlainShape) (given : Shaped P sh) (keep : RowsStayWithin) where
+module _ (P : Program) (sh : ℕ → ℕ → Option PlainShape) (given : KeepsShapes P sh) (keep : RowsStayWithin) where
   abbrev Good : St P sh given keep → Type 0
   Good state = Ok P sh given keep state
 
-  abbrev Set : Known → ℕ → PlainShape → Linked → Store Parked → Type 0
+  abbrev Set : Known → ℕ → PlainShape → LinkedStack → Store WaitingChain → Type 0
   Set w p S m st = Ready P sh given keep w p S m st
 
-  abbrev pub HasBegun : Store Parked → ℕ → Type 0
+  abbrev pub HasBegun : Store WaitingChain → ℕ → Type 0
   HasBegun st n = Entered P sh st.coexps n
 
   -- no co-expression is active
-  pub record Idle (w : Known) (m : Linked) (st : Store Parked) : Type 0 where
+  pub record Idle (w : Known) (m : LinkedStack) (st : Store WaitingChain) : Type 0 where
     pub memory : MemoryOf P sh w m
     pub store : StoreOk P sh w (λ i. ⊥) st
 
-  hop_ready : (w : Known) (m : Linked) (st : Store Parked) (n : ℕ) → Idle w m st → HasBegun st n → Good (hopping m (record st { active = n }))
+  hop_ready : (w : Known) (m : LinkedStack) (st : Store WaitingChain) (n : ℕ) → Idle w m st → HasBegun st n → Good (hopping m (record st { active = n }))
   hop_ready w m st n h e = (
     w,
     h.memory,
@@ -52,44 +52,48 @@ module _ (P : Program) (sh : ℕ → ℕ → Option PlainShape) (given : Shaped 
   )
 
   -- the one that is there is the one that is read
-  read_coexp : (st : Store Parked) (n : ℕ) (c : Coexp Parked) → slice_get st.coexps n ≡ Some c → coexp_at n st ≡ c
+  read_coexp : (st : Store WaitingChain) (n : ℕ) (c : Coexp WaitingChain) → slice_get st.coexps n ≡ Some c → coexp_at n st ≡ c
   read_coexp st n c e = index_there st.coexps n c _ e
 
-  store_active : (w : Known) (st : Store Parked) (n : ℕ) (c : Coexp Parked) → StoreOk P sh w (λ i. ⊥) st → slice_get st.coexps n ≡ Some c
+  store_active : (w : Known) (st : Store WaitingChain) (n : ℕ) (c : Coexp WaitingChain) → StoreOk P sh w (λ i. ⊥) st → slice_get st.coexps n ≡ Some c
       → StoreOk P sh w (λ i. i ≡ n) (make_active n st)
-  store_active w st n c h e = subst (λ (x : Coexp Parked). StoreOk P sh w (λ i. i ≡ n) (with_coexp n (record x { status = Active }) (record st { active = n })))
+  store_active w st n c h e =
+      subst (λ (x : Coexp WaitingChain). StoreOk P sh w (λ i. i ≡ n) (with_coexp n (record x { status = Active }) (record st { active = n })))
       (sym (read_coexp st n c e)) (set_active P sh w st n c h e (h.coexps.each n c e).activator)
 
-  taken_ready : (w : Known) (m : Linked) (st : Store Parked) (n : ℕ) (c : Coexp Parked) (k : Parked) → Idle w m st → slice_get st.coexps n ≡ Some c
+  taken_ready : (w : Known) (m : LinkedStack) (st : Store WaitingChain) (n : ℕ) (c : Coexp WaitingChain) (k : WaitingChain) → Idle w m st
+      → slice_get st.coexps n ≡ Some c
       → (h : ParkedOk P sh w n k) → Set w h.proc h.shape (M.taken_up k m) (make_active n st)
   taken_ready w m st n c k i e h = record { now = record { has = h.has; memory = i.memory }; store = store_active w st n c i.store e }
 
-  fail_ok : (n : ℕ) (w : Known) (m : Linked) (st : Store Parked) (c : Coexp Parked) → Idle w m st → slice_get st.coexps n ≡ Some c → HasBegun st n
-      → (s : Status Parked) → StatusOk P sh w n s → (IsFresh P sh s → ⊥) → Good (fail_by M s n m st)
+  fail_ok : (n : ℕ) (w : Known) (m : LinkedStack) (st : Store WaitingChain) (c : Coexp WaitingChain) → Idle w m st → slice_get st.coexps n ≡ Some c
+      → HasBegun st n
+      → (s : Status WaitingChain) → StatusOk P sh w n s → (IsFresh P sh s → ⊥) → Good (fail_by M s n m st)
   fail_ok n w m st c i e ent Fresh h f = absurd (f tt)
   fail_ok n w m st c i e ent Active h f = absurd h
   fail_ok n w m st c i e ent (Waiting k) h f = ok_fails P sh given keep w h.proc h.shape (M.taken_up k m) (make_active n st) (taken_ready w m st n c k i e h)
   fail_ok n w m st c i e ent Exhausted h f = hop_ready w m st n i ent
 
   -- what is done by the status of one is done by what is read of it
-  passed_failure_ok : (n : ℕ) (w : Known) (m : Linked) (st : Store Parked) → Idle w m st → HasBegun st n → Good (passed_failure M n m st)
+  passed_failure_ok : (n : ℕ) (w : Known) (m : LinkedStack) (st : Store WaitingChain) → Idle w m st → HasBegun st n → Good (passed_failure M n m st)
   passed_failure_ok n w m st i ent =
-      subst (λ (x : Coexp Parked). Good (fail_by M x.status n m st)) (sym (read_coexp st n ent.coexp ent.stands))
+      subst (λ (x : Coexp WaitingChain). Good (fail_by M x.status n m st)) (sym (read_coexp st n ent.coexp ent.stands))
       (fail_ok n w m st ent.coexp i ent.stands ent ent.coexp.status (i.store.coexps.waits n ent.coexp ent.stands (λ z. z)) ent.begun)
 
   -- the activator of one that is there has begun
-  activator_begun : (w : Known) (May : ℕ → Type 0) (st : Store Parked) (n : ℕ) → StoreOk P sh w May st → HasBegun st n → HasBegun st (activator_of n st)
+  activator_begun : (w : Known) (May : ℕ → Type 0) (st : Store WaitingChain) (n : ℕ) → StoreOk P sh w May st → HasBegun st n → HasBegun st (activator_of n st)
   activator_begun w May st n h ent =
-      subst (λ (x : Coexp Parked). HasBegun st x.activator) (sym (read_coexp st n ent.coexp ent.stands)) (h.coexps.each n ent.coexp ent.stands).activator
+      subst (λ (x : Coexp WaitingChain). HasBegun st x.activator) (sym (read_coexp st n ent.coexp ent.stands)) (h.coexps.each n ent.coexp ent.stands).activator
 
-  to_activator_ok : (w : Known) (m : Linked) (st : Store Parked) → Idle w m st → Good (passed_failure M (activator_of st.active st) m st)
+  to_activator_ok : (w : Known) (m : LinkedStack) (st : Store WaitingChain) → Idle w m st → Good (passed_failure M (activator_of st.active st) m st)
   to_activator_ok w m st i = passed_failure_ok (activator_of st.active st) w m st i (activator_begun w (λ i. ⊥) st st.active i.store i.store.coexps.there)
 
-  give_ok : (n : ℕ) (value : Value) (w : Known) (m : Linked) (st : Store Parked) (c : Coexp Parked) → Idle w m st → slice_get st.coexps n ≡ Some c
-      → ValueWithin w.coexps value → (s : Status Parked) → s ≡ c.status → StatusOk P sh w n s → Good (give_by M s n value m st)
+  give_ok : (n : ℕ) (value : Value) (w : Known) (m : LinkedStack) (st : Store WaitingChain) (c : Coexp WaitingChain) → Idle w m st
+      → slice_get st.coexps n ≡ Some c
+      → ValueWithin w.coexps value → (s : Status WaitingChain) → s ≡ c.status → StatusOk P sh w n s → Good (give_by M s n value m st)
   give_ok n value w m st c i e g Fresh q h =
       let o = i.store.coexps.each n c e in
-      subst (λ (x : Coexp Parked). Good (running (C.begin x.proc x.values x.place m) (make_active n st))) (sym (read_coexp st n c e))
+      subst (λ (x : Coexp WaitingChain). Good (running (C.begin x.proc x.values x.place m) (make_active n st))) (sym (read_coexp st n c e))
       (ok_runs P sh given keep (with_activation w c.proc) c.proc (start_shape true) (C.begin c.proc c.values c.place m) (make_active n st)
       (record {
         now = begin_ok P sh c.proc c.values c.place true w n m i.memory (o.values h) (not_first n h);
@@ -100,28 +104,31 @@ module _ (P : Program) (sh : ℕ → ℕ → Option PlainShape) (given : Shaped 
       ok_push P sh given keep (Val value) w h.proc h.shape (M.taken_up k m) (make_active n st) (taken_ready w m st n c k i e h) g h.goes
   give_ok n value w m st c i e g Exhausted q h = hop_ready w m st n i (record { coexp = c; stands = e; begun = subst (λ x. IsFresh P sh x → ⊥) q (λ z. z) })
 
-  passed_value_ok : (n : ℕ) (value : Value) (w : Known) (m : Linked) (st : Store Parked) (c : Coexp Parked) → Idle w m st → slice_get st.coexps n ≡ Some c
+  passed_value_ok : (n : ℕ) (value : Value) (w : Known) (m : LinkedStack) (st : Store WaitingChain) (c : Coexp WaitingChain) → Idle w m st
+      → slice_get st.coexps n ≡ Some c
       → ValueWithin w.coexps value → Good (passed_value M n value m st)
   passed_value_ok n value w m st c i e g =
-      subst (λ (x : Coexp Parked). Good (give_by M x.status n value m st)) (sym (read_coexp st n c e))
+      subst (λ (x : Coexp WaitingChain). Good (give_by M x.status n value m st)) (sym (read_coexp st n c e))
       (give_ok n value w m st c i e g c.status refl (i.store.coexps.waits n c e (λ z. z)))
 
   -- the active one gets a status
-  status_ok : (s : Status Parked) (w : Known) (p : ℕ) (S : PlainShape) (m : Linked) (st : Store Parked) → Set w p S m st → (IsFresh P sh s → ⊥)
+  status_ok : (s : Status WaitingChain) (w : Known) (p : ℕ) (S : PlainShape) (m : LinkedStack) (st : Store WaitingChain) → Set w p S m st → (IsFresh P sh s → ⊥)
       → StatusOk P sh w st.active s → Idle w m (with_status st.active s st)
   status_ok s w p S m st h f ok = let a = h.store.coexps.there in record {
     memory = h.now.memory;
-    store = subst (λ (x : Coexp Parked). StoreOk P sh w (λ i. ⊥) (with_coexp st.active (record x { status = s }) st))
+    store = subst (λ (x : Coexp WaitingChain). StoreOk P sh w (λ i. ⊥) (with_coexp st.active (record x { status = s }) st))
         (sym (read_coexp st st.active a.coexp a.stands)) (set_status P sh w st a.coexp s h.store a.stands f ok);
   }
 
-  begun_then : (s : Status Parked) (w : Known) (p : ℕ) (S : PlainShape) (m : Linked) (st : Store Parked) → Set w p S m st → (IsFresh P sh s → ⊥) → (n : ℕ)
+  begun_then : (s : Status WaitingChain) (w : Known) (p : ℕ) (S : PlainShape) (m : LinkedStack) (st : Store WaitingChain) → Set w p S m st
+      → (IsFresh P sh s → ⊥) → (n : ℕ)
       → HasBegun st n → HasBegun (with_status st.active s st) n
   begun_then s w p S m st h f n ent = let a = h.store.coexps.there in
-      subst (λ (x : Coexp Parked). Entered P sh (slice_set st.coexps st.active (record x { status = s })) n) (sym (read_coexp st st.active a.coexp a.stands))
+      subst (λ (x : Coexp WaitingChain). Entered P sh (slice_set st.coexps st.active (record x { status = s })) n)
+      (sym (read_coexp st st.active a.coexp a.stands))
       (entered_set P sh st.coexps st.active a.coexp (record a.coexp { status = s }) n a.stands (λ q. absurd (f q)) ent)
 
-  pub exhausted_ok : (w : Known) (p : ℕ) (S : PlainShape) (m : Linked) (st : Store Parked) → Set w p S m st → Good (exhaust_active M P m st)
+  pub exhausted_ok : (w : Known) (p : ℕ) (S : PlainShape) (m : LinkedStack) (st : Store WaitingChain) → Set w p S m st → Good (exhaust_active M P m st)
   exhausted_ok w p S m st h =
       ok_turn P sh given keep w p S m st (λ st. passed_failure M (activator_of st.active st) m (with_status st.active Exhausted st)) h (λ st' r.
       let i = status_ok Exhausted w p S m st' r (λ z. z) tt in
@@ -129,11 +136,11 @@ module _ (P : Program) (sh : ℕ → ℕ → Option PlainShape) (given : Shaped 
       passed_failure_ok (activator_of a st') w m (with_status a Exhausted st') i
       (begun_then Exhausted w p S m st' r (λ z. z) (activator_of a st') (activator_begun w (λ i. i ≡ a) st' a r.store r.store.coexps.there)))
 
-  parked_ok : (w : Known) (p : ℕ) (S : PlainShape) (m : Linked) (st : Store Parked) → Set w p S m st → sh p m.place ≡ Some (with_more 1 S)
+  parked_ok : (w : Known) (p : ℕ) (S : PlainShape) (m : LinkedStack) (st : Store WaitingChain) → Set w p S m st → sh p m.place ≡ Some (with_more 1 S)
       → ParkedOk P sh w st.active (M.kept m)
   parked_ok w p S m st h e = record { proc = p; shape = S; has = h.now.has; goes = e }
 
-  counted_idle : (n : ℕ) (w : Known) (m : Linked) (st : Store Parked) → Idle w m st → Idle w m (counted_result n st)
+  counted_idle : (n : ℕ) (w : Known) (m : LinkedStack) (st : Store WaitingChain) → Idle w m st → Idle w m (counted_result n st)
   counted_idle n w m st i = let heap = i.store.world.heap in record {
     memory = i.memory;
     store = record {
@@ -152,29 +159,31 @@ module _ (P : Program) (sh : ℕ → ℕ → Option PlainShape) (given : Shaped 
     };
   }
 
-  pub result_ok : (value : Value) (w : Known) (p : ℕ) (S : PlainShape) (m : Linked) (st : Store Parked) → Set w p S m st → ValueWithin w.coexps value
+  pub result_ok : (value : Value) (w : Known) (p : ℕ) (S : PlainShape) (m : LinkedStack) (st : Store WaitingChain) → Set w p S m st → ValueWithin w.coexps value
       → sh p m.place ≡ Some (with_more 1 S) → Good (result_given M value m st)
   result_ok value w p S m st h g e =
       let n = activator_of st.active st in
-      let s : Status Parked = Waiting (M.kept m) in
+      let s : Status WaitingChain = Waiting (M.kept m) in
       let ent = begun_then s w p S m st h (λ z. z) n (activator_begun w (λ i. i ≡ st.active) st st.active h.store h.store.coexps.there) in
       passed_value_ok n value w m (counted_result st.active (with_status st.active s st)) ent.coexp
       (counted_idle st.active w m (with_status st.active s st) (status_ok s w p S m st h (λ z. z) (parked_ok w p S m st h e))) ent.stands g
 
   -- another one is entered
-  activator_set : (w : Known) (m : Linked) (st : Store Parked) (n a : ℕ) (c : Coexp Parked) → Idle w m st → slice_get st.coexps n ≡ Some c → HasBegun st a
+  activator_set : (w : Known) (m : LinkedStack) (st : Store WaitingChain) (n a : ℕ) (c : Coexp WaitingChain) → Idle w m st → slice_get st.coexps n ≡ Some c
+      → HasBegun st a
       → Idle w m (with_activator n a st)
   activator_set w m st n a c i e act = record {
     memory = i.memory;
-    store = subst (λ (x : Coexp Parked). StoreOk P sh w (λ i. ⊥) (with_coexp n (record x { activator = a }) st)) (sym (read_coexp st n c e))
+    store = subst (λ (x : Coexp WaitingChain). StoreOk P sh w (λ i. ⊥) (with_coexp n (record x { activator = a }) st)) (sym (read_coexp st n c e))
         (set_activator P sh w st n a c i.store e act);
   }
 
-  entered_ok : (value : Value) (n : ℕ) (w : Known) (p : ℕ) (S : PlainShape) (m : Linked) (st : Store Parked) → Set w p S m st → ValueWithin w.coexps value
+  entered_ok : (value : Value) (n : ℕ) (w : Known) (p : ℕ) (S : PlainShape) (m : LinkedStack) (st : Store WaitingChain) → Set w p S m st
+      → ValueWithin w.coexps value
       → n < w.coexps → sh p m.place ≡ Some (with_more 1 S) → Good (entered_by M n value m st)
   entered_ok value n w p S m st h g l e =
-      let s : Status Parked = Waiting (M.kept m) in
-      let st1 : Store Parked = with_status st.active s st in
+      let s : Status WaitingChain = Waiting (M.kept m) in
+      let st1 : Store WaitingChain = with_status st.active s st in
       let i1 = status_ok s w p S m st h (λ z. z) (parked_ok w p S m st h e) in
       let count = i1.store.coexps.count in
       let o = stands st1.coexps n (omega (arith, l, count)) in
@@ -184,7 +193,8 @@ module _ (P : Program) (sh : ℕ → ℕ → Option PlainShape) (given : Shaped 
       passed_value_ok n value w m (with_activator n st.active st1) o'.0 i2 o'.1 g
 
   -- a value is passed by the status of what is entered
-  if_entered : (b : Bool) (s : Status Parked) (n : ℕ) (value : Value) (w : Known) (p : ℕ) (S : PlainShape) (m : Linked) (st : Store Parked) → Set w p S m st
+  if_entered : (b : Bool) (s : Status WaitingChain) (n : ℕ) (value : Value) (w : Known) (p : ℕ) (S : PlainShape) (m : LinkedStack) (st : Store WaitingChain)
+      → Set w p S m st
       → ValueWithin w.coexps value → n < w.coexps → sh p m.place ≡ Some (with_more 1 S) → Good (entered_if M b s n value m st)
   if_entered b Exhausted n value w p S m st h g l e = ok_fails P sh given keep w p S m st h
   if_entered true Fresh n value w p S m st h g l e = ok_push P sh given keep (Val value) w p S m st h g e
@@ -194,7 +204,8 @@ module _ (P : Program) (sh : ℕ → ℕ → Option PlainShape) (given : Shaped 
   if_entered false Active n value w p S m st h g l e = entered_ok value n w p S m st h g l e
   if_entered false (Waiting k) n value w p S m st h g l e = entered_ok value n w p S m st h g l e
 
-  pub activation_ok : (value other : Value) (w : Known) (p : ℕ) (S : PlainShape) (m : Linked) (st : Store Parked) → Set w p S m st → ValueWithin w.coexps value
+  pub activation_ok : (value other : Value) (w : Known) (p : ℕ) (S : PlainShape) (m : LinkedStack) (st : Store WaitingChain) → Set w p S m st
+      → ValueWithin w.coexps value
       → ValueWithin w.coexps other → sh p m.place ≡ Some (with_more 1 S) → Good (activation M value other m st)
   activation_ok value (ACoexp n) w p S m st h g l e = if_entered (n == st.active) (status_of n st) n value w p S m st h g l e
   activation_ok value Null w p S m st h g l e = tt
@@ -209,7 +220,8 @@ module _ (P : Program) (sh : ℕ → ℕ → Option PlainShape) (given : Shaped 
   activation_ok value (ATable x) w p S m st h g l e = tt
 
   -- a new one is made
-  created_ok : (o : Outcome) (values : List Value) (proc place : ℕ) (w : Known) (p : ℕ) (S : PlainShape) (m : Linked) (st : Store Parked) → Set w p S m st
+  created_ok : (o : Outcome) (values : List Value) (proc place : ℕ) (w : Known) (p : ℕ) (S : PlainShape) (m : LinkedStack) (st : Store WaitingChain)
+      → Set w p S m st
       → CreatedWithin w.coexps (here M m st) o → LocalsOk P sh w proc values → sh proc place ≡ Some (start_shape true) → sh p m.place ≡ Some (with_more 1 S)
       → Good (with_made M o m st (λ value m st. push_item M (Val value) m (with_new values proc place st)))
   created_ok (Gives (Val v) seen) values proc place w p S m st h c g origin e =
@@ -230,14 +242,14 @@ module _ (P : Program) (sh : ℕ → ℕ → Option PlainShape) (given : Shaped 
   created_ok (Suspends item r seen) values proc place w p S m st h c g origin e = absurd c
   created_ok (Ends j seen) values proc place w p S m st h c g origin e = absurd c
 
-  pub coexp_made_ok : (values : List Value) (proc place : ℕ) (w : Known) (p : ℕ) (S : PlainShape) (m : Linked) (st : Store Parked) → Set w p S m st
+  pub coexp_made_ok : (values : List Value) (proc place : ℕ) (w : Known) (p : ℕ) (S : PlainShape) (m : LinkedStack) (st : Store WaitingChain) → Set w p S m st
       → LocalsOk P sh w proc values → sh proc place ≡ Some (start_shape true) → sh p m.place ≡ Some (with_more 1 S)
       → Good (coexp_made M values proc place m st)
   coexp_made_ok values proc place w p S m st h g origin e =
       created_ok (coexpression_row (length values) (here M m st)) values proc place w p S m st h
       (keep.created w.coexps (length values) (here M m st) (here_within P sh given keep w p S m st h)) g origin e
 
-  pub refreshed_ok : (v : Value) (w : Known) (p : ℕ) (S : PlainShape) (m : Linked) (st : Store Parked) → Set w p S m st → ValueWithin w.coexps v
+  pub refreshed_ok : (v : Value) (w : Known) (p : ℕ) (S : PlainShape) (m : LinkedStack) (st : Store WaitingChain) → Set w p S m st → ValueWithin w.coexps v
       → sh p m.place ≡ Some (with_more 1 S) → Good (refresh M v m st)
   refreshed_ok (ACoexp zero) w p S m st h g e = tt
   refreshed_ok (ACoexp (suc n)) w p S m st h g e =
@@ -257,23 +269,24 @@ module _ (P : Program) (sh : ℕ → ℕ → Option PlainShape) (given : Shaped 
   refreshed_ok (ASet x) w p S m st h g e = tt
   refreshed_ok (ATable x) w p S m st h g e = tt
 
-  pub hop_ok : (w : Known) (m : Linked) (st : Store Parked) → Idle w m st → Good (hop M P m st)
+  pub hop_ok : (w : Known) (m : LinkedStack) (st : Store WaitingChain) → Idle w m st → Good (hop M P m st)
   hop_ok w m st i = ok_turned P sh given keep st (λ st. passed_failure M (activator_of st.active st) m st)
       (to_activator_ok w m (record st { turns = suc st.turns })
       (record { memory = i.memory; store = record { world = i.store.world; coexps = i.store.coexps } }))
 
   -- Scans exchanged
 
-  pub ok_maybe : (o : Option (Pair × Linked)) (w : Known) (p : ℕ) (S : PlainShape) (m : Linked) (st : Store Parked)
-      (next : Linked → Store Parked → St P sh given keep) → Set w p S m st → IfThere (Swapped P sh w st.active p S m) o
-      → ((m' : Linked) (st' : Store Parked) → Set w p S m' st' → m'.place ≡ m.place → Good (next m' st')) → Good (maybe_exchanged o m st next)
+  pub ok_maybe : (o : Option (Pair × LinkedStack)) (w : Known) (p : ℕ) (S : PlainShape) (m : LinkedStack) (st : Store WaitingChain)
+      (next : LinkedStack → Store WaitingChain → St P sh given keep) → Set w p S m st → IfThere (Swapped P sh w st.active p S m) o
+      → ((m' : LinkedStack) (st' : Store WaitingChain) → Set w p S m' st' → m'.place ≡ m.place → Good (next m' st')) → Good (maybe_exchanged o m st next)
   ok_maybe None w p S m st next h g f = f m st h refl
   ok_maybe (Some swap) w p S m st next h g f =
       f swap.1 (with_pair swap.0 st) (ready_pair P sh given keep w p S swap.1 st swap.0 (record { now = g.now; store = h.store })) g.place
 
-  pub ok_exchanged : (w : Known) (p : ℕ) (S : PlainShape) (m : Linked) (st : Store Parked) (next : Linked → Store Parked → St P sh given keep) → Set w p S m st
+  pub ok_exchanged : (w : Known) (p : ℕ) (S : PlainShape) (m : LinkedStack) (st : Store WaitingChain)
+      (next : LinkedStack → Store WaitingChain → St P sh given keep) → Set w p S m st
       → 0 < S.inner.scans
-      → ((m' : Linked) (st' : Store Parked) → Set w p S m' st' → m'.place ≡ m.place → Good (next m' st'))
+      → ((m' : LinkedStack) (st' : Store WaitingChain) → Set w p S m' st' → m'.place ≡ m.place → Good (next m' st'))
       → Good (with_exchange (C.swap_newest (pair_now st) m) next st)
   ok_exchanged w p S m st next h l f = let o = swap_newest_ok P sh (pair_now st) w st.active p S m h.now l in
       subst (λ x. Good (with_exchange x next st)) (sym o.1)
@@ -281,34 +294,37 @@ module _ (P : Program) (sh : ℕ → ℕ → Option PlainShape) (given : Shaped 
 
   -- Back to the caller
 
-  pub ok_returned : (o : Option Linked) (w : Known) (cr : Bool) (st : Store Parked) (next : Linked → Store Parked → St P sh given keep)
+  pub ok_returned : (o : Option LinkedStack) (w : Known) (cr : Bool) (st : Store WaitingChain) (next : LinkedStack → Store WaitingChain → St P sh given keep)
       → StoreOk P sh w (λ i. i ≡ st.active) st → Left P sh w st.active cr o → cr ≡ false
-      → ((m : Linked) (p : ℕ) (S : PlainShape) → Set w p S m st → sh p m.place ≡ Some (with_more 1 S) → Good (next m st)) → Good (return_to o next st)
+      → ((m : LinkedStack) (p : ℕ) (S : PlainShape) → Set w p S m st → sh p m.place ≡ Some (with_more 1 S) → Good (next m st)) → Good (return_to o next st)
   ok_returned None w cr st next h g e f =
       ok_if P sh given keep (is_main st.active) _ _ (λ q. tt) (λ q. let z : is_main st.active ≡ true = is_first st.active (sym e ∙ g) in not_true (sym q ∙ z))
   ok_returned (Some m) w cr st next h g e f = f m g.proc g.shape (record { now = g.now; store = h }) g.goes
 
   -- all scans are left
-  pub ok_all : (w : Known) (p : ℕ) (S : PlainShape) (m : Linked) (st : Store Parked) (next : Store Parked → St P sh given keep) → Set w p S m st
-      → ((st' : Store Parked) → Set w p S m st' → Good (next st')) → Good (next (all_left M m st))
+  pub ok_all : (w : Known) (p : ℕ) (S : PlainShape) (m : LinkedStack) (st : Store WaitingChain) (next : Store WaitingChain → St P sh given keep)
+      → Set w p S m st
+      → ((st' : Store WaitingChain) → Set w p S m st' → Good (next st')) → Good (next (all_left M m st))
   ok_all w p S m st next h f = by (C.swap_oldest (pair_now st) m)
     where
-      by : (o : Option (Pair × Linked)) → Good (next (swapped_back o st))
+      by : (o : Option (Pair × LinkedStack)) → Good (next (swapped_back o st))
       by None = f st h
       by (Some swap) = f (with_pair swap.0 st) (ready_pair P sh given keep w p S m st swap.0 h)
 
-  pub proc_fails_ok : (w : Known) (p : ℕ) (S : PlainShape) (m : Linked) (st : Store Parked) → Set w p S m st → S.in_create ≡ false → Good (proc_fails M m st)
+  pub proc_fails_ok : (w : Known) (p : ℕ) (S : PlainShape) (m : LinkedStack) (st : Store WaitingChain) → Set w p S m st → S.in_create ≡ false
+      → Good (proc_fails M m st)
   proc_fails_ok w p S m st h e = ok_all w p S m st (λ st. return_to (C.leave m) failing st) h
       (λ st' r. ok_returned (C.leave m) w S.in_create st' failing r.store (leave_ok P sh w st'.active p S m r.now) e
       (λ m' p' S' r' e'. ok_fails P sh given keep w p' S' m' st' r'))
 
   -- Failing
 
-  without_mark_ok : (w : Known) (p : ℕ) (S : PlainShape) (m : Linked) (st : Store Parked) → Set w p S m st → Good (without_mark M P m st)
+  without_mark_ok : (w : Known) (p : ℕ) (S : PlainShape) (m : LinkedStack) (st : Store WaitingChain) → Set w p S m st → Good (without_mark M P m st)
   without_mark_ok w p S m st h = ok_if P sh given keep (is_create_body M m st) _ _ (λ e. exhausted_ok w p S m st h)
       (λ e. proc_fails_ok w p S m st h (sym (here_create P sh w st.active p S m h.now) ∙ e))
 
-  dropped_ok : (w : Known) (p : ℕ) (S : PlainShape) (m : Linked) (st : Store Parked) (d : MarkDrop Linked) → Set w p S m st → DroppedOk P sh w st.active d
+  dropped_ok : (w : Known) (p : ℕ) (S : PlainShape) (m : LinkedStack) (st : Store WaitingChain) (d : MarkDrop LinkedStack) → Set w p S m st
+      → DroppedOk P sh w st.active d
       → Good (mark_dropped M P m st d)
   dropped_ok w p S m st NoMark h g = without_mark_ok w p S m st h
   dropped_ok w p S m st (Goes after) h g = ok_runs P sh given keep w g.proc g.shape after st (record { now = g.now; store = h.store }) g.goes
@@ -316,7 +332,7 @@ module _ (P : Program) (sh : ℕ → ℕ → Option PlainShape) (given : Shaped 
       (λ st' r. ok_runs P sh given keep w g.proc g.shape after st' r g.goes)
   dropped_ok w p S m st (WithoutLabel after) h g = ok_fails P sh given keep w g.0 g.1 after st (record { now = g.2; store = h.store })
 
-  resumed_ok : (why : Why) (w : Known) (p : ℕ) (S : PlainShape) (m : Linked) (st : Store Parked) → Set w p S m st → WhyOk P sh w p S m.place why
+  resumed_ok : (why : Why) (w : Known) (p : ℕ) (S : PlainShape) (m : LinkedStack) (st : Store WaitingChain) → Set w p S m st → WhyOk P sh w p S m.place why
       → Good (resume_by M P why m st)
   resumed_ok Alt w p S m st h g = ok_fails P sh given keep w p S m st h
   resumed_ok (Operation r) w p S m st h g = ok_turn P sh given keep w p S m st (λ st. outcome M (again r (here M m st)) m st) h (λ st' q.
@@ -328,10 +344,10 @@ module _ (P : Program) (sh : ℕ → ℕ → Option PlainShape) (given : Shaped 
       ok_maybe (C.swap_oldest (pair_now st') m) w p S m st' running q (swap_oldest_ok P sh (pair_now st') w st'.active p S m q.now)
       (λ m' st'' r e. ok_runs P sh given keep w p S m' st'' r (ap (sh p) e ∙ g)))
 
-  back_ok : (o : Option (Why × Linked)) (w : Known) (p : ℕ) (S : PlainShape) (m : Linked) (st : Store Parked) → Set w p S m st
+  back_ok : (o : Option (Why × LinkedStack)) (w : Known) (p : ℕ) (S : PlainShape) (m : LinkedStack) (st : Store WaitingChain) → Set w p S m st
       → IfThere (Back P sh w st.active) o → Good (resumed_or_dropped M P m st o)
   back_ok None w p S m st h g = dropped_ok w p S m st (C.drop_mark m) h (drop_ok P sh w st.active p S m h.now)
   back_ok (Some back) w p S m st h g = resumed_ok back.0 w g.proc g.shape back.1 st (record { now = g.now; store = h.store }) g.why
 
-  pub fails_ok : (w : Known) (p : ℕ) (S : PlainShape) (m : Linked) (st : Store Parked) → Set w p S m st → Good (fails M P m st)
+  pub fails_ok : (w : Known) (p : ℕ) (S : PlainShape) (m : LinkedStack) (st : Store WaitingChain) → Set w p S m st → Good (fails M P m st)
   fails_ok w p S m st h = back_ok (C.resume m) w p S m st h (resume_ok P sh w st.active p S m h.now)

@@ -7,7 +7,7 @@ use Rattle.icn_verify.specs.declared.shape.LevelKind.TheVariants as Levels
 use Rattle.icn_verify.specs.Shapes.{PlainShape, with_more, with_fewer, with_mark}
 use Rattle.icn_run.specs.Rows.{Value, Item}
 use Rattle.icn_run.specs.Chains as C
-use Rattle.icn_run.specs.Chains.{Label, fixed, flagged, Chain, chain, Suspensions, none, suspension, Outer, base, call, mark, limit, Frame, at_base, in_call, frame_of, Linked, outer_of, scans_of, proc_of, activation_of, is_base_frame, frame, locals, with_chain}
+use Rattle.icn_run.specs.Chains.{Label, fixed, flagged, Chain, chain, Suspensions, none, suspension, Outer, base, call, mark, limit, Frame, at_base, in_call, frame_of, LinkedStack, outer_of, scans_of, proc_of, activation_of, is_base_frame, frame, locals, with_chain}
 use Rattle.icn_run.specs.LinkedStep.{repeats_anywhere}
 use Rattle.icn_run.specs.Step.{is_main}
 use Rattle.icn_run_laws.proofs.Lists.{some_inj, get_more, get_seam, get_set_same, get_set_other}
@@ -96,7 +96,7 @@ module _ (tables : Tables) (sh : ℕ → ℕ → Option PlainShape) where
       → OuterOk tables sh w s p S.in_create S.inner.kind S.outer (outer_of c)
   outer_ok w s p S (chain items q scans o) h = h.4
 
-  pub the_frame : (w : Known) (s p : ℕ) (S : PlainShape) (m : Linked) → Now tables sh w s p S m → FrameOk tables sh w s p S.in_create (frame m)
+  pub the_frame : (w : Known) (s p : ℕ) (S : PlainShape) (m : LinkedStack) → Now tables sh w s p S m → FrameOk tables sh w s p S.in_create (frame m)
   the_frame w s p S m h = frame_ok tables sh w s p S.in_create S.inner.kind S.outer (outer_of m.chain) (outer_ok w s p S m.chain h.has)
 
   frame_proc : (w : Known) (s p : ℕ) (cr : Bool) (f : Frame) → FrameOk tables sh w s p cr f → proc_of f ≡ p
@@ -111,18 +111,19 @@ module _ (tables : Tables) (sh : ℕ → ℕ → Option PlainShape) where
   frame_activation w s p cr (at_base proc a) h = h.2
   frame_activation w s p cr (in_call proc a level place caller) h = h.2
 
-  pub here_proc : (w : Known) (s p : ℕ) (S : PlainShape) (m : Linked) → Now tables sh w s p S m → proc_of (frame m) ≡ p
+  pub here_proc : (w : Known) (s p : ℕ) (S : PlainShape) (m : LinkedStack) → Now tables sh w s p S m → proc_of (frame m) ≡ p
   here_proc w s p S m h = frame_proc w s p S.in_create (frame m) (the_frame w s p S m h)
 
-  pub here_create : (w : Known) (s p : ℕ) (S : PlainShape) (m : Linked) → Now tables sh w s p S m → (is_base_frame (frame m) && not (is_main s)) ≡ S.in_create
+  pub here_create : (w : Known) (s p : ℕ) (S : PlainShape) (m : LinkedStack) → Now tables sh w s p S m
+      → (is_base_frame (frame m) && not (is_main s)) ≡ S.in_create
   here_create w s p S m h = frame_create w s p S.in_create (frame m) (the_frame w s p S m h)
 
-  pub locals_ok : (w : Known) (s p : ℕ) (S : PlainShape) (m : Linked) → Now tables sh w s p S m → LocalsOk tables sh w p (locals m)
+  pub locals_ok : (w : Known) (s p : ℕ) (S : PlainShape) (m : LinkedStack) → Now tables sh w s p S m → LocalsOk tables sh w p (locals m)
   locals_ok w s p S m h =
       let o = h.memory.locals (activation_of (frame m)) p (frame_activation w s p S.in_create (frame m) (the_frame w s p S m h)) in
       subst (LocalsOk tables sh w p) (sym (index_there m.activations (activation_of (frame m)) o.0 [] o.1)) o.2
 
-  pub set_locals_ok : (values : List Value) (w : Known) (s p : ℕ) (S : PlainShape) (m : Linked) → Now tables sh w s p S m → LocalsOk tables sh w p values
+  pub set_locals_ok : (values : List Value) (w : Known) (s p : ℕ) (S : PlainShape) (m : LinkedStack) → Now tables sh w s p S m → LocalsOk tables sh w p values
       → Now tables sh w s p S (C.set_locals values m)
   set_locals_ok values w s p S m h g =
       record {
@@ -137,17 +138,17 @@ module _ (tables : Tables) (sh : ℕ → ℕ → Option PlainShape) where
       → ChainOk tables sh w s p (with_more 1 S) (C.push_on item c)
   pushed_ok w s p S item (chain items q scans o) h g = let e = h.0 in (omega (arith, e), (g, h.1), h.2, h.3, h.4)
 
-  pub push_ok : (item : Item) (w : Known) (s p : ℕ) (S : PlainShape) (m : Linked) → Now tables sh w s p S m → ItemWithin w.coexps item
+  pub push_ok : (item : Item) (w : Known) (s p : ℕ) (S : PlainShape) (m : LinkedStack) → Now tables sh w s p S m → ItemWithin w.coexps item
       → Now tables sh w s p (with_more 1 S) (C.push item m)
   push_ok item w s p S m h g = record { has = pushed_ok w s p S item m.chain h.has g; memory = h.memory }
 
-  popped_ok : (w : Known) (s p : ℕ) (S : PlainShape) (m : Linked) (c : Chain) → ChainOk tables sh w s p S c → 0 < S.inner.operands
+  popped_ok : (w : Known) (s p : ℕ) (S : PlainShape) (m : LinkedStack) (c : Chain) → ChainOk tables sh w s p S c → 0 < S.inner.operands
       → (item : Item) × (c' : Chain) × (C.pop_from m c ≡ Some (item, with_chain c' m)) × ItemWithin w.coexps item × ChainOk tables sh w s p (with_fewer 1 S) c'
   popped_ok w s p S m (chain [] q scans o) h l = let e = h.0 in absurd (omega (arith, e, l))
   popped_ok w s p S m (chain (item ∷ items) q scans o) h l =
       let e = h.0 in (item, chain items q scans o, refl, h.1.0, (omega (arith, e, l), h.1.1, h.2, h.3, h.4))
 
-  pub pop_ok : (w : Known) (s p : ℕ) (S : PlainShape) (m : Linked) → Now tables sh w s p S m → 0 < S.inner.operands
+  pub pop_ok : (w : Known) (s p : ℕ) (S : PlainShape) (m : LinkedStack) → Now tables sh w s p S m → 0 < S.inner.operands
       → (item : Item) × (c' : Chain) × (C.pop m ≡ Some (item, with_chain c' m)) × ItemWithin w.coexps item
       × Now tables sh w s p (with_fewer 1 S) (with_chain c' m)
   pop_ok w s p S m h l = let o = popped_ok w s p S m m.chain h.has l in (o.0, o.1, o.2, o.3, record { has = o.4; memory = h.memory })
@@ -160,7 +161,7 @@ module _ (tables : Tables) (sh : ℕ → ℕ → Option PlainShape) where
   taken_ok Q (suc n) (item ∷ items) found l h g = let o = taken_ok Q n items (item ∷ found) (omega (arith, l)) h.1 (h.0, g) in
       let a = o.3 in let b = o.4 in (o.0, o.1, o.2, omega (arith, a), omega (arith, b), o.5, o.6)
 
-  take_from_ok : (n : ℕ) (w : Known) (s p : ℕ) (S : PlainShape) (m : Linked) (c : Chain) → ChainOk tables sh w s p S c → n ≤ S.inner.operands
+  take_from_ok : (n : ℕ) (w : Known) (s p : ℕ) (S : PlainShape) (m : LinkedStack) (c : Chain) → ChainOk tables sh w s p S c → n ≤ S.inner.operands
       → (items : List Item) × (c' : Chain) × (C.take_from n m c ≡ Some (items, with_chain c' m)) × (length items ≡ n) × Each (ItemWithin w.coexps) items
       × ChainOk tables sh w s p (with_fewer n S) c'
   take_from_ok n w s p S m (chain items q scans o) h l =
@@ -175,7 +176,7 @@ module _ (tables : Tables) (sh : ℕ → ℕ → Option PlainShape) where
         (omega (arith, a, e), t.6, h.2, h.3, h.4),
       )
 
-  pub take_ok : (n : ℕ) (w : Known) (s p : ℕ) (S : PlainShape) (m : Linked) → Now tables sh w s p S m → n ≤ S.inner.operands
+  pub take_ok : (n : ℕ) (w : Known) (s p : ℕ) (S : PlainShape) (m : LinkedStack) → Now tables sh w s p S m → n ≤ S.inner.operands
       → (items : List Item) × (c' : Chain) × (C.take_items n m ≡ Some (items, with_chain c' m)) × (length items ≡ n) × Each (ItemWithin w.coexps) items
       × Now tables sh w s p (with_fewer n S) (with_chain c' m)
   take_ok n w s p S m h l = let o = take_from_ok n w s p S m m.chain h.has l in (o.0, o.1, o.2, o.3, o.4, record { has = o.5; memory = h.memory })
@@ -185,7 +186,7 @@ module _ (tables : Tables) (sh : ℕ → ℕ → Option PlainShape) where
   scans_count : (w : Known) (s p : ℕ) (S : PlainShape) (c : Chain) → ChainOk tables sh w s p S c → S.inner.scans ≤ length (scans_of c)
   scans_count w s p S (chain items q scans o) h = h.2
 
-  pub mark_ok : (label : Option ℕ) (w : Known) (s p : ℕ) (S : PlainShape) (m : Linked) (q : ℕ) → Now tables sh w s p S m → m.place ≡ suc q
+  pub mark_ok : (label : Option ℕ) (w : Known) (s p : ℕ) (S : PlainShape) (m : LinkedStack) (q : ℕ) → Now tables sh w s p S m → m.place ≡ suc q
       → LabelTo tables sh p S label → sh p (suc q) ≡ Some (with_mark Levels.Plain S)
       → Now tables sh (with_flag w p S) s p (with_mark Levels.Plain S) (C.open_mark repeats_anywhere label m)
   mark_ok label w s p S m q h at to e = record {
@@ -206,6 +207,6 @@ module _ (tables : Tables) (sh : ℕ → ℕ → Option PlainShape) where
     memory = memory_flag w p S m.activations m.flags m.relabels h.memory;
   }
 
-  pub limit_ok : (count : ℕ) (w : Known) (s p : ℕ) (S : PlainShape) (m : Linked) → Now tables sh w s p S m
+  pub limit_ok : (count : ℕ) (w : Known) (s p : ℕ) (S : PlainShape) (m : LinkedStack) → Now tables sh w s p S m
       → Now tables sh w s p (with_mark Levels.Limit S) (C.open_limit (suc count) m)
   limit_ok count w s p S m h = record { has = (refl, tt, omega arith, tt, (S.inner, S.outer, refl, refl, h.has)); memory = h.memory }

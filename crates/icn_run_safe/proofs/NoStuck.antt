@@ -6,7 +6,7 @@ use Rattle.icn_code.specs.Codes.{Tables, Proc as Procedure}
 use Rattle.icn_verify.specs.Shapes.{PlainShape, start_shape}
 use Rattle.icn_verify.specs.Given.{HaveShapes, HasShapes, IsFine}
 use Rattle.icn_run.specs.Rows.{Value, Null, Val, Var, Outcome, Fails, Gives, Suspends, Error, Ends, list_row, words_row}
-use Rattle.icn_run.specs.Chains.{Parked, Linked, empty}
+use Rattle.icn_run.specs.Chains.{WaitingChain, LinkedStack, empty}
 use Rattle.icn_run.specs.Chains as C
 use Rattle.icn_run.specs.Step.{Program, Launch, Store, Coexp, Active, running, failing, hopping, over, stuck, here, with_at, with_made, collect_rest, fill_nulls, begun_if, instruction, instruction_at, instrs_of, step, steps, start, start_of, first_store, main_of, static_count, is_main}
 use Rattle.icn_run.specs.LinkedStep.{repeats_anywhere}
@@ -16,7 +16,7 @@ use Rattle.icn_run_laws.proofs.Lists.{some_inj, no_some}
 use Rattle.icn_run_laws.proofs.RowsKeep.{rows_keep}
 use Rattle.icn_run_laws.proofs.SecondLaw.{everywhere, covered}
 use Rattle.icn_run_safe.specs.Within.{Each, ValueWithin, SettingWithin, OutcomeWithin, RowsStayWithin}
-use Rattle.icn_run_safe.specs.Shaped.{Known, MemoryOk, MemoryOf, StatusOk, Entered, CoexpOk, StoreOk, Safe, Shaped}
+use Rattle.icn_run_safe.specs.Shaped.{Known, MemoryOk, MemoryOf, StatusOk, Entered, CoexpOk, StoreOk, Safe, KeepsShapes}
 use Rattle.icn_run_safe.specs.NoStuck.{TablesOk, IsNeverStuck}
 use Rattle.icn_run_safe.specs.Facts.{shapes_by, shapes_of}
 use Rattle.icn_run_safe.proofs.Entries.{each_append, each_replicate, each_drop, stands, set_length}
@@ -41,7 +41,7 @@ fine_by : (o : Option Procedure) (f : Shapes o) (place : ℕ) (S : PlainShape) �
 fine_by None f place S e = no_some S e
 fine_by (Some proc) f place S e = (f proc refl).1.each place S e
 
-pub shaped : (tables : Tables) (have : HaveShapes tables) → TablesOk tables → Shaped tables (shapes_of tables have)
+pub shaped : (tables : Tables) (have : HaveShapes tables) → TablesOk tables → KeepsShapes tables (shapes_of tables have)
 shaped tables have ok = record {
   collects = ok.collects;
   starts = λ p l. let o = stands tables.procs p l in starts_by (slice_get tables.procs p) (have p) o.0 o.1;
@@ -52,14 +52,14 @@ none_there : {A : Type 0} (xs : List A) (n : ℕ) (d : A) → length xs ≡ 0 �
 none_there [] n d e = refl
 none_there (x ∷ xs) n d e = absurd (omega (arith, e))
 
-module _ (P : Program) (sh : ℕ → ℕ → Option PlainShape) (given : Shaped P sh) (keep : RowsStayWithin) (tables_ok : TablesOk P) where
+module _ (P : Program) (sh : ℕ → ℕ → Option PlainShape) (given : KeepsShapes P sh) (keep : RowsStayWithin) (tables_ok : TablesOk P) where
   abbrev Good : St P sh given keep → Type 0
   Good state = Ok P sh given keep state
 
   pub step_ok : (s : St P sh given keep) → Good s → Good (step M P s)
   step_ok (running m st) h =
       let fine : IsFine (instrs_of P h.1) (sh h.1) m.place h.2 = given.fine h.1 m.place h.2 h.4 in
-      let next : Linked = M.go (suc (M.place m)) m in
+      let next : LinkedStack = M.go (suc (M.place m)) m in
       ok_found P sh given keep (instruction_at M P m) (λ instr. instruction M P instr next st) fine.instr
       (ap (λ x. slice_get (instrs_of P x) m.place) (here_proc P sh h.0 st.active h.1 h.2 m h.3) ∙ fine.stands)
       (instruction_ok P sh given keep h.0 h.1 h.2 next m.place st (record { now = record { has = h.3.has; memory = h.3.memory }; store = h.5 }) refl fine.instr
@@ -79,12 +79,12 @@ module _ (P : Program) (sh : ℕ → ℕ → Option PlainShape) (given : Shaped 
   none_known = record { activations = []; flags = []; coexps = 1 }
 
   -- no stack runs yet
-  record Starts (m : Linked) (st : Store Parked) : Type 0 where
+  record Starts (m : LinkedStack) (st : Store WaitingChain) : Type 0 where
     memory : MemoryOf P sh none_known m
     store : StoreOk P sh none_known (λ i. i ≡ st.active) st
     main : st.active ≡ 0
 
-  memory_none : (m : Linked) → MemoryOf P sh none_known m → (n : ℕ) (values : List Value)
+  memory_none : (m : LinkedStack) → MemoryOf P sh none_known m → (n : ℕ) (values : List Value)
       → MemoryOk P sh none_known (slice_set m.activations n values) m.flags m.relabels
   memory_none m h n values = record {
     same_activations = h.same_activations ∙ sym (set_length m.activations n values);
@@ -93,12 +93,14 @@ module _ (P : Program) (sh : ℕ → ℕ → Option PlainShape) (given : Shaped 
     labels = h.labels;
   }
 
-  here_starts : (m : Linked) (st : Store Parked) → Starts m st → SettingWithin 1 (here M m st)
+  here_starts : (m : LinkedStack) (st : Store WaitingChain) → Starts m st → SettingWithin 1 (here M m st)
   here_starts m st h =
       record { world = h.store.world; locals = subst (Each (ValueWithin 1)) (sym (none_there m.activations _ [] (sym h.memory.same_activations))) tt }
 
-  made_starts : (o : Outcome) (m : Linked) (st : Store Parked) (next : Value → Linked → Store Parked → St P sh given keep) → IsMade o → OutcomeWithin 1 o
-      → Starts m st → ((v : Value) (a : Linked) (st' : Store Parked) → ValueWithin 1 v → Starts a st' → Good (next v a st')) → Good (with_made M o m st next)
+  made_starts : (o : Outcome) (m : LinkedStack) (st : Store WaitingChain) (next : Value → LinkedStack → Store WaitingChain → St P sh given keep) → IsMade o
+      → OutcomeWithin 1 o
+      → Starts m st → ((v : Value) (a : LinkedStack) (st' : Store WaitingChain) → ValueWithin 1 v → Starts a st' → Good (next v a st'))
+      → Good (with_made M o m st next)
   made_starts (Gives (Val v) seen) m st next i g h f = f v (C.set_locals seen.locals m) (with_at seen st) g.0
       (record { memory = memory_none m h.memory _ seen.locals; store = record { world = g.1.world; coexps = h.store.coexps }; main = h.main })
   made_starts (Gives (Var v) seen) m st next i g h f = absurd i
@@ -108,9 +110,10 @@ module _ (P : Program) (sh : ℕ → ℕ → Option PlainShape) (given : Shaped 
   made_starts (Ends k seen) m st next i g h f = absurd i
 
   collected_starts : (b : Bool) (entry : Procedure) → (b ≡ true → 0 < entry.parameters)
-      → (vs : List Value) (m : Linked) (st : Store Parked) (next : List Value → Linked → Store Parked → St P sh given keep) → Each (ValueWithin 1) vs
+      → (vs : List Value) (m : LinkedStack) (st : Store WaitingChain) (next : List Value → LinkedStack → Store WaitingChain → St P sh given keep)
+      → Each (ValueWithin 1) vs
       → Starts m st
-      → ((ps : List Value) (a : Linked) (st' : Store Parked) → Parameters P sh given keep none_known entry ps → Starts a st' → Good (next ps a st'))
+      → ((ps : List Value) (a : LinkedStack) (st' : Store WaitingChain) → Parameters P sh given keep none_known entry ps → Starts a st' → Good (next ps a st'))
       → Good (collect_rest M b entry.parameters vs m st next)
   collected_starts false entry some vs m st next g h f =
       f (fill_nulls entry.parameters vs) m st (record { within = filled_within entry.parameters 1 vs g; count = filled_length entry.parameters vs }) h
@@ -125,7 +128,7 @@ module _ (P : Program) (sh : ℕ → ℕ → Option PlainShape) (given : Shaped 
       }) h')
 
   begun_ok : (b : Bool) (main : ℕ) (entry : Procedure) → slice_get P.procs main ≡ Some entry → main < length P.procs
-      → (v : Value) (m : Linked) (st : Store Parked) → ValueWithin 1 v → Starts m st → Good (begun_if M b main entry (v ∷ []) m st)
+      → (v : Value) (m : LinkedStack) (st : Store WaitingChain) → ValueWithin 1 v → Starts m st → Good (begun_if M b main entry (v ∷ []) m st)
   begun_ok false main entry e l v m st g h = tt
   begun_ok true main entry e l v m st g h = collected_starts entry.collects entry (given.collects main entry e) (v ∷ []) m st
       (λ parameters m st. running (M.begin main (parameters ++ replicate entry.locals Null) 0 m) st) (g, tt) h (λ ps a st' gp h'.
@@ -138,7 +141,7 @@ module _ (P : Program) (sh : ℕ → ℕ → Option PlainShape) (given : Shaped 
       })
       (given.starts main l))
 
-  start_ok : (words : List (List ℕ)) (m : Linked) (st : Store Parked) (o : Option ℕ) → main_of P ≡ o → Starts m st → Good (start_of M P words m st o)
+  start_ok : (words : List (List ℕ)) (m : LinkedStack) (st : Store WaitingChain) (o : Option ℕ) → main_of P ≡ o → Starts m st → Good (start_of M P words m st o)
   start_ok words m st None e h = tt
   start_ok words m st (Some main) e h =
       let l = tables_ok.main main e in
@@ -149,18 +152,18 @@ module _ (P : Program) (sh : ℕ → ℕ → Option PlainShape) (given : Shaped 
       (rows_keep.words_made words (here M m st)) (keep.worded 1 words (here M m st) (here_starts m st h)) h
       (λ v a st' g h'. begun_ok (nat_le 1 st'.world.heap.bounds.levels) main o.0 o.1 l v a st' g h'))
 
-  abbrev main_coexp : Coexp Parked
+  abbrev main_coexp : Coexp WaitingChain
   main_coexp = record { status = Active; activator = zero; values = []; proc = zero; place = zero }
 
   main_entered : Entered P sh (main_coexp ∷ []) 0
   main_entered = record { coexp = main_coexp; stands = refl; begun = λ z. z }
 
-  main_each : (i : ℕ) (c : Coexp Parked) → slice_get (main_coexp ∷ []) i ≡ Some c → CoexpOk P sh none_known (main_coexp ∷ []) i c
+  main_each : (i : ℕ) (c : Coexp WaitingChain) → slice_get (main_coexp ∷ []) i ≡ Some c → CoexpOk P sh none_known (main_coexp ∷ []) i c
   main_each zero c e = subst (λ x. CoexpOk P sh none_known (main_coexp ∷ []) 0 x) (some_inj e)
       (record { values = λ d. absurd (d refl); origin = λ d. absurd (d refl); activator = main_entered })
   main_each (suc i) c e = no_some c e
 
-  main_waits : (i : ℕ) (c : Coexp Parked) → slice_get (main_coexp ∷ []) i ≡ Some c → (i ≡ 0 → ⊥) → StatusOk P sh none_known i c.status
+  main_waits : (i : ℕ) (c : Coexp WaitingChain) → slice_get (main_coexp ∷ []) i ≡ Some c → (i ≡ 0 → ⊥) → StatusOk P sh none_known i c.status
   main_waits zero c e d = absurd (d refl)
   main_waits (suc i) c e d = no_some c e
 

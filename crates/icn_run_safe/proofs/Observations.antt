@@ -8,8 +8,8 @@ use Rattle.icn_code.specs.Codes.{Tables, Proc as Procedure}
 use Rattle.icn_verify.specs.Shapes.{PlainShape}
 use Rattle.icn_verify.specs.Rows.{forward}
 use Rattle.icn_verify.specs.Given.{HaveShapes, IsFine}
-use Rattle.icn_run.specs.Chains.{Parked, Linked, linked, empty}
-use Rattle.icn_run.specs.Step.{Observed, Launch, Store, State, running, failing, hopping, over, stuck, instruction_at, instrs_of, observed}
+use Rattle.icn_run.specs.Chains.{WaitingChain, LinkedStack, linked_calls, empty}
+use Rattle.icn_run.specs.Step.{Observed, Launch, Store, State, running, failing, hopping, over, stuck, instruction_at, instrs_of, observation}
 use Rattle.icn_run.specs.FlatStep as Flat
 use Rattle.icn_run.specs.LinkedStep as Marks
 use Rattle.icn_run.specs.LinkedStep.{repeats_anywhere}
@@ -21,7 +21,7 @@ use Rattle.icn_run_laws.proofs.LinkedEnds.{linked_weighs}
 use Rattle.icn_run_laws.proofs.Ends.{ends_by}
 use Rattle.icn_run_laws.proofs.SecondLaw.{everywhere, covered, told}
 use Rattle.icn_run_safe.specs.Within.{RowsStayWithin}
-use Rattle.icn_run_safe.specs.Shaped.{Safe, Shaped}
+use Rattle.icn_run_safe.specs.Shaped.{Safe, KeepsShapes}
 use Rattle.icn_run_safe.specs.NoStuck.{TablesOk}
 use Rattle.icn_run_safe.specs.Ended.{AreOver}
 use Rattle.icn_run_safe.proofs.Entries.{within}
@@ -50,7 +50,7 @@ goes_forward (Instrs.Init label) S place Q h = h.0
 goes_forward _ S place Q h = tt
 
 -- a run that is over, and not stuck, was observed
-seen_of : (s : State Parked Linked) → IsEnd s → (s ≡ stuck → ⊥) → (seen : Observed) × (observed s ≡ Some seen)
+seen_of : (s : State WaitingChain LinkedStack) → IsEnd s → (s ≡ stuck → ⊥) → (seen : Observed) × (observation s ≡ Some seen)
 seen_of (over ending outside) h d = (record { ending = ending; outside = outside }, refl)
 seen_of stuck h d = absurd (d refl)
 seen_of (running m st) h d = absurd h
@@ -61,11 +61,11 @@ module _ (tables : Tables) (have : HaveShapes tables) (ok : TablesOk tables) (ke
   abbrev sh : ℕ → ℕ → Option PlainShape
   sh = shapes_of tables have
 
-  given : Shaped tables (shapes_of tables have)
+  given : KeepsShapes tables (shapes_of tables have)
   given = shaped tables have ok
 
   -- the instruction at a reached place is that whose labels were looked at
-  forward_at : (m : Linked) (st : Store Parked) → Safe tables sh (running m st) → (instr : Instr) → instruction_at M tables m ≡ Some instr
+  forward_at : (m : LinkedStack) (st : Store WaitingChain) → Safe tables sh (running m st) → (instr : Instr) → instruction_at M tables m ≡ Some instr
       → IsForward m.place instr
   forward_at m st h instr e =
       let fine : IsFine (instrs_of tables h.1) (shapes_of tables have h.1) m.place h.2 = given.fine h.1 m.place h.2 h.4 in
@@ -95,7 +95,7 @@ module _ (tables : Tables) (have : HaveShapes tables) (ok : TablesOk tables) (ke
 
   told_ends : (repeats : ℕ → ℕ → Bool) (launch : Launch) (seen : Observed)
       → Marks.Runs repeats tables launch seen ⊎ (LinkedStuck repeats tables launch × MissingCell repeats tables launch)
-      → EndsFrom (linked repeats) tables (Marks.start repeats tables launch)
+      → EndsFrom (linked_calls repeats) tables (Marks.start repeats tables launch)
   told_ends repeats launch seen (inl run) = record { count = run.count; is_end = subst IsEnd (sym (over_seen _ seen run.is)) tt }
   told_ends repeats launch seen (inr lost) = record { count = lost.0.count; is_end = subst IsEnd (sym lost.0.is) tt }
 

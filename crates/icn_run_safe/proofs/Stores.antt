@@ -4,7 +4,7 @@ use Rattle.std.specs.Prelude.{slice_get, slice_set}
 use Rattle.icn_code.specs.Codes.{Tables}
 use Rattle.icn_verify.specs.Shapes.{PlainShape, start_shape}
 use Rattle.icn_run.specs.Rows.{Value}
-use Rattle.icn_run.specs.Chains.{Parked}
+use Rattle.icn_run.specs.Chains.{WaitingChain}
 use Rattle.icn_run.specs.Step.{Status, Fresh, Active, Waiting, Exhausted, Coexp, Store, with_coexp}
 use Rattle.icn_run_laws.proofs.Lists.{some_inj, get_more, get_set_same, get_set_other}
 use Rattle.icn_run_safe.specs.Within.{WorldWithin}
@@ -21,19 +21,20 @@ grow_one w = record { coexps = omega arith; activations = λ a p h. h; flags = �
 module _ (tables : Tables) (sh : ℕ → ℕ → Option PlainShape) where
   -- what is known grows
 
-  grow_parked : (w w' : Known) → Grow w w' → (i : ℕ) (k : Parked) → ParkedOk tables sh w i k → ParkedOk tables sh w' i k
+  grow_parked : (w w' : Known) → Grow w w' → (i : ℕ) (k : WaitingChain) → ParkedOk tables sh w i k → ParkedOk tables sh w' i k
   grow_parked w w' g i k h = record { proc = h.proc; shape = h.shape; has = grow_chain tables sh w w' g i h.proc h.shape k.chain h.has; goes = h.goes }
 
-  grow_status : (w w' : Known) → Grow w w' → (i : ℕ) (s : Status Parked) → StatusOk tables sh w i s → StatusOk tables sh w' i s
+  grow_status : (w w' : Known) → Grow w w' → (i : ℕ) (s : Status WaitingChain) → StatusOk tables sh w i s → StatusOk tables sh w' i s
   grow_status w w' g i Fresh h = h
   grow_status w w' g i Active h = h
   grow_status w w' g i (Waiting k) h = grow_parked w w' g i k h
   grow_status w w' g i Exhausted h = tt
 
-  grow_coexp : (w w' : Known) → Grow w w' → (ks : List (Coexp Parked)) (i : ℕ) (c : Coexp Parked) → CoexpOk tables sh w ks i c → CoexpOk tables sh w' ks i c
+  grow_coexp : (w w' : Known) → Grow w w' → (ks : List (Coexp WaitingChain)) (i : ℕ) (c : Coexp WaitingChain) → CoexpOk tables sh w ks i c
+      → CoexpOk tables sh w' ks i c
   grow_coexp w w' g ks i c h = record { values = λ d. grow_locals tables sh w w' g c.proc c.values (h.values d); origin = h.origin; activator = h.activator }
 
-  pub grow_store : (w w' : Known) (May : ℕ → Type 0) (st : Store Parked) → w'.coexps ≡ w.coexps → Grow w w' → StoreOk tables sh w May st
+  pub grow_store : (w w' : Known) (May : ℕ → Type 0) (st : Store WaitingChain) → w'.coexps ≡ w.coexps → Grow w w' → StoreOk tables sh w May st
       → StoreOk tables sh w' May st
   grow_store w w' May st e g h = record {
     world = subst (λ n. WorldWithin n st.world) (sym e) h.world;
@@ -48,7 +49,7 @@ module _ (tables : Tables) (sh : ℕ → ℕ → Option PlainShape) where
 
   -- one co-expression is another, and has begun
 
-  pub entered_set : (ks : List (Coexp Parked)) (n : ℕ) (c c' : Coexp Parked) (x : ℕ) → slice_get ks n ≡ Some c
+  pub entered_set : (ks : List (Coexp WaitingChain)) (n : ℕ) (c c' : Coexp WaitingChain) (x : ℕ) → slice_get ks n ≡ Some c
       → (IsFresh tables sh c'.status → IsFresh tables sh c.status) → Entered tables sh ks x → Entered tables sh (slice_set ks n c') x
   entered_set ks n c c' x e f h = by (is_same x n)
     where
@@ -58,15 +59,16 @@ module _ (tables : Tables) (sh : ℕ → ℕ → Option PlainShape) where
           record {
             coexp = c';
             stands = ap (slice_get (slice_set ks n c')) z ∙ get_set_same ks n c c' e;
-            begun = λ q. h.begun (subst (λ (y : Coexp Parked). IsFresh tables sh y.status) (sym same) (f q));
+            begun = λ q. h.begun (subst (λ (y : Coexp WaitingChain). IsFresh tables sh y.status) (sym same) (f q));
           }
       by (inr d) = record { coexp = h.coexp; stands = get_set_other ks x n c' d ∙ h.stands; begun = h.begun }
 
-  pub entered_at : (ks : List (Coexp Parked)) (n : ℕ) (c c' : Coexp Parked) → slice_get ks n ≡ Some c → (IsFresh tables sh c'.status → ⊥)
+  pub entered_at : (ks : List (Coexp WaitingChain)) (n : ℕ) (c c' : Coexp WaitingChain) → slice_get ks n ≡ Some c → (IsFresh tables sh c'.status → ⊥)
       → Entered tables sh (slice_set ks n c') n
   entered_at ks n c c' e f = record { coexp = c'; stands = get_set_same ks n c c' e; begun = f }
 
-  pub set_coexps : (w : Known) (May May' : ℕ → Type 0) (a a' : ℕ) (ks : List (Coexp Parked)) (n : ℕ) (c c' : Coexp Parked) → CoexpsOk tables sh w May a ks
+  pub set_coexps : (w : Known) (May May' : ℕ → Type 0) (a a' : ℕ) (ks : List (Coexp WaitingChain)) (n : ℕ) (c c' : Coexp WaitingChain)
+      → CoexpsOk tables sh w May a ks
       → slice_get ks n ≡ Some c → (IsFresh tables sh c'.status → IsFresh tables sh c.status) → (n ≢ 0 → LocalsOk tables sh w c'.proc c'.values)
       → (n ≢ 0 → sh c'.proc c'.place ≡ Some (start_shape true)) → Entered tables sh ks c'.activator → ((May' n → ⊥) → StatusOk tables sh w n c'.status)
       → ((i : ℕ) → i ≢ n → (May' i → ⊥) → May i → ⊥) → Entered tables sh (slice_set ks n c') a'
@@ -79,19 +81,19 @@ module _ (tables : Tables) (sh : ℕ → ℕ → Option PlainShape) where
     first = entered_set ks n c c' 0 e f h.first;
   }
     where
-      by : (i : ℕ) (d : Coexp Parked) → ((i ≡ n) × (c' ≡ d)) ⊎ ((i ≢ n) × (slice_get ks i ≡ Some d)) → CoexpOk tables sh w (slice_set ks n c') i d
+      by : (i : ℕ) (d : Coexp WaitingChain) → ((i ≡ n) × (c' ≡ d)) ⊎ ((i ≢ n) × (slice_get ks i ≡ Some d)) → CoexpOk tables sh w (slice_set ks n c') i d
       by i d (inl z) =
           subst (λ y. CoexpOk tables sh w (slice_set ks n c') i y) z.1
           (record { values = λ q. values (λ y. q (z.0 ∙ y)); origin = λ q. origin (λ y. q (z.0 ∙ y)); activator = entered_set ks n c c' c'.activator e f act })
       by i d (inr z) = let o = h.each i d z.1 in record { values = o.values; origin = o.origin; activator = entered_set ks n c c' d.activator e f o.activator }
 
-      by_wait : (i : ℕ) (d : Coexp Parked) → (May' i → ⊥) → ((i ≡ n) × (c' ≡ d)) ⊎ ((i ≢ n) × (slice_get ks i ≡ Some d)) → StatusOk tables sh w i d.status
+      by_wait : (i : ℕ) (d : Coexp WaitingChain) → (May' i → ⊥) → ((i ≡ n) × (c' ≡ d)) ⊎ ((i ≢ n) × (slice_get ks i ≡ Some d)) → StatusOk tables sh w i d.status
       by_wait i d q (inl z) =
           subst (λ y. StatusOk tables sh w i y.status) z.1 (subst (λ j. StatusOk tables sh w j c'.status) (sym z.0) (status (λ y. q (subst May' (sym z.0) y))))
       by_wait i d q (inr z) = h.waits i d z.1 (may i z.0 q)
 
   -- the active one gets a status, and waits
-  pub set_status : (w : Known) (st : Store Parked) (c : Coexp Parked) (s : Status Parked) → StoreOk tables sh w (λ i. i ≡ st.active) st
+  pub set_status : (w : Known) (st : Store WaitingChain) (c : Coexp WaitingChain) (s : Status WaitingChain) → StoreOk tables sh w (λ i. i ≡ st.active) st
       → slice_get st.coexps st.active ≡ Some c → (IsFresh tables sh s → ⊥) → StatusOk tables sh w st.active s
       → StoreOk tables sh w (λ i. ⊥) (with_coexp st.active (record c { status = s }) st)
   set_status w st c s h e f ok = let o = h.coexps.each st.active c e in record {
@@ -101,7 +103,8 @@ module _ (tables : Tables) (sh : ℕ → ℕ → Option PlainShape) where
   }
 
   -- another activator, where none is active
-  pub set_activator : (w : Known) (st : Store Parked) (n a : ℕ) (c : Coexp Parked) → StoreOk tables sh w (λ i. ⊥) st → slice_get st.coexps n ≡ Some c
+  pub set_activator : (w : Known) (st : Store WaitingChain) (n a : ℕ) (c : Coexp WaitingChain) → StoreOk tables sh w (λ i. ⊥) st
+      → slice_get st.coexps n ≡ Some c
       → Entered tables sh st.coexps a
       → StoreOk tables sh w (λ i. ⊥) (with_coexp n (record c { activator = a }) st)
   set_activator w st n a c h e act = let o = h.coexps.each n c e in record {
@@ -111,7 +114,7 @@ module _ (tables : Tables) (sh : ℕ → ℕ → Option PlainShape) where
   }
 
   -- none is active, and one becomes so
-  pub set_active : (w : Known) (st : Store Parked) (n : ℕ) (c : Coexp Parked) → StoreOk tables sh w (λ i. ⊥) st → slice_get st.coexps n ≡ Some c
+  pub set_active : (w : Known) (st : Store WaitingChain) (n : ℕ) (c : Coexp WaitingChain) → StoreOk tables sh w (λ i. ⊥) st → slice_get st.coexps n ≡ Some c
       → Entered tables sh st.coexps c.activator
       → StoreOk tables sh w (λ i. i ≡ n) (with_coexp n (record c { status = Active }) (record st { active = n }))
   set_active w st n c h e act = let o = h.coexps.each n c e in record {
@@ -122,7 +125,7 @@ module _ (tables : Tables) (sh : ℕ → ℕ → Option PlainShape) where
 
   -- one more co-expression
 
-  entered_more : (ks : List (Coexp Parked)) (c : Coexp Parked) (x : ℕ) → Entered tables sh ks x → Entered tables sh (ks ++ c ∷ []) x
+  entered_more : (ks : List (Coexp WaitingChain)) (c : Coexp WaitingChain) (x : ℕ) → Entered tables sh ks x → Entered tables sh (ks ++ c ∷ []) x
   entered_more ks c x h = record { coexp = h.coexp; stands = get_more ks c x h.coexp h.stands; begun = h.begun }
 
   pub memory_one : (w : Known) (acts : List (List Value)) (flags : List Bool) (relabels : List (ℕ × ℕ)) → MemoryOk tables sh w acts flags relabels
@@ -134,7 +137,7 @@ module _ (tables : Tables) (sh : ℕ → ℕ → Option PlainShape) where
     labels = grow_relabels tables sh w (one_more w) (grow_one w) relabels h.labels;
   }
 
-  pub more_coexps : (w : Known) (st : Store Parked) (values : List Value) (proc place : ℕ) → CoexpsOk tables sh w (λ i. i ≡ st.active) st.active st.coexps
+  pub more_coexps : (w : Known) (st : Store WaitingChain) (values : List Value) (proc place : ℕ) → CoexpsOk tables sh w (λ i. i ≡ st.active) st.active st.coexps
       → LocalsOk tables sh w proc values → sh proc place ≡ Some (start_shape true)
       → CoexpsOk tables sh (one_more w) (λ i. i ≡ st.active) st.active
       (st.coexps ++ record { status = Fresh; activator = 0; values = values; proc = proc; place = place } ∷ [])
@@ -146,10 +149,10 @@ module _ (tables : Tables) (sh : ℕ → ℕ → Option PlainShape) where
     first = entered_more st.coexps new 0 h.first;
   }
     where
-      new : Coexp Parked
+      new : Coexp WaitingChain
       new = record { status = Fresh; activator = 0; values = values; proc = proc; place = place }
 
-      by : (i : ℕ) (c : Coexp Parked) → ((i ≡ length st.coexps) × (new ≡ c)) ⊎ (slice_get st.coexps i ≡ Some c)
+      by : (i : ℕ) (c : Coexp WaitingChain) → ((i ≡ length st.coexps) × (new ≡ c)) ⊎ (slice_get st.coexps i ≡ Some c)
           → CoexpOk tables sh (one_more w) (st.coexps ++ new ∷ []) i c
       by i c (inl z) =
           subst (λ y. CoexpOk tables sh (one_more w) (st.coexps ++ new ∷ []) i y) z.1 (record {
@@ -164,7 +167,7 @@ module _ (tables : Tables) (sh : ℕ → ℕ → Option PlainShape) where
             activator = entered_more st.coexps new c.activator o.activator;
           }
 
-      by_wait : (i : ℕ) (c : Coexp Parked) → ((i ≡ st.active) → ⊥) → ((i ≡ length st.coexps) × (new ≡ c)) ⊎ (slice_get st.coexps i ≡ Some c)
+      by_wait : (i : ℕ) (c : Coexp WaitingChain) → ((i ≡ st.active) → ⊥) → ((i ≡ length st.coexps) × (new ≡ c)) ⊎ (slice_get st.coexps i ≡ Some c)
           → StatusOk tables sh (one_more w) i c.status
       by_wait i c q (inl z) = let l = within st.coexps 0 h.first.coexp h.first.stands in let a = z.0 in
           subst (λ y. StatusOk tables sh (one_more w) i y.status) z.1 (λ y. omega (arith, l, a, y))

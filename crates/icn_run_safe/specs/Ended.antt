@@ -1,7 +1,7 @@
 -- Each run of verified code comes to an end of which something is observed.
 use Rattle.std.specs.Prelude.{ℕ, Bool}
 use Rattle.icn_code.specs.Codes.{Tables}
-use Rattle.icn_run.specs.Chains.{linked as on_marks}
+use Rattle.icn_run.specs.Chains.{linked_calls as on_marks}
 use Rattle.icn_run.specs.Step.{Observed, Launch}
 use Rattle.icn_run.specs.FlatStep as Flat
 use Rattle.icn_run.specs.LinkedStep as Linked

@@ -6,7 +6,7 @@ use Rattle.icn_verify.specs.Shapes.{PlainShape}
 use Rattle.icn_verify.specs.Given.{IsFine, HasShapes, HaveShapes}
 use Rattle.icn_run.specs.Rows.{Item}
 use Rattle.icn_run.specs.Stacks.{Frames, flat}
-use Rattle.icn_run.specs.Chains.{Chain, chain, Outer, base, call, mark, limit, Parked, Linked, linked, outer_of, scans_of}
+use Rattle.icn_run.specs.Chains.{Chain, chain, Outer, base, call, mark, limit, WaitingChain, LinkedStack, linked_calls, outer_of, scans_of}
 use Rattle.icn_run.specs.Step.{Launch, Store, running, stuck, instrs_of, instruction_at, instruction, is_create_body}
 use Rattle.icn_run.specs.FlatStep as Flat
 use Rattle.icn_run.specs.LinkedStep as Marks
@@ -26,13 +26,13 @@ mark_count (call proc activation level place caller) = 0
 mark_count (mark label (chain operands suspensions scans outer)) = suc (mark_count outer)
 mark_count (limit count (chain operands suspensions scans outer)) = suc (mark_count outer)
 
-abbrev pub marks : Calls Parked Linked
-marks = linked repeats_anywhere
+abbrev pub marks : Calls WaitingChain LinkedStack
+marks = linked_calls repeats_anywhere
 
 -- The stack has the shape of the place: as many operands and marks, its open scans, and a create body where the shape says so. The instruction there finds
 -- what it takes and asks for, each place to which it leads has its shape, and the procedure has all its locals.
-pub record IsShapedAt (tables : Tables) (shapes : ℕ → ℕ → Option PlainShape) (m : Linked)
-    (st : Store Parked) : Type 0 where
+pub record IsShapedAt (tables : Tables) (shapes : ℕ → ℕ → Option PlainShape) (m : LinkedStack)
+    (st : Store WaitingChain) : Type 0 where
   pub shape : PlainShape
   pub here : shapes (marks.proc m) m.place ≡ Some shape
   pub fine : IsFine (instrs_of tables (marks.proc m)) (shapes (marks.proc m)) m.place shape
@@ -71,7 +71,7 @@ pub record Stands (tables : Tables) (shapes : ℕ → ℕ → Option PlainShape)
 
 -- Of each state in which a run has an instruction due. Of those in which it fails nothing is said.
 pub record AreShaped (tables : Tables) (shapes : ℕ → ℕ → Option PlainShape) : Type 0 where
-  pub on_marks : (launch : Launch) (n : ℕ) (m : Linked) (st : Store Parked)
+  pub on_marks : (launch : Launch) (n : ℕ) (m : LinkedStack) (st : Store WaitingChain)
       → Marks.steps repeats_anywhere tables n (Marks.start repeats_anywhere tables launch) ≡ running m st
       → IsShapedAt tables shapes m st
   pub on_stacks : (launch : Launch) (n : ℕ) (m : Frames) (st : Store Frames)

@@ -12,7 +12,7 @@ use Rattle.icn_verify.specs.Shapes.{PlainShape, start_shape, with_more, with_mar
 use Rattle.icn_verify.specs.Given.{IsFine}
 use Rattle.icn_run.specs.Rows.{Value}
 use Rattle.icn_run.specs.Calls.{Alt, Op, Scan, Escan, Proc}
-use Rattle.icn_run.specs.Chains.{Label, fixed, flagged, Reason, because, scanning, Chain, chain, Suspensions, none, suspension, Outer, base, call, mark, limit, Parked, Linked, Frame, at_base, in_call}
+use Rattle.icn_run.specs.Chains.{Label, fixed, flagged, Reason, because, scanning, Chain, chain, Suspensions, none, suspension, Outer, base, call, mark, limit, WaitingChain, LinkedStack, Frame, at_base, in_call}
 use Rattle.icn_run.specs.Step.{Status, Fresh, Active, Waiting, Exhausted, Coexp, Store, State, running, failing, hopping, over, stuck, instrs_of, is_main}
 use Rattle.icn_run_safe.specs.Within.{Each, ValueWithin, ItemWithin, ResidualWithin, WorldWithin}
 
@@ -110,57 +110,59 @@ module _ (tables : Tables) (sh : ℕ → ℕ → Option PlainShape) where
         → (values : List Value) × (slice_get activations a ≡ Some values) × LocalsOk w p values
     pub labels : Each (RelabelOk w) relabels
 
-  abbrev pub MemoryOf : Known → Linked → Type 0
+  abbrev pub MemoryOf : Known → LinkedStack → Type 0
   MemoryOf w m = MemoryOk w m.activations m.flags m.relabels
 
   -- a stack that waits goes on with a value
-  pub record ParkedOk (w : Known) (s : ℕ) (k : Parked) : Type 0 where
+  pub record ParkedOk (w : Known) (s : ℕ) (k : WaitingChain) : Type 0 where
     pub proc : ℕ
     pub shape : PlainShape
     pub has : ChainOk w s proc shape k.chain
     pub goes : sh proc k.place ≡ Some (with_more 1 shape)
 
   -- that of one that does not run
-  abbrev pub StatusOk : Known → ℕ → Status Parked → Type 0
+  abbrev pub StatusOk : Known → ℕ → Status WaitingChain → Type 0
   StatusOk w i Fresh = i ≢ 0
   StatusOk w i Active = ⊥
   StatusOk w i (Waiting k) = ParkedOk w i k
   StatusOk w i Exhausted = Unit {0}
 
-  abbrev pub IsFresh : Status Parked → Type 0
+  abbrev pub IsFresh : Status WaitingChain → Type 0
   IsFresh Fresh = Unit {0}
   IsFresh status = ⊥
 
   -- this one has begun
-  pub record Entered (coexps : List (Coexp Parked)) (n : ℕ) : Type 0 where
-    pub coexp : Coexp Parked
+  pub record Entered (coexps : List (Coexp WaitingChain)) (n : ℕ) : Type 0 where
+    pub coexp : Coexp WaitingChain
     pub stands : slice_get coexps n ≡ Some coexp
     pub begun : IsFresh coexp.status → ⊥
 
   -- the place and the values with which it began, and which of them entered it last
-  pub record CoexpOk (w : Known) (coexps : List (Coexp Parked)) (i : ℕ) (c : Coexp Parked) : Type 0 where
+  pub record CoexpOk (w : Known) (coexps : List (Coexp WaitingChain)) (i : ℕ)
+      (c : Coexp WaitingChain) : Type 0 where
     pub values : i ≢ 0 → LocalsOk w c.proc c.values
     pub origin : i ≢ 0 → sh c.proc c.place ≡ Some (start_shape true)
     pub activator : Entered coexps c.activator
 
   -- those wait of which it may not be that they run
   pub record CoexpsOk (w : Known) (May : ℕ → Type 0) (active : ℕ)
-      (coexps : List (Coexp Parked)) : Type 0 where
+      (coexps : List (Coexp WaitingChain)) : Type 0 where
     pub count : length coexps ≡ w.coexps
-    pub each : (i : ℕ) (c : Coexp Parked) → slice_get coexps i ≡ Some c → CoexpOk w coexps i c
-    pub waits : (i : ℕ) (c : Coexp Parked) → slice_get coexps i ≡ Some c → (May i → ⊥) → StatusOk w i c.status
+    pub each : (i : ℕ) (c : Coexp WaitingChain) → slice_get coexps i ≡ Some c → CoexpOk w coexps i c
+    pub waits : (i : ℕ) (c : Coexp WaitingChain) → slice_get coexps i ≡ Some c → (May i → ⊥)
+        → StatusOk w i c.status
     pub there : Entered coexps active
     pub first : Entered coexps 0
 
-  pub record StoreOk (w : Known) (May : ℕ → Type 0) (st : Store Parked) : Type 0 where
+  pub record StoreOk (w : Known) (May : ℕ → Type 0) (st : Store WaitingChain) : Type 0 where
     pub world : WorldWithin w.coexps st.world
     pub coexps : CoexpsOk w May st.active st.coexps
 
-  pub record Now (w : Known) (s p : ℕ) (S : PlainShape) (m : Linked) : Type 0 where
+  pub record Now (w : Known) (s p : ℕ) (S : PlainShape) (m : LinkedStack) : Type 0 where
     pub has : ChainOk w s p S m.chain
     pub memory : MemoryOf w m
 
-  abbrev pub Safe : State Parked Linked → Type 0
+  abbrev pub Safe : State WaitingChain LinkedStack → Type 0
   Safe (running m st) = (w : Known) × (p : ℕ) × (S : PlainShape) × Now w st.active p S m
       × (sh p m.place ≡ Some S) × StoreOk w (λ i. i ≡ st.active) st
   Safe (failing m st) =
@@ -170,7 +172,7 @@ module _ (tables : Tables) (sh : ℕ → ℕ → Option PlainShape) where
   Safe stuck = ⊥
 
 -- each place with a shape is fine, in each procedure; and a last parameter collects only where there is one
-pub record Shaped (tables : Tables) (sh : ℕ → ℕ → Option PlainShape) : Type 0 where
+pub record KeepsShapes (tables : Tables) (sh : ℕ → ℕ → Option PlainShape) : Type 0 where
   pub collects : (p : ℕ) (entry : Procedure) → slice_get tables.procs p ≡ Some entry → entry.collects ≡ true
       → 0 < entry.parameters
   pub starts : (p : ℕ) → p < length tables.procs → sh p 0 ≡ Some (start_shape false)

@@ -16,7 +16,7 @@ use Rattle.icn_streams.specs.Handed.{CallStreams, Follows, Puts, PutsPart}
 use Rattle.icn_streams.proofs.Following.{follows_then, part_of_nothing, puts_whole, then_puts_part}
 use Rattle.icn_run.specs.FlatStep as Flat
 use Rattle.icn_run.specs.Stacks.{Frames, flat, empty}
-use Rattle.icn_run.specs.Step.{State, running, failing, hopping, over, stuck, observed}
+use Rattle.icn_run.specs.Step.{State, running, failing, hopping, over, stuck, observation}
 use Rattle.icn_run.proofs.Observing.{kept, over_seen}
 use Rattle.outside_laws.specs.Outsides.{Extends, HasOutside}
 use Rattle.outside_laws.proofs.Lasting.{extends_itself, of_input}
@@ -76,7 +76,7 @@ module _ (tables : Tables) where
   swap zero m s = refl
   swap (suc d) m s = swap d m (on s) ∙ ap (after_steps on d) (one m s)
 
-  lasts : (m : ℕ) (s : State Frames Frames) (seen : Observed) → observed s ≡ Some seen → observed (after_steps on m s) ≡ Some seen
+  lasts : (m : ℕ) (s : State Frames Frames) (seen : Observed) → observation s ≡ Some seen → observation (after_steps on m s) ≡ Some seen
   lasts zero s seen e = e
   lasts (suc m) s seen e = lasts m (on s) seen (kept flat tables s seen e)
 
@@ -84,12 +84,12 @@ module _ (tables : Tables) where
   stays zero = refl
   stays (suc m) = stays m
 
-  none : {A : Type 0} (m : ℕ) (seen : Observed) → observed (after_steps on m stuck) ≡ Some seen → A
-  none m seen e = let f : None ≡ Some seen = sym (ap observed (stays m)) ∙ e in absurd (cc f)
+  none : {A : Type 0} (m : ℕ) (seen : Observed) → observation (after_steps on m stuck) ≡ Some seen → A
+  none m seen e = let f : None ≡ Some seen = sym (ap observation (stays m)) ∙ e in absurd (cc f)
 
   -- what is observed at the end extends the outside of each state before it
   to_end : (m : ℕ) (s : State Frames Frames) (seen : Observed)
-      → observed (after_steps on m s) ≡ Some seen → Extends (outside_at s) seen.outside
+      → observation (after_steps on m s) ≡ Some seen → Extends (outside_at s) seen.outside
   to_end m (running f st) seen e =
       subst (HasOutside (Extends st.outside)) (over_seen (after_steps on m (running f st)) seen e) (steps_extend tables (running f st) m)
   to_end m (failing f st) seen e =
@@ -101,7 +101,7 @@ module _ (tables : Tables) where
   to_end m stuck seen e = none m seen e
 
   has_at : (m : ℕ) (s : State Frames Frames) (seen : Observed) (o : Outside)
-      → observed (after_steps on m s) ≡ Some seen → HasOutside (Extends o) s → Extends o (outside_at s)
+      → observation (after_steps on m s) ≡ Some seen → HasOutside (Extends o) s → Extends o (outside_at s)
   has_at m (running f st) seen o e h = h
   has_at m (failing f st) seen o e h = h
   has_at m (hopping f st) seen o e h = h
@@ -109,7 +109,7 @@ module _ (tables : Tables) where
   has_at m stuck seen o e h = none m seen e
 
   same_at : (m : ℕ) (s : State Frames Frames) (seen : Observed) (was : Outside)
-      → observed (after_steps on m s) ≡ Some seen → outside_at s ≡ outside_in was s
+      → observation (after_steps on m s) ≡ Some seen → outside_at s ≡ outside_in was s
   same_at m (running f st) seen was e = refl
   same_at m (failing f st) seen was e = refl
   same_at m (hopping f st) seen was e = refl
@@ -123,8 +123,8 @@ module _ (tables : Tables) where
     abbrev at : ℕ → State Frames Frames
     at n = after_steps on n (Flat.start tables launch)
 
-    ends : (n : ℕ) → observed (after_steps on r.count (at n)) ≡ Some seen
-    ends n = ap observed (swap n r.count (Flat.start tables launch)) ∙ lasts n (after_steps on r.count (Flat.start tables launch)) seen r.is
+    ends : (n : ℕ) → observation (after_steps on r.count (at n)) ≡ Some seen
+    ends n = ap observation (swap n r.count (Flat.start tables launch)) ∙ lasts n (after_steps on r.count (Flat.start tables launch)) seen r.is
 
     since_start : (n : ℕ) → Extends (outside_of input) (outside_at (at n))
     since_start n = has_at r.count (at n) seen (outside_of input) (ends n) (reached_extends tables launch n)

@@ -14,7 +14,7 @@ use Rattle.icn_vars.specs.declared.outcome.Halt.TheVariants as Halts
 use Rattle.icn_code.specs.Codes.{Tables}
 use Rattle.icn_run.specs.FlatStep.{start}
 use Rattle.icn_run.specs.Stacks.{flat}
-use Rattle.icn_run.specs.Step.{all_names, observed, over, steps}
+use Rattle.icn_run.specs.Step.{all_names, observation, over, steps}
 use Rattle.icn_streams.specs.Handed.{Follows, CallStreams, Puts}
 use Rattle.icn_streams.proofs.Following.{follows_then, puts_nothing}
 use Rattle.icn_control.specs.Machines.{extent}
@@ -111,7 +111,7 @@ run_reported tables words bounds input before between errors ending report comes
   (
     refl,
     (
-      record { count = comes.count; is = ap observed comes.is },
+      record { count = comes.count; is = ap observation comes.is },
       ends_there ending input before (then_errors between errors) (with_errors report comes.now)
           (follows_then comes.follows (follows_report between errors comes.now report comes.follows.left gains)),
     ),

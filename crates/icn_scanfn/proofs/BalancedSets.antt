@@ -10,7 +10,7 @@ use Rattle.icn_defs.specs.Rows.{Row, Finds}
 use Rattle.icn_heap.specs.Extents.{Extent}
 use Rattle.icn_vars.specs.declared.stop.Stop.{Stop}
 use Rattle.icn_vars.specs.Stops.{StopsFinding}
-use Rattle.icn_args.specs.Words.{Found}
+use Rattle.icn_args.specs.Words.{IsFound}
 use Rattle.icn_args.proofs.Answering.{stops_behind, stops_within}
 use Rattle.icn_scanfn.specs.Searches.{Sets, balanced_sets}
 use Rattle.icn_scanfn.proofs.GivenRegions.{found_as}
@@ -47,7 +47,7 @@ three_by a b c first second third is_a is_b is_c next setting =
 module _ (args : List Value) (first : Value) (is_first : first ≡ arg_or (Chars (members (λ byte. true))) args 0) where
   pub no_wanted : {B : Type 0} (all : Extent) (setting : Setting) (shown : B → Sets) (stop : Stop) (result : Result B Stop)
       → IsErrAnd result (λ other. other ≡ stop)
-      → StopsFinding all (cset first) setting setting stop → Found all (balanced_sets args) setting setting shown result
+      → StopsFinding all (cset first) setting setting stop → IsFound all (balanced_sets args) setting setting shown result
   no_wanted all setting shown stop result answered is =
       let b : Value = arg_or (Chars (codes "(")) args 1 in
       let c : Value = arg_or (Chars (codes ")")) args 2 in
@@ -60,7 +60,7 @@ module _ (args : List Value) (first : Value) (is_first : first ≡ arg_or (Chars
     pub no_opening : {B : Type 0} (wanted : List ℕ) (all : Extent) (setting : Setting) (shown : B → Sets) (stop : Stop) (result : Result B Stop)
         → IsErrAnd result (λ other. other ≡ stop)
         → GoesOn (cset first) setting wanted setting → StopsFinding all (cset second) setting setting stop
-        → Found all (balanced_sets args) setting setting shown result
+        → IsFound all (balanced_sets args) setting setting shown result
     no_opening wanted all setting shown stop result answered found is =
         let c : Value = arg_or (Chars (codes ")")) args 2 in
         found_as all (balanced_sets args) (three first second c) setting setting shown stop result answered
@@ -75,7 +75,7 @@ module _ (args : List Value) (first : Value) (is_first : first ≡ arg_or (Chars
       pub no_closing : {B : Type 0} (wanted opening : List ℕ) (all : Extent) (setting : Setting) (shown : B → Sets) (stop : Stop) (result : Result B Stop)
           → IsErrAnd result (λ other. other ≡ stop)
           → GoesOn (cset first) setting wanted setting → GoesOn (cset second) setting opening setting → StopsFinding all (cset third) setting setting stop
-          → Found all (balanced_sets args) setting setting shown result
+          → IsFound all (balanced_sets args) setting setting shown result
       no_closing wanted opening all setting shown stop result answered found then is =
           found_as all (balanced_sets args) (three first second third) setting setting shown stop result answered
           (λ next. three_by _ _ _ first second third is_first is_second is_third next setting)

@@ -15,7 +15,7 @@ use Rattle.icn_heap.specs.Extents.{Extent}
 use Rattle.icn_vars.specs.declared.stop.Stop.{Stop}
 use Rattle.icn_vars.specs.declared.stop.Stop.TheVariants.{Error, NoMemory}
 use Rattle.icn_vars.specs.Stops.{StopsFinding, StopsPassing}
-use Rattle.icn_args.specs.Words.{Found}
+use Rattle.icn_args.specs.Words.{IsFound}
 use Rattle.icn_args.proofs.Answering.{found_err, stops_behind, stops_within, then_stops}
 use Rattle.icn_scanfn.specs.Regions.{charged_region}
 
@@ -121,7 +121,7 @@ stops_as all find other before after NoMemory same is = tt
 -- what stops another search that finds the same stops this one
 pub found_as : {A B : Type 0} (all : Extent) (find other : Finds A) (before after : Setting) (shown : B → A) (stop : Stop) (result : Result B Stop)
     → IsErrAnd result (λ other. other ≡ stop)
-    → ((next : A → Row) → find next before ≡ other next before) → StopsFinding all other before after stop → Found all find before after shown result
+    → ((next : A → Row) → find next before ≡ other next before) → StopsFinding all other before after stop → IsFound all find before after shown result
 found_as all find other before after shown stop result answered same is =
     found_err all find before after shown stop result answered (stops_as all find other before after stop same is)
 
@@ -165,7 +165,7 @@ charged_found args n given value bytes before after finds made passes same next 
 pub charge_stopped : {B : Type 0} (all : Extent) (args : List Value) (n : ℕ) (given : Region) (value : Value) (before after : Setting) (shown : B → Region)
     (stop : Stop) (result : Result B Stop)
     → IsErrAnd result (λ other. other ≡ stop) → GoesOn (region_from args n) before given before → text_made (form_of value) ≡ text_made (form_of (arg args n))
-    → StopsPassing all (costs_text value) before after stop → Found all (charged_region args n) before after shown result
+    → StopsPassing all (costs_text value) before after stop → IsFound all (charged_region args n) before after shown result
 charge_stopped all args n given value before after shown stop result answered finds made is =
     then_stops all (region_from args n) given (λ region next. costs_text (arg args n) (next region)) before before after shown stop result answered finds
     (stops_charging all (costs_text (arg args n)) given before after stop

@@ -11,7 +11,7 @@ use Rattle.icn_defs.specs.Scanning.{Region, region_from}
 use Rattle.icn_heap.specs.Extents.{Extent}
 use Rattle.icn_vars.specs.declared.stop.Stop.{Stop}
 use Rattle.icn_vars.specs.Stops.{StopsFinding, StopsPassing}
-use Rattle.icn_args.specs.Words.{Found}
+use Rattle.icn_args.specs.Words.{IsFound}
 use Rattle.icn_args.proofs.Answering.{first_stops, stops_behind, stops_within, then_stops}
 use Rattle.icn_scanfn.specs.Regions.{charged_region}
 use Rattle.icn_scanfn.specs.Searches.{cset_search, text_search}
@@ -25,7 +25,7 @@ module _ (args : List Value) (value : Value) (same : value ≡ arg args 0) where
 
   pub no_cset : {B : Type 0} (all : Extent) (setting : Setting) (shown : B → List ℕ × Region) (stop : Stop) (result : Result B Stop)
       → IsErrAnd result (λ other. other ≡ stop)
-      → StopsFinding all (cset value) setting setting stop → Found all (cset_search args) setting setting shown result
+      → StopsFinding all (cset value) setting setting stop → IsFound all (cset_search args) setting setting shown result
   no_cset all setting shown stop result answered is =
       first_stops all (cset (arg args 0)) (λ bytes next. charged_region args 1 (λ region. next (bytes, region))) setting setting shown stop result answered
       (subst (λ (v : Value). StopsFinding all (cset v) setting setting stop) same is)
@@ -33,7 +33,7 @@ module _ (args : List Value) (value : Value) (same : value ≡ arg args 0) where
   pub no_region : {B : Type 0} (all : Extent) (bytes : List ℕ) (before after : Setting) (shown : B → List ℕ × Region) (stop : Stop) (result : Result B Stop)
       → IsErrAnd result (λ other. other ≡ stop)
       → GoesOn (cset value) before bytes before → StopsFinding all (charged_region args 1) before after stop
-      → Found all (cset_search args) before after shown result
+      → IsFound all (cset_search args) before after shown result
   no_region all bytes before after shown stop result answered finds is =
       then_stops all (cset (arg args 0)) bytes
       (λ bytes next. charged_region args 1 (λ region. next (bytes, region))) before before after shown stop result answered (cset_finds bytes before finds)
@@ -56,7 +56,7 @@ module _ (args : List Value) (value : Value) (same : value ≡ arg args 0) where
 
   pub no_wanted : {B : Type 0} (all : Extent) (setting : Setting) (shown : B → List ℕ × Region) (stop : Stop) (result : Result B Stop)
       → IsErrAnd result (λ other. other ≡ stop)
-      → StopsFinding all (string value) setting setting stop → Found all (text_search args) setting setting shown result
+      → StopsFinding all (string value) setting setting stop → IsFound all (text_search args) setting setting shown result
   unfolding rest
   no_wanted all setting shown stop result answered is =
       first_stops all (string (arg args 0)) rest setting setting shown stop result answered
@@ -65,7 +65,7 @@ module _ (args : List Value) (value : Value) (same : value ≡ arg args 0) where
   pub no_given : {B : Type 0} (all : Extent) (bytes : List ℕ) (setting : Setting) (shown : B → List ℕ × Region) (stop : Stop) (result : Result B Stop)
       → IsErrAnd result (λ other. other ≡ stop)
       → GoesOn (string value) setting bytes setting → StopsFinding all (region_from args 1) setting setting stop
-      → Found all (text_search args) setting setting shown result
+      → IsFound all (text_search args) setting setting shown result
   unfolding rest
   no_given all bytes setting shown stop result answered finds is =
       then_stops all (string (arg args 0)) bytes rest setting setting setting shown stop result answered (text_finds bytes setting finds)
@@ -75,7 +75,7 @@ module _ (args : List Value) (value : Value) (same : value ≡ arg args 0) where
       (stop : Stop) (result : Result B Stop)
       → IsErrAnd result (λ other. other ≡ stop) → GoesOn (string value) before bytes before → GoesOn (region_from args 1) before region before
       → text_made (form_of other) ≡ text_made (form_of (arg args 1))
-      → StopsPassing all (costs_texts (value ∷ other ∷ [])) before after stop → Found all (text_search args) before after shown result
+      → StopsPassing all (costs_texts (value ∷ other ∷ [])) before after stop → IsFound all (text_search args) before after shown result
   unfolding rest
   no_texts all bytes region other before after shown stop result answered finds given made is =
       then_stops all (string (arg args 0)) bytes rest before before after shown stop result answered (text_finds bytes before finds)

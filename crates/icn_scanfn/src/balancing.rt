@@ -9,7 +9,7 @@ ghost use Rattle.icn_heap.specs.Heaps.{extent_of};
 ghost use Rattle.icn_vars.specs.Outcomes.{IsLiveAnswer, IsLiveOutcome, IsSearch, outcome_in};
 ghost use Rattle.icn_vars.specs.Stops.{IsLiveStop};
 ghost use Rattle.icn_vars.specs.Worlds.{KeepsItems, reach_of, setting_of};
-ghost use Rattle.icn_args.specs.Words.{Answers, Found};
+ghost use Rattle.icn_args.specs.Words.{Answers, IsFound};
 ghost use Rattle.icn_scanfn.specs.Regions.{searched_in};
 ghost use Rattle.icn_scanfn.specs.Searches.{balanced_in, balanced_sets, sets_of};
 
@@ -53,7 +53,7 @@ pub fn bal_row<L: Locals>(w: &mut World, l: &L, args: &[Val]) -> Result<Outcome,
 // The first three arguments: all bytes and the brackets, where they are null. The error is 104.
 fn balanced_sets(heap: &Heap, args: &[Val]) -> Result<Sets, Stop>
     requires { All (IsLive (extent_of heap.now)) args.now }
-    ensures found { (setting : Setting) → Found (extent_of heap.now)
+    ensures found { (setting : Setting) → IsFound (extent_of heap.now)
         (balanced_sets (map (value_in (extent_of heap.now)) args.now)) setting setting sets_of result }
     ensures stops { IfErr result (IsLiveStop (extent_of heap.now)) }
 {

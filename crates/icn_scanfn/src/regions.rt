@@ -13,7 +13,7 @@ ghost use Rattle.icn_heap.specs.Heaps.{extent_of};
 ghost use Rattle.icn_vars.specs.Outcomes.{IsSearch};
 ghost use Rattle.icn_vars.specs.Stops.{IsLiveStop};
 ghost use Rattle.icn_vars.specs.Worlds.{KeepsItems, reach_of, setting_of};
-ghost use Rattle.icn_args.specs.Words.{Found, HasText};
+ghost use Rattle.icn_args.specs.Words.{IsFound, HasText};
 ghost use Rattle.icn_scanfn.specs.Regions.{charged_region, given_in, searched_in};
 
 use crate::defaults::first_position;
@@ -49,7 +49,7 @@ pub struct Searched {
 pub fn region_from(w: &World, args: &[Val], place: usize) -> Result<Given, Stop>
     requires args { All (IsLive (extent_of w.now.heap)) args.now }
     requires place { place < 2 ^ 32 }
-    ensures found { (outside : Outside) (locals : List ValData) → Found (extent_of w.now.heap)
+    ensures found { (outside : Outside) (locals : List ValData) → IsFound (extent_of w.now.heap)
         (region_from (map (value_in (extent_of w.now.heap)) args.now) place) (setting_of outside w.now locals)
         (setting_of outside w.now locals) (given_in (extent_of w.now.heap)) result }
     ensures live { IfOk result (λ given. IsLive (extent_of w.now.heap) given.val) }
@@ -80,7 +80,8 @@ pub fn charged_region<L: Locals>(
     requires args { All (IsLive (extent_of w.old.heap)) args.now }
     requires place { place < 2 ^ 32 }
     ensures found { (outside : Outside)
-        → Found (extent_of w.new.heap) (charged_region (map (value_in (extent_of w.old.heap)) args.now) place)
+        → IsFound (extent_of w.new.heap)
+        (charged_region (map (value_in (extent_of w.old.heap)) args.now) place)
         (setting_of outside w.old (L.items l.now)) (setting_of outside w.new (L.items l.now))
         (searched_in (extent_of w.new.heap)) result }
     ensures live { IfOk result (λ searched. IsText (extent_of w.new.heap) searched.text) }

@@ -7,7 +7,7 @@ ghost use Rattle.icn_heap.specs.Extents.{IsLive, IsText, text_in, value_in};
 ghost use Rattle.icn_heap.specs.Heaps.{extent_of};
 ghost use Rattle.icn_vars.specs.Stops.{IsLiveStop};
 ghost use Rattle.icn_vars.specs.Worlds.{KeepsItems, reach_of, setting_of};
-ghost use Rattle.icn_args.specs.Words.{Found};
+ghost use Rattle.icn_args.specs.Words.{IsFound};
 ghost use Rattle.icn_scanfn.specs.Regions.{searched_in};
 ghost use Rattle.icn_scanfn.specs.Searches.{cset_search, text_search};
 
@@ -22,7 +22,7 @@ pub fn cset_search<L: Locals>(w: &mut World, l: &L, args: &[Val]) -> Result<(Cse
     requires locals { All (IsLive (extent_of w.old.heap)) (L.items l.now) }
     requires args { All (IsLive (extent_of w.old.heap)) args.now }
     ensures found { (outside : Outside)
-        → Found (extent_of w.new.heap) (cset_search (map (value_in (extent_of w.old.heap)) args.now))
+        → IsFound (extent_of w.new.heap) (cset_search (map (value_in (extent_of w.old.heap)) args.now))
         (setting_of outside w.old (L.items l.now)) (setting_of outside w.new (L.items l.now))
         (λ two. (members_of two.0, searched_in (extent_of w.new.heap) two.1)) result }
     ensures live { IfOk result (λ two. IsText (extent_of w.new.heap) two.1.text) }
@@ -41,7 +41,7 @@ pub fn text_search<L: Locals>(w: &mut World, l: &L, args: &[Val]) -> Result<(Spa
     requires locals { All (IsLive (extent_of w.old.heap)) (L.items l.now) }
     requires args { All (IsLive (extent_of w.old.heap)) args.now }
     ensures found { (outside : Outside)
-        → Found (extent_of w.new.heap) (text_search (map (value_in (extent_of w.old.heap)) args.now))
+        → IsFound (extent_of w.new.heap) (text_search (map (value_in (extent_of w.old.heap)) args.now))
         (setting_of outside w.old (L.items l.now)) (setting_of outside w.new (L.items l.now))
         (λ two. (text_in (extent_of w.new.heap) two.0, searched_in (extent_of w.new.heap) two.1)) result }
     ensures wanted { IfOk result (λ two. IsText (extent_of w.new.heap) two.0) }

@@ -9,7 +9,7 @@ use Rattle.icn_meaning.specs.Contexts as M
 use Rattle.icn_meaning.specs.Contexts.{Works, Nothing, ◌and_then◌, Choices, NoChoice, ◌or_else◌, Action, Surroundings, InCall, InScan, InLoop, Pair}
 use Rattle.icn_meaning.specs.Scanning as MS
 use Rattle.icn_meaning.specs.Actions as MA
-use Rattle.icn_run.specs.Chains.{Label, Chain, chain, Suspensions, Outer, mark, limit, Parked, frame_of, oldest as oldest_until, first_scan, leave_frame, saved_at}
+use Rattle.icn_run.specs.Chains.{Label, Chain, chain, Suspensions, Outer, mark, limit, WaitingChain, frame_of, oldest as oldest_until, first_scan, leave_frame, saved_at}
 use Rattle.icn_run.specs.Step as S
 use Rattle.icn_run_laws.proofs.ScansLeft.{Apart}
 use Rattle.icn_run_laws.proofs.Shadowed.{Shadowed, shadowed_step, shadowed_apart}
@@ -24,7 +24,7 @@ use Rattle.icn_simulation.proofs.Leaving.{oldest, away, away_snoc, front_of, lef
 module _ (G : Ground) where
   -- a mark is dropped, with the scans os that were opened in it
   unmark_to : (scan : Option ℕ) (os : List ℕ) (m : Chain) (in_m : Chain) (p : ℕ) (st : M.Store)
-      (ls : List (S.Coexp Parked)) → scan ≡ oldest os
+      (ls : List (S.Coexp WaitingChain)) → scan ≡ oldest os
       → ran (linked_of m p st) (S.scans_left (option_map (saved_at (linked_of in_m p st)) scan)
       (store_of st ls)) ≡ run m p (away os st) ls
   unmark_to scan os m in_m p st ls e =
@@ -33,7 +33,7 @@ module _ (G : Ground) where
       ∙ ap (λ y. ran (linked_of m p st) y) (left_by (oldest os) in_m p st ls)
 
   pub unmarks : {xs : List Item} {s : Suspensions} {z : List ℕ} {o : Outer} (l : Label) (zs : List Item)
-      (s' : Suspensions) (os : List ℕ) (p : ℕ) (st : M.Store) (ls : List (S.Coexp Parked))
+      (s' : Suspensions) (os : List ℕ) (p : ℕ) (st : M.Store) (ls : List (S.Coexp WaitingChain))
       → Apart (first_scan z) os → At G.L o p I.Unmark
       → To G (run (chain zs s' (os ++ z) (mark l (chain xs s z o))) p st ls)
       (run (chain xs s z o) (suc p) (away os st) ls)
@@ -47,7 +47,7 @@ module _ (G : Ground) where
       }
 
   pub unmarks_limit : {xs : List Item} {s : Suspensions} {z : List ℕ} {o : Outer} (c : ℕ) (zs : List Item)
-      (s' : Suspensions) (os : List ℕ) (p : ℕ) (st : M.Store) (ls : List (S.Coexp Parked))
+      (s' : Suspensions) (os : List ℕ) (p : ℕ) (st : M.Store) (ls : List (S.Coexp WaitingChain))
       → Apart (first_scan z) os → At G.L o p I.Unmark
       → To G (run (chain zs s' (os ++ z) (limit c (chain xs s z o))) p st ls)
       (run (chain xs s z o) (suc p) (away os st) ls)
@@ -68,42 +68,42 @@ module _ (G : Ground) where
   good_to {l} e g = subst Good e.by (shadowed_step G.L.repeats G.L.tables l g)
 
   good_mark : {zs xs : List Item} {s s' : Suspensions} {z : List ℕ} {o : Outer} (l : Label) (os : List ℕ)
-      (p : ℕ) (st : M.Store) (ls : List (S.Coexp Parked))
+      (p : ℕ) (st : M.Store) (ls : List (S.Coexp WaitingChain))
       → Good (run (chain zs s' (os ++ z) (mark l (chain xs s z o))) p st ls) → Apart (first_scan z) os
   good_mark l os p st ls g = shadowed_apart G.L.repeats G.L.tables _ _ g os refl
 
   good_limit : {zs xs : List Item} {s s' : Suspensions} {z : List ℕ} {o : Outer} (c : ℕ) (os : List ℕ)
-      (p : ℕ) (st : M.Store) (ls : List (S.Coexp Parked))
+      (p : ℕ) (st : M.Store) (ls : List (S.Coexp WaitingChain))
       → Good (run (chain zs s' (os ++ z) (limit c (chain xs s z o))) p st ls) → Apart (first_scan z) os
   good_limit c os p st ls g = shadowed_apart G.L.repeats G.L.tables _ _ g os refl
 
   pub unmark : {xs : List Item} {s : Suspensions} {z : List ℕ} {o : Outer} (l : Label) (zs : List Item)
-      (s' : Suspensions) (p : ℕ) (st : M.Store) (ls : List (S.Coexp Parked)) → At G.L o p I.Unmark
+      (s' : Suspensions) (p : ℕ) (st : M.Store) (ls : List (S.Coexp WaitingChain)) → At G.L o p I.Unmark
       → To G (run (chain zs s' z (mark l (chain xs s z o))) p st ls) (run (chain xs s z o) (suc p) st ls)
   unmark l zs s' p st ls h = unmarks l zs s' [] p st ls tt h
 
   pub unmark_limit : {xs : List Item} {s : Suspensions} {z : List ℕ} {o : Outer} (c : ℕ) (zs : List Item)
-      (s' : Suspensions) (p : ℕ) (st : M.Store) (ls : List (S.Coexp Parked)) → At G.L o p I.Unmark
+      (s' : Suspensions) (p : ℕ) (st : M.Store) (ls : List (S.Coexp WaitingChain)) → At G.L o p I.Unmark
       → To G (run (chain zs s' z (limit c (chain xs s z o))) p st ls) (run (chain xs s z o) (suc p) st ls)
   unmark_limit c zs s' p st ls h = unmarks_limit c zs s' [] p st ls tt h
 
   pub pops : {xs : List Item} {s : Suspensions} {z : List ℕ} {o : Outer} (x : Item) (p : ℕ) (st : M.Store)
-      (ls : List (S.Coexp Parked)) → At G.L o p I.Pop
+      (ls : List (S.Coexp WaitingChain)) → At G.L o p I.Pop
       → To G (run (chain (x ∷ xs) s z o) p st ls) (run (chain xs s z o) (suc p) st ls)
   pops {xs} {s} {z} {o} x p st ls h = at_step G p (chain (x ∷ xs) s z o) st ls h refl
 
   pub gotos : {xs : List Item} {s : Suspensions} {z : List ℕ} {o : Outer} {q : ℕ} (p : ℕ) (st : M.Store)
-      (ls : List (S.Coexp Parked)) → At G.L o p (I.Goto q)
+      (ls : List (S.Coexp WaitingChain)) → At G.L o p (I.Goto q)
       → To G (run (chain xs s z o) p st ls) (run (chain xs s z o) q st ls)
   gotos {xs} {s} {z} {o} p st ls h = at_step G p (chain xs s z o) st ls h refl
 
   pub efails : {xs : List Item} {s : Suspensions} {z : List ℕ} {o : Outer} (p : ℕ) (st : M.Store)
-      (ls : List (S.Coexp Parked)) → At G.L o p I.Efail
+      (ls : List (S.Coexp WaitingChain)) → At G.L o p I.Efail
       → To G (run (chain xs s z o) p st ls) (fails (chain xs s z o) (suc p) st ls)
   efails {xs} {s} {z} {o} p st ls h = at_step G p (chain xs s z o) st ls h refl
 
   pub off_goes : {first : Bool} {n : Nest} {v : Surroundings} {xs : List Item} {s : Suspensions}
-      {z : List ℕ} {o : Outer} (w p : ℕ) (st : M.Store) (ls : List (S.Coexp Parked))
+      {z : List ℕ} {o : Outer} (w p : ℕ) (st : M.Store) (ls : List (S.Coexp WaitingChain))
       → Live G first st.active st.coexpressions ls → Proper n → At G.L o p I.Pfail
       → OfSurroundings G.L first n v z o → Goes G w (MA.off v st) (run (chain xs s z o) p st ls)
   off_goes {v = v} {xs = xs} {s = s} {z = z} {o = o} w0 p st ls live w h v1 = let d = called G w v1 in
@@ -117,13 +117,13 @@ module _ (G : Ground) where
       (sym (all_by (oldest z) m (suc p) st ls)) (d.gone m (suc p) st ls live)))
 
   pub on_off : {first : Bool} {n : Nest} {v : Surroundings} {xs : List Item} {s : Suspensions} {z : List ℕ}
-      {o : Outer} (p : ℕ) (st : M.Store) (ls : List (S.Coexp Parked))
+      {o : Outer} (p : ℕ) (st : M.Store) (ls : List (S.Coexp WaitingChain))
       → Live G first st.active st.coexpressions ls → Proper n → At G.L o p I.Pfail
       → OfSurroundings G.L first n v z o → Reach G (MA.off v st) (run (chain xs s z o) p st ls)
   on_off p st ls live w h v = (off_goes 0 p st ls live w h v).reach
 
   pub on_rest : {first : Bool} {o : Outer} {es : Trees} {v : Surroundings} {r : Choices} {xs : List Item}
-      {s : Suspensions} {z : List ℕ} (p : ℕ) (st : M.Store) (ls : List (S.Coexp Parked))
+      {s : Suspensions} {z : List ℕ} (p : ℕ) (st : M.Store) (ls : List (S.Coexp WaitingChain))
       → Live G first st.active st.coexpressions ls → StandsRest G.L (proc_in o) es p
       → OfSurroundings G.L first top v z o → OfChoices G.L first r s z o
       → Reach G (MA.rest es v r st) (run (chain xs s z o) p st ls)
@@ -142,7 +142,7 @@ module _ (G : Ground) where
 
   pub on_try : {first : Bool} {o : Outer} {n : Nest} {value : Value} {cases : Clauses} {default : MaybeTree}
       {v : Surroundings} {k : Works} {r : Choices} {l : ℕ} {xs : List Item} {s : Suspensions} {z : List ℕ}
-      (p : ℕ) (st : M.Store) (ls : List (S.Coexp Parked)) → Live G first st.active st.coexpressions ls
+      (p : ℕ) (st : M.Store) (ls : List (S.Coexp WaitingChain)) → Live G first st.active st.coexpressions ls
       → StandsCases G.L (proc_in o) n cases default p l → OfSurroundings G.L first n v z o
       → OfWorks G.L first k l xs z o → OfChoices G.L first r s z o
       → Reach G (MA.try value cases default v k r st) (run (chain (Val value ∷ xs) s z o) p st ls)
@@ -158,7 +158,7 @@ module _ (G : Ground) where
       (k_cut h3 r (a_pop h4 (a_go b v (k_goto g k))))) (r_do (a_try cs v k) r))))
 
   pub on_action : {first : Bool} {a : Action} {r : Choices} {xs : List Item} {s : Suspensions} {z : List ℕ}
-      {o : Outer} (p : ℕ) (st : M.Store) (ls : List (S.Coexp Parked))
+      {o : Outer} (p : ℕ) (st : M.Store) (ls : List (S.Coexp WaitingChain))
       → Live G first st.active st.coexpressions ls → OfAction G.L first a p xs s z o
       → OfChoices G.L first r s z o → Reach G (MA.act a r st) (run (chain xs s z o) p st ls)
   on_action p st ls live (a_go e v k) r = stay G (at_eval live.0 live.1 e v k r)
@@ -187,7 +187,7 @@ module _ (G : Ground) where
   mutual
     pub on_break : {first : Bool} {j : ℕ} {n n' : Nest} {v : Surroundings} {e : Tree} {q m l : ℕ}
         {xs : List Item} {s : Suspensions} {z : List ℕ} {o : Outer} (p : ℕ) (st : M.Store)
-        (ls : List (S.Coexp Parked)) → Good (run (chain xs s z o) p st ls)
+        (ls : List (S.Coexp WaitingChain)) → Good (run (chain xs s z o) p st ls)
         → Live G first st.active st.coexpressions ls → j ≡ proc_in o → Breaks G.L j n p q n' l
         → OfMark G.L first n v xs s z o → Stands G.L j n' e q m → Here G.L j m (I.Goto l)
         → Reach G (MA.break e v st) (run (chain xs s z o) p st ls)
@@ -212,7 +212,7 @@ module _ (G : Ground) where
 
     pub on_break_at : {first : Bool} {j : ℕ} {n n' : Nest} {v : Surroundings} {e : Tree} {q m l : ℕ}
         {xs : List Item} {s : Suspensions} {z : List ℕ} {o : Outer} (os : List ℕ) (w p : ℕ) (st : M.Store)
-        (ls : List (S.Coexp Parked)) → Good (run (chain xs s (os ++ z) o) p st ls)
+        (ls : List (S.Coexp WaitingChain)) → Good (run (chain xs s (os ++ z) o) p st ls)
         → Live G first st.active st.coexpressions ls → j ≡ proc_in o → Breaks G.L j n p q n' l
         → OfSurroundings G.L first n v z o → Stands G.L j n' e q m → Here G.L j m (I.Goto l)
         → Goes G w (MA.break e v (away os st)) (run (chain xs s (os ++ z) o) p st ls)
@@ -236,7 +236,7 @@ module _ (G : Ground) where
 
   mutual
     pub on_next : {first : Bool} {j : ℕ} {n : Nest} {v : Surroundings} {q g : ℕ} {xs : List Item}
-        {s : Suspensions} {z : List ℕ} {o : Outer} (p : ℕ) (st : M.Store) (ls : List (S.Coexp Parked))
+        {s : Suspensions} {z : List ℕ} {o : Outer} (p : ℕ) (st : M.Store) (ls : List (S.Coexp WaitingChain))
         → Good (run (chain xs s z o) p st ls) → Live G first st.active st.coexpressions ls → j ≡ proc_in o
         → Nexts G.L j n p q g → OfMark G.L first n v xs s z o → Here G.L j q (I.Goto g)
         → Reach G (MA.next v st) (run (chain xs s z o) p st ls)
@@ -258,7 +258,7 @@ module _ (G : Ground) where
 
     pub on_next_at : {first : Bool} {j : ℕ} {n : Nest} {v : Surroundings} {q g : ℕ} {xs : List Item}
         {s : Suspensions} {z : List ℕ} {o : Outer} (os : List ℕ) (w p : ℕ) (st : M.Store)
-        (ls : List (S.Coexp Parked)) → Good (run (chain xs s (os ++ z) o) p st ls)
+        (ls : List (S.Coexp WaitingChain)) → Good (run (chain xs s (os ++ z) o) p st ls)
         → Live G first st.active st.coexpressions ls → j ≡ proc_in o → Nexts G.L j n p q g
         → OfSurroundings G.L first n v z o → Here G.L j q (I.Goto g)
         → Goes G w (MA.next v (away os st)) (run (chain xs s (os ++ z) o) p st ls)

@@ -13,9 +13,9 @@ use Rattle.icn_meaning.specs.Contexts.{Nothing, NoChoice, InCall}
 use Rattle.icn_meaning.specs.Turns as MT
 use Rattle.icn_meaning.specs.Calls as MC
 use Rattle.icn_meaning.specs.Meaning as MM
-use Rattle.icn_meaning.specs.Meaning.{Observed, observed, Means}
+use Rattle.icn_meaning.specs.Meaning.{Observed, observation, Means}
 use Rattle.icn_defs.specs.Running.{Launch, first_world, words_row}
-use Rattle.icn_run.specs.Chains.{chain, none, base, empty, Parked, Linked}
+use Rattle.icn_run.specs.Chains.{chain, none, base, empty, WaitingChain, LinkedStack}
 use Rattle.icn_run.specs.Step as S
 use Rattle.icn_run.specs.LinkedStep as Linked
 use Rattle.icn_run.proofs.Observing.{over_seen}
@@ -31,10 +31,10 @@ use Rattle.icn_run_laws.specs.SecondLaw.{MissingCell}
 use Rattle.icn_simulation.proofs.Runs.{good_steps, after, shift, forward, backward, was_over, reach_misses}
 
 module _ (G : Ground) where
-  first_coexp : S.Coexp Parked
+  first_coexp : S.Coexp WaitingChain
   first_coexp = record { status = S.Active; activator = zero; values = []; proc = zero; place = zero }
 
-  abbrev made_store : List Value → ℕ → ℕ → Names → Launch → S.Store Parked
+  abbrev made_store : List Value → ℕ → ℕ → Names → Launch → S.Store WaitingChain
   made_store globals statics procs names launch = record {
     world = first_world launch.bounds globals statics;
     outside = launch.outside;
@@ -60,7 +60,7 @@ module _ (G : Ground) where
 
   -- `main` begins
   main_begin : {initial : Initial} {body : Trees} (b : Bool) (n a : ℕ) (st : M.Store)
-      (ls : List (S.Coexp Parked)) → Live G true st.active st.coexpressions ls
+      (ls : List (S.Coexp WaitingChain)) → Live G true st.active st.coexpressions ls
       → b ≡ slice_index_or st.begun n true → StandsRoutine G.L n initial body →
       Reach G (MC.begun_if b n initial body (InCall (a_frame a n 1) Nothing NoChoice) NoChoice st)
       (run (chain [] none [] (base n a)) 0 st ls)
@@ -73,7 +73,7 @@ module _ (G : Ground) where
       (on_rest G 1 (record st { begun = slice_set st.begun n true }) ls live first (v_main refl) (r_end refl))
 
   main_enter : (n : ℕ) (routine : MP.Routine) (entry : Procedure) (ps ps' : List Value) (st : M.Store)
-      (ls : List (S.Coexp Parked)) → Live G true st.active st.coexpressions ls → ps ≡ ps'
+      (ls : List (S.Coexp WaitingChain)) → Live G true st.active st.coexpressions ls → ps ≡ ps'
       → length routine.locals - routine.parameters ≡ entry.locals
       → StandsRoutine G.L n routine.initial routine.body →
       Reach G (MC.enter n routine ps 1 Nothing NoChoice st)
@@ -92,11 +92,11 @@ module _ (G : Ground) where
             ++ (ps ++ replicate (length routine.locals - routine.parameters) Null) ∷ [];
       }) ls live refl stands))
 
-  abbrev begins_at : ℕ → Procedure → List Value → Linked → S.Store Parked → LState
+  abbrev begins_at : ℕ → Procedure → List Value → LinkedStack → S.Store WaitingChain → LState
   begins_at n entry ps m st = S.running ((machine G).begin n (ps ++ replicate entry.locals Null) 0 m) st
 
   main_collect : (b : Bool) (n : ℕ) (routine : MP.Routine) (entry : Procedure) (vs : List Value)
-      (st : M.Store) (ls : List (S.Coexp Parked)) → Live G true st.active st.coexpressions ls
+      (st : M.Store) (ls : List (S.Coexp WaitingChain)) → Live G true st.active st.coexpressions ls
       → length routine.locals - routine.parameters ≡ entry.locals
       → StandsRoutine G.L n routine.initial routine.body →
       Reach G (MC.collect b n routine vs 1 zero Nothing NoChoice st)
@@ -110,7 +110,7 @@ module _ (G : Ground) where
       (ap (λ l. l ++ v ∷ []) (fitted_filled (routine.parameters - 1) vs)) el stands)
 
   main_call : (b : Bool) (n : ℕ) (routine : MP.Routine) (entry : Procedure) (vs : List Value) (st : M.Store)
-      (ls : List (S.Coexp Parked)) → Live G true st.active st.coexpressions ls
+      (ls : List (S.Coexp WaitingChain)) → Live G true st.active st.coexpressions ls
       → OfCallee G.L n (MP.IsRoutine routine) (S.IsProc entry) →
       Reach G (MC.call_if b n routine vs 1 zero Nothing NoChoice st)
       (S.begun_if (machine G) b n entry vs (linked_of (chain [] none [] (base 0 0)) 0 st)
@@ -126,7 +126,7 @@ module _ (G : Ground) where
       (main_collect routine.collects n routine entry vs st ls live el stands))
 
   start_at : {m : Option ℕ} {m' : Option ℕ} (words : List (List ℕ)) (st : M.Store)
-      (ls : List (S.Coexp Parked)) → Live G true st.active st.coexpressions ls → OfMain G.L m m' →
+      (ls : List (S.Coexp WaitingChain)) → Live G true st.active st.coexpressions ls → OfMain G.L m m' →
       Reach G (MM.main_at G.L.program m words st)
       (S.start_of (machine G) (code_of G) words (linked_of (chain [] none [] (base 0 0)) 0 st)
       (store_of st ls) m')
@@ -171,7 +171,7 @@ module _ (G : Ground) where
     pub is : s ≡ M.over seen.ending store
     pub outside_is : store.outside ≡ seen.outside
 
-  seen_over : (s : M.State) (seen : Observed) → observed s ≡ Some seen → Seen s seen
+  seen_over : (s : M.State) (seen : Observed) → observation s ≡ Some seen → Seen s seen
   seen_over (M.over ending st) seen e = let h : record_of ending st.outside ≡ seen = cc in
       record {
         store = st;
@@ -183,18 +183,18 @@ module _ (G : Ground) where
 
   -- what the meaning comes to, the code comes to
   pub means_runs : (launch : Launch) (seen : Observed) → Begins G.L → Means G.L.program launch seen
-      → Linked.Runs G.L.repeats G.L.tables launch seen
+      → LinkedStack.Runs G.L.repeats G.L.tables launch seen
   means_runs launch seen b m =
       let o = seen_over _ seen m.is in
       let g = starts launch b in
       let f = forward G m.count (MM.start G.L.program launch) g.to seen.ending o.store
       (good_steps G g.turns _ g.comes (shadowed_start G.L.repeats G.L.tables launch)) g.rel o.is in
       let a = after G g.turns f.0 g.comes f.1 in
-      record { count = a.0; is = ap S.observed (a.1 ∙ ap (λ x. S.over seen.ending x) o.outside_is) }
+      record { count = a.0; is = ap S.observation (a.1 ∙ ap (λ x. S.over seen.ending x) o.outside_is) }
 
   -- what the code comes to, the meaning comes to
   pub runs_means : (launch : Launch) (seen : Observed) → Begins G.L
-      → Linked.Runs G.L.repeats G.L.tables launch seen → Means G.L.program launch seen
+      → LinkedStack.Runs G.L.repeats G.L.tables launch seen → Means G.L.program launch seen
   runs_means launch seen b r =
       let z : LState = S.over seen.ending seen.outside in
       let s = MM.start G.L.program launch in
@@ -205,7 +205,7 @@ module _ (G : Ground) where
       (good_steps G g.turns _ g.comes (shadowed_start G.L.repeats G.L.tables launch)) g.rel e in
       let o = was_over G {ending = seen.ending} {outside = seen.outside} back.1 in
       let a = after_steps back.0 o.count refl o.is in
-      record { count = a.0; is = ap observed a.1 ∙ ap (λ x. Some (record_of seen.ending x)) o.outside_is }
+      record { count = a.0; is = ap observation a.1 ∙ ap (λ x. Some (record_of seen.ending x)) o.outside_is }
 
   -- the run of the code never comes to a mark that has no cell for a label which is to be set
   pub none_missing : (launch : Launch) → Begins G.L → MissingCell G.L.repeats G.L.tables launch → ⊥

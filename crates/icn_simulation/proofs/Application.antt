@@ -21,7 +21,7 @@ use Rattle.icn_meaning.specs.Turns as MT
 use Rattle.icn_meaning.specs.Coexpressions as MX
 use Rattle.icn_meaning.specs.Calls as MC
 use Rattle.icn_defs.specs.Running.{number_of}
-use Rattle.icn_run.specs.Chains.{chain, Suspensions, none, Outer, call, Parked, Linked, take_top, with_chain}
+use Rattle.icn_run.specs.Chains.{chain, Suspensions, none, Outer, call, WaitingChain, LinkedStack, take_top, with_chain}
 use Rattle.icn_run.specs.Step as S
 use Rattle.icn_simulation.specs.Linkage.{Applies, f_operation, f_call, f_spread, f_list, f_field, f_activate}
 use Rattle.icn_simulation.specs.Standing.{Nest, StandsCreate, StandsRoutine, e_plain, e_initial}
@@ -55,7 +55,7 @@ module _ (G : Ground) where
   -- a co-expression is made
   pub on_fresh : {first : Bool} {e : Tree} {place q j a : ℕ} {k : Works} {r : Choices} {xs : List Item}
       {s : Suspensions} {z : List ℕ} {o : Outer} (vs : List Value) (p : ℕ) (st : M.Store)
-      (ls : List (S.Coexp Parked)) → Live G first st.active st.coexpressions ls → a ≡ activation_in o
+      (ls : List (S.Coexp WaitingChain)) → Live G first st.active st.coexpressions ls → a ≡ activation_in o
       → StandsCreate G.L j e place q → OfWorks G.L first k p xs z o → OfChoices G.L first r s z o →
       Reach G (MX.fresh e j vs a k r st)
       (S.coexp_made (machine G) vs j place (linked_of (chain xs s z o) p st) (store_of st ls))
@@ -66,8 +66,8 @@ module _ (G : Ground) where
       stands) k r))
 
   refreshed_by : {first : Bool} {a : ℕ} {k : Works} {r : Choices} {xs : List Item} {s : Suspensions}
-      {z : List ℕ} {o : Outer} {co : Option M.Coexpression} {l : Option (S.Coexp Parked)} (p : ℕ)
-      (st : M.Store) (ls : List (S.Coexp Parked)) → Live G first st.active st.coexpressions ls
+      {z : List ℕ} {o : Outer} {co : Option M.Coexpression} {l : Option (S.Coexp WaitingChain)} (p : ℕ)
+      (st : M.Store) (ls : List (S.Coexp WaitingChain)) → Live G first st.active st.coexpressions ls
       → a ≡ activation_in o → Made G co l → OfWorks G.L first k p xs z o → OfChoices G.L first r s z o →
       Reach G (MX.refreshed_from co a k r st)
       (S.refreshed_from (machine G) l (linked_of (chain xs s z o) p st) (store_of st ls))
@@ -81,12 +81,12 @@ module _ (G : Ground) where
       (S.coexp_made (machine G) l.values l.proc l.place (linked_of (chain xs s z o) p st)
       (store_of st ls))) (sym h.values) (on_fresh l.values p st ls live e stands k r))
 
-  made_at : {cos : List M.Coexpression} {ls : List (S.Coexp Parked)} → OfAll G.L cos ls → (n : ℕ)
+  made_at : {cos : List M.Coexpression} {ls : List (S.Coexp WaitingChain)} → OfAll G.L cos ls → (n : ℕ)
       → Made G (slice_get cos (suc n)) (slice_get ls (suc n))
   made_at (c_all h t) n = find_made G t n
 
   on_refreshed : {first : Bool} {a : ℕ} {k : Works} {r : Choices} {xs : List Item} {s : Suspensions}
-      {z : List ℕ} {o : Outer} (v : Value) (p : ℕ) (st : M.Store) (ls : List (S.Coexp Parked))
+      {z : List ℕ} {o : Outer} (v : Value) (p : ℕ) (st : M.Store) (ls : List (S.Coexp WaitingChain))
       → Live G first st.active st.coexpressions ls → a ≡ activation_in o → OfWorks G.L first k p xs z o
       → OfChoices G.L first r s z o →
       Reach G (MX.refresh v a k r st)
@@ -97,7 +97,7 @@ module _ (G : Ground) where
 
   -- an activation
   on_sent : {first : Bool} {k : Works} {r : Choices} {xs : List Item} {s : Suspensions} {z : List ℕ}
-      {o : Outer} (v : Value) (c p : ℕ) (st : M.Store) (ls : List (S.Coexp Parked))
+      {o : Outer} (v : Value) (c p : ℕ) (st : M.Store) (ls : List (S.Coexp WaitingChain))
       → Live G first st.active st.coexpressions ls → OfWorks G.L first k p xs z o
       → OfChoices G.L first r s z o →
       Reach G (MX.transmit v c k r st) (S.entered_by (machine G) c v (linked_of (chain xs s z o) p st)
@@ -109,9 +109,9 @@ module _ (G : Ground) where
       (t_waiting (subst (λ b. OfWorks G.L b k' p xs z o) live.0 k)
       (subst (λ b. OfChoices G.L b r' s z o) live.0 r))) c st.active)
 
-  sent_by : {first : Bool} {j place : ℕ} {e : Tree} {status : M.Status} {status' : S.Status Parked}
+  sent_by : {first : Bool} {j place : ℕ} {e : Tree} {status : M.Status} {status' : S.Status WaitingChain}
       {k : Works} {r : Choices} {xs : List Item} {s : Suspensions} {z : List ℕ} {o : Outer} (b b' : Bool)
-      (v : Value) (c p : ℕ) (st : M.Store) (ls : List (S.Coexp Parked))
+      (v : Value) (c p : ℕ) (st : M.Store) (ls : List (S.Coexp WaitingChain))
       → Live G first st.active st.coexpressions ls → OfStatus G.L b' j e place status status'
       → OfWorks G.L first k p xs z o → OfChoices G.L first r s z o →
       Reach G (MX.sent_if b status v c k r st)
@@ -127,7 +127,7 @@ module _ (G : Ground) where
   sent_by false b' v c p st ls live (t_after h r') k r = on_sent v c p st ls live k r
 
   on_activate : {first : Bool} {k : Works} {r : Choices} {xs : List Item} {s : Suspensions} {z : List ℕ}
-      {o : Outer} (v to : Value) (p : ℕ) (st : M.Store) (ls : List (S.Coexp Parked))
+      {o : Outer} (v to : Value) (p : ℕ) (st : M.Store) (ls : List (S.Coexp WaitingChain))
       → Live G first st.active st.coexpressions ls → OfWorks G.L first k p xs z o
       → OfChoices G.L first r s z o →
       Reach G (MX.activate v to k r st)
@@ -139,7 +139,7 @@ module _ (G : Ground) where
   -- A procedure is called
 
   pub inits : {l : ℕ} {xs : List Item} {s : Suspensions} {z : List ℕ} {o : Outer} (b : Bool) (st : M.Store)
-      (ls : List (S.Coexp Parked)) → b ≡ slice_index_or st.begun (proc_in o) true → At G.L o 0 (I.Init l)
+      (ls : List (S.Coexp WaitingChain)) → b ≡ slice_index_or st.begun (proc_in o) true → At G.L o 0 (I.Init l)
       → To G (run (chain xs s z o) 0 st ls)
       (S.initial_if (machine G) b l (linked_of (chain xs s z o) 1 st) (store_of st ls))
   inits {l} {xs} {s} {z} {o} b st ls e h =
@@ -151,7 +151,7 @@ module _ (G : Ground) where
 
   on_begin : {first : Bool} {k : Works} {r : Choices} {initial : Initial} {body : Trees} {xs : List Item}
       {s : Suspensions} {z : List ℕ} {o : Outer} (b : Bool) (n a level p : ℕ) (st : M.Store)
-      (ls : List (S.Coexp Parked)) → Live G first st.active st.coexpressions ls
+      (ls : List (S.Coexp WaitingChain)) → Live G first st.active st.coexpressions ls
       → b ≡ slice_index_or st.begun n true → StandsRoutine G.L n initial body → OfWorks G.L first k p xs z o
       → OfChoices G.L first r s z o →
       Reach G (MC.begun_if b n initial body (InCall (a_frame a n level) k r) r st)
@@ -168,7 +168,7 @@ module _ (G : Ground) where
 
   on_enter : {first : Bool} {k : Works} {r : Choices} {xs : List Item} {s : Suspensions} {z : List ℕ}
       {o : Outer} (n : ℕ) (routine : MP.Routine) (entry : Procedure) (ps ps' : List Value) (p : ℕ)
-      (st : M.Store) (ls : List (S.Coexp Parked)) → Live G first st.active st.coexpressions ls → ps ≡ ps'
+      (st : M.Store) (ls : List (S.Coexp WaitingChain)) → Live G first st.active st.coexpressions ls → ps ≡ ps'
       → length routine.locals - routine.parameters ≡ entry.locals
       → StandsRoutine G.L n routine.initial routine.body → OfWorks G.L first k p xs z o
       → OfChoices G.L first r s z o →
@@ -190,7 +190,7 @@ module _ (G : Ground) where
 
   on_collect : {first : Bool} {k : Works} {r : Choices} {a : ℕ} {xs : List Item} {s : Suspensions}
       {z : List ℕ} {o : Outer} (b : Bool) (n : ℕ) (routine : MP.Routine) (entry : Procedure)
-      (vs : List Value) (p : ℕ) (st : M.Store) (ls : List (S.Coexp Parked))
+      (vs : List Value) (p : ℕ) (st : M.Store) (ls : List (S.Coexp WaitingChain))
       → Live G first st.active st.coexpressions ls → a ≡ activation_in o
       → length routine.locals - routine.parameters ≡ entry.locals
       → StandsRoutine G.L n routine.initial routine.body → OfWorks G.L first k p xs z o
@@ -207,7 +207,7 @@ module _ (G : Ground) where
 
   call_by : {first : Bool} {k : Works} {r : Choices} {a : ℕ} {xs : List Item} {s : Suspensions} {z : List ℕ}
       {o : Outer} (b : Bool) (n : ℕ) (routine : MP.Routine) (entry : Procedure) (vs : List Value) (p : ℕ)
-      (st : M.Store) (ls : List (S.Coexp Parked)) → Live G first st.active st.coexpressions ls
+      (st : M.Store) (ls : List (S.Coexp WaitingChain)) → Live G first st.active st.coexpressions ls
       → a ≡ activation_in o → routine.parameters ≡ entry.parameters → routine.collects ≡ entry.collects
       → length routine.locals - routine.parameters ≡ entry.locals
       → StandsRoutine G.L n routine.initial routine.body → OfWorks G.L first k p xs z o
@@ -227,7 +227,7 @@ module _ (G : Ground) where
 
   on_call : {first : Bool} {k : Works} {r : Choices} {a level : ℕ} {xs : List Item} {s : Suspensions}
       {z : List ℕ} {o : Outer} (n : ℕ) (routine : MP.Routine) (entry : Procedure) (vs : List Value) (p : ℕ)
-      (st : M.Store) (ls : List (S.Coexp Parked)) → Live G first st.active st.coexpressions ls
+      (st : M.Store) (ls : List (S.Coexp WaitingChain)) → Live G first st.active st.coexpressions ls
       → a ≡ activation_in o → level ≡ level_in o → routine.parameters ≡ entry.parameters
       → routine.collects ≡ entry.collects → length routine.locals - routine.parameters ≡ entry.locals
       → StandsRoutine G.L n routine.initial routine.body → OfWorks G.L first k p xs z o
@@ -243,7 +243,7 @@ module _ (G : Ground) where
 
   on_callee : {first : Bool} {n' : Nest} {v : Surroundings} {k : Works} {r : Choices} {c : MP.Callee}
       {c' : S.Callee} {xs : List Item} {s : Suspensions} {z : List ℕ} {o : Outer} (n : ℕ)
-      (items : List Item) (p : ℕ) (st : M.Store) (ls : List (S.Coexp Parked))
+      (items : List Item) (p : ℕ) (st : M.Store) (ls : List (S.Coexp WaitingChain))
       → Live G first st.active st.coexpressions ls → OfCallee G.L n c c' → OfSurroundings G.L first n' v z o
       → OfWorks G.L first k p xs z o → OfChoices G.L first r s z o →
       Reach G (MC.invoke_callee c n items v k r st)
@@ -271,7 +271,7 @@ module _ (G : Ground) where
   on_callee {r = r'} n items p st ls live o_nothing v k r = errored G r' 106 (Some (V.Procedure n)) st ls
 
   on_chosen : {first : Bool} {k : Works} {r : Choices} {xs : List Item} {s : Suspensions} {z : List ℕ}
-      {o : Outer} (x : Option Item) (p : ℕ) (st : M.Store) (ls : List (S.Coexp Parked))
+      {o : Outer} (x : Option Item) (p : ℕ) (st : M.Store) (ls : List (S.Coexp WaitingChain))
       → Live G first st.active st.coexpressions ls → OfWorks G.L first k p xs z o
       → OfChoices G.L first r s z o →
       Reach G (MC.choose_item x k r st) (S.pushed_or_fails (machine G) x (linked_of (chain xs s z o) p st)
@@ -281,7 +281,7 @@ module _ (G : Ground) where
 
   on_choose : {first : Bool} {k : Works} {r : Choices} {xs : List Item} {s : Suspensions} {z : List ℕ}
       {o : Outer} (i : Option ℤ) (v : Value) (items : List Item) (p : ℕ) (st : M.Store)
-      (ls : List (S.Coexp Parked)) → Live G first st.active st.coexpressions ls
+      (ls : List (S.Coexp WaitingChain)) → Live G first st.active st.coexpressions ls
       → OfWorks G.L first k p xs z o → OfChoices G.L first r s z o →
       Reach G (MC.choose i v items k r st)
       (S.integer_called (machine G) v i items (linked_of (chain xs s z o) p st) (store_of st ls))
@@ -294,7 +294,7 @@ module _ (G : Ground) where
 
   on_invoke : {first : Bool} {n' : Nest} {v : Surroundings} {k : Works} {r : Choices} {xs : List Item}
       {s : Suspensions} {z : List ℕ} {o : Outer} (f : Value) (items : List Item) (p : ℕ) (st : M.Store)
-      (ls : List (S.Coexp Parked)) → Live G first st.active st.coexpressions ls
+      (ls : List (S.Coexp WaitingChain)) → Live G first st.active st.coexpressions ls
       → OfSurroundings G.L first n' v z o → OfWorks G.L first k p xs z o → OfChoices G.L first r s z o →
       Reach G (MC.invoke G.L.program f items v k r st)
       (S.invoke_value (machine G) (code_of G) f items (linked_of (chain xs s z o) p st) (store_of st ls))
@@ -303,7 +303,7 @@ module _ (G : Ground) where
 
   on_spread : {first : Bool} {n' : Nest} {v : Surroundings} {k : Works} {r : Choices} {xs : List Item}
       {s : Suspensions} {z : List ℕ} {o : Outer} (f from : Value) (p : ℕ) (st : M.Store)
-      (ls : List (S.Coexp Parked)) → Live G first st.active st.coexpressions ls
+      (ls : List (S.Coexp WaitingChain)) → Live G first st.active st.coexpressions ls
       → OfSurroundings G.L first n' v z o → OfWorks G.L first k p xs z o → OfChoices G.L first r s z o →
       Reach G (MC.apply_to_list G.L.program f from v k r st)
       (S.elements_called (machine G) (code_of G) f from (linked_of (chain xs s z o) p st)
@@ -328,7 +328,7 @@ module _ (G : Ground) where
   taken_of (x ∷ xs) ys found = taken_of xs ys (x ∷ found)
 
   takes : {n : ℕ} {zs : List Item} {s : Suspensions} {z : List ℕ} {o : Outer} (xs ys : List Item) (p : ℕ)
-      (st : M.Store) (next : List Item → Linked → LState) → n ≡ length xs → zs ≡ xs ++ ys
+      (st : M.Store) (next : List Item → LinkedStack → LState) → n ≡ length xs → zs ≡ xs ++ ys
       → S.with_taken (machine G) n (linked_of (chain zs s z o) p st) next ≡ next (reverse xs)
       (linked_of (chain ys s z o) p st)
   takes {n} {zs} {s} {z} {o} xs ys p st next en ez =
@@ -341,7 +341,7 @@ module _ (G : Ground) where
 
   on_operated : {first : Bool} {n' : Nest} {v : Surroundings} {k : Works} {r : Choices} {xs : List Item}
       {s : Suspensions} {z : List ℕ} {o : Outer} (op : Op) (items : List Item) (p : ℕ) (st : M.Store)
-      (ls : List (S.Coexp Parked)) → Live G first st.active st.coexpressions ls
+      (ls : List (S.Coexp WaitingChain)) → Live G first st.active st.coexpressions ls
       → OfSurroundings G.L first n' v z o → OfWorks G.L first k p xs z o → OfChoices G.L first r s z o →
       Reach G (MC.apply_form G.L.program (Operating op) items v k r st)
       (S.operate (machine G) op items (linked_of (chain xs s z o) p st) (store_of st ls))
@@ -357,7 +357,7 @@ module _ (G : Ground) where
 
   on_calling : {first : Bool} {n' : Nest} {v : Surroundings} {k : Works} {r : Choices} {n : ℕ}
       {xs : List Item} {s : Suspensions} {z : List ℕ} {o : Outer} (items : List Item) (p : ℕ) (st : M.Store)
-      (ls : List (S.Coexp Parked)) → suc n ≡ length items → Live G first st.active st.coexpressions ls
+      (ls : List (S.Coexp WaitingChain)) → suc n ≡ length items → Live G first st.active st.coexpressions ls
       → OfSurroundings G.L first n' v z o → OfWorks G.L first k p xs z o → OfChoices G.L first r s z o →
       Reach G (MC.apply_form G.L.program Calling items v k r st)
       (S.invoked_with (machine G) (code_of G) items (linked_of (chain xs s z o) p st) (store_of st ls))
@@ -367,7 +367,7 @@ module _ (G : Ground) where
 
   on_spreading : {first : Bool} {n' : Nest} {v : Surroundings} {k : Works} {r : Choices} {xs : List Item}
       {s : Suspensions} {z : List ℕ} {o : Outer} (items : List Item) (p : ℕ) (st : M.Store)
-      (ls : List (S.Coexp Parked)) → 2 ≡ length items → Live G first st.active st.coexpressions ls
+      (ls : List (S.Coexp WaitingChain)) → 2 ≡ length items → Live G first st.active st.coexpressions ls
       → OfSurroundings G.L first n' v z o → OfWorks G.L first k p xs z o → OfChoices G.L first r s z o →
       Reach G (MC.apply_form G.L.program Spreading items v k r st)
       (S.applied_to_elements (machine G) (code_of G) items (linked_of (chain xs s z o) p st)
@@ -382,7 +382,7 @@ module _ (G : Ground) where
 
   on_activating : {first : Bool} {n' : Nest} {v : Surroundings} {k : Works} {r : Choices} {xs : List Item}
       {s : Suspensions} {z : List ℕ} {o : Outer} (items : List Item) (p : ℕ) (st : M.Store)
-      (ls : List (S.Coexp Parked)) → 2 ≡ length items → Live G first st.active st.coexpressions ls
+      (ls : List (S.Coexp WaitingChain)) → 2 ≡ length items → Live G first st.active st.coexpressions ls
       → OfSurroundings G.L first n' v z o → OfWorks G.L first k p xs z o → OfChoices G.L first r s z o →
       Reach G (MC.apply_form G.L.program Activating items v k r st)
       (S.activation_of (machine G) items (linked_of (chain xs s z o) p st) (store_of st ls))
@@ -395,7 +395,7 @@ module _ (G : Ground) where
   on_activating (x ∷ y ∷ u ∷ items) p st ls e live v k r = absurd (omega arith)
 
   on_field_at : {first : Bool} {k : Works} {r : Choices} {xs : List Item} {s : Suspensions} {z : List ℕ}
-      {o : Outer} (place : Option ℕ) (x p : ℕ) (st : M.Store) (ls : List (S.Coexp Parked))
+      {o : Outer} (place : Option ℕ) (x p : ℕ) (st : M.Store) (ls : List (S.Coexp WaitingChain))
       → Live G first st.active st.coexpressions ls → OfWorks G.L first k p xs z o
       → OfChoices G.L first r s z o →
       Reach G (MC.field_at place x k r st)
@@ -405,7 +405,7 @@ module _ (G : Ground) where
 
   on_take : {first : Bool} {k : Works} {r : Choices} {xs : List Item} {s : Suspensions} {z : List ℕ}
       {o : Outer} (name : List ℕ) (field : ℕ) (x : Value) (p : ℕ) (st : M.Store)
-      (ls : List (S.Coexp Parked)) → ((kind : ℕ)
+      (ls : List (S.Coexp WaitingChain)) → ((kind : ℕ)
       → MP.place_of name (MC.fields_in (slice_get G.L.program.kinds kind)) ≡ S.field_place G.L.tables field
       kind) → Live G first st.active st.coexpressions ls → OfWorks G.L first k p xs z o
       → OfChoices G.L first r s z o →
@@ -420,7 +420,7 @@ module _ (G : Ground) where
 
   on_taking : {first : Bool} {n' : Nest} {v : Surroundings} {k : Works} {r : Choices} {xs : List Item}
       {s : Suspensions} {z : List ℕ} {o : Outer} (name : List ℕ) (field : ℕ) (items : List Item) (p : ℕ)
-      (st : M.Store) (ls : List (S.Coexp Parked)) → 1 ≡ length items
+      (st : M.Store) (ls : List (S.Coexp WaitingChain)) → 1 ≡ length items
       → ((kind : ℕ) → MP.place_of name (MC.fields_in (slice_get G.L.program.kinds kind)) ≡ S.field_place
       G.L.tables field kind) → Live G first st.active st.coexpressions ls
       → OfSurroundings G.L first n' v z o → OfWorks G.L first k p xs z o → OfChoices G.L first r s z o →
@@ -433,7 +433,7 @@ module _ (G : Ground) where
 
   on_collecting : {first : Bool} {n' : Nest} {v : Surroundings} {k : Works} {r : Choices} {xs : List Item}
       {s : Suspensions} {z : List ℕ} {o : Outer} (items : List Item) (p : ℕ) (st : M.Store)
-      (ls : List (S.Coexp Parked)) → Live G first st.active st.coexpressions ls
+      (ls : List (S.Coexp WaitingChain)) → Live G first st.active st.coexpressions ls
       → OfSurroundings G.L first n' v z o → OfWorks G.L first k p xs z o → OfChoices G.L first r s z o →
       Reach G (MC.apply_form G.L.program Collecting items v k r st)
       (S.with_values (machine G) items (linked_of (chain xs s z o) p st) (store_of st ls)
@@ -450,7 +450,7 @@ module _ (G : Ground) where
   -- all operands are there, and the form is applied to them
   pub on_applied : {first : Bool} {n' : Nest} {form : Form} {v : Surroundings} {k : Works} {r : Choices}
       {i : Instr} {n : ℕ} {ys zs : List Item} {s : Suspensions} {z : List ℕ} {o : Outer} (xs : List Item)
-      (w q : ℕ) (st : M.Store) (ls : List (S.Coexp Parked)) → Live G first st.active st.coexpressions ls
+      (w q : ℕ) (st : M.Store) (ls : List (S.Coexp WaitingChain)) → Live G first st.active st.coexpressions ls
       → Applies G.L form n i → n ≡ length xs → zs ≡ xs ++ ys → At G.L o q i
       → OfSurroundings G.L first n' v z o → OfWorks G.L first k (suc q) ys z o → OfChoices G.L first r s z o
       → Goes G w (MC.operands G.L.program form xs NoTrees v k r st) (run (chain zs s z o) q st ls)

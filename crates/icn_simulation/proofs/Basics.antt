@@ -14,7 +14,7 @@ use Rattle.icn_defs.specs.StepRows.{value_row}
 use Rattle.icn_meaning.specs.Contexts as M
 use Rattle.icn_meaning.specs.Contexts.{Works, Nothing, ◌and_then◌, Choices, NoChoice, ◌or_else◌, Surroundings}
 use Rattle.icn_meaning.specs.Turns as MT
-use Rattle.icn_run.specs.Chains.{outer_of, proc_of, frame_of, fixed, flagged, Chain, chain, Suspensions, none, Outer, mark, Parked, Linked, push_mark}
+use Rattle.icn_run.specs.Chains.{outer_of, proc_of, frame_of, fixed, flagged, Chain, chain, Suspensions, none, Outer, mark, WaitingChain, LinkedStack, push_mark}
 use Rattle.icn_run.specs.Step as S
 use Rattle.icn_run_laws.specs.SameStates.{IsLacking, Opens as IsMark}
 use Rattle.icn_run_laws.proofs.Lists.{some_inj}
@@ -24,7 +24,7 @@ use Rattle.icn_simulation.specs.Relation.{proc_in, activation_in, OfWorks, OfCho
 use Rattle.icn_simulation.specs.Ground.{Ground, code_of, machine}
 
 abbrev pub LState : Type 0
-LState = S.State Parked Linked
+LState = S.State WaitingChain LinkedStack
 
 abbrev pub l_step : Ground → LState → LState
 l_step G l = S.step (machine G) (code_of G) l
@@ -92,17 +92,17 @@ pub record Goes (G : Ground) (w : ℕ) (s : M.State) (l : LState) : Type 0 where
   pub less : (1 ≤ reach.turns) ⊎ (weight s < w)
 
 -- the running machine at a chain and a place; and the failing one
-abbrev pub run : Chain → ℕ → M.Store → List (S.Coexp Parked) → LState
+abbrev pub run : Chain → ℕ → M.Store → List (S.Coexp WaitingChain) → LState
 run m p st ls = S.running (linked_of m p st) (store_of st ls)
 
-abbrev pub fails : Chain → ℕ → M.Store → List (S.Coexp Parked) → LState
+abbrev pub fails : Chain → ℕ → M.Store → List (S.Coexp WaitingChain) → LState
 fails m p st ls = S.failing (linked_of m p st) (store_of st ls)
 
-abbrev pub ran : Linked → S.Store Parked → LState
+abbrev pub ran : LinkedStack → S.Store WaitingChain → LState
 ran m st = S.running m st
 
 -- which co-expression runs, and how all of them correspond
-abbrev pub Live : Ground → Bool → ℕ → List M.Coexpression → List (S.Coexp Parked) → Type 0
+abbrev pub Live : Ground → Bool → ℕ → List M.Coexpression → List (S.Coexp WaitingChain) → Type 0
 Live G first active cos ls = (first ≡ (S.is_main active)) × OfAll G.L cos ls
 
 module _ (G : Ground) where
@@ -132,7 +132,7 @@ module _ (G : Ground) where
   pub then_reach : {s : M.State} {l l' : LState} → To G l l' → Reach G s l' → Reach G s l
   then_reach e g = (goes 0 e g).reach
 
-  pub stepped : {i : Instr} (p : ℕ) (m : Chain) (st : M.Store) (ls : List (S.Coexp Parked))
+  pub stepped : {i : Instr} (p : ℕ) (m : Chain) (st : M.Store) (ls : List (S.Coexp WaitingChain))
       → Here G.L (proc_of (frame_of (outer_of m))) p i
       → l_step G (run m p st ls) ≡ S.instruction (machine G) (code_of G) i (linked_of m (suc p) st)
       (store_of st ls)
@@ -140,21 +140,21 @@ module _ (G : Ground) where
       (λ i. S.instruction (machine G) (code_of G) i (linked_of m (suc p) st) (store_of st ls))) h
 
   -- another instruction sets no label
-  pub sets_none : {i : Instr} (p : ℕ) (m : Chain) (st : M.Store) (ls : List (S.Coexp Parked))
+  pub sets_none : {i : Instr} (p : ℕ) (m : Chain) (st : M.Store) (ls : List (S.Coexp WaitingChain))
       → Here G.L (proc_of (frame_of (outer_of m))) p i → is_chfail i ≡ false → Misses G (run m p st ls) → ⊥
   sets_none {i} p m st ls h other x = no_chfail i (some_inj (sym h ∙ x.1)) other
     where
       no_chfail : (i : Instr) → i ≡ I.Chfail x.0 → is_chfail i ≡ false → ⊥
       no_chfail i e other = let b : true ≡ false = sym (ap is_chfail e) ∙ other in cc
 
-  pub at_step : {i : Instr} (p : ℕ) (m : Chain) (st : M.Store) (ls : List (S.Coexp Parked))
+  pub at_step : {i : Instr} (p : ℕ) (m : Chain) (st : M.Store) (ls : List (S.Coexp WaitingChain))
       → Here G.L (proc_of (frame_of (outer_of m))) p i → is_chfail i ≡ false
       → To G (run m p st ls) (S.instruction (machine G) (code_of G) i (linked_of m (suc p) st)
       (store_of st ls))
   at_step p m st ls h other = record { by = stepped p m st ls h; whole = sets_none p m st ls h other }
 
   -- a mark is opened
-  open_if : (b : Bool) (label : Option ℕ) (m : Chain) (p : ℕ) (st : M.Store) (ls : List (S.Coexp Parked))
+  open_if : (b : Bool) (label : Option ℕ) (m : Chain) (p : ℕ) (st : M.Store) (ls : List (S.Coexp WaitingChain))
       → b ≡ false → ran (if b then record
       (push_mark (flagged label (length st.flags) p) (linked_of m (suc p) st))
       { flags = st.flags ++ false ∷ [] } else push_mark (fixed label) (linked_of m (suc p) st))
@@ -166,7 +166,7 @@ module _ (G : Ground) where
       (store_of st ls)) e
 
   pub opens : {xs : List Item} {s : Suspensions} {z : List ℕ} {o : Outer} {label : Option ℕ} (p : ℕ)
-      (st : M.Store) (ls : List (S.Coexp Parked)) → Opens G.L (proc_in o) p label
+      (st : M.Store) (ls : List (S.Coexp WaitingChain)) → Opens G.L (proc_in o) p label
       → To G (run (chain xs s z o) p st ls)
       (run (chain [] none z (mark (fixed label) (chain xs s z o))) (suc p) st ls)
   opens {xs} {s} {z} {o} p st ls (o_mark {l = l} h e) =
@@ -183,7 +183,7 @@ module _ (G : Ground) where
       }
 
   pub opens_flagged : {xs : List Item} {s : Suspensions} {z : List ℕ} {o : Outer} (p : ℕ) (st : M.Store)
-      (ls : List (S.Coexp Parked)) → Here G.L (proc_in o) p I.Mark0 → G.L.repeats (proc_in o) p ≡ true →
+      (ls : List (S.Coexp WaitingChain)) → Here G.L (proc_in o) p I.Mark0 → G.L.repeats (proc_in o) p ≡ true →
       To G (run (chain xs s z o) p st ls)
       (run (chain [] none z (mark (flagged None (length st.flags) p) (chain xs s z o))) (suc p)
       (record st { flags = st.flags ++ false ∷ [] }) ls)
@@ -199,7 +199,7 @@ module _ (G : Ground) where
 
   -- an item is pushed
   loaded : {j : ℕ} {i : Instr} {x : Item} {xs : List Item} {s : Suspensions} {z : List ℕ} {o : Outer}
-      (p : ℕ) (st : M.Store) (ls : List (S.Coexp Parked)) → j ≡ proc_in o → Loads G.L j i x
+      (p : ℕ) (st : M.Store) (ls : List (S.Coexp WaitingChain)) → j ≡ proc_in o → Loads G.L j i x
       → S.instruction (machine G) (code_of G) i (linked_of (chain xs s z o) p st) (store_of st ls) ≡ run
       (chain (x ∷ xs) s z o) p st ls
   loaded p st ls e l_null = refl
@@ -219,7 +219,7 @@ module _ (G : Ground) where
   loaded p st ls e l_global = refl
 
   pub loads : {i : Instr} {x : Item} {xs : List Item} {s : Suspensions} {z : List ℕ} {o : Outer} (p : ℕ)
-      (st : M.Store) (ls : List (S.Coexp Parked)) → Here G.L (proc_in o) p i → Loads G.L (proc_in o) i x
+      (st : M.Store) (ls : List (S.Coexp WaitingChain)) → Here G.L (proc_in o) p i → Loads G.L (proc_in o) i x
       → To G (run (chain xs s z o) p st ls) (run (chain (x ∷ xs) s z o) (suc p) st ls)
   loads {xs = xs} {s = s} {z = z} {o = o} p st ls h l = record {
     by = stepped p (chain xs s z o) st ls h ∙ loaded (suc p) st ls refl l;
@@ -237,22 +237,22 @@ module _ (G : Ground) where
 
   -- A turn
 
-  turn_by : (b : Bool) (st : M.Store) (ls : List (S.Coexp Parked)) (f : M.Store → M.State)
-      (g : S.Store Parked → LState) → Reach G (f (record st { turns = suc st.turns }))
+  turn_by : (b : Bool) (st : M.Store) (ls : List (S.Coexp WaitingChain)) (f : M.Store → M.State)
+      (g : S.Store WaitingChain → LState) → Reach G (f (record st { turns = suc st.turns }))
       (g (store_of (record st { turns = suc st.turns }) ls))
       → Reach G (MT.turn_if b st f) (S.turn_if b (store_of st ls) g)
   turn_by true st ls f g h = h
   turn_by false st ls f g h = stay at_over
 
-  pub on_turn : (st : M.Store) (ls : List (S.Coexp Parked)) (f : M.Store → M.State)
-      (g : S.Store Parked → LState) → Reach G (f (record st { turns = suc st.turns }))
+  pub on_turn : (st : M.Store) (ls : List (S.Coexp WaitingChain)) (f : M.Store → M.State)
+      (g : S.Store WaitingChain → LState) → Reach G (f (record st { turns = suc st.turns }))
       (g (store_of (record st { turns = suc st.turns }) ls))
       → Reach G (MT.turn st f) (S.turn (code_of G) (store_of st ls) g)
   on_turn st ls f g h = turn_by (nat_lt st.turns st.world.heap.bounds.turns) st ls f g h
 
   -- What an outcome becomes
 
-  pub errored : (r : Choices) (n : ℕ) (v : Option Value) (st : M.Store) (ls : List (S.Coexp Parked))
+  pub errored : (r : Choices) (n : ℕ) (v : Option Value) (st : M.Store) (ls : List (S.Coexp WaitingChain))
       → Reach G (MT.errs n v r st) (S.errs n v (store_of st ls))
   errored r n v st ls = let rel : Rel G.L (MT.errs n v r st) (S.errs n v (store_of st ls)) =
       at_over {ending = M.Errored n} {st =
@@ -262,7 +262,7 @@ module _ (G : Ground) where
       }} in stay rel
 
   pub on_answer : {first : Bool} {k : Works} {r : Choices} {p : ℕ} {xs : List Item} {s : Suspensions}
-      {z : List ℕ} {o : Outer} (out : Outcome) (st : M.Store) (ls : List (S.Coexp Parked))
+      {z : List ℕ} {o : Outer} (out : Outcome) (st : M.Store) (ls : List (S.Coexp WaitingChain))
       → Live G first st.active st.coexpressions ls → OfWorks G.L first k p xs z o
       → OfChoices G.L first r s z o → Reach G (MT.answer out (activation_in o) k r st)
       (S.outcome (machine G) out (linked_of (chain xs s z o) p st) (store_of st ls))
@@ -273,7 +273,7 @@ module _ (G : Ground) where
   on_answer (Ends n seen) st ls a k r = stay at_over
 
   pub on_valued : {first : Bool} {r : Choices} {s : Suspensions} {z : List ℕ} {o : Outer} (p : ℕ)
-      (xs : List Item) (out : Outcome) (st : M.Store) (ls : List (S.Coexp Parked)) (f : Value → M.State)
+      (xs : List Item) (out : Outcome) (st : M.Store) (ls : List (S.Coexp WaitingChain)) (f : Value → M.State)
       (g : Value → LState) → Live G first st.active st.coexpressions ls → OfChoices G.L first r s z o
       → ((v : Value) → Reach G (f v) (g v))
       → Reach G (MT.with_given out r st f) (S.with_given out (linked_of (chain xs s z o) p st) (store_of st ls) g)
@@ -286,7 +286,7 @@ module _ (G : Ground) where
 
   -- an item is dereferenced in the activation that runs
   pub on_value : {first : Bool} {r : Choices} {a : ℕ} {s : Suspensions} {z : List ℕ} {o : Outer} (p : ℕ)
-      (xs : List Item) (x : Item) (st : M.Store) (ls : List (S.Coexp Parked)) (f : Value → M.State)
+      (xs : List Item) (x : Item) (st : M.Store) (ls : List (S.Coexp WaitingChain)) (f : Value → M.State)
       (g : Value → LState) → a ≡ activation_in o → Live G first st.active st.coexpressions ls
       → OfChoices G.L first r s z o → ((v : Value) → Reach G (f v) (g v))
       → Reach G (MT.value x a r st f)
@@ -297,7 +297,7 @@ module _ (G : Ground) where
       (on_valued p xs (value_row x (MT.setting_in (activation_in o) st)) st ls f g live r' h)
 
   pub on_values : {first : Bool} {r : Choices} {a : ℕ} {s : Suspensions} {z : List ℕ} {o : Outer} (p : ℕ)
-      (xs : List Item) (items : List Item) (st : M.Store) (ls : List (S.Coexp Parked))
+      (xs : List Item) (items : List Item) (st : M.Store) (ls : List (S.Coexp WaitingChain))
       (f : List Value → M.State) (g : List Value → LState) → a ≡ activation_in o
       → Live G first st.active st.coexpressions ls → OfChoices G.L first r s z o
       → ((vs : List Value) → Reach G (f vs) (g vs))
@@ -312,8 +312,8 @@ module _ (G : Ground) where
 
   -- something is made in the activation that runs
   made_by : {first : Bool} {r : Choices} {s : Suspensions} {z : List ℕ} {o : Outer} (p : ℕ) (xs : List Item)
-      (out : Outcome) (st : M.Store) (ls : List (S.Coexp Parked)) (f : Value → M.Store → M.State)
-      (g : Value → Linked → S.Store Parked → LState) → Live G first st.active st.coexpressions ls
+      (out : Outcome) (st : M.Store) (ls : List (S.Coexp WaitingChain)) (f : Value → M.Store → M.State)
+      (g : Value → LinkedStack → S.Store WaitingChain → LState) → Live G first st.active st.coexpressions ls
       → OfChoices G.L first r s z o → ((v : Value) (seen : Setting)
       → Reach G (f v (MT.after (activation_in o) seen st))
       (g v (linked_of (chain xs s z o) p (MT.after (activation_in o) seen st))
@@ -329,8 +329,8 @@ module _ (G : Ground) where
   made_by p xs (Ends n seen) st ls f g a r h = stay (at_fail a.0 a.1 r)
 
   pub on_made : {first : Bool} {r : Choices} {a : ℕ} {s : Suspensions} {z : List ℕ} {o : Outer} (p : ℕ)
-      (xs : List Item) (row : Setting → Outcome) (st : M.Store) (ls : List (S.Coexp Parked))
-      (f : Value → M.Store → M.State) (g : Value → Linked → S.Store Parked → LState) → a ≡ activation_in o
+      (xs : List Item) (row : Setting → Outcome) (st : M.Store) (ls : List (S.Coexp WaitingChain))
+      (f : Value → M.Store → M.State) (g : Value → LinkedStack → S.Store WaitingChain → LState) → a ≡ activation_in o
       → Live G first st.active st.coexpressions ls → OfChoices G.L first r s z o
       → ((v : Value) (seen : Setting)
       → Reach G (f v (MT.after a seen st))

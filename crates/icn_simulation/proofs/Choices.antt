@@ -10,7 +10,7 @@ use Rattle.icn_meaning.specs.Turns as MT
 use Rattle.icn_meaning.specs.Scanning as MS
 use Rattle.icn_meaning.specs.Coexpressions as MX
 use Rattle.icn_meaning.specs.Fail as MF
-use Rattle.icn_run.specs.Chains.{flagged, chain, Suspensions, none, Outer, base, mark, Parked, swap_at}
+use Rattle.icn_run.specs.Chains.{flagged, chain, Suspensions, none, Outer, base, mark, WaitingChain, swap_at}
 use Rattle.icn_run.specs.Step as S
 use Rattle.icn_simulation.specs.Linkage.{Here}
 use Rattle.icn_simulation.specs.Standing.{Nest, in_mark, Stands, StandsMaybe, s_absent, s_present}
@@ -28,7 +28,7 @@ use Rattle.icn_run.specs.Chains.{repeat_mark}
 
 module _ (G : Ground) where
   on_exhaust : {first : Bool} {j a : ℕ} {xs : List Item} {s : Suspensions} {z : List ℕ} (p : ℕ)
-      (st : M.Store) (ls : List (S.Coexp Parked)) → Live G first st.active st.coexpressions ls
+      (st : M.Store) (ls : List (S.Coexp WaitingChain)) → Live G first st.active st.coexpressions ls
       → first ≡ false → Here G.L j p I.Cofail
       → Reach G (MX.exhaust st) (run (chain xs s z (base j a)) p st ls)
   on_exhaust {first = first} {j = j} {a = a} {xs = xs} {s = s} {z = z} p st ls live e h = let m =
@@ -57,7 +57,7 @@ module _ (G : Ground) where
 
   on_again : {first : Bool} {n : Nest} {e : Tree} {v : Surroundings} {k : Works} {r : Choices} {q : ℕ}
       {xs : List Item} {s : Suspensions} {z : List ℕ} {o : Outer} (f : ℕ) (ys : List Item) (z' : List ℕ)
-      (b : Bool) (p p' : ℕ) (st : M.Store) (ls : List (S.Coexp Parked))
+      (b : Bool) (p p' : ℕ) (st : M.Store) (ls : List (S.Coexp WaitingChain))
       → Live G first st.active st.coexpressions ls → Stands G.L (proc_in o) (in_mark n) e (suc p) q
       → At G.L o q (I.Chfail p) → At G.L o (suc q) I.Esusp → OfSurroundings G.L first n v z o
       → OfWorks G.L first k (suc (suc q)) xs z o → OfChoices G.L first r s z o →
@@ -75,7 +75,7 @@ module _ (G : Ground) where
 
   on_back : {first : Bool} {n : Nest} {b : MaybeTree} {v : Surroundings} {r : Choices} {q : ℕ}
       {xs : List Item} {s : Suspensions} {z : List ℕ} {o : Outer} (p : ℕ) (st : M.Store)
-      (ls : List (S.Coexp Parked)) → Live G first st.active st.coexpressions ls
+      (ls : List (S.Coexp WaitingChain)) → Live G first st.active st.coexpressions ls
       → StandsMaybe G.L (proc_in o) n b p q → At G.L o q I.Efail → OfSurroundings G.L first n v z o
       → OfChoices G.L first r s z o →
       Reach G (MF.back b v r st) (run (chain xs s z o) p st ls)
@@ -85,7 +85,7 @@ module _ (G : Ground) where
       (stay G (at_eval live.0 live.1 b (v_mark (m_plain v)) (k_cut u r (a_fail h)) (r_efail h r)))
 
   pub on_choices : {first : Bool} {r : Choices} {xs : List Item} {s : Suspensions} {z : List ℕ} {o : Outer}
-      (p : ℕ) (st : M.Store) (ls : List (S.Coexp Parked)) → Live G first st.active st.coexpressions ls
+      (p : ℕ) (st : M.Store) (ls : List (S.Coexp WaitingChain)) → Live G first st.active st.coexpressions ls
       → OfChoices G.L first r s z o → Goes G 0 (MF.on_fail r st) (fails (chain xs s z o) p st ls)
   on_choices {xs = xs} p st ls live (r_end {j = j} {a = a} e) =
       goes G 0 (record {

@@ -6,7 +6,7 @@ use Rattle.icn_value.specs.Values.{Value}
 use Rattle.icn_meaning.specs.Contexts as M
 use Rattle.icn_meaning.specs.Contexts.{Works, Nothing, ◌and_then◌, Choices, NoChoice, ◌or_else◌, Surroundings, InCall}
 use Rattle.icn_meaning.specs.Coexpressions as MX
-use Rattle.icn_run.specs.Chains.{Chain, chain, none, base, Parked}
+use Rattle.icn_run.specs.Chains.{Chain, chain, none, base, WaitingChain}
 use Rattle.icn_run.specs.Step as S
 use Rattle.icn_simulation.specs.Standing.{StandsCreate, s_body}
 use Rattle.icn_simulation.specs.Relation.{k_result, v_create, v_mark, m_plain, r_exhaust, OfStatus, t_fresh, t_active, t_waiting, t_after, t_exhausted, OfCoexp, OfOthers, c_none, c_more, OfAll, c_all, linked_of, store_of, at_eval, at_succeed, at_fail, at_hop, at_lost}
@@ -24,56 +24,56 @@ no_coexpression = record {
       [];
 }
 
-abbrev no_coexp : S.Coexp Parked
+abbrev no_coexp : S.Coexp WaitingChain
 no_coexp = record { status = S.Exhausted; activator = zero; values = []; proc = zero; place = zero }
 
 abbrev co_at : List M.Coexpression → ℕ → M.Coexpression
 co_at cos n = slice_index_or cos n no_coexpression
 
-abbrev l_at : List (S.Coexp Parked) → ℕ → S.Coexp Parked
+abbrev l_at : List (S.Coexp WaitingChain) → ℕ → S.Coexp WaitingChain
 l_at ls n = slice_index_or ls n no_coexp
 
 module _ (G : Ground) where
   nothing_there : (first : Bool) → OfCoexp G.L first no_coexpression no_coexp
   nothing_there first = record { activator = refl; procedure = refl; values = refl; status = t_exhausted }
 
-  look_others : {cos : List M.Coexpression} {ls : List (S.Coexp Parked)} → OfOthers G.L cos ls → (n : ℕ)
+  look_others : {cos : List M.Coexpression} {ls : List (S.Coexp WaitingChain)} → OfOthers G.L cos ls → (n : ℕ)
       → OfCoexp G.L false (co_at cos n) (l_at ls n)
   look_others c_none n = nothing_there false
   look_others (c_more h s t) zero = h
   look_others (c_more h s t) (suc n) = look_others t n
 
-  pub look : {cos : List M.Coexpression} {ls : List (S.Coexp Parked)} → OfAll G.L cos ls → (n : ℕ)
+  pub look : {cos : List M.Coexpression} {ls : List (S.Coexp WaitingChain)} → OfAll G.L cos ls → (n : ℕ)
       → OfCoexp G.L (S.is_main n) (co_at cos n) (l_at ls n)
   look (c_all h t) zero = h
   look (c_all h t) (suc n) = look_others t n
 
   -- one that was made
-  pub data Made : Option M.Coexpression → Option (S.Coexp Parked) → Type 0 where
+  pub data Made : Option M.Coexpression → Option (S.Coexp WaitingChain) → Type 0 where
     not_made : Made None None
-    was_made : {co : M.Coexpression} {l : S.Coexp Parked} {q : ℕ} → OfCoexp G.L false co l
+    was_made : {co : M.Coexpression} {l : S.Coexp WaitingChain} {q : ℕ} → OfCoexp G.L false co l
         → StandsCreate G.L l.proc co.body l.place q → Made (Some co) (Some l)
 
-  pub find_made : {cos : List M.Coexpression} {ls : List (S.Coexp Parked)} → OfOthers G.L cos ls → (n : ℕ)
+  pub find_made : {cos : List M.Coexpression} {ls : List (S.Coexp WaitingChain)} → OfOthers G.L cos ls → (n : ℕ)
       → Made (slice_get cos n) (slice_get ls n)
   find_made c_none n = not_made
   find_made (c_more h s t) zero = was_made h s
   find_made (c_more h s t) (suc n) = find_made t n
 
-  pub others_more : {cos : List M.Coexpression} {ls : List (S.Coexp Parked)} {co : M.Coexpression}
-      {l : S.Coexp Parked} {q : ℕ} → OfOthers G.L cos ls → OfCoexp G.L false co l
+  pub others_more : {cos : List M.Coexpression} {ls : List (S.Coexp WaitingChain)} {co : M.Coexpression}
+      {l : S.Coexp WaitingChain} {q : ℕ} → OfOthers G.L cos ls → OfCoexp G.L false co l
       → StandsCreate G.L l.proc co.body l.place q → OfOthers G.L (cos ++ co ∷ []) (ls ++ l ∷ [])
   others_more c_none h s = c_more h s c_none
   others_more (c_more h' s' t) h s = c_more h' s' (others_more t h s)
 
-  pub all_more : {cos : List M.Coexpression} {ls : List (S.Coexp Parked)} {co : M.Coexpression}
-      {l : S.Coexp Parked} {q : ℕ} → OfAll G.L cos ls → OfCoexp G.L false co l
+  pub all_more : {cos : List M.Coexpression} {ls : List (S.Coexp WaitingChain)} {co : M.Coexpression}
+      {l : S.Coexp WaitingChain} {q : ℕ} → OfAll G.L cos ls → OfCoexp G.L false co l
       → StandsCreate G.L l.proc co.body l.place q → OfAll G.L (cos ++ co ∷ []) (ls ++ l ∷ [])
   all_more (c_all h' t) h s = c_all h' (others_more t h s)
 
   -- a status is changed
-  status_others : {cos : List M.Coexpression} {ls : List (S.Coexp Parked)} {status : M.Status}
-      {status' : S.Status Parked} → OfOthers G.L cos ls → (n : ℕ)
+  status_others : {cos : List M.Coexpression} {ls : List (S.Coexp WaitingChain)} {status : M.Status}
+      {status' : S.Status WaitingChain} → OfOthers G.L cos ls → (n : ℕ)
       → OfStatus G.L false (l_at ls n).proc (co_at cos n).body (l_at ls n).place status status'
       → OfOthers G.L (slice_set cos n (record (co_at cos n) { status = status }))
       (slice_set ls n (record (l_at ls n) { status = status' }))
@@ -83,8 +83,8 @@ module _ (G : Ground) where
       s t
   status_others (c_more h' s t) (suc n) h = c_more h' s (status_others t n h)
 
-  pub status_all : {cos : List M.Coexpression} {ls : List (S.Coexp Parked)} {status : M.Status}
-      {status' : S.Status Parked} → OfAll G.L cos ls → (n : ℕ)
+  pub status_all : {cos : List M.Coexpression} {ls : List (S.Coexp WaitingChain)} {status : M.Status}
+      {status' : S.Status WaitingChain} → OfAll G.L cos ls → (n : ℕ)
       → OfStatus G.L (S.is_main n) (l_at ls n).proc (co_at cos n).body (l_at ls n).place status status'
       → OfAll G.L (slice_set cos n (record (co_at cos n) { status = status }))
       (slice_set ls n (record (l_at ls n) { status = status' }))
@@ -93,7 +93,7 @@ module _ (G : Ground) where
   status_all (c_all h' t) (suc n) h = c_all h' (status_others t n h)
 
   -- an activator is changed
-  activator_others : {cos : List M.Coexpression} {ls : List (S.Coexp Parked)} → OfOthers G.L cos ls
+  activator_others : {cos : List M.Coexpression} {ls : List (S.Coexp WaitingChain)} → OfOthers G.L cos ls
       → (n a : ℕ) → OfOthers G.L (slice_set cos n (record (co_at cos n) { activator = a }))
       (slice_set ls n (record (l_at ls n) { activator = a }))
   activator_others c_none n a = c_none
@@ -102,7 +102,7 @@ module _ (G : Ground) where
       s t
   activator_others (c_more h' s t) (suc n) a = c_more h' s (activator_others t n a)
 
-  pub activator_all : {cos : List M.Coexpression} {ls : List (S.Coexp Parked)} → OfAll G.L cos ls
+  pub activator_all : {cos : List M.Coexpression} {ls : List (S.Coexp WaitingChain)} → OfAll G.L cos ls
       → (n a : ℕ) → OfAll G.L (slice_set cos n (record (co_at cos n) { activator = a }))
       (slice_set ls n (record (l_at ls n) { activator = a }))
   activator_all (c_all h' t) zero a =
@@ -111,7 +111,7 @@ module _ (G : Ground) where
 
   -- a fresh one begins
   on_begins : {first : Bool} {e : Tree} {place q j j' : ℕ} {vs vs' : List Value} (a n : ℕ)
-      (status : M.Status) (m : Chain) (p : ℕ) (st : M.Store) (ls : List (S.Coexp Parked))
+      (status : M.Status) (m : Chain) (p : ℕ) (st : M.Store) (ls : List (S.Coexp WaitingChain))
       → Live G first st.active st.coexpressions ls → first ≡ false → j' ≡ j → vs' ≡ vs
       → StandsCreate G.L j e place q →
       Reach G (MX.begins (record { status = status; activator = n; body = e; procedure = j'; values = vs' })
@@ -131,8 +131,8 @@ module _ (G : Ground) where
       (stay G (at_eval live.0 live.1 b (v_mark (m_plain (v_create e))) (k_result e h1 h2)
       (r_exhaust e h3)))))
 
-  on_entered_in : {status : M.Status} {status' : S.Status Parked} (c : ℕ) (v : Value) (m : Chain) (p : ℕ)
-      (st : M.Store) (ls : List (S.Coexp Parked)) → OfAll G.L st.coexpressions ls
+  on_entered_in : {status : M.Status} {status' : S.Status WaitingChain} (c : ℕ) (v : Value) (m : Chain) (p : ℕ)
+      (st : M.Store) (ls : List (S.Coexp WaitingChain)) → OfAll G.L st.coexpressions ls
       → OfStatus G.L (S.is_main c) (l_at ls c).proc (co_at st.coexpressions c).body (l_at ls c).place status
       status' → Reach G (MX.entered_in status c v st)
       (S.give_by (machine G) status' c v (linked_of m p st) (store_of st ls))
@@ -146,13 +146,13 @@ module _ (G : Ground) where
       then_reach G (efails G _ (MX.make_active c st) _ h) (stay G (at_fail refl (status_all all c t_active) r))
   on_entered_in c v m p st ls all t_exhausted = stay G (at_hop refl all)
 
-  pub on_entered : (c : ℕ) (v : Value) (m : Chain) (p : ℕ) (st : M.Store) (ls : List (S.Coexp Parked))
+  pub on_entered : (c : ℕ) (v : Value) (m : Chain) (p : ℕ) (st : M.Store) (ls : List (S.Coexp WaitingChain))
       → OfAll G.L st.coexpressions ls
       → Reach G (MX.enter_coexp c v st) (S.passed_value (machine G) c v (linked_of m p st) (store_of st ls))
   on_entered c v m p st ls all = on_entered_in c v m p st ls all (look all c).status
 
-  on_failed_in : {status : M.Status} {status' : S.Status Parked} (c : ℕ) (m : Chain) (p : ℕ) (st : M.Store)
-      (ls : List (S.Coexp Parked)) → OfAll G.L st.coexpressions ls
+  on_failed_in : {status : M.Status} {status' : S.Status WaitingChain} (c : ℕ) (m : Chain) (p : ℕ) (st : M.Store)
+      (ls : List (S.Coexp WaitingChain)) → OfAll G.L st.coexpressions ls
       → OfStatus G.L (S.is_main c) (l_at ls c).proc (co_at st.coexpressions c).body (l_at ls c).place status
       status' → Reach G (MX.failed_in status c st)
       (S.fail_by (machine G) status' c (linked_of m p st) (store_of st ls))
@@ -162,7 +162,7 @@ module _ (G : Ground) where
   on_failed_in c m p st ls all (t_after h r) = stay G (at_fail refl (status_all all c t_active) r)
   on_failed_in c m p st ls all t_exhausted = stay G (at_hop refl all)
 
-  pub on_failed : (c : ℕ) (m : Chain) (p : ℕ) (st : M.Store) (ls : List (S.Coexp Parked))
+  pub on_failed : (c : ℕ) (m : Chain) (p : ℕ) (st : M.Store) (ls : List (S.Coexp WaitingChain))
       → OfAll G.L st.coexpressions ls
       → Reach G (MX.fail_coexp c st) (S.passed_failure (machine G) c (linked_of m p st) (store_of st ls))
   on_failed c m p st ls all = on_failed_in c m p st ls all (look all c).status

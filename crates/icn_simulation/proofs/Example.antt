@@ -12,7 +12,7 @@ use Rattle.icn_tree.specs.Trees as T
 use Rattle.icn_tree.specs.Trees.{Tree, Trees, NoTrees, More, NoInitial, Initially, Declaration, ProcedureOf}
 use Rattle.icn_code.specs.declared.code.Start.TheVariants as Starts
 use Rattle.icn_code.specs.declared.instr.Instr.TheVariants as I
-use Rattle.icn_simulation.specs.Joined.{Joined}
+use Rattle.icn_simulation.specs.Joined.{IsJoined}
 
 abbrev here : Place
 here = record { line = 1; file = 0 }
@@ -40,7 +40,7 @@ procedure text locals initial body =
     })
 
 -- procedure main(); write("hi"); end
-hi : Joined ((procedure (codes "main") [] NoInitial
+hi : IsJoined ((procedure (codes "main") [] NoInitial
     (More (write (T.Constant here (Literals.Text (codes "hi")))) NoTrees) ∷ []) ∷ []) (record {
       strings = codes "main" ∷ codes "write" ∷ codes "hi" ∷ [];
       csets = [];
@@ -77,7 +77,7 @@ two_files =
     ∷ [])
     ∷ []
 
-joined_files : Joined two_files (record {
+joined_files : IsJoined two_files (record {
   strings = codes "a" ∷ codes "b" ∷ codes "r" ∷ codes "g" ∷ codes "main" ∷ codes "p" ∷ codes "write" ∷ [];
   csets = [];
   integers = pos 7 ∷ [];

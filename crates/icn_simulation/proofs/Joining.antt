@@ -32,7 +32,7 @@ use Rattle.icn_simulation.specs.Translation.{Names, procedure}
 use Rattle.icn_simulation.specs.Linkage.{Linkage, Loads, l_local, l_static, l_global}
 use Rattle.icn_simulation.specs.Mentions.{Mention, AnInteger, AText, ASet, AField, all_mentions, initial_mentions, integers_among, texts_among, sets_among, fields_among, firsts}
 use Rattle.icn_simulation.specs.Joined.{routines, routine_mentions, code_mentions, record_fields, fields_of, string_mentions, strings_of, integers_of, sets_of, text_place, variable_by, names_in, record_entry, start_by, start, global_entry, procedure_entry, code_with}
-use Rattle.icn_simulation.specs.Translated.{linkage, TranslatedRoutine, Routines, u_none, u_more, Kinds, d_none, d_more, Translated}
+use Rattle.icn_simulation.specs.Translated.{linkage, TranslatedRoutine, Routines, u_none, u_more, Kinds, d_none, d_more, IsTranslated}
 use Rattle.icn_simulation.specs.Begins.{OfMain, no_main, a_main, Begins}
 use Rattle.icn_simulation.proofs.FirstMentions.{test_by, or_other, any_left, any_right, itself, at_first, among_firsts, text_at, AreAmong, among_head, among_tail, same_position}
 use Rattle.icn_simulation.proofs.Fitting.{AllKept, kept_before, kept_behind, IsKept, AreNamed, Clean, fit_routine}
@@ -367,7 +367,7 @@ module _ (D : List Declaration) (csets : List Cset) (members : map members_of cs
   kinds_from [] = d_none
   kinds_from (k ∷ ks) = d_more (sym (length-map k.fields (text_place (fields_of D)))) (kinds_from ks)
 
-  pub is_translated : Translated (program_of D) code
+  pub is_translated : IsTranslated (program_of D) code
   is_translated = record {
     routines = routines_from 0 (routines D)
         (λ k r e. let here : k ≡ 0 + k = omega arith in

@@ -11,7 +11,7 @@ use Rattle.icn_meaning.specs.Scanning as MS
 use Rattle.icn_meaning.specs.Actions as MA
 use Rattle.icn_meaning.specs.Calls as MC
 use Rattle.icn_run.specs.Calls.{Proc}
-use Rattle.icn_run.specs.Chains.{because, Chain, Suspensions, suspension, Outer, Parked, Frame, frame_of, level_of, is_base_frame, oldest as oldest_until, first_scan, swap_at, leave_frame, suspend_frame, saved_at}
+use Rattle.icn_run.specs.Chains.{because, Chain, Suspensions, suspension, Outer, WaitingChain, Frame, frame_of, level_of, is_base_frame, oldest as oldest_until, first_scan, swap_at, leave_frame, suspend_frame, saved_at}
 use Rattle.icn_run.specs.Step as S
 use Rattle.icn_run_laws.proofs.ScansLeft.{Apart, last_of, oldest_behind}
 use Rattle.icn_simulation.specs.Standing.{Nest, Proper, w_mark, w_scan, w_loop, w_control, w_each, is_empty}
@@ -72,13 +72,13 @@ last_is (i ∷ j ∷ os) = last_is (j ∷ os)
 pub front_of : (os z : List ℕ) → Apart (first_scan z) os → oldest_until (first_scan z) (os ++ z) ≡ oldest os
 front_of os z d = oldest_behind z os d ∙ last_is os
 
-pub left_by : (scan : Option ℕ) (m : Chain) (p : ℕ) (st : M.Store) (ls : List (S.Coexp Parked))
+pub left_by : (scan : Option ℕ) (m : Chain) (p : ℕ) (st : M.Store) (ls : List (S.Coexp WaitingChain))
     → S.scans_left (option_map (saved_at (linked_of m p st)) scan) (store_of st ls) ≡ store_of
     (away_by scan st) ls
 left_by None m p st ls = refl
 left_by (Some n) m p st ls = refl
 
-pub all_by : (scan : Option ℕ) (m : Chain) (p : ℕ) (st : M.Store) (ls : List (S.Coexp Parked))
+pub all_by : (scan : Option ℕ) (m : Chain) (p : ℕ) (st : M.Store) (ls : List (S.Coexp WaitingChain))
     → S.swapped_back (swap_at (S.pair_now (store_of st ls)) (linked_of m p st) scan) (store_of st ls) ≡
     store_of (away_by scan st) ls
 all_by None m p st ls = refl
@@ -144,7 +144,7 @@ module _ (G : Ground) where
     same_scans_in (m_control k r v) = same_scans v
     same_scans_in (m_each h k r rn v) = same_scans v
 
-  finished : {s : M.State} (active : ℕ) (st : M.Store) (ls : List (S.Coexp Parked))
+  finished : {s : M.State} (active : ℕ) (st : M.Store) (ls : List (S.Coexp WaitingChain))
       → (S.is_main active) ≡ true → st.active ≡ active → Rel G.L s (S.over M.Done st.outside)
       → Reach G s (S.finish_run (store_of st ls))
   finished {s} active st ls e e' rel =
@@ -155,16 +155,16 @@ module _ (G : Ground) where
   pub record Called (first : Bool) (v : Surroundings) (z : List ℕ) (t : Frame) : Type 0 where
     pub no_body : (active : ℕ) → first ≡ (S.is_main active)
         → (is_base_frame t && not (S.is_main active)) ≡ false
-    pub gone : (m : Chain) (p : ℕ) (st : M.Store) (ls : List (S.Coexp Parked))
+    pub gone : (m : Chain) (p : ℕ) (st : M.Store) (ls : List (S.Coexp WaitingChain))
         → Live G first st.active st.coexpressions ls
         → Reach G (MA.off v st) (S.return_to (leave_frame (linked_of m p st) t) S.failing
         (store_of (away z st) ls))
-    pub came : (x : Item) (m : Chain) (p : ℕ) (st : M.Store) (ls : List (S.Coexp Parked))
+    pub came : (x : Item) (m : Chain) (p : ℕ) (st : M.Store) (ls : List (S.Coexp WaitingChain))
         → Live G first st.active st.coexpressions ls
         → Reach G (MC.return_item x v st) (S.return_to (leave_frame (linked_of m p st) t)
         (S.push_item (machine G) x) (store_of (away z st) ls))
     pub left : (x : Item) (b : MaybeTree) (v' : Surroundings) (r : Choices) (m : Chain) (p : ℕ)
-        (st : M.Store) (ls : List (S.Coexp Parked)) → Live G first st.active st.coexpressions ls
+        (st : M.Store) (ls : List (S.Coexp WaitingChain)) → Live G first st.active st.coexpressions ls
         → ((z : List ℕ) (o : Outer) → OfChoices G.L first (M.Back b v' or_else r)
         (suspension (because Proc) p m) z o)
         → Reach G (MC.suspend_call x b v' v r st)

@@ -17,7 +17,7 @@ use Rattle.icn_meaning.specs.Coexpressions as MX
 use Rattle.icn_meaning.specs.Calls as MC
 use Rattle.icn_meaning.specs.Evaluate as ME
 use Rattle.icn_meaning.specs.Meaning as MM
-use Rattle.icn_run.specs.Chains.{Label, Chain, chain, Suspensions, Outer, mark, Parked}
+use Rattle.icn_run.specs.Chains.{Label, Chain, chain, Suspensions, Outer, mark, WaitingChain}
 use Rattle.icn_run.specs.Step as S
 use Rattle.icn_simulation.specs.Linkage.{l_null}
 use Rattle.icn_simulation.specs.Standing.{Nest, in_mark, IsApplied, i_listing, i_call, i_cocall, i_subscript, i_subscripts, i_section, i_field, i_prefix, i_activate, i_infix, i_at, i_bang, i_to, is_prefix, is_infix, is_empty, w_mark, Stands, s_empty, s_constant, s_identifier, s_keyword, s_fail_keyword, s_applied, s_last, s_before, s_final, s_passed, s_bounded, s_repeated, s_not, s_both, s_scan, s_or, s_limit, s_update_both, s_update_scan, s_update, s_if, s_if_else, s_case, s_while, s_until, s_every, s_repeat, s_create, s_next, s_fail, s_break, s_return, s_suspend, s_nil, s_cons, s_present}
@@ -111,7 +111,7 @@ module _ (G : Ground) where
   under v = v_mark (m_plain v)
 
   on_keyword : {first : Bool} {k : Works} {r : Choices} {xs : List Item} {s : Suspensions} {z : List ℕ}
-      {o : Outer} (x : Option Item) (p : ℕ) (st : M.Store) (ls : List (S.Coexp Parked))
+      {o : Outer} (x : Option Item) (p : ℕ) (st : M.Store) (ls : List (S.Coexp WaitingChain))
       → Live G first st.active st.coexpressions ls → OfWorks G.L first k p xs z o
       → OfChoices G.L first r s z o →
       Reach G (ME.item_or_failure x k r st)
@@ -121,7 +121,7 @@ module _ (G : Ground) where
 
   pub sim_eval : {first : Bool} {o : Outer} {n : Nest} {e : Tree} {v : Surroundings} {k : Works}
       {r : Choices} {q : ℕ} {xs : List Item} {s : Suspensions} {z : List ℕ} (p j : ℕ) (st : M.Store)
-      (ls : List (S.Coexp Parked)) → Good G (run (chain xs s z o) p st ls)
+      (ls : List (S.Coexp WaitingChain)) → Good G (run (chain xs s z o) p st ls)
       → Live G first st.active st.coexpressions ls → Stands G.L (proc_in o) n e p q
       → OfSurroundings G.L first n v z o → OfWorks G.L first k q xs z o → OfChoices G.L first r s z o
       → Goes G (weigh e) (ME.on_eval G.L.program e v k r st) (run (chain xs s z o) p st ls)
@@ -242,7 +242,7 @@ module _ (G : Ground) where
       goes G _ (opens G p st ls o) (stay G
       (at_eval live.0 live.1 e (under v) (k_suspend (w_mark w) h1 h2 b h3 (under v)) (r_mark0 r)))
 
-  on_hop : (m : Chain) (p : ℕ) (st : M.Store) (ls : List (S.Coexp Parked)) → OfAll G.L st.coexpressions ls
+  on_hop : (m : Chain) (p : ℕ) (st : M.Store) (ls : List (S.Coexp WaitingChain)) → OfAll G.L st.coexpressions ls
       → Reach G (MX.fail_coexp (MX.activator_of st.active st) st)
       (S.passed_failure (machine G) (S.activator_of st.active (store_of st ls)) (linked_of m p st)
       (store_of st ls))

@@ -20,7 +20,7 @@ use Rattle.icn_simulation.specs.Translation.{Names, size, code}
 use Rattle.icn_simulation.specs.Linkage.{Linkage, Here, Opens, o_mark}
 use Rattle.icn_simulation.specs.Standing.{top, in_mark, StandsMaybe, s_present, StandsRest, e_end, e_passed, e_blank, e_bounded, StandsRoutine, e_plain, e_initial, is_empty}
 use Rattle.icn_simulation.specs.Translatable.{Fits, FitsRest, fits_end, fits_skipped, fits_more, FitsRoutine, fits_plain, fits_blank, fits_initial}
-use Rattle.icn_simulation.specs.Translated.{linkage, TranslatedRoutine, Routines, u_none, u_more, Kinds, d_none, d_more, Translated}
+use Rattle.icn_simulation.specs.Translated.{linkage, TranslatedRoutine, Routines, u_none, u_more, Kinds, d_none, d_more, IsTranslated}
 use Rattle.icn_simulation.specs.Ground.{Ground, OfCallee, o_routine, o_kind, o_function, o_nothing}
 use Rattle.icn_simulation.specs.Begins.{Begins}
 use Rattle.icn_simulation.proofs.Segments.{Sits, Part, part_nil, part_cons, part_append, part_map}
@@ -123,7 +123,7 @@ module _ (L : Linkage) (r : (j p : ℕ) → L.repeats j p ≡ repeats_of L.table
       subst (λ n. OfCallee L n (M.IsRoutine routine) (S.IsProc entry)) h (routine_callee t)
   callee_at b (suc k) n e (u_more t ts) ks = callee_at (suc b) k n (omega arith) ts ks
 
-abbrev ground_of : (program : M.Program) (tables : Tables) → Translated program tables → Ground
+abbrev ground_of : (program : M.Program) (tables : Tables) → IsTranslated program tables → Ground
 ground_of program tables t = record {
   L = linkage program tables;
   callees = λ n.
@@ -133,13 +133,13 @@ ground_of program tables t = record {
 -- The first law: where the code of each procedure is its translation, the meaning of the program and the
 -- linked run of its code agree.
 pub first_law : (program : M.Program) (tables : Tables) (launch : Launch) (seen : Observed)
-    → Translated program tables → Begins (linkage program tables)
+    → IsTranslated program tables → Begins (linkage program tables)
     → (Means program launch seen → Linked.Runs (repeats_of tables) tables launch seen)
     × (Linked.Runs (repeats_of tables) tables launch seen → Means program launch seen)
 first_law program tables launch seen t b = let G = ground_of program tables t in
     (means_runs G launch seen b, runs_means G launch seen b)
 
 -- and the run of a translated program misses no cell
-pub none_missing : (program : M.Program) (tables : Tables) (launch : Launch) → Translated program tables
+pub none_missing : (program : M.Program) (tables : Tables) (launch : Launch) → IsTranslated program tables
     → Begins (linkage program tables) → MissingCell (repeats_of tables) tables launch → ⊥
 none_missing program tables launch t b x = none_missing_of (ground_of program tables t) launch b x

@@ -18,7 +18,7 @@ use Rattle.icn_meaning.specs.Scanning as MS
 use Rattle.icn_meaning.specs.Coexpressions as MX
 use Rattle.icn_meaning.specs.Calls as MC
 use Rattle.icn_meaning.specs.Succeed as MW
-use Rattle.icn_run.specs.Chains.{Label, flagged, Chain, chain, Suspensions, Outer, base, mark, limit, Parked, Linked, frame_of, oldest as oldest_until, first_scan, swap_at, relabelled_if, leave_frame, saved_at}
+use Rattle.icn_run.specs.Chains.{Label, flagged, Chain, chain, Suspensions, Outer, base, mark, limit, WaitingChain, LinkedStack, frame_of, oldest as oldest_until, first_scan, swap_at, relabelled_if, leave_frame, saved_at}
 use Rattle.icn_run.specs.Step as S
 use Rattle.icn_simulation.specs.Linkage.{Here, f_operation}
 use Rattle.icn_simulation.specs.Standing.{Nest, in_mark, in_scan, Stands, StandsAll, s_nil, s_cons, StandsMaybe, s_absent, s_present, Updating, d_activate, d_operate, is_update, tree_count}
@@ -56,7 +56,7 @@ update_of o x y v k r st e = refl
 module _ (G : Ground) where
   -- the innermost mark is dropped, with no scan opened in it, and an item is pushed
   unmarked_push : {s' : M.State} (x : Item) (m in_m : Chain) (z : List ℕ) (p : ℕ) (st : M.Store)
-      (ls : List (S.Coexp Parked)) → Reach G s' (S.push_item (machine G) x (linked_of m p st) (store_of st ls))
+      (ls : List (S.Coexp WaitingChain)) → Reach G s' (S.push_item (machine G) x (linked_of m p st) (store_of st ls))
       → Reach G s' (S.push_item (machine G) x (linked_of m p st)
       (S.scans_left (option_map (saved_at (linked_of in_m p st)) (oldest_until (first_scan z) z))
       (store_of st ls)))
@@ -66,7 +66,7 @@ module _ (G : Ground) where
       (sym (front_of [] z tt)) h
 
   on_outgoing : {first : Bool} {r : Choices} {a : ℕ} {s : Suspensions} {z : List ℕ} {o : Outer} (p : ℕ)
-      (xs : List Item) (x : Item) (st : M.Store) (ls : List (S.Coexp Parked)) (f : Item → M.State)
+      (xs : List Item) (x : Item) (st : M.Store) (ls : List (S.Coexp WaitingChain)) (f : Item → M.State)
       (g : Item → LState) → a ≡ activation_in o → Live G first st.active st.coexpressions ls
       → OfChoices G.L first r s z o → ((x : Item) → Reach G (f x) (g x))
       → Reach G (MT.outgoing x a r st f)
@@ -78,7 +78,7 @@ module _ (G : Ground) where
   on_outgoing p xs x st ls f g e live r h = h x
 
   pub on_exchanged : {first : Bool} (scan : Option ℕ) (m : Chain) (p : ℕ) (st : M.Store)
-      (ls : List (S.Coexp Parked)) (f : M.Store → M.State) (g : Linked → S.Store Parked → LState)
+      (ls : List (S.Coexp WaitingChain)) (f : M.Store → M.State) (g : LinkedStack → S.Store WaitingChain → LState)
       → Live G first st.active st.coexpressions ls
       → ((st : M.Store) → Live G first st.active st.coexpressions ls
       → Reach G (f st) (g (linked_of m p st) (store_of st ls)))
@@ -90,7 +90,7 @@ module _ (G : Ground) where
 
   on_limit : {first : Bool} {n : Nest} {e : Tree} {v : Surroundings} {k : Works} {r : Choices} {q : ℕ}
       {xs : List Item} {s : Suspensions} {z : List ℕ} {o : Outer} (i : Option ℤ) (value : Value) (p : ℕ)
-      (st : M.Store) (ls : List (S.Coexp Parked)) → Live G first st.active st.coexpressions ls
+      (st : M.Store) (ls : List (S.Coexp WaitingChain)) → Live G first st.active st.coexpressions ls
       → Stands G.L (proc_in o) (in_mark n) e p q → At G.L o q I.Lsusp → OfSurroundings G.L first n v z o
       → OfWorks G.L first k (suc q) xs z o → OfChoices G.L first r s z o →
       Reach G (MW.limit i value e v k r st)
@@ -102,7 +102,7 @@ module _ (G : Ground) where
   on_limit {r = r'} None value p st ls live e h v k r = errored G r' 101 (Some value) st ls
 
   on_count : {first : Bool} {k : Works} {r0 r : Choices} {c : ℕ} {xs : List Item} {s s' : Suspensions}
-      {z : List ℕ} {o : Outer} (n : ℕ) (x : Item) (p : ℕ) (st : M.Store) (ls : List (S.Coexp Parked))
+      {z : List ℕ} {o : Outer} (n : ℕ) (x : Item) (p : ℕ) (st : M.Store) (ls : List (S.Coexp WaitingChain))
       → Live G first st.active st.coexpressions ls → OfChoices G.L first r0 s z o
       → OfWorks G.L first k p xs z o → OfChoices G.L first r s' z (limit c (chain xs s z o)) →
       Reach G (MW.count_by n x k r0 r st)
@@ -115,7 +115,7 @@ module _ (G : Ground) where
 
   on_scan_in : {first : Bool} {n : Nest} {e : Tree} {v : Surroundings} {k : Works} {r : Choices} {q : ℕ}
       {xs : List Item} {s : Suspensions} {z : List ℕ} {o : Outer} (text : Value) (p : ℕ) (st : M.Store)
-      (ls : List (S.Coexp Parked)) → Live G first st.active st.coexpressions ls
+      (ls : List (S.Coexp WaitingChain)) → Live G first st.active st.coexpressions ls
       → Stands G.L (proc_in o) (in_scan n) e p q → At G.L o q I.Escan → OfSurroundings G.L first n v z o
       → OfWorks G.L first k (suc q) xs z o → OfChoices G.L first r s z o →
       Reach G (MW.scan_in (MS.new_cell st) text e v k r st)
@@ -125,7 +125,7 @@ module _ (G : Ground) where
   on_scan_in value p st ls live e h v k r = stay G (at_fail live.0 live.1 r)
 
   raises : {f a : ℕ} {l : Option ℕ} {xs : List Item} {s : Suspensions} {z : List ℕ} {m : Chain} (p : ℕ)
-      (st : M.Store) (ls : List (S.Coexp Parked)) → At G.L (mark (flagged l f a) m) p (I.Chfail a)
+      (st : M.Store) (ls : List (S.Coexp WaitingChain)) → At G.L (mark (flagged l f a) m) p (I.Chfail a)
       → To G (run (chain xs s z (mark (flagged l f a) m)) p st ls)
       (run (chain xs s z (mark (flagged l f a) m)) (suc p) (MW.raise_flag f st) ls)
   raises {f} {a} {l} {xs} {s} {z} {m} p st ls h = let m' = chain xs s z (mark (flagged l f a) m) in
@@ -137,7 +137,7 @@ module _ (G : Ground) where
 
   on_each : {first : Bool} {n : Nest} {b : MaybeTree} {v : Surroundings} {k : Works} {r0 r : Choices}
       {l g : ℕ} {lab : Label} {ys xs : List Item} {s s' : Suspensions} {z : List ℕ} {o : Outer} (p : ℕ)
-      (st : M.Store) (ls : List (S.Coexp Parked)) → Live G first st.active st.coexpressions ls
+      (st : M.Store) (ls : List (S.Coexp WaitingChain)) → Live G first st.active st.coexpressions ls
       → StandsMaybe G.L (proc_in o) (Rattle.icn_simulation.specs.Standing.in_each l g n) b p g
       → At G.L o g I.Efail → OfSurroundings G.L first n v z o → OfWorks G.L first k l xs z o
       → OfChoices G.L first r0 s z o → OfChoices G.L first r s' z (mark lab (chain xs s z o)) →
@@ -149,7 +149,7 @@ module _ (G : Ground) where
       (stay G (at_eval live.0 live.1 b (v_mark (m_each h k r0 r v)) (k_cut u r (a_fail h)) (r_efail h r)))
 
   on_result : {first : Bool} {r : Choices} {j a : ℕ} {l : Label} {xs ys : List Item} {s s' : Suspensions}
-      {z z' : List ℕ} (x : Item) (p : ℕ) (st : M.Store) (ls : List (S.Coexp Parked))
+      {z z' : List ℕ} (x : Item) (p : ℕ) (st : M.Store) (ls : List (S.Coexp WaitingChain))
       → Live G first st.active st.coexpressions ls → first ≡ false → Here G.L j p I.Coret
       → Here G.L j (suc p) I.Efail → OfChoices G.L first r s z (mark l (chain ys s' z' (base j a))) →
       Goes G 0 (MX.result x a r st) (run (chain (x ∷ xs) s z (mark l (chain ys s' z' (base j a)))) p st ls)
@@ -178,7 +178,7 @@ module _ (G : Ground) where
           (status_all G live.1 st.active (t_after h2 (subst (λ b. OfChoices G.L b r s z o) live.0 r1))))
 
   pub on_works : {first : Bool} {k : Works} {r : Choices} {xs : List Item} {s : Suspensions} {z : List ℕ}
-      {o : Outer} (x : Item) (p : ℕ) (st : M.Store) (ls : List (S.Coexp Parked))
+      {o : Outer} (x : Item) (p : ℕ) (st : M.Store) (ls : List (S.Coexp WaitingChain))
       → Live G first st.active st.coexpressions ls → OfWorks G.L first k p xs z o
       → OfChoices G.L first r s z o → Goes G (weight (M.succeed x k r st))
       (MW.on_succeed G.L.program x k r st) (run (chain (x ∷ xs) s z o) p st ls)

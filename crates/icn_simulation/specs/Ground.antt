@@ -3,7 +3,7 @@ use Rattle.std.specs.Prelude.{◌≡◌, ℕ, ◌-◌, length}
 use Rattle.icn_text.specs.declared.func.Func.{Func}
 use Rattle.icn_code.specs.Codes.{Proc as Procedure, RecordType}
 use Rattle.icn_meaning.specs.Program as M
-use Rattle.icn_run.specs.Chains.{Parked, Linked, linked}
+use Rattle.icn_run.specs.Chains.{WaitingChain, LinkedStack, linked_calls}
 use Rattle.icn_run.specs.Step as S
 use Rattle.icn_run.specs.Calls.{Calls}
 use Rattle.icn_simulation.specs.Linkage.{Linkage}
@@ -26,5 +26,5 @@ pub record Ground : Type 0 where
 abbrev pub code_of : Ground → S.Program
 code_of G = G.L.tables
 
-abbrev pub machine : Ground → Calls Parked Linked
-machine G = linked G.L.repeats
+abbrev pub machine : Ground → Calls WaitingChain LinkedStack
+machine G = linked_calls G.L.repeats

@@ -144,5 +144,5 @@ pub record IsCodeOf (declarations : List Declaration) (tables : Tables) : Type 0
   pub others : tables ≡ code_with declarations tables.csets
 
 -- These tables are the joined code of these files, each the list of its declarations.
-abbrev pub Joined : List (List Declaration) → Tables → Type 0
-Joined files tables = IsCodeOf (joined_declarations files) tables
+abbrev pub IsJoined : List (List Declaration) → Tables → Type 0
+IsJoined files tables = IsCodeOf (joined_declarations files) tables

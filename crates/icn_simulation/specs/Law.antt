@@ -9,13 +9,13 @@ use Rattle.icn_meaning.specs.Meaning.{Means}
 use Rattle.icn_run.specs.LinkedStep as Linked
 use Rattle.icn_run.specs.LinkedStep.{repeats_of}
 use Rattle.icn_run.specs.FlatStep as Flat
-use Rattle.icn_simulation.specs.Joined.{Joined}
+use Rattle.icn_simulation.specs.Joined.{IsJoined}
 use Rattle.icn_simulation.specs.Faultless.{IsFaultless}
 
 -- These files break no rule, and these tables are their joined code.
 pub record IsLinked (files : List (List Declaration)) (tables : Tables) : Type 0 where
   pub faultless : All IsFaultless files
-  pub code : Joined files tables
+  pub code : IsJoined files tables
 
 -- the program of these files, begun so, means an end of which this is observed
 abbrev pub FilesMean : List (List Declaration) → Launch → Observed → Type 0

@@ -12,7 +12,7 @@ use Rattle.icn_meaning.specs.Contexts as M
 use Rattle.icn_meaning.specs.Contexts.{Form, Operating, Works, Nothing, Work, ◌and_then◌, Choices, NoChoice, Choice, ◌or_else◌, Action, Surroundings, InCall, InScan, InLoop}
 use Rattle.icn_meaning.specs.Succeed.{default_of}
 use Rattle.icn_run.specs.Calls.{Alt, Op, Escan, Proc}
-use Rattle.icn_run.specs.Chains.{Label, fixed, flagged, because, scanning, Chain, chain, Suspensions, none, suspension, Outer, base, call, mark, limit, Parked, Linked, frame_of, proc_of, activation_of}
+use Rattle.icn_run.specs.Chains.{Label, fixed, flagged, because, scanning, Chain, chain, Suspensions, none, suspension, Outer, base, call, mark, limit, WaitingChain, LinkedStack, frame_of, proc_of, activation_of}
 use Rattle.icn_run.specs.Step as S
 use Rattle.icn_simulation.specs.Linkage.{Linkage, Here, Loads, Applies}
 use Rattle.icn_simulation.specs.Standing.{Nest, top, in_create, in_mark, in_scan, in_loop, in_control, in_each, Proper, Updating, tree_count, Stands, StandsAll, StandsMaybe, StandsCases, StandsCreate, StandsRest}
@@ -223,44 +223,48 @@ mutual
         → OfChoices L first r s z o → OfChoices L first (M.Back b v or_else r)
         (suspension (because Proc) p (chain (x ∷ xs) s z o)) z' o'
 
-abbrev pub parked : Chain → ℕ → Parked
-parked m p = record { chain = m; place = p }
+abbrev pub waiting_chain : Chain → ℕ → WaitingChain
+waiting_chain m p = record { chain = m; place = p }
 
 -- a co-expression with this body in a procedure, whose code begins at a place, may stand in these states
-pub data OfStatus (L : Linkage) (first : Bool) (j : ℕ) (e : Tree) (place : ℕ) : M.Status → S.Status Parked
+pub data OfStatus (L : Linkage) (first : Bool) (j : ℕ) (e : Tree) (place : ℕ) : M.Status
+    → S.Status WaitingChain
     → Type 0 where
   t_fresh : {q : ℕ} → first ≡ false → StandsCreate L j e place q → OfStatus L first j e place M.Fresh S.Fresh
   t_active : OfStatus L first j e place M.Active S.Active
   t_waiting : {k : Works} {r : Choices} {p : ℕ} {xs : List Item} {s : Suspensions} {z : List ℕ} {o : Outer}
       → OfWorks L first k p xs z o → OfChoices L first r s z o
-      → OfStatus L first j e place (M.Waiting k r) (S.Waiting (parked (chain xs s z o) p))
+      → OfStatus L first j e place (M.Waiting k r) (S.Waiting (waiting_chain (chain xs s z o) p))
   t_after : {r : Choices} {p : ℕ} {xs : List Item} {s : Suspensions} {z : List ℕ} {o : Outer}
       → At L o p I.Efail → OfChoices L first r s z o
-      → OfStatus L first j e place (M.AfterResult r) (S.Waiting (parked (chain xs s z o) p))
+      → OfStatus L first j e place (M.AfterResult r) (S.Waiting (waiting_chain (chain xs s z o) p))
   t_exhausted : OfStatus L first j e place M.Exhausted S.Exhausted
 
 -- what is looked up of a co-expression, which may be one that is not there
-pub record OfCoexp (L : Linkage) (first : Bool) (co : M.Coexpression) (l : S.Coexp Parked) : Type 0 where
+pub record OfCoexp (L : Linkage) (first : Bool) (co : M.Coexpression)
+    (l : S.Coexp WaitingChain) : Type 0 where
   pub activator : co.activator ≡ l.activator
   pub procedure : co.procedure ≡ l.proc
   pub values : co.values ≡ l.values
   pub status : OfStatus L first l.proc co.body l.place co.status l.status
 
-pub data OfOthers (L : Linkage) : List M.Coexpression → List (S.Coexp Parked) → Type 0 where
+pub data OfOthers (L : Linkage) : List M.Coexpression → List (S.Coexp WaitingChain) → Type 0 where
   c_none : OfOthers L [] []
-  c_more : {co : M.Coexpression} {l : S.Coexp Parked} {cos : List M.Coexpression}
-      {ls : List (S.Coexp Parked)} {q : ℕ} → OfCoexp L false co l → StandsCreate L l.proc co.body l.place q
+  c_more : {co : M.Coexpression} {l : S.Coexp WaitingChain} {cos : List M.Coexpression}
+      {ls : List (S.Coexp WaitingChain)} {q : ℕ} → OfCoexp L false co l
+      → StandsCreate L l.proc co.body l.place q
       → OfOthers L cos ls → OfOthers L (co ∷ cos) (l ∷ ls)
 
 -- all co-expressions: `&main` and the others
-pub data OfAll (L : Linkage) : List M.Coexpression → List (S.Coexp Parked) → Type 0 where
-  c_all : {co : M.Coexpression} {l : S.Coexp Parked} {cos : List M.Coexpression}
-      {ls : List (S.Coexp Parked)} → OfCoexp L true co l → OfOthers L cos ls → OfAll L (co ∷ cos) (l ∷ ls)
+pub data OfAll (L : Linkage) : List M.Coexpression → List (S.Coexp WaitingChain) → Type 0 where
+  c_all : {co : M.Coexpression} {l : S.Coexp WaitingChain} {cos : List M.Coexpression}
+      {ls : List (S.Coexp WaitingChain)} → OfCoexp L true co l → OfOthers L cos ls
+      → OfAll L (co ∷ cos) (l ∷ ls)
 
 -- The machine at a chain and a place, with the store of the meaning: activations, flags, limits and saved
 -- pairs have the same numbers on both sides, and so
 -- are the same lists. Only the co-expressions differ.
-abbrev pub linked_of : Chain → ℕ → M.Store → Linked
+abbrev pub linked_of : Chain → ℕ → M.Store → LinkedStack
 linked_of m p st = record {
   chain = m;
   place = p;
@@ -272,7 +276,7 @@ linked_of m p st = record {
   saved = st.saved;
 }
 
-abbrev pub store_of : M.Store → List (S.Coexp Parked) → S.Store Parked
+abbrev pub store_of : M.Store → List (S.Coexp WaitingChain) → S.Store WaitingChain
 store_of st ls = record {
   world = st.world;
   outside = st.outside;
@@ -283,23 +287,23 @@ store_of st ls = record {
   names = st.names;
 }
 
-pub data Rel (L : Linkage) : M.State → S.State Parked Linked → Type 0 where
+pub data Rel (L : Linkage) : M.State → S.State WaitingChain LinkedStack → Type 0 where
   at_eval : {first : Bool} {n : Nest} {e : Tree} {v : Surroundings} {k : Works} {r : Choices} {p q : ℕ}
       {xs : List Item} {s : Suspensions} {z : List ℕ} {o : Outer} {st : M.Store}
-      {ls : List (S.Coexp Parked)} → first ≡ (S.is_main st.active) → OfAll L st.coexpressions ls
+      {ls : List (S.Coexp WaitingChain)} → first ≡ (S.is_main st.active) → OfAll L st.coexpressions ls
       → Stands L (proc_in o) n e p q → OfSurroundings L first n v z o → OfWorks L first k q xs z o
       → OfChoices L first r s z o → Rel L (M.eval e v k r st)
       (S.running (linked_of (chain xs s z o) p st) (store_of st ls))
   at_succeed : {first : Bool} {x : Item} {k : Works} {r : Choices} {p : ℕ} {xs : List Item}
-      {s : Suspensions} {z : List ℕ} {o : Outer} {st : M.Store} {ls : List (S.Coexp Parked)}
+      {s : Suspensions} {z : List ℕ} {o : Outer} {st : M.Store} {ls : List (S.Coexp WaitingChain)}
       → first ≡ (S.is_main st.active) → OfAll L st.coexpressions ls → OfWorks L first k p xs z o
       → OfChoices L first r s z o → Rel L (M.succeed x k r st)
       (S.running (linked_of (chain (x ∷ xs) s z o) p st) (store_of st ls))
   at_fail : {first : Bool} {r : Choices} {p : ℕ} {xs : List Item} {s : Suspensions} {z : List ℕ} {o : Outer}
-      {st : M.Store} {ls : List (S.Coexp Parked)} → first ≡ (S.is_main st.active)
+      {st : M.Store} {ls : List (S.Coexp WaitingChain)} → first ≡ (S.is_main st.active)
       → OfAll L st.coexpressions ls → OfChoices L first r s z o
       → Rel L (M.fail r st) (S.failing (linked_of (chain xs s z o) p st) (store_of st ls))
-  at_hop : {c : ℕ} {p : ℕ} {m : Chain} {st : M.Store} {ls : List (S.Coexp Parked)} → c ≡ st.active
+  at_hop : {c : ℕ} {p : ℕ} {m : Chain} {st : M.Store} {ls : List (S.Coexp WaitingChain)} → c ≡ st.active
       → OfAll L st.coexpressions ls → Rel L (M.hop c st) (S.hopping (linked_of m p st) (store_of st ls))
   at_done : {x : Item} {r : Choices} {st : M.Store}
       → Rel L (M.succeed x Nothing r st) (S.over M.Done st.outside)

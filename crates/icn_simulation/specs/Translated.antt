@@ -34,6 +34,6 @@ pub data Kinds : List M.Kind → List RecordType → Type 0 where
       → length kind.fields ≡ length entry.fields → Kinds kinds entries
       → Kinds (kind ∷ kinds) (entry ∷ entries)
 
-pub record Translated (program : M.Program) (tables : Tables) : Type 0 where
+pub record IsTranslated (program : M.Program) (tables : Tables) : Type 0 where
   pub routines : Routines (linkage program tables) 0 program.routines tables.procs
   pub kinds : Kinds program.kinds tables.records

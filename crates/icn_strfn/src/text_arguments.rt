@@ -8,7 +8,7 @@ ghost use Rattle.icn_heap.specs.Extents.{Extent, IsLive, IsText, text_in, value_
 ghost use Rattle.icn_heap.specs.Heaps.{extent_of};
 ghost use Rattle.icn_vars.specs.Stops.{IsLiveStop};
 ghost use Rattle.icn_vars.specs.Worlds.{KeepsItems, reach_of, setting_of};
-ghost use Rattle.icn_args.specs.Words.{HasText, Passed, the_text};
+ghost use Rattle.icn_args.specs.Words.{HasText, IsPassed, the_text};
 ghost use Rattle.icn_strfn.specs.TextArguments.{IsArgument, argument_bytes, default_bytes, or_default};
 
 use icn_args::text_of;
@@ -125,7 +125,7 @@ pub fn text_argument<L: Locals>(
         ≡ the_text (or_default default (value_in (extent_of w.old.heap) val))) }
     ensures stops { IfErr result (IsLiveStop (extent_of w.new.heap)) }
     ensures step { (outside : Outside)
-        → Passed (extent_of w.new.heap) (costs_text (value_in (extent_of w.old.heap) val))
+        → IsPassed (extent_of w.new.heap) (costs_text (value_in (extent_of w.old.heap) val))
         (setting_of outside w.old (L.items l.now)) (setting_of outside w.new (L.items l.now)) result }
     ensures locals { All (IsLive (extent_of w.new.heap)) (L.items l.now) }
     ensures kept { KeepsItems (reach_of w.old (L.items l.now)) (reach_of w.new (L.items l.now)) }
@@ -159,7 +159,7 @@ pub fn two_texts<L: Locals>(
     ensures second_text { IfOk result (λ two. argument_bytes (extent_of w.new.heap) two.1
         ≡ the_text (or_default default (value_in (extent_of w.old.heap) other))) }
     ensures stops { IfErr result (IsLiveStop (extent_of w.new.heap)) }
-    ensures step { (outside : Outside) → Passed (extent_of w.new.heap)
+    ensures step { (outside : Outside) → IsPassed (extent_of w.new.heap)
         (costs_texts (value_in (extent_of w.old.heap) val ∷ value_in (extent_of w.old.heap) other ∷ []))
         (setting_of outside w.old (L.items l.now)) (setting_of outside w.new (L.items l.now)) result }
     ensures locals { All (IsLive (extent_of w.new.heap)) (L.items l.now) }

@@ -24,7 +24,7 @@ use Rattle.icn_vars.specs.Facts.{IsSoundWorld}
 use Rattle.icn_vars.specs.Stops.{StopsPassing, stop_of}
 use Rattle.icn_vars.proofs.Changing.{cells_change, charged_then}
 use Rattle.icn_vars.proofs.Growing.{heap_changed, setting_over}
-use Rattle.icn_args.specs.Words.{Passed}
+use Rattle.icn_args.specs.Words.{IsPassed}
 use Rattle.icn_args.proofs.Answering.{first_part_stops, passed_err}
 use Rattle.icn_structfn.specs.Adding.{added_to, adds}
 use Rattle.icn_structfn.proofs.Taking.{list_stays}
@@ -129,14 +129,14 @@ module _ (grown : Numbered Value → Value → Numbered Value) (id : ℕ) where
 
   pub not_added : {B : Type 0} (all : Extent) (setting : Setting) (values : List Value) (full : Full) (result : Result B Stop)
       → charged_cells setting.world.heap (length values) ≡ Err full
-      → IsErrAnd result (λ stop. stop ≡ stop_of full) → Passed all (adds grown id values) setting setting result
+      → IsErrAnd result (λ stop. stop ≡ stop_of full) → IsPassed all (adds grown id values) setting setting result
   not_added all setting values full result why err =
       first_part_stops all (costs_cells (length values))
       (λ next. here (λ setting. changes_heap (with_list id (fold grown (list_at setting.world.heap id) values)) next)) setting setting (stop_of full) result err
       ((cells_change (length values)).err all setting full why)
 
   pub unfinished : {B : Type 0} (all : Extent) (before after : Setting) (values : List Value) (full : Full) (result : Result B Stop) → full ≡ NoMemory
-      → IsErrAnd result (λ stop. stop ≡ stop_of full) → Passed all (adds grown id values) before after result
+      → IsErrAnd result (λ stop. stop ≡ stop_of full) → IsPassed all (adds grown id values) before after result
   unfinished all before after values full result why err =
       passed_err all (adds grown id values) before after (stop_of full) result err
       (ap_stop why)

@@ -26,7 +26,7 @@ use Rattle.icn_vars.specs.Facts.{IsSoundWorld}
 use Rattle.icn_vars.specs.Stops.{stop_of}
 use Rattle.icn_vars.proofs.Changing.{IsChange, IsCharged, charged_then, stops}
 use Rattle.icn_vars.proofs.Growing.{heap_changed, setting_over}
-use Rattle.icn_args.specs.Words.{Passed}
+use Rattle.icn_args.specs.Words.{IsPassed}
 use Rattle.icn_args.proofs.Answering.{first_part_stops}
 
 -- Looking for members
@@ -109,7 +109,7 @@ module _ (old new : HeldHeap) (pair : Pair) (random : ℕ) (globals statics loca
   pub not_charged : {B : Type 0} (full : Full) (result : Result B Stop) → heap_of new ≡ heap_of old
       → Refuses (and_then (charge (heap_of old)) (λ paid. let r : ChangedHeap = Ok (after paid) in r)) full
       → IsErrAnd result (λ stop. stop ≡ stop_of full) → (outside : Outside)
-      → Passed (extent_of new) (λ next. part (changes_heap change next)) (setting_over outside old pair random globals statics locals)
+      → IsPassed (extent_of new) (λ next. part (changes_heap change next)) (setting_over outside old pair random globals statics locals)
       (setting_over outside new pair random globals statics locals) result
   not_charged full result same why err outside =
       let first : Refuses (charge (heap_of old)) full =

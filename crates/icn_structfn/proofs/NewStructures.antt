@@ -22,7 +22,7 @@ use Rattle.icn_vars.specs.Worlds.{KeepsFields, field_counts}
 use Rattle.icn_vars.proofs.Changing.{IsCharged, cells_change, charged_then, fields_by, fields_made, same_records, stops}
 use Rattle.icn_vars.proofs.Growing.{heap_changed, setting_over}
 use Rattle.icn_vars.proofs.KeptItems.{fields_then}
-use Rattle.icn_args.specs.Words.{Found}
+use Rattle.icn_args.specs.Words.{IsFound}
 use Rattle.icn_args.proofs.Answering.{found_err}
 
 -- cells are charged, the heap is changed, and the row goes on with the value of what is made
@@ -90,7 +90,7 @@ module _ (old new : HeldHeap) (pair : Pair) (random : ℕ) (globals statics loca
   pub refused : {B : Type 0} (shown : B → Value) (full : Full) (result : Result B Stop) → heap_of new ≡ heap_of old
       → Refuses (and_then (charged_cells (heap_of old) count) (λ paid. let r : ChangedHeap = Ok (change paid) in r)) full
       → IsErrAnd result (λ stop. stop ≡ stop_of full) → (outside : Outside)
-      → Found (extent_of new) (makes count change number) (setting_over outside old pair random globals statics locals)
+      → IsFound (extent_of new) (makes count change number) (setting_over outside old pair random globals statics locals)
       (setting_over outside new pair random globals statics locals) shown result
   refused shown full result same why err outside =
       let before : Setting = setting_over outside old pair random globals statics locals in

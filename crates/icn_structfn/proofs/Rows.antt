@@ -11,7 +11,7 @@ use Rattle.icn_vars.specs.declared.stop.Stop.{Stop}
 use Rattle.icn_vars.specs.declared.stop.Stop.TheVariants.{Error, NoMemory}
 use Rattle.icn_vars.specs.Outcomes.{ComesToAnswer}
 use Rattle.icn_vars.specs.Stops.{StopsFinding, StopsPassing, halt_of}
-use Rattle.icn_args.specs.Words.{Found}
+use Rattle.icn_args.specs.Words.{IsFound}
 use Rattle.icn_args.proofs.Answering.{answer_then, row_stops, row_stops_at}
 
 -- the row goes on as another one, which stops where a thing is looked for
@@ -32,7 +32,7 @@ stops_passing all row part next before between after stop result same err is =
 -- what finds the same
 pub found_as : {A B : Type 0} (all : Extent) (find other : Finds A) (before after : Setting) (shown : B → A) (result : Result B Stop)
     → ((next : A → Row) → find next before ≡ other next before)
-    → Found all other before after shown result → Found all find before after shown result
+    → IsFound all other before after shown result → IsFound all find before after shown result
 found_as all find other before after shown (Ok thing) same is = λ next. same next ∙ is next
 found_as all find other before after shown (Err (Error number offending)) same is = λ next. same next ∙ is next
 found_as all find other before after shown (Err NoMemory) same is = tt
@@ -50,8 +50,8 @@ nothing_left (item ∷ items) none = absurd (omega arith)
 -- a thing is found, and then what is looked for with it
 pub found_behind : {A B C : Type 0} (all : Extent) (find : Finds A) (thing : A) (rest : A → Finds B) (before between after : Setting) (shown : C → B)
     (result : Result C Stop)
-    → GoesOn find before thing between → Found all (rest thing) between after shown result
-    → Found all (λ next. find (λ thing. rest thing next)) before after shown result
+    → GoesOn find before thing between → IsFound all (rest thing) between after shown result
+    → IsFound all (λ next. find (λ thing. rest thing next)) before after shown result
 found_behind all find thing rest before between after shown (Ok held) first is = λ next. first (λ thing. rest thing next) ∙ is next
 found_behind all find thing rest before between after shown (Err (Error number offending)) first is = λ next. first (λ thing. rest thing next) ∙ is next
 found_behind all find thing rest before between after shown (Err NoMemory) first is = tt

@@ -7,7 +7,7 @@ ghost use Rattle.icn_heap.specs.Extents.{Extent, IsLive, Keeps, value_in};
 ghost use Rattle.icn_heap.specs.Heaps.{extent_of, heap_of};
 ghost use Rattle.icn_vars.specs.Outcomes.{IsLiveAnswer};
 ghost use Rattle.icn_vars.specs.Worlds.{KeepsItems, reach_of, setting_of};
-ghost use Rattle.icn_args.specs.Words.{Answers, Passed};
+ghost use Rattle.icn_args.specs.Words.{Answers, IsPassed};
 ghost use Rattle.icn_structs.specs.Numbered.{with_left, with_right};
 ghost use Rattle.icn_value.specs.declared.full.Full.TheVariants.{NoMemory};
 ghost use Rattle.icn_value.specs.declared.val.Val.TheVariants.{List};
@@ -46,7 +46,7 @@ fn add_right<L: Locals>(w: &mut World, l: &L, list: u32, vals: &[Val]) -> Result
     requires list { IsLive (extent_of w.old.heap) (List list) }
     requires vals { All (IsLive (extent_of w.old.heap)) vals.now }
     ensures stops { IfErr result (IsLiveStop (extent_of w.new.heap)) }
-    ensures step { (outside : Outside) → Passed (extent_of w.new.heap)
+    ensures step { (outside : Outside) → IsPassed (extent_of w.new.heap)
         (adds with_right list (map (value_in (extent_of w.old.heap)) vals.now))
         (setting_of outside w.old (L.items l.now)) (setting_of outside w.new (L.items l.now)) result }
     ensures locals { All (IsLive (extent_of w.new.heap)) (L.items l.now) }
@@ -104,7 +104,8 @@ fn add_left<L: Locals>(w: &mut World, l: &L, list: u32, vals: &[Val]) -> Result<
     requires vals { All (IsLive (extent_of w.old.heap)) vals.now }
     ensures stops { IfErr result (IsLiveStop (extent_of w.new.heap)) }
     ensures step { (outside : Outside)
-        → Passed (extent_of w.new.heap) (adds with_left list (map (value_in (extent_of w.old.heap)) vals.now))
+        → IsPassed (extent_of w.new.heap)
+        (adds with_left list (map (value_in (extent_of w.old.heap)) vals.now))
         (setting_of outside w.old (L.items l.now)) (setting_of outside w.new (L.items l.now)) result }
     ensures locals { All (IsLive (extent_of w.new.heap)) (L.items l.now) }
     ensures kept { KeepsItems (reach_of w.old (L.items l.now)) (reach_of w.new (L.items l.now)) }

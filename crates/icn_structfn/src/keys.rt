@@ -7,7 +7,7 @@ ghost use Rattle.icn_heap.specs.Extents.{Extent, IsLive, value_in};
 ghost use Rattle.icn_heap.specs.Heaps.{extent_of, heap_of};
 ghost use Rattle.icn_vars.specs.Outcomes.{IsLiveAnswer, IsLiveOutcome, outcome_in};
 ghost use Rattle.icn_vars.specs.Worlds.{KeepsItems, reach_of, setting_of};
-ghost use Rattle.icn_args.specs.Words.{Answers, Passed};
+ghost use Rattle.icn_args.specs.Words.{Answers, IsPassed};
 ghost use Rattle.icn_value.specs.declared.val.Val.TheVariants.{Table};
 ghost use Rattle.icn_vars.specs.Stops.{IsLiveStop};
 ghost use Rattle.std.specs.Option.{option_map};
@@ -78,7 +78,7 @@ fn insert_into<L: Locals>(w: &mut World, l: &L, kept: Val, key: Val, val: Val) -
     requires val { IsLive (extent_of w.old.heap) val }
     ensures stops { IfErr result (IsLiveStop (extent_of w.new.heap)) }
     ensures step { (outside : Outside)
-        → Passed (extent_of w.new.heap) (inserts_in (value_in (extent_of w.old.heap) kept)
+        → IsPassed (extent_of w.new.heap) (inserts_in (value_in (extent_of w.old.heap) kept)
         (value_in (extent_of w.old.heap) key) (value_in (extent_of w.old.heap) val))
         (setting_of outside w.old (L.items l.now)) (setting_of outside w.new (L.items l.now)) result }
     ensures locals { All (IsLive (extent_of w.new.heap)) (L.items l.now) }

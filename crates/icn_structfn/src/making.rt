@@ -11,7 +11,7 @@ ghost use Rattle.icn_heap.specs.Extents.{IsLive, value_in};
 ghost use Rattle.icn_heap.specs.Heaps.{extent_of, heap_of};
 ghost use Rattle.icn_vars.specs.Stops.{IsLiveStop};
 ghost use Rattle.icn_vars.specs.Worlds.{KeepsItems, reach_of, setting_of};
-ghost use Rattle.icn_args.specs.Words.{Found};
+ghost use Rattle.icn_args.specs.Words.{IsFound};
 
 use icn_value::Val;
 use icn_vars::{Locals, Stop, World};
@@ -24,7 +24,8 @@ pub fn filled_list<L: Locals>(w: &mut World, l: &L, count: u64, fill: Val) -> Re
     ensures live { IfOk result (IsLive (extent_of w.new.heap)) }
     ensures stops { IfErr result (IsLiveStop (extent_of w.new.heap)) }
     ensures found { (outside : Outside)
-        → Found (extent_of w.new.heap) (new_list_of (replicate count (value_in (extent_of w.old.heap) fill)))
+        → IsFound (extent_of w.new.heap)
+        (new_list_of (replicate count (value_in (extent_of w.old.heap) fill)))
         (setting_of outside w.old (L.items l.now)) (setting_of outside w.new (L.items l.now))
         (value_in (extent_of w.new.heap)) result }
     ensures locals { All (IsLive (extent_of w.new.heap)) (L.items l.now) }
@@ -40,7 +41,7 @@ pub fn new_set<L: Locals>(w: &mut World, l: &L, vals: &[Val]) -> Result<Val, Sto
     requires vals { All (IsLive (extent_of w.old.heap)) vals.now }
     ensures live { IfOk result (IsLive (extent_of w.new.heap)) }
     ensures stops { IfErr result (IsLiveStop (extent_of w.new.heap)) }
-    ensures found { (outside : Outside) → Found (extent_of w.new.heap) (new_set_of (fold with_member []
+    ensures found { (outside : Outside) → IsFound (extent_of w.new.heap) (new_set_of (fold with_member []
         (map (value_in (extent_of w.old.heap)) vals.now))) (setting_of outside w.old (L.items l.now))
         (setting_of outside w.new (L.items l.now)) (value_in (extent_of w.new.heap)) result }
     ensures locals { All (IsLive (extent_of w.new.heap)) (L.items l.now) }
@@ -56,7 +57,7 @@ pub fn set_like<L: Locals>(w: &mut World, l: &L, set: u32) -> Result<Val, Stop>
     requires set { IsLive (extent_of w.old.heap) (Set set) }
     ensures live { IfOk result (IsLive (extent_of w.new.heap)) }
     ensures stops { IfErr result (IsLiveStop (extent_of w.new.heap)) }
-    ensures found { (outside : Outside) → Found (extent_of w.new.heap)
+    ensures found { (outside : Outside) → IsFound (extent_of w.new.heap)
         (new_set_of (set_at (heap_of w.old.heap) set)) (setting_of outside w.old (L.items l.now))
         (setting_of outside w.new (L.items l.now)) (value_in (extent_of w.new.heap)) result }
     ensures locals { All (IsLive (extent_of w.new.heap)) (L.items l.now) }
@@ -72,7 +73,7 @@ pub fn new_table<L: Locals>(w: &mut World, l: &L, default: Val) -> Result<Val, S
     requires default { IsLive (extent_of w.old.heap) default }
     ensures live { IfOk result (IsLive (extent_of w.new.heap)) }
     ensures stops { IfErr result (IsLiveStop (extent_of w.new.heap)) }
-    ensures found { (outside : Outside) → Found (extent_of w.new.heap)
+    ensures found { (outside : Outside) → IsFound (extent_of w.new.heap)
         (new_table_of (record { default = value_in (extent_of w.old.heap) default; pairs = [] }))
         (setting_of outside w.old (L.items l.now)) (setting_of outside w.new (L.items l.now))
         (value_in (extent_of w.new.heap)) result }
@@ -89,7 +90,7 @@ pub fn table_like<L: Locals>(w: &mut World, l: &L, table: u32) -> Result<Val, St
     requires table { IsLive (extent_of w.old.heap) (Table table) }
     ensures live { IfOk result (IsLive (extent_of w.new.heap)) }
     ensures stops { IfErr result (IsLiveStop (extent_of w.new.heap)) }
-    ensures found { (outside : Outside) → Found (extent_of w.new.heap)
+    ensures found { (outside : Outside) → IsFound (extent_of w.new.heap)
         (new_table_of (table_at (heap_of w.old.heap) table)) (setting_of outside w.old (L.items l.now))
         (setting_of outside w.new (L.items l.now)) (value_in (extent_of w.new.heap)) result }
     ensures locals { All (IsLive (extent_of w.new.heap)) (L.items l.now) }
@@ -105,7 +106,7 @@ pub fn new_record<L: Locals>(w: &mut World, l: &L, kind: u16, fields: &[Val]) ->
     requires fields { All (IsLive (extent_of w.old.heap)) fields.now }
     ensures live { IfOk result (IsLive (extent_of w.new.heap)) }
     ensures stops { IfErr result (IsLiveStop (extent_of w.new.heap)) }
-    ensures found { (outside : Outside) → Found (extent_of w.new.heap)
+    ensures found { (outside : Outside) → IsFound (extent_of w.new.heap)
         (new_record_of (record { kind = kind; fields = map (value_in (extent_of w.old.heap)) fields.now }))
         (setting_of outside w.old (L.items l.now)) (setting_of outside w.new (L.items l.now))
         (value_in (extent_of w.new.heap)) result }

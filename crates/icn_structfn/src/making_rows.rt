@@ -7,7 +7,7 @@ ghost use Rattle.icn_heap.specs.Extents.{IsLive, value_in};
 ghost use Rattle.icn_heap.specs.Heaps.{extent_of, heap_of};
 ghost use Rattle.icn_vars.specs.Outcomes.{IsLiveAnswer};
 ghost use Rattle.icn_vars.specs.Worlds.{KeepsItems, reach_of, setting_of};
-ghost use Rattle.icn_args.specs.Words.{Answers, Found};
+ghost use Rattle.icn_args.specs.Words.{Answers, IsFound};
 ghost use Rattle.icn_vars.specs.Stops.{IsLiveStop};
 ghost use Rattle.icn_structfn.specs.Copies.{copy_of_value, set_of_value};
 
@@ -66,7 +66,7 @@ fn set_of<L: Locals>(w: &mut World, l: &L, val: Val) -> Result<Val, Stop>
     requires val { IsLive (extent_of w.old.heap) val }
     ensures live { IfOk result (IsLive (extent_of w.new.heap)) }
     ensures stops { IfErr result (IsLiveStop (extent_of w.new.heap)) }
-    ensures found { (outside : Outside) → Found (extent_of w.new.heap)
+    ensures found { (outside : Outside) → IsFound (extent_of w.new.heap)
         (set_of_value (value_in (extent_of w.old.heap) val)) (setting_of outside w.old (L.items l.now))
         (setting_of outside w.new (L.items l.now)) (value_in (extent_of w.new.heap)) result }
     ensures locals { All (IsLive (extent_of w.new.heap)) (L.items l.now) }
@@ -102,7 +102,7 @@ fn copy_of<L: Locals>(w: &mut World, l: &L, val: Val) -> Result<Val, Stop>
     requires val { IsLive (extent_of w.old.heap) val }
     ensures live { IfOk result (IsLive (extent_of w.new.heap)) }
     ensures stops { IfErr result (IsLiveStop (extent_of w.new.heap)) }
-    ensures found { (outside : Outside) → Found (extent_of w.new.heap)
+    ensures found { (outside : Outside) → IsFound (extent_of w.new.heap)
         (copy_of_value (value_in (extent_of w.old.heap) val)) (setting_of outside w.old (L.items l.now))
         (setting_of outside w.new (L.items l.now)) (value_in (extent_of w.new.heap)) result }
     ensures locals { All (IsLive (extent_of w.new.heap)) (L.items l.now) }

@@ -14,7 +14,7 @@ ghost use Rattle.icn_named.specs.Named.{HeapNamed, PairNamed, ValueNamed};
 ghost use Rattle.icn_vars.specs.Outcomes.{IsLiveAnswer};
 ghost use Rattle.icn_vars.specs.Stops.{IsLiveStop};
 ghost use Rattle.icn_vars.specs.Worlds.{KeepsItems, reach_of, setting_of};
-ghost use Rattle.icn_args.specs.Words.{Answers, Found};
+ghost use Rattle.icn_args.specs.Words.{Answers, IsFound};
 ghost use Rattle.icn_structfn.specs.Sorting.{in_turn, list_of_pairs, order_of, sorted_pairs, sorted_value};
 
 use crate::ordering::{by_entry, by_key, in_order};
@@ -63,7 +63,7 @@ fn sorted_list<L: Locals, N: Names>(
     requires named { HeapNamed (N.known names.now) (heap_of w.old.heap) }
     ensures live { IfOk result (IsLive (extent_of w.new.heap)) }
     ensures stops { IfErr result (IsLiveStop (extent_of w.new.heap)) }
-    ensures found { (outside : Outside) → Found (extent_of w.new.heap) (sorted_value (N.known names.now) n
+    ensures found { (outside : Outside) → IsFound (extent_of w.new.heap) (sorted_value (N.known names.now) n
         (value_in (extent_of w.old.heap) chosen) (value_in (extent_of w.old.heap) val))
         (setting_of outside w.old (L.items l.now)) (setting_of outside w.new (L.items l.now))
         (value_in (extent_of w.new.heap)) result }
@@ -106,7 +106,7 @@ fn list_in_order<L: Locals, N: Names>(
     requires named { HeapNamed (N.known names.now) (heap_of w.old.heap) }
     ensures live { IfOk result (IsLive (extent_of w.new.heap)) }
     ensures stops { IfErr result (IsLiveStop (extent_of w.new.heap)) }
-    ensures found { (outside : Outside) → Found (extent_of w.new.heap)
+    ensures found { (outside : Outside) → IsFound (extent_of w.new.heap)
         (new_list_of (sorted (value_cmp (N.known names.now) (heap_of w.old.heap))
         (map (value_in (extent_of w.old.heap)) vals.now))) (setting_of outside w.old (L.items l.now))
         (setting_of outside w.new (L.items l.now)) (value_in (extent_of w.new.heap)) result }
@@ -163,7 +163,7 @@ fn sorted_table<L: Locals, N: Names>(
     ensures live { IfOk result (IsLive (extent_of w.new.heap)) }
     ensures stops { IfErr result (IsLiveStop (extent_of w.new.heap)) }
     ensures found { (outside : Outside)
-        → Found (extent_of w.new.heap) (sorted_pairs (N.known names.now) (heap_of w.old.heap)
+        → IsFound (extent_of w.new.heap) (sorted_pairs (N.known names.now) (heap_of w.old.heap)
         (map (values_in (extent_of w.old.heap)) pairs.now) order (value_in (extent_of w.old.heap) chosen))
         (setting_of outside w.old (L.items l.now)) (setting_of outside w.new (L.items l.now))
         (value_in (extent_of w.new.heap)) result }
@@ -199,7 +199,7 @@ fn list_of_lists<L: Locals>(w: &mut World, l: &L, pairs: &[(Val, Val)]) -> Resul
     ensures live { IfOk result (IsLive (extent_of w.new.heap)) }
     ensures stops { IfErr result (IsLiveStop (extent_of w.new.heap)) }
     ensures found { (outside : Outside)
-        → Found (extent_of w.new.heap) (list_of_pairs (map (values_in (extent_of w.old.heap)) pairs.now))
+        → IsFound (extent_of w.new.heap) (list_of_pairs (map (values_in (extent_of w.old.heap)) pairs.now))
         (setting_of outside w.old (L.items l.now)) (setting_of outside w.new (L.items l.now))
         (value_in (extent_of w.new.heap)) result }
     ensures locals { All (IsLive (extent_of w.new.heap)) (L.items l.now) }
@@ -216,7 +216,7 @@ fn lists_of<L: Locals>(w: &mut World, l: &L, pairs: &[(Val, Val)]) -> Result<Vec
     ensures live { IfOk result (λ lists. All (IsLive (extent_of w.new.heap)) lists.items) }
     ensures stops { IfErr result (IsLiveStop (extent_of w.new.heap)) }
     ensures found { (outside : Outside)
-        → Found (extent_of w.new.heap) (pair_lists (map (values_in (extent_of w.old.heap)) pairs.now))
+        → IsFound (extent_of w.new.heap) (pair_lists (map (values_in (extent_of w.old.heap)) pairs.now))
         (setting_of outside w.old (L.items l.now)) (setting_of outside w.new (L.items l.now))
         (λ lists. map (value_in (extent_of w.new.heap)) lists.items) result }
     ensures locals { All (IsLive (extent_of w.new.heap)) (L.items l.now) }
@@ -238,7 +238,7 @@ fn list_in_turn<L: Locals>(w: &mut World, l: &L, pairs: &[(Val, Val)]) -> Result
     requires pairs { All (AreLive (extent_of w.old.heap)) pairs.now }
     ensures live { IfOk result (IsLive (extent_of w.new.heap)) }
     ensures stops { IfErr result (IsLiveStop (extent_of w.new.heap)) }
-    ensures found { (outside : Outside) → Found (extent_of w.new.heap)
+    ensures found { (outside : Outside) → IsFound (extent_of w.new.heap)
         (new_list_of (in_turn (map (values_in (extent_of w.old.heap)) pairs.now))) (setting_of outside w.old
         (L.items l.now)) (setting_of outside w.new (L.items l.now)) (value_in (extent_of w.new.heap)) result }
     ensures locals { All (IsLive (extent_of w.new.heap)) (L.items l.now) }

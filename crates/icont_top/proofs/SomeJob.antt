@@ -20,7 +20,7 @@ use Rattle.icn_verify.specs.Faults.{IsVerified}
 use Rattle.icn_verify.specs.Laws.{IsSoundOrBroken, AreSoundOrBroken, HaveNoFault}
 use Rattle.icn_run_safe.specs.Ended.{AreOver}
 use Rattle.icn_simulation.specs.Faultless.{IsFaultless}
-use Rattle.icn_simulation.specs.Joined.{Joined}
+use Rattle.icn_simulation.specs.Joined.{IsJoined}
 use Rattle.icn_simulation.specs.Law.{IsLinked, FilesMean}
 use Rattle.link_laws.specs.TranslatedUnits.{translated_units}
 use Rattle.icn_lines.specs.declared.answer.Answer.{Answer}
@@ -66,7 +66,7 @@ pub record Laws (is_joinable : UnitRead → Bool) : Type 0 where
   pub spelled : AreSpelled
   pub kept : (units : List UnitRead) → list_all is_joinable units ≡ true → first_fault units ≡ None → keeps_rules (joined units) ≡ true
   pub translations : (names : List (List ℕ)) (files : List (List Declaration)) → length names ≡ length files → All IsFaultless files
-      → Joined files (joined (translated_units names files))
+      → IsJoined files (joined (translated_units names files))
   pub verified : (files : List (List Declaration)) (tables : Tables) → IsLinked files tables → IsVerified tables
   pub no_fault : HaveNoFault
   pub judged : AreSoundOrBroken
@@ -97,7 +97,7 @@ module _ (is_joinable : UnitRead → Bool) (laws : Laws is_joinable) where
       let sources : OfSources members files = subst (OfSourcesBy members) e (of_sources members h) in
       record {
         faultless = sources.faultless;
-        code = subst (λ units. Joined files (joined units)) (sym sources.units) (laws.translations sources.names files sources.few sources.faultless);
+        code = subst (λ units. IsJoined files (joined units)) (sym sources.units) (laws.translations sources.names files sources.few sources.faultless);
       }
 
   all_sources : (members : List Member) → first_ucode members ≡ None → (files : List (List Declaration)) × (files_of members ≡ Some files)

@@ -12,7 +12,7 @@ use Rattle.icn_verify.specs.declared.shape.LevelKind.{LevelKind}
 use Rattle.icn_verify.specs.Given.{HaveShapes, IsFine}
 use Rattle.icn_verify.specs.Rows.{fits, has_operand, lacks}
 use Rattle.icn_verify.specs.Shapes.{PlainShape, outside}
-use Rattle.icn_run.specs.Chains.{Chain, chain, Outer, base, call, mark, limit, Parked, Linked, outer_of, unmark_from}
+use Rattle.icn_run.specs.Chains.{Chain, chain, Outer, base, call, mark, limit, WaitingChain, LinkedStack, outer_of, unmark_from}
 use Rattle.icn_run.specs.Stacks as flats
 use Rattle.icn_run.specs.Stacks.{Frames, flat}
 use Rattle.icn_run.specs.Step.{Launch, State, Store, running, failing, hopping, over, stuck, instruction_at, instrs_of, step, steps}
@@ -65,17 +65,17 @@ module _ (tables : Tables) (have : HaveShapes tables) (ok : TablesOk tables) (ke
   sh = shapes_of tables have
 
   marked : (w : Known) (s p : ℕ) (cr : Bool) (kind : LevelKind) (ls : List Level) (o : Outer) → OuterOk tables sh w s p cr kind ls o → (ls ≡ [] → ⊥)
-      → (m : Linked) → is_some (unmark_from m o) ≡ true
+      → (m : LinkedStack) → is_some (unmark_from m o) ≡ true
   marked w s p cr kind ls (base proc a) h d m = absurd (d h.3)
   marked w s p cr kind ls (call proc a level place caller) h d m = absurd (d h.3)
   marked w s p cr kind ls (mark label (chain items q scans o)) h d m = refl
   marked w s p cr kind ls (limit n (chain items q scans o)) h d m = refl
 
-  chain_marked : (w : Known) (s p : ℕ) (S : PlainShape) (c : Chain) → ChainOk tables sh w s p S c → (S.outer ≡ [] → ⊥) → (m : Linked)
+  chain_marked : (w : Known) (s p : ℕ) (S : PlainShape) (c : Chain) → ChainOk tables sh w s p S c → (S.outer ≡ [] → ⊥) → (m : LinkedStack)
       → is_some (unmark_from m (outer_of c)) ≡ true
   chain_marked w s p S (chain items q scans o) h d m = marked w s p S.in_create S.inner.kind S.outer o h.4 d m
 
-  linked_marked : (m : Linked) (st : Store Parked) (safe : Safe tables sh (running m st))
+  linked_marked : (m : LinkedStack) (st : Store WaitingChain) (safe : Safe tables sh (running m st))
       → slice_get (instrs_of tables (marks.proc m)) m.place ≡ Some Instrs.Ccase → is_some (marks.unmark m) ≡ true
   linked_marked m st safe at =
       let same = here_proc tables sh safe.0 st.active safe.1 safe.2 m safe.3 in
@@ -86,7 +86,7 @@ module _ (tables : Tables) (have : HaveShapes tables) (ok : TablesOk tables) (ke
       let fit : fits safe.2 Instrs.Ccase ≡ true = subst (λ (i : Instr). fits safe.2 i ≡ true) is fine.fit in
       chain_marked safe.0 st.active safe.1 safe.2 m.chain safe.3.has (λ e. no_outer safe.2 fit e) m
 
-  near_case : (l : State Parked Linked) (f : State Frames Frames) → Sames tables have ok keep l f → Safe tables sh l → CaseStands tables f
+  near_case : (l : State WaitingChain LinkedStack) (f : State Frames Frames) → Sames tables have ok keep l f → Safe tables sh l → CaseStands tables f
   near_case l f (same_running {m'} {m} st ks' h) safe =
       let G = linked_agrees repeats_anywhere (Opens tables) in
       let proc = G.proc h.world st.active m' m h.here in

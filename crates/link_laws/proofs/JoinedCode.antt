@@ -31,7 +31,7 @@ use Rattle.icn_meaning.specs.Program.{joined_declarations, texts, has_name, glob
 use Rattle.icn_run.specs.Step.{members_of}
 use Rattle.icn_simulation.specs.Faultless.{IsFaultless}
 use Rattle.icn_simulation.specs.Joined as Law
-use Rattle.icn_simulation.specs.Joined.{IsCodeOf, Joined, code_with, names_in, routines, procedure_entry, record_entry, global_entry}
+use Rattle.icn_simulation.specs.Joined.{IsCodeOf, IsJoined, code_with, names_in, routines, procedure_entry, record_entry, global_entry}
 use Rattle.icn_simulation.specs.Mentions.{firsts}
 use Rattle.icn_simulation.proofs.Checked.{Each, IsSoundProcedure, sound_files}
 use Rattle.icn_translate.specs.Drafts.{name_place}
@@ -335,12 +335,12 @@ procs_joined (name ∷ names) (file ∷ files) e =
     ap (λ l. proc_codes file ++ l) (procs_joined names files (omega (arith, e))) ∙ sym (flat_map-append codes_in file (joined_declarations files))
 
 pub units_join : (names : List (List ℕ)) (files : List (List Declaration)) → length names ≡ length files → All IsFaultless files
-    → Joined files (Linked.joined (translated_units names files))
+    → IsJoined files (Linked.joined (translated_units names files))
 units_join names files same h =
     let decls = decls_joined names files same in
     let procs = procs_joined names files same in
     subst (λ (tables : Tables). IsCodeOf (joined_declarations files) tables) (λ i. joined_of (sym decls i) (sym procs i)) (files_join files h)
 
 -- one file
-pub unit_joins : (name : List ℕ) (file : List Declaration) → IsFaultless file → Joined (file ∷ []) (Linked.joined (translated_unit name file ∷ []))
+pub unit_joins : (name : List ℕ) (file : List Declaration) → IsFaultless file → IsJoined (file ∷ []) (Linked.joined (translated_unit name file ∷ []))
 unit_joins name file h = units_join (name ∷ []) (file ∷ []) refl (single file h)

@@ -8,7 +8,7 @@ ghost use Rattle.icn_defs.specs.Running.{Launch, Observed};
 ghost use Rattle.icn_link.specs.Joined.{joined};
 ghost use Rattle.icn_link.specs.JoinableUnits.{is_joinable};
 ghost use Rattle.icn_simulation.specs.Faultless.{IsFaultless};
-ghost use Rattle.icn_simulation.specs.Joined.{Joined};
+ghost use Rattle.icn_simulation.specs.Joined.{IsJoined};
 ghost use Rattle.icn_simulation.specs.Law.{FilesMean, RunsLinked, RunsFlat};
 ghost use Rattle.link_laws.specs.TranslatedUnits.{translated_units};
 
@@ -20,7 +20,7 @@ use icn_simulation::same_ends;
 pub fn translations_join()
     ensures { (names : List (List ℕ)) (files : List (List Declaration)) → length names ≡ length files
         → All IsFaultless files
-        → Joined files (joined (translated_units names files)) }
+        → IsJoined files (joined (translated_units names files)) }
 {}
 
 /// So files that break no rule mean, with some words, limits and input, what the linked code of their units comes to: how it ends,
@@ -43,7 +43,7 @@ pub fn translations_run()
 /// The linked code of a file that breaks no rule, from its translated unit, is the code of which the first law speaks.
 pub fn translated_units_join()
     ensures { (name : List ℕ) (file : List Declaration) → IsFaultless file
-        → Joined (file ∷ []) (joined (translated_unit name file ∷ [])) }
+        → IsJoined (file ∷ []) (joined (translated_unit name file ∷ [])) }
 {}
 
 /// The translated unit of a file that breaks no rule can be joined, where the texts of the file are bytes. Nothing is asked of how many

@@ -410,7 +410,7 @@ module _ {H M : Type 0} (C : Calls H M) (P : Program) (b : Lasting) where
   abbrev record_of : Ending → Outside → Observed
   record_of ending outside = record { ending = ending; outside = outside }
 
-  seen_so : (s : State H M) (seen : Observed) → S.observed s ≡ Some seen → G s → b.is seen.outside
+  seen_so : (s : State H M) (seen : Observed) → S.observation s ≡ Some seen → G s → b.is seen.outside
   seen_so (over ending outside) seen e k = subst b.is (let h : record_of ending outside ≡ seen = cc in ap (λ (o : Observed). o.outside) h) k
   seen_so (running m st) seen e k = absurd (cc e)
   seen_so (failing m st) seen e k = absurd (cc e)
@@ -419,5 +419,5 @@ module _ {H M : Type 0} (C : Calls H M) (P : Program) (b : Lasting) where
 
   -- it is so of the outside that a run comes to after so many steps
   pub run_leaves : (m : M) (launch : Launch) (n : ℕ) (seen : Observed) → b.is launch.outside
-      → S.observed (after_steps (S.step C P) n (S.start C m P launch)) ≡ Some seen → b.is seen.outside
+      → S.observation (after_steps (S.step C P) n (S.start C m P launch)) ≡ Some seen → b.is seen.outside
   run_leaves m launch n seen k e = seen_so _ seen e (steps n (S.start C m P launch) (start_of launch.words m (S.first_store P launch) (S.main_of P) k))

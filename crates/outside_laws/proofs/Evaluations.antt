@@ -478,7 +478,7 @@ module _ (b : Lasting) where
     abbrev record_of : Ending → Store → Observed
     record_of ending st = record { ending = ending; outside = st.outside }
 
-    seen_so : (s : State) (seen : Observed) → M.observed s ≡ Some seen → G s → b.is seen.outside
+    seen_so : (s : State) (seen : Observed) → M.observation s ≡ Some seen → G s → b.is seen.outside
     seen_so (over ending st) seen e k = subst b.is (let h : record_of ending st ≡ seen = cc in ap (λ (o : Observed). o.outside) h) k
     seen_so (eval e s w r st) seen f k = absurd (cc f)
     seen_so (succeed x w r st) seen f k = absurd (cc f)

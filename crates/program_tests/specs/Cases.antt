@@ -139,12 +139,12 @@ just c = record {
 
 abbrev pub on_flat : Case → Tables → Bounds → Option Observed
 on_flat c tables bounds =
-    Step.observed (Flat.steps tables c.steps (Flat.start tables (launch_of c.words bounds c.input)))
+    Step.observation (Flat.steps tables c.steps (Flat.start tables (launch_of c.words bounds c.input)))
 
 abbrev pub on_linked : Case → Tables → Bounds → Option Observed
 on_linked c tables bounds =
     let repeats = repeats_of tables in
-    Step.observed
+    Step.observation
     (Linked.steps repeats tables c.steps (Linked.start repeats tables (launch_of c.words bounds c.input)))
 
 -- where none of it was needed the run ends as ever

@@ -38,11 +38,11 @@ left_by launch program tables =
     let repeats = repeats_of tables in
     record {
       meant = option_map outside_seen
-          (Meaning.observed (Meaning.steps program steps_enough (Meaning.start program launch)));
+          (Meaning.observation (Meaning.steps program steps_enough (Meaning.start program launch)));
       on_stacks = option_map outside_seen
-          (Step.observed (Flat.steps tables steps_enough (Flat.start tables launch)));
+          (Step.observation (Flat.steps tables steps_enough (Flat.start tables launch)));
       on_marks = option_map outside_seen
-          (Step.observed (Linked.steps repeats tables steps_enough (Linked.start repeats tables launch)));
+          (Step.observation (Linked.steps repeats tables steps_enough (Linked.start repeats tables launch)));
     }
 
 -- the meaning and both runs of the code leave this outside

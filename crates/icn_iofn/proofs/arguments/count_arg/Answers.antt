@@ -6,7 +6,7 @@ use Rattle.icn_value.specs.Values.{Integer}
 use Rattle.icn_defs.specs.Arguments.{arg, arg_or, integer}
 use Rattle.icn_heap.specs.Extents.{value_in}
 use Rattle.icn_heap.specs.Heaps.{extent_of}
-use Rattle.icn_args.specs.Words.{Found}
+use Rattle.icn_args.specs.Words.{IsFound}
 use Rattle.icn_args.proofs.Answering.{first_stops}
 use Rattle.icn_iofn.specs.Reading.{positive}
 use Rattle.icn_iofn.proofs.ReadSteps.{found_behind}
@@ -25,9 +25,9 @@ returns-clause-found c = λ setting.
     found_behind (extent_of c.args.heap.now) (integer (arg_or (Integer (pos 1)) (map (value_in (extent_of c.args.heap.now)) c.args.vals.now) 1)) c.in_ok-n.n
     (λ n. positive n (arg (map (value_in (extent_of c.args.heap.now)) c.args.vals.now) 1)) setting setting setting (λ (n : ℕ). n) c.positive.result
     (c.in_ok-n.ensures.found setting)
-    (subst (λ value. Found (extent_of c.args.heap.now) (positive c.in_ok-n.n value) setting setting (λ (n : ℕ). n) c.positive.result)
+    (subst (λ value. IsFound (extent_of c.args.heap.now) (positive c.in_ok-n.n value) setting setting (λ (n : ℕ). n) c.positive.result)
     (c.arg.ensures.value (extent_of c.args.heap.now))
-    (subst (λ m. Found (extent_of c.args.heap.now) (positive m (value_in (extent_of c.args.heap.now) c.arg.result)) setting setting
+    (subst (λ m. IsFound (extent_of c.args.heap.now) (positive m (value_in (extent_of c.args.heap.now) c.arg.result)) setting setting
     (λ (n : ℕ). n) c.positive.result) (to_z-of_z w64 c.in_ok-n.n fits)
     (c.positive.ensures.found (extent_of c.args.heap.now) setting)))
 

@@ -2,12 +2,12 @@ use Rattle.std.proofs.Common.{◌∙◌, ap, subst}
 use Rattle.icn_value.specs.Values.{Input, Std}
 use Rattle.icn_defs.specs.Arguments.{file, value_or}
 use Rattle.icn_heap.specs.Keys.{file_of}
-use Rattle.icn_args.specs.Words.{Found}
+use Rattle.icn_args.specs.Words.{IsFound}
 use Rattle.icn_iofn.proofs.arguments.file_arg.Goals as goal
 
 pub returns-clause-found : goal.returns-clause-found
 returns-clause-found c = λ all setting.
-    subst (λ value. Found all (file value) setting setting file_of c.file_of.result)
+    subst (λ value. IsFound all (file value) setting setting file_of c.file_of.result)
     (c.value_or.ensures.value all ∙ ap (value_or (Std Input)) (c.arg.ensures.value all)) (c.file_of.ensures.found all setting)
 
 pub returns-clause-stops : goal.returns-clause-stops

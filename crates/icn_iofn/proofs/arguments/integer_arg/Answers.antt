@@ -5,7 +5,7 @@ use Rattle.icn_value.specs.Values.{Integer}
 use Rattle.icn_defs.specs.Arguments.{integer, value_or}
 use Rattle.icn_heap.specs.Extents.{value_in}
 use Rattle.icn_heap.specs.Heaps.{extent_of}
-use Rattle.icn_args.specs.Words.{Found}
+use Rattle.icn_args.specs.Words.{IsFound}
 use Rattle.icn_iofn.proofs.arguments.integer_arg.Goals as goal
 
 pub integer_of-requires : goal.integer_of-requires
@@ -13,7 +13,7 @@ integer_of-requires c = c.value_or.ensures.live (extent_of c.args.heap.now) (rec
 
 pub returns-clause-found : goal.returns-clause-found
 returns-clause-found c = λ setting.
-    subst (λ value. Found (extent_of c.args.heap.now) (integer value) setting setting (λ (n : ℤ). n) c.integer_of.result)
+    subst (λ value. IsFound (extent_of c.args.heap.now) (integer value) setting setting (λ (n : ℤ). n) c.integer_of.result)
     (c.value_or.ensures.value (extent_of c.args.heap.now)
     ∙ (ap (λ n. value_or (Integer n) (value_in (extent_of c.args.heap.now) c.arg.result)) (to_z-of_z w64 c.args.default c.ranges.default)
     ∙ ap (value_or (Integer c.args.default)) (c.arg.ensures.value (extent_of c.args.heap.now)))) (c.integer_of.ensures.found setting)

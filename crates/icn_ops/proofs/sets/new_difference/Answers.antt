@@ -10,14 +10,14 @@ use Rattle.icn_value.specs.Store.{having_heap, set_at}
 use Rattle.icn_vars.proofs.Changing.{cells_change, fields_behind}
 use Rattle.icn_vars.proofs.Growing.{heap_changed}
 use Rattle.icn_vars.specs.Stops.{stop_of}
-use Rattle.icn_args.specs.Words.{Found}
+use Rattle.icn_args.specs.Words.{IsFound}
 use Rattle.icn_args.proofs.Answering.{found_err}
 use Rattle.icn_heap.specs.Making.{having_members}
 use Rattle.icn_ops.proofs.sets.new_difference.Goals as goal
 
 pub returns-in_err-difference-clause-found : goal.returns-in_err-difference-clause-found
 returns-in_err-difference-clause-found g c = λ outside.
-    subst (λ (setting : Setting). Found (extent_of c.difference.new.self)
+    subst (λ (setting : Setting). IsFound (extent_of c.difference.new.self)
     (new_set_of (difference (set_at (heap_of c.args.w.now.heap) c.args.first) (set_at (heap_of c.args.w.now.heap) c.args.second)))
     (setting_of outside c.args.w.now (g.L.Locals.items c.args.l.now)) setting (value_in (extent_of c.difference.new.self)) c.from_residual.result)
     (heap_changed outside c.args.w.now.heap c.difference.new.self c.args.w.now.pair c.args.w.now.random c.args.w.now.globals.items c.args.w.now.statics.items

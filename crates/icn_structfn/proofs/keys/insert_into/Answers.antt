@@ -11,7 +11,7 @@ use Rattle.icn_value.specs.Store.{with_set, with_table}
 use Rattle.icn_value.specs.Changes.{having_member, value_at_key, with_pair}
 use Rattle.icn_vars.proofs.Growing.{setting_over}
 use Rattle.icn_vars.proofs.Changing.{fields_behind, unless_change}
-use Rattle.icn_args.specs.Words.{Passed}
+use Rattle.icn_args.specs.Words.{IsPassed}
 use Rattle.icn_structfn.specs.Keepers.{inserts_in}
 use Rattle.icn_structfn.proofs.Inserting.{charged, member_after, not_charged, pair_after}
 use Rattle.icn_structfn.proofs.keys.insert_into.Goals as goal
@@ -22,7 +22,8 @@ returns-in_err-add-in-Set-clause-step g c outside =
     (value_in (extent_of c.args.w.now.heap) c.args.val) ≡ inserts_in (ASet c.in-Set.set) (value_in (extent_of c.args.w.now.heap) c.args.key)
     (value_in (extent_of c.args.w.now.heap) c.args.val) = ap (λ kept. inserts_in (value_in (extent_of c.args.w.now.heap) kept)
     (value_in (extent_of c.args.w.now.heap) c.args.key) (value_in (extent_of c.args.w.now.heap) c.args.val)) c.in-Set.is in
-    subst (λ part. Passed (extent_of c.add.new.self) part (setting_of outside c.args.w.now (g.L.Locals.items c.args.l.now)) (setting_over outside c.add.new.self
+    subst
+    (λ part. IsPassed (extent_of c.add.new.self) part (setting_of outside c.args.w.now (g.L.Locals.items c.args.l.now)) (setting_over outside c.add.new.self
     c.args.w.now.pair c.args.w.now.random c.args.w.now.globals.items c.args.w.now.statics.items (g.L.Locals.items c.args.l.now)) c.from_residual.result)
     (sym is)
     (not_charged c.args.w.now.heap c.add.new.self c.args.w.now.pair c.args.w.now.random c.args.w.now.globals.items c.args.w.now.statics.items
@@ -62,7 +63,7 @@ returns-in_err-store-in-Table-clause-step g c outside =
     (value_in (extent_of c.args.w.now.heap) c.args.val) ≡ inserts_in (ATable c.in-Table.table) (value_in (extent_of c.args.w.now.heap) c.args.key)
     (value_in (extent_of c.args.w.now.heap) c.args.val) = ap (λ kept. inserts_in (value_in (extent_of c.args.w.now.heap) kept)
     (value_in (extent_of c.args.w.now.heap) c.args.key) (value_in (extent_of c.args.w.now.heap) c.args.val)) c.in-Table.is in
-    subst (λ part. Passed (extent_of c.store.new.self) part (setting_of outside c.args.w.now (g.L.Locals.items c.args.l.now))
+    subst (λ part. IsPassed (extent_of c.store.new.self) part (setting_of outside c.args.w.now (g.L.Locals.items c.args.l.now))
     (setting_over outside c.store.new.self c.args.w.now.pair c.args.w.now.random c.args.w.now.globals.items c.args.w.now.statics.items
     (g.L.Locals.items c.args.l.now)) c.from_residual-in_err-store-in-Table.result) (sym is)
     (not_charged c.args.w.now.heap c.store.new.self c.args.w.now.pair c.args.w.now.random c.args.w.now.globals.items c.args.w.now.statics.items

@@ -5,7 +5,7 @@ use Rattle.icn_defs.specs.Structures.{pair_lists}
 use Rattle.icn_heap.specs.Extents.{value_in, values_in}
 use Rattle.icn_heap.specs.Heaps.{extent_of}
 use Rattle.icn_vars.specs.Worlds.{setting_of}
-use Rattle.icn_args.specs.Words.{Found}
+use Rattle.icn_args.specs.Words.{IsFound}
 use Rattle.icn_args.proofs.Answering.{first_stops}
 use Rattle.icn_structfn.proofs.Rows.{found_behind}
 use Rattle.icn_structfn.proofs.sorting.list_of_lists.Goals as goal
@@ -25,6 +25,6 @@ returns-clause-found g c outside =
     (setting_of outside c.new_list.new.w (g.L.Locals.items c.args.l.now)) (value_in (extent_of c.new_list.new.w.heap)) c.new_list.result
     (c.in_ok-lists.ensures.found outside)
     (subst (λ (values : List Value).
-    Found (extent_of c.new_list.new.w.heap) (new_list_of values) (setting_of outside c.lists_of.new.w (g.L.Locals.items c.args.l.now))
+    IsFound (extent_of c.new_list.new.w.heap) (new_list_of values) (setting_of outside c.lists_of.new.w (g.L.Locals.items c.args.l.now))
     (setting_of outside c.new_list.new.w (g.L.Locals.items c.args.l.now)) (value_in (extent_of c.new_list.new.w.heap)) c.new_list.result)
     (ap (map (value_in (extent_of c.lists_of.new.w.heap))) c.deref.ensures.value) (c.new_list.ensures.found outside))

@@ -1,5 +1,5 @@
 use Rattle.icn_run.specs.Stacks.{flat, empty}
-use Rattle.icn_run.specs.Chains.{linked, empty as no_chain}
+use Rattle.icn_run.specs.Chains.{linked_calls, empty as no_chain}
 use Rattle.outside_laws.proofs.Growing.{reached_extends, steps_extend}
 use Rattle.outside_laws.proofs.Lasting.{extends_itself, from_outside}
 use Rattle.outside_laws.proofs.Rows.{operation_leaves, function_leaves, again_leaves}
@@ -30,5 +30,5 @@ returns-clause-on_stacks c =
     λ tables launch seen r. run_leaves flat tables (from_outside launch.outside) empty launch r.count seen (extends_itself launch.outside) r.is
 
 pub returns-clause-on_marks : goal.returns-clause-on_marks
-returns-clause-on_marks c = λ repeats tables launch seen r. run_leaves (linked repeats) tables (from_outside launch.outside) no_chain launch r.count seen
+returns-clause-on_marks c = λ repeats tables launch seen r. run_leaves (linked_calls repeats) tables (from_outside launch.outside) no_chain launch r.count seen
     (extends_itself launch.outside) r.is

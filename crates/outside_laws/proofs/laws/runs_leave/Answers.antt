@@ -1,5 +1,5 @@
 use Rattle.icn_run.specs.Stacks.{flat, empty}
-use Rattle.icn_run.specs.Chains.{linked, empty as no_chain}
+use Rattle.icn_run.specs.Chains.{linked_calls, empty as no_chain}
 use Rattle.outside_laws.proofs.Lasting.{of_input}
 use Rattle.outside_laws.proofs.Evaluations.{means_leaves}
 use Rattle.outside_laws.proofs.CodeRuns.{run_leaves}
@@ -12,4 +12,5 @@ pub returns-clause-on_stacks : goal.returns-clause-on_stacks
 returns-clause-on_stacks c = λ input tables launch seen k r. run_leaves flat tables (of_input input) empty launch r.count seen k r.is
 
 pub returns-clause-on_marks : goal.returns-clause-on_marks
-returns-clause-on_marks c = λ input repeats tables launch seen k r. run_leaves (linked repeats) tables (of_input input) no_chain launch r.count seen k r.is
+returns-clause-on_marks c =
+    λ input repeats tables launch seen k r. run_leaves (linked_calls repeats) tables (of_input input) no_chain launch r.count seen k r.is

@@ -1,6 +1,6 @@
 use Rattle.std.proofs.Common.{◌≡◌, Some, ◌<◌, length, arith, sym, subst}
 use Rattle.icn_coexp.specs.Transfers.{SeenStacks, Table, source, give, KeepsOthers}
-use Rattle.icn_coexp.specs.Keeping.{table_seen, Kept}
+use Rattle.icn_coexp.specs.Keeping.{table_seen, AreInOrder}
 use Rattle.icn_coexp.specs.declared.entries.Running.{Running}
 use Rattle.icn_coexp.specs.declared.entries.Running.TheVariants.{On}
 use Rattle.icn_coexp.proofs.Others.{give_keeps}
@@ -20,7 +20,7 @@ invariant_of-self g c =
     let e = c.wait.new.entries.items in
     let b = left_begun g.row.K.Denot s.entries.items e s.active c.source-to.result s.running c.self.invariant c.wait.ensures.is
     (source_begun g.row.K.Denot s.entries.items s.active _ s.running c.self.invariant (rw (← c.self.view_is) at c.source-to.ensures)) in
-    subst (λ (w : Running g.row.K.Denot). Kept e c.source-to.result w) (sym c.wait.ensures.running)
+    subst (λ (w : Running g.row.K.Denot). AreInOrder e c.source-to.result w) (sym c.wait.ensures.running)
     (kept_hop g.row.K.Denot e c.source-to.result
     _ (left_fits g.row.K.Denot s.entries.items e s.active s.running c.self.invariant (rw (← c.self.view_is) at c.requires.room) c.wait.ensures.is)
     (begun_live g.row.K.Denot e _ b) c.is_exhausted.ensures c.if-is_exhausted.true)
