@@ -1,5 +1,5 @@
 // Records that are made of arguments.
-ghost use Rattle.std.specs.Prelude.{◌≡◌, ◌<◌, [], Some, length, map, slice_get, IfErr, IfOk, OnOk, MatchResult};
+ghost use Rattle.std.specs.Prelude.{◌≡◌, ◌<◌, ◌≤◌, ◌^◌, [], Some, length, map, slice_get, IfErr, IfOk, OnOk, MatchResult};
 ghost use Rattle.std.specs.List.{All};
 ghost use Rattle.icn_defs.specs.StepRows.{record_row};
 ghost use Rattle.icn_frames.specs.Stacks as flat;
@@ -26,8 +26,8 @@ use icn_structfn::new_record;
 use icn_value::{Item, Val};
 use icn_vars::{Halt, Stop, World};
 
-/// A new record of a kind with these fields, which is charged, where the stack is the same. The errors are 307 and want of
-/// memory.
+/// A new record of a kind with these fields, at most 2^16, which is charged, where the stack is the same. The errors are 307 and
+/// want of memory.
 pub fn record_of<K: Stack<Cell> + Drop>(
     frames: &mut Frames<K>,
     world: &mut World,
@@ -36,6 +36,7 @@ pub fn record_of<K: Stack<Cell> + Drop>(
 ) -> Result<Val, Stop>
     requires stack { (tables : Tables) × IsLiveStack tables (reach_of world.old []) frames.old.flat }
     requires fields { All (IsLive (extent_of world.old.heap)) fields.now }
+    requires few { length fields.now ≤ 2 ^ 16 }
     ensures same { frames.new.flat ≡ frames.old.flat }
     ensures spare { frames.new.spare ≡ frames.old.spare }
     ensures live { IfOk result (IsLive (extent_of world.new.heap)) }
@@ -50,11 +51,12 @@ pub fn record_of<K: Stack<Cell> + Drop>(
     new_record(world, &activation, kind, fields)
 }
 
-// How many fields a kind has, which must be there.
+// How many fields a kind has, which must be there: a code has at most 65535 of each.
 fn field_count(code: &Code, kind: u32) -> usize
     requires { kind < length (tables_of code.now).records }
-    ensures { (entry : RecordType) → slice_get (tables_of code.now).records kind ≡ Some entry
+    ensures count { (entry : RecordType) → slice_get (tables_of code.now).records kind ≡ Some entry
         → result ≡ length entry.fields }
+    ensures few { result ≤ 65535 }
 {
     code.records[kind as usize].fields.as_slice().len()
 }

@@ -3,11 +3,8 @@ use crate::fields::{add_record, field_set_at, record_ref};
 use crate::heap::Heap;
 use icn_value::{Full, Val};
 
-// A place of a field is a number of 16 bits, and no constructor has so many fields.
-const MOST_FIELDS: usize = 1 << 16;
-
 impl Heap {
-    ghost use Rattle.std.specs.Prelude.{◌≡◌, ◌<◌, map, length, MatchResult, IfOk, OnErr, Ok};
+    ghost use Rattle.std.specs.Prelude.{◌≡◌, ◌<◌, ◌≤◌, ◌^◌, map, length, MatchResult, IfOk, OnErr, Ok};
     ghost use Rattle.std.specs.List.{All};
     ghost use Rattle.icn_value.specs.declared.val.Val.TheVariants.{Rec};
     ghost use Rattle.icn_value.specs.Store.{record_at, value_at};
@@ -15,11 +12,12 @@ impl Heap {
     ghost use Rattle.icn_heap.specs.Extents.{IsLive, value_in, Keeps};
     ghost use Rattle.icn_heap.specs.Heaps.{extent_of, heap_of};
 
-    /// Makes a record of the constructor with this number among all constructors. It costs a cell, and one more for each field. The
-    /// answer is also `NoMemory` for more than 2^16 fields, which no constructor has.
+    /// Makes a record of the constructor with this number among all constructors. It costs a cell, and one more for each field.
+    /// The number of a field has 16 bits, so there are at most 2^16.
     #[tactic(auto, unfolding(crate::specs::Heaps::extent_of, crate::specs::Heaps::heap_of))]
     pub fn make_rec(&mut self, kind: u16, fields: &[Val]) -> Result<Val, Full>
-        requires { All (IsLive (extent_of self.old)) fields.now }
+        requires live { All (IsLive (extent_of self.old)) fields.now }
+        requires few { length fields.now ≤ 2 ^ 16 }
         ensures live { IfOk result (IsLive (extent_of self.new)) }
         ensures value { IfOk result
             (λ val. value_in (extent_of self.new) val ≡ next_record (heap_of self.old)) }
@@ -32,9 +30,6 @@ impl Heap {
         ensures unchanged { OnErr result (heap_of self.new ≡ heap_of self.old) }
     {
         let sum = self.paid(fields.len() as u64)?;
-        if fields.len() > MOST_FIELDS {
-            return Err(Full::NoMemory);
-        }
         let id = self.records.len() as u32;
         add_record(self.alloc, &mut self.records, kind, fields)?;
         self.cells = sum;

@@ -1,5 +1,5 @@
 // New structures, as parts of rows.
-ghost use Rattle.std.specs.Prelude.{◌≡◌, map, replicate, fold, [], IfOk, IfErr};
+ghost use Rattle.std.specs.Prelude.{◌≡◌, ◌≤◌, ◌^◌, length, map, replicate, fold, [], IfOk, IfErr};
 ghost use Rattle.std.specs.List.{All};
 ghost use Rattle.icn_value.specs.declared.val.Val.TheVariants.{List, Set, Table, Rec};
 ghost use Rattle.icn_value.specs.Sameness.{with_member};
@@ -99,11 +99,12 @@ pub fn table_like<L: Locals>(w: &mut World, l: &L, table: u32) -> Result<Val, St
     Ok(w.heap.copy_table(table)?)
 }
 
-/// A new record of this constructor with these fields, which are charged. The errors are 307 and want of memory.
+/// A new record of this constructor with these fields, at most 2^16, which are charged. The errors are 307 and want of memory.
 #[tactic(auto, using(icn_vars::proofs::Growing::grows))]
 pub fn new_record<L: Locals>(w: &mut World, l: &L, kind: u16, fields: &[Val]) -> Result<Val, Stop>
     requires locals { All (IsLive (extent_of w.old.heap)) (L.items l.now) }
     requires fields { All (IsLive (extent_of w.old.heap)) fields.now }
+    requires few { length fields.now ≤ 2 ^ 16 }
     ensures live { IfOk result (IsLive (extent_of w.new.heap)) }
     ensures stops { IfErr result (IsLiveStop (extent_of w.new.heap)) }
     ensures found { (outside : Outside) → IsFound (extent_of w.new.heap)

@@ -1,4 +1,4 @@
-use Rattle.std.proofs.Common.{◌∙◌, [], sym, subst}
+use Rattle.std.proofs.Common.{◌≡◌, ◌∙◌, [], length, sym, ap, subst, arith}
 use Rattle.std.proofs.lemmas.List.Elements.{All-same}
 use Rattle.icn_heap.specs.Extents.{IsLive}
 use Rattle.icn_heap.specs.Heaps.{extent_of}
@@ -9,7 +9,7 @@ use Rattle.icn_frames.specs.Stacks.{FlatStack}
 use Rattle.icn_control.specs.Living.{IsLiveStack}
 use Rattle.icn_control.proofs.ListSteps.{list_live}
 use Rattle.icn_control.proofs.PartSteps.{at_halt}
-use Rattle.icn_calls.proofs.ParameterSteps.{live_values_for}
+use Rattle.icn_calls.proofs.ParameterSteps.{length_values_for, live_values_for}
 use Rattle.icn_calls.proofs.RecordSteps.{record_halts, record_runs}
 use Rattle.icn_calls.proofs.constructors.construct.Goals as goal
 
@@ -21,6 +21,12 @@ record_of-requires-clause-fields g c =
     let all = extent_of c.args.world.now.heap in
     All-same (IsLive all) _ _ (c.deref.ensures.value ∙ c.in-Ok.ensures) (live_values_for all c.field_count.result c.args.vals.now.items c.requires.vals)
 
+pub record_of-requires-clause-few : goal.record_of-requires-clause-few
+record_of-requires-clause-few g c =
+    let count : length c.deref.result.now ≡ c.field_count.result
+    = ap length (c.deref.ensures.value ∙ c.in-Ok.ensures) ∙ length_values_for c.field_count.result c.args.vals.now.items in
+    omega (arith, count, c.field_count.ensures.few)
+
 pub returns-in_err-rec-clause-step : goal.returns-in_err-rec-clause-step
 returns-in_err-rec-clause-step g c entry at st same =
     let w = c.args.world.now in
@@ -29,7 +35,7 @@ returns-in_err-rec-clause-step g c entry at st same =
     let stop = c.in_err-rec.field-0.0 in
     at_halt c.from_residual.result (halt_of stop) _ _ c.from_residual.ensures.1
     (record_halts w v m c.args.kind c.kind_of.result c.field_count.result entry c.args.vals.now.items c.deref.result.now stop c.kind_of.ensures
-    (c.field_count.ensures entry at) (c.deref.ensures.value ∙ c.in-Ok.ensures) c.in_err-rec.ensures.made st same)
+    (c.field_count.ensures.count entry at) (c.deref.ensures.value ∙ c.in-Ok.ensures) c.in_err-rec.ensures.made st same)
 
 pub returns-in-Ok-push-clause-step : goal.returns-in-Ok-push-clause-step
 returns-in-Ok-push-clause-step g c entry at st same =
@@ -37,7 +43,7 @@ returns-in-Ok-push-clause-step g c entry at st same =
     let v = c.record_of.new.world in
     let m = c.args.frames.now.flat in
     record_runs w v m c.record_of.new.frames.flat c.push.new.self.flat c.args.kind c.kind_of.result c.field_count.result entry c.args.vals.now.items
-    c.deref.result.now c.in_ok-rec.rec c.kind_of.ensures (c.field_count.ensures entry at)
+    c.deref.result.now c.in_ok-rec.rec c.kind_of.ensures (c.field_count.ensures.count entry at)
     (c.deref.ensures.value ∙ c.in-Ok.ensures) c.in_ok-rec.ensures.made c.record_of.ensures.same c.in-Ok-push.ensures.ok st same
 
 pub returns-in-Ok-push-clause-live : goal.returns-in-Ok-push-clause-live

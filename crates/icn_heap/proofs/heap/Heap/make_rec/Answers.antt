@@ -12,7 +12,7 @@ unfolding extent_of
 invariant_of-self-2 c = record {
   sound = sound_as (with_records c.args.self.now _ c.in_ok-add_record.ensures.ok)
       (record_joins (parts_of c.args.self.now) c.args.self.now.sound (omega (arith, c.in_ok-sum.ensures.sum)) c.in_ok-sum.ensures.within
-      (omega (arith, c.in_ok-sum.ensures.sum)) (record { live = c.requires; few = c.if-fields-gt-MOST_FIELDS.false }) refl);
+      (omega (arith, c.in_ok-sum.ensures.sum)) (record { live = c.requires.live; few = c.requires.few }) refl);
 }
 
 pub returns-clause-step : goal.returns-clause-step
@@ -22,11 +22,11 @@ returns-clause-step c =
     (steps_as _ (having_record c.args.kind (map (value_in (extent_of c.args.self.now)) c.args.fields.now))
     c.in_ok-sum.ensures.ok (with_records c.args.self.now _ c.in_ok-add_record.ensures.ok)
     (record_joins (parts_of c.args.self.now) c.args.self.now.sound (omega (arith, c.in_ok-sum.ensures.sum)) c.in_ok-sum.ensures.within
-    (omega (arith, c.in_ok-sum.ensures.sum)) (record { live = c.requires; few = c.if-fields-gt-MOST_FIELDS.false }) refl))
+    (omega (arith, c.in_ok-sum.ensures.sum)) (record { live = c.requires.live; few = c.requires.few }) refl))
 
 pub returns-clause-kept : goal.returns-clause-kept
 unfolding extent_of
 returns-clause-kept c =
     keeps_as (with_records c.args.self.now _ c.in_ok-add_record.ensures.ok)
     (record_joins (parts_of c.args.self.now) c.args.self.now.sound (omega (arith, c.in_ok-sum.ensures.sum)) c.in_ok-sum.ensures.within
-    (omega (arith, c.in_ok-sum.ensures.sum)) (record { live = c.requires; few = c.if-fields-gt-MOST_FIELDS.false }) refl)
+    (omega (arith, c.in_ok-sum.ensures.sum)) (record { live = c.requires.live; few = c.requires.few }) refl)
