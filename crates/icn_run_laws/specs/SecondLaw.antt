@@ -15,7 +15,7 @@ pub record FlatStuck (tables : Tables) (launch : Launch) : Type 0 where
 
 pub record LinkedStuck (repeats : ℕ → ℕ → Bool) (tables : Tables) (launch : Launch) : Type 0 where
   pub count : ℕ
-  pub is : LinkedStack.steps repeats tables count (LinkedStack.start repeats tables launch) ≡ stuck
+  pub is : Linked.steps repeats tables count (Linked.start repeats tables launch) ≡ stuck
 
 -- The innermost mark has no cell for its label: the procedure has a mark at a place that is not told as one where labels may change.
 abbrev pub LacksCell : (ℕ → ℕ → Bool) → (ℕ → ℕ → Option ℕ → Type 0) → Outer → ℕ → Type 0
@@ -28,7 +28,7 @@ pub record MissingCell (repeats : ℕ → ℕ → Bool) (tables : Tables) (launc
   pub count : ℕ
   pub stack : LinkedStack
   pub store : Store WaitingChain
-  pub comes : LinkedStack.steps repeats tables count (LinkedStack.start repeats tables launch)
+  pub comes : Linked.steps repeats tables count (Linked.start repeats tables launch)
       ≡ running stack store
   pub label : ℕ
   pub sets : instruction_at (linked_calls repeats) tables stack ≡ Some (Instrs.Chfail label)
@@ -37,8 +37,8 @@ pub record MissingCell (repeats : ℕ → ℕ → Bool) (tables : Tables) (launc
 -- Both end alike, or lack something, or neither.
 pub record RunsAgree (repeats : ℕ → ℕ → Bool) (tables : Tables) (launch : Launch) : Type 0 where
   pub to_linked : (observed : Observed) → Flat.Runs tables launch observed
-      → LinkedStack.Runs repeats tables launch observed
-  pub to_flat : (observed : Observed) → LinkedStack.Runs repeats tables launch observed
+      → Linked.Runs repeats tables launch observed
+  pub to_flat : (observed : Observed) → Linked.Runs repeats tables launch observed
       → Flat.Runs tables launch observed
   pub stuck_linked : FlatStuck tables launch → LinkedStuck repeats tables launch
   pub stuck_flat : LinkedStuck repeats tables launch → FlatStuck tables launch
@@ -46,9 +46,9 @@ pub record RunsAgree (repeats : ℕ → ℕ → Bool) (tables : Tables) (launch 
 -- The run on linked marks may lack more only where it comes to a missing cell.
 pub record RunsAgreeAt (repeats : ℕ → ℕ → Bool) (tables : Tables) (launch : Launch) : Type 0 where
   pub to_linked : (observed : Observed) → Flat.Runs tables launch observed
-      → LinkedStack.Runs repeats tables launch observed
+      → Linked.Runs repeats tables launch observed
       ⊎ (LinkedStuck repeats tables launch × MissingCell repeats tables launch)
-  pub to_flat : (observed : Observed) → LinkedStack.Runs repeats tables launch observed
+  pub to_flat : (observed : Observed) → Linked.Runs repeats tables launch observed
       → Flat.Runs tables launch observed
   pub stuck_linked : FlatStuck tables launch → LinkedStuck repeats tables launch
   pub stuck_flat : LinkedStuck repeats tables launch

@@ -183,7 +183,7 @@ module _ (G : Ground) where
 
   -- what the meaning comes to, the code comes to
   pub means_runs : (launch : Launch) (seen : Observed) → Begins G.L → Means G.L.program launch seen
-      → LinkedStack.Runs G.L.repeats G.L.tables launch seen
+      → Linked.Runs G.L.repeats G.L.tables launch seen
   means_runs launch seen b m =
       let o = seen_over _ seen m.is in
       let g = starts launch b in
@@ -194,7 +194,7 @@ module _ (G : Ground) where
 
   -- what the code comes to, the meaning comes to
   pub runs_means : (launch : Launch) (seen : Observed) → Begins G.L
-      → LinkedStack.Runs G.L.repeats G.L.tables launch seen → Means G.L.program launch seen
+      → Linked.Runs G.L.repeats G.L.tables launch seen → Means G.L.program launch seen
   runs_means launch seen b r =
       let z : LState = S.over seen.ending seen.outside in
       let s = MM.start G.L.program launch in
