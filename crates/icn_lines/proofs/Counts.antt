@@ -11,9 +11,9 @@ use Rattle.icn_running.specs.declared.fault.RunFault.TheVariants as Runs
 use Rattle.icn_running.specs.Runs.{EndsAtFirst as RunEnds}
 use Rattle.icn_lines.specs.declared.answer.Answer.{Answer}
 use Rattle.icn_lines.specs.declared.answer.Answer.TheVariants.{Wrote, Ran, Refused, Command, Missing, BadUcode, BadImage, FileFault, ReadFault, WriteFault, NoMemory}
-use Rattle.icn_lines.specs.Answers.{IsFault}
+use Rattle.icn_lines.specs.Answers.{IsAbsence, IsFault}
 use Rattle.icn_lines.specs.Causes.{EndsAtFirst, IsFirstFaultOf, OutsideState, RunEndsAtFirst, outside}
-use Rattle.icn_lines.specs.Faulting.{of_run}
+use Rattle.icn_lines.specs.Faulting.{IsOfRun, of_run}
 use Rattle.icn_lines.specs.Refusing.{PutsOwn, Refuses, put, own, write_fault, want}
 use Rattle.icn_lines.proofs.Reports.{no_fault}
 
@@ -128,6 +128,26 @@ refused_ends {input = input} {left} {left'} {out} answer given w r file cause ab
   absence = record { later = cause.later; rose = λ a. cause.rose (absences a) };
   others = refused_counts left left' input out answer given w r refuses;
 }
+
+-- a file that was not there, in what is given in place of an answer
+pub absence_of : {usage name : List ℕ} {before after : SinkState} (answer given : Answer) → Refuses usage name answer before after given → IsAbsence given
+    → IsAbsence answer
+absence_of answer _ (put n whole) is = is
+absence_of answer _ (own f puts) is = is
+absence_of answer _ (write_fault n stops) is = absurd is
+absence_of answer _ (want n between leads puts) is = absurd is
+
+-- Answers of runs
+
+pub run_no_file : (answer : Answer) → IsOfRun answer → answer ≡ FileFault → ⊥
+run_no_file answer is e = rw e at is
+
+pub run_no_absence : (answer : Answer) → IsOfRun answer → IsAbsence answer → ⊥
+run_no_absence (Ran ending) is a = a
+run_no_absence ReadFault is a = a
+run_no_absence WriteFault is a = a
+run_no_absence NoMemory is a = a
+run_no_absence _ is a = is
 
 -- Counts in the same state
 

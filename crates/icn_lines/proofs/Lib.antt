@@ -2,3 +2,5 @@ pub mod Reports
 pub mod Counts
 pub mod Endings
 pub mod Rising
+pub mod Telling
+pub mod InputLeft

@@ -1,5 +1,6 @@
--- The status of each answer, and which answers are faults.
-use Rattle.std.specs.Prelude.{ℕ, Bool, true, false, IsTrue, ⊤}
+-- The status of each answer, and which answers are faults, or speak of faulty words or of files that are not there.
+use Rattle.std.specs.Prelude.{◌≡◌, ℕ, Bool, true, false, IsTrue, ⊤, Result, Ok, Err}
+use Rattle.icn_tree.specs.declared.rule.Rule.TheVariants.{P6}
 use Rattle.icn_run.specs.declared.ending.Ending.TheVariants.{Done, Exit, Errored, AtBound}
 use Rattle.icn_lines.specs.declared.answer.Answer.{Answer}
 use Rattle.icn_lines.specs.declared.answer.Answer.TheVariants.{Wrote, Ran, Refused, Command, Missing, BadUcode, BadImage, FileFault, ReadFault, WriteFault, NoMemory}
@@ -52,3 +53,36 @@ IsRefusal FileFault = ⊥
 IsRefusal ReadFault = ⊥
 IsRefusal WriteFault = ⊥
 IsRefusal NoMemory = ⊥
+
+-- the answer is that the words of the command are faulty
+abbrev pub IsCommand : Answer → Type 0
+IsCommand Wrote = ⊥
+IsCommand (Ran ending) = ⊥
+IsCommand (Refused file line rule) = ⊥
+IsCommand (Command kind) = ⊤
+IsCommand (Missing name) = ⊥
+IsCommand (BadUcode name rule) = ⊥
+IsCommand (BadImage rule) = ⊥
+IsCommand FileFault = ⊥
+IsCommand ReadFault = ⊥
+IsCommand WriteFault = ⊥
+IsCommand NoMemory = ⊥
+
+-- the answer is that a file was not there: one that is named, or one that a source includes
+abbrev pub IsAbsence : Answer → Type 0
+IsAbsence Wrote = ⊥
+IsAbsence (Ran ending) = ⊥
+IsAbsence (Refused file line rule) = rule ≡ P6
+IsAbsence (Command kind) = ⊥
+IsAbsence (Missing name) = ⊤
+IsAbsence (BadUcode name rule) = ⊥
+IsAbsence (BadImage rule) = ⊥
+IsAbsence FileFault = ⊥
+IsAbsence ReadFault = ⊥
+IsAbsence WriteFault = ⊥
+IsAbsence NoMemory = ⊥
+
+-- the call is refused, as a file was not there
+abbrev pub IsErrOfAbsence : {A : Type 0} → Result A Answer → Type 0
+IsErrOfAbsence (Ok a) = ⊥
+IsErrOfAbsence (Err answer) = IsAbsence answer

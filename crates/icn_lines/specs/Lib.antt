@@ -5,5 +5,6 @@ pub mod Refusing
 pub mod Reporting
 pub mod Faulting
 pub mod Telling
+pub mod InputLeft
 pub mod Causes
 pub mod Falling

@@ -5,13 +5,13 @@ use Rattle.icn_host.specs.Sinks.{SinkState}
 use Rattle.icn_streams.specs.Handed.{CallStreams}
 
 -- the files; and the input and both outputs, with their counts
-pub record Told : Type 0 where
+pub record CallObjects : Type 0 where
   pub files : Option FileMap
   pub streams : CallStreams
 
 -- what these files and these streams tell
-abbrev pub told : Option FileMap → CallStreams → Told
-told files streams = record { files = files; streams = streams }
+abbrev pub call_objects : Option FileMap → CallStreams → CallObjects
+call_objects files streams = record { files = files; streams = streams }
 
 -- the same where less stands on the error output
 abbrev pub with_errors : SinkState → CallStreams → CallStreams

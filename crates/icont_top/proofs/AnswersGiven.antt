@@ -7,24 +7,22 @@ use Rattle.icn_host.specs.FileMaps.{FileMap}
 use Rattle.icn_host.specs.Sinks.{SinkState}
 use Rattle.icn_lines.specs.declared.answer.Answer.{Answer}
 use Rattle.icn_lines.specs.declared.answer.Answer.TheVariants.{Wrote, Ran, Refused, Command, BadUcode, FileFault, ReadFault, WriteFault, NoMemory}
-use Rattle.icn_lines.specs.Answers.{IsFault, IsRefusal}
-use Rattle.icn_lines.specs.Faulting.{IsOfRun}
+use Rattle.icn_lines.specs.Answers.{IsFault, IsRefusal, IsAbsence, IsCommand}
 use Rattle.icn_lines.specs.Refusing.{Refuses as PutsRefusal, put, own, write_fault, want}
 use Rattle.icn_run.specs.declared.ending.Ending.{Ending}
 use Rattle.icont_words.specs.declared.words.WordsFault.{WordsFault}
 use Rattle.icont_words.specs.declared.words.WordsFault.TheVariants as WordsFaults
 use Rattle.icont_words.specs.declared.words.Task.{Task as TaskHeld}
 use Rattle.icont_words.specs.Asking.{IsReading}
-use Rattle.icont_words.specs.Words.{Faulty, Reading, ComeTo, Asks, Task}
+use Rattle.icont_words.specs.Words.{Faulty, WordsReading, ComeTo, Asks, Task}
 use Rattle.icont_units.specs.Fetching.{IsOfLoading}
 use Rattle.icont_units.specs.Files.{File}
 use Rattle.icont_units.specs.Generating.{IsOfLines}
-use Rattle.icont_units.specs.Sources.{IsAbsence}
 use Rattle.icont_units.specs.Units.{Load, Member}
 use Rattle.icont_units.proofs.Matching.{same_Ok, ok-err}
 use Rattle.icont_units.proofs.OneLoading.{one_load}
 use Rattle.icont_top.specs.declared.loading.Program.{Program}
-use Rattle.icont_top.specs.Answered.{IsCommand, IsCommanded}
+use Rattle.icont_top.specs.Answered.{IsCommanded}
 use Rattle.icont_top.specs.Asking.{IsProgramOf, IsTold, words_answer}
 use Rattle.icont_top.specs.Job.{first_base, wrong_words}
 use Rattle.icont_top.specs.Making.{IsOfLink}
@@ -74,12 +72,6 @@ link_no_file answer is e = rw e at is
 
 -- what is given in place of an answer
 
-pub absence_of : {before after : SinkState} (answer given : Answer) → PutsRefusal usage [] answer before after given → IsAbsence given → IsAbsence answer
-absence_of answer _ (put n h) is = is
-absence_of answer _ (own f puts) is = is
-absence_of answer _ (write_fault n leads) is = absurd is
-absence_of answer _ (want n between leads puts) is = absurd is
-
 pub no_command : {before after : SinkState} (answer given : Answer) → IsOfLoading answer → PutsRefusal usage [] answer before after given
     → IsCommand given → ⊥
 no_command answer given is line = given_none IsCommand answer given (loading_no_command answer is) (λ x. x) (λ x. x) line
@@ -87,18 +79,6 @@ no_command answer given is line = given_none IsCommand answer given (loading_no_
 pub command_refuses : (answer : Answer) → (IsRefusal answer → ⊥) → IsCommand answer → ⊥
 command_refuses (Command kind) n is = n tt
 command_refuses _ n is = is
-
--- Runs
-
-pub run_no_file : (answer : Answer) → IsOfRun answer → answer ≡ FileFault → ⊥
-run_no_file answer is e = rw e at is
-
-pub run_no_absence : (answer : Answer) → IsOfRun answer → IsAbsence answer → ⊥
-run_no_absence (Ran ending) is a = a
-run_no_absence ReadFault is a = a
-run_no_absence WriteFault is a = a
-run_no_absence NoMemory is a = a
-run_no_absence _ is a = is
 
 -- Files that were not written whole
 
@@ -146,13 +126,13 @@ words_no_absence (WordsFaults.Faulty kind) a = a
 words_no_absence WordsFaults.NoMemory a = a
 
 abbrev pub OneReading : Type 0
-OneReading = (words : List (List ℕ)) (a b : Reading) → ComeTo words a → ComeTo words b → a ≡ b
+OneReading = (words : List (List ℕ)) (a b : WordsReading) → ComeTo words a → ComeTo words b → a ≡ b
 
-abbrev faulty_kind : Reading → ℕ → ℕ
+abbrev faulty_kind : WordsReading → ℕ → ℕ
 faulty_kind (Faulty kind) other = kind
 faulty_kind (Asks task) other = other
 
-faulty_asks : {T : Type 0} (kind : ℕ) (task : Task) → ◌≡◌ {A = Reading} (Faulty kind) (Asks task) → T
+faulty_asks : {T : Type 0} (kind : ℕ) (task : Task) → ◌≡◌ {A = WordsReading} (Faulty kind) (Asks task) → T
 faulty_asks kind task e = absurd cc
 
 -- the answer to faulty words

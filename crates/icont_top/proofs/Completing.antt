@@ -15,7 +15,7 @@ use Rattle.icn_lines.specs.declared.answer.Answer.TheVariants.{BadUcode, Command
 use Rattle.icn_lines.specs.Answers.{IsFault}
 use Rattle.icn_lines.specs.Endings.{ending_held}
 use Rattle.icn_lines.proofs.Reports.{no_fault, ran_no_fault, wrote_no_fault}
-use Rattle.icont_words.specs.Words.{Reading, Task, Translate, Link, Generate, Asks, Faulty, ComeTo}
+use Rattle.icont_words.specs.Words.{WordsReading, Task, Translate, Link, Generate, Asks, Faulty, ComeTo}
 use Rattle.icont_units.specs.Files.{files_named, first_name, sources_in}
 use Rattle.icont_units.specs.Units.{Member, Come, link_answer, unit_named, units_of}
 use Rattle.icont_units.proofs.Matching.{same_Ok, ok-err}
@@ -29,18 +29,18 @@ use Rattle.icont_top.proofs.OneJob.{OneReading, PlannedBy, one_links, one_plans,
 
 -- What is refused is not written
 
-abbrev translated_names : Reading → List (List ℕ)
+abbrev translated_names : WordsReading → List (List ℕ)
 translated_names (Asks (Translate names)) = names
 translated_names (Asks (Link names image run)) = []
 translated_names (Asks (Generate number turns)) = []
 translated_names (Faulty kind) = []
 
-faulty_asks : {T : Type 0} (kind : ℕ) (task : Task) → ◌≡◌ {A = Reading} (Faulty kind) (Asks task) → T
+faulty_asks : {T : Type 0} (kind : ℕ) (task : Task) → ◌≡◌ {A = WordsReading} (Faulty kind) (Asks task) → T
 faulty_asks kind task e = absurd cc
 
 module _ (one : OneReading) (words : List (List ℕ)) (files : FileMap) where
   -- no program is planned where the words come to this
-  not_planned : {T : Type 0} (plan : Plan) (result : Result (List Member) Answer) (reading : Reading) → ComeTo words reading
+  not_planned : {T : Type 0} (plan : Plan) (result : Result (List Member) Answer) (reading : WordsReading) → ComeTo words reading
       → (PlannedBy files reading plan result → ⊥) → Plans words files plan result → T
   not_planned plan result reading e none x =
       let is = planned plan result x in

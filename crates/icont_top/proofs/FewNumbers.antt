@@ -6,7 +6,7 @@ use Rattle.std.specs.Option.{option_and_then, option_map, option_map_or}
 use Rattle.std.proofs.lemmas.Bool.Decides.{nat_tests}
 use Rattle.std.proofs.lemmas.Option.{none-some, same_Some}
 use Rattle.icn_words.specs.Numbers.{is_digit, number_within, value_from, within}
-use Rattle.icont_words.specs.Words.{Order, Reading, Run, Task, Translate, Link, Generate, Asks, Faulty, ComeTo, behind_run, bound_of, files_task, number_of, order_of, own_words, run_of, task_of, wrong_kind}
+use Rattle.icont_words.specs.Words.{Order, WordsReading, Run, Task, Translate, Link, Generate, Asks, Faulty, ComeTo, behind_run, bound_of, files_task, number_of, order_of, own_words, run_of, task_of, wrong_kind}
 use Rattle.icont_units.proofs.ShortTexts.{both_second}
 
 chosen : (test : Bool) (m n : ℕ) → (if test then Some m else None) ≡ Some n → (test ≡ true) × (m ≡ n)
@@ -58,11 +58,11 @@ task_high n turns order (Some m) is e = let same : m ≡ n = ap number_asked e i
 
 -- Readings
 
-abbrev task_asked : Reading → Task
+abbrev task_asked : WordsReading → Task
 task_asked (Asks task) = task
 task_asked (Faulty kind) = Translate []
 
-abbrev asks : Reading → Bool
+abbrev asks : WordsReading → Bool
 asks (Asks task) = true
 asks (Faulty kind) = false
 
@@ -71,7 +71,7 @@ judged_high : (n turns : ℕ) (order : Order) (kind : Option ℕ)
 judged_high n turns order None e = task_high n turns order (option_and_then number_of order.number) refl (ap task_asked e)
 judged_high n turns order (Some kind) e = absurd (true≢false (sym (ap asks e)))
 
-comes_high : {words : List (List ℕ)} (reading : Reading) → ComeTo words reading → (n turns : ℕ) → reading ≡ Asks (Generate n turns) → n ≤ 2000
+comes_high : {words : List (List ℕ)} (reading : WordsReading) → ComeTo words reading → (n turns : ℕ) → reading ≡ Asks (Generate n turns) → n ≤ 2000
 comes_high _ (ComeTo.unsaid none) n turns e = absurd (true≢false (sym (ap asks e)))
 comes_high {words} _ (ComeTo.said pieces is) n turns e =
     judged_high n turns (order_of pieces (behind_run (own_words words))) (wrong_kind (order_of pieces (behind_run (own_words words)))) e

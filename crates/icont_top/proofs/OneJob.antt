@@ -15,7 +15,7 @@ use Rattle.icn_verify.specs.Faults.{IsFirstFault, IsVerified}
 use Rattle.icn_verify.specs.Laws.{HaveOneFault, HaveNoFault}
 use Rattle.icn_lines.specs.declared.answer.Answer.{Answer}
 use Rattle.icn_lines.specs.declared.answer.Answer.TheVariants.{BadUcode, Command}
-use Rattle.icont_words.specs.Words.{Reading, Run, Translate, Link, Generate, Asks, Faulty, ComeTo}
+use Rattle.icont_words.specs.Words.{WordsReading, Run, Translate, Link, Generate, Asks, Faulty, ComeTo}
 use Rattle.icont_units.specs.Files.{files_named, first_name, sources_in}
 use Rattle.icont_units.specs.Generated.{GeneratedComes}
 use Rattle.icont_units.specs.Units.{Member, Come, Load, units_of, link_answer}
@@ -69,7 +69,7 @@ one_behaves one members launch a b x y = one_run one (files_of members) (linked_
 -- What words ask for
 
 abbrev pub OneReading : Type 0
-OneReading = (words : List (List ℕ)) (a b : Reading) → ComeTo words a → ComeTo words b → a ≡ b
+OneReading = (words : List (List ℕ)) (a b : WordsReading) → ComeTo words a → ComeTo words b → a ≡ b
 
 abbrev pub plan_of_files : Option (List ℕ) → Option Run → Plan
 plan_of_files image run = record { image = image; run = run; number = None }
@@ -78,14 +78,14 @@ abbrev pub plan_of_number : ℕ → ℕ → Plan
 plan_of_number number turns = record { image = None; run = Some (record { arguments = []; turns = turns }); number = Some number }
 
 -- what is planned where the words come to this
-abbrev pub PlannedBy : FileMap → Reading → Plan → Result (List Member) Answer → Type 0
+abbrev pub PlannedBy : FileMap → WordsReading → Plan → Result (List Member) Answer → Type 0
 PlannedBy files (Asks (Link names image run)) plan result = (plan ≡ plan_of_files image run) × Load files (files_named names) result
 PlannedBy files (Asks (Generate number turns)) plan result = (plan ≡ plan_of_number number turns) × GeneratedComes number result
 PlannedBy files (Asks (Translate names)) plan result = ⊥
 PlannedBy files (Faulty kind) plan result = ⊥
 
 pub record Planned (words : List (List ℕ)) (files : FileMap) (plan : Plan) (result : Result (List Member) Answer) : Type 0 where
-  pub reading : Reading
+  pub reading : WordsReading
   pub comes : ComeTo words reading
   pub by : PlannedBy files reading plan result
 
@@ -99,7 +99,7 @@ pub record SamePlan (plan other : Plan) (a b : Result (List Member) Answer) : Ty
   pub plans : plan ≡ other
   pub results : a ≡ b
 
-same_plan : (files : FileMap) (reading : Reading) (plan other : Plan) (a b : Result (List Member) Answer) → PlannedBy files reading plan a
+same_plan : (files : FileMap) (reading : WordsReading) (plan other : Plan) (a b : Result (List Member) Answer) → PlannedBy files reading plan a
     → PlannedBy files reading other b → SamePlan plan other a b
 same_plan files (Asks (Link names image run)) plan other a b x y =
     record { plans = x.0 ∙ sym y.0; results = one_load files (files_named names) a b x.1 y.1 }
@@ -139,7 +139,7 @@ OfMembers left plan (Ok members) job = (code : Result Tables Answer) × (Links m
 abbrev OfPlan : List ℕ → Plan → (Result (List Member) Answer → Type 0) → Job → Type 0
 OfPlan left plan AreThere job = (result : Result (List Member) Answer) × (AreThere result) × OfMembers left plan result job
 
-abbrev pub JobBy : FileMap → List ℕ → Reading → Job → Type 0
+abbrev pub JobBy : FileMap → List ℕ → WordsReading → Job → Type 0
 JobBy files left (Faulty kind) job = job ≡ refusal left (Command kind)
 JobBy files left (Asks (Translate names)) job =
     (result : Result (List Member) Answer) × (Come files (sources_in (files_named names)) result) × (job ≡ of_units left result)
@@ -147,7 +147,7 @@ JobBy files left (Asks (Link names image run)) job = OfPlan left (plan_of_files 
 JobBy files left (Asks (Generate number turns)) job = OfPlan left (plan_of_number number turns) (GeneratedComes number) job
 
 record AsksJob (words : List (List ℕ)) (files : FileMap) (left : List ℕ) (job : Job) : Type 0 where
-  pub reading : Reading
+  pub reading : WordsReading
   pub comes : ComeTo words reading
   pub by : JobBy files left reading job
 
@@ -198,7 +198,7 @@ module _ (observed : HasOne) (fault : HaveOneFault) (sound : HaveNoFault) (files
   same_planned plan AreThere one a b x y =
       same_members plan y.0 a b (subst (λ result. OfMembers left plan result a) (one x.0 y.0 x.1 y.1) x.2) y.2
 
-  same_job : (reading : Reading) (a b : Job) → JobBy files left reading a → JobBy files left reading b → a ≡ b
+  same_job : (reading : WordsReading) (a b : Job) → JobBy files left reading a → JobBy files left reading b → a ≡ b
   same_job (Faulty kind) a b x y = x ∙ sym y
   same_job (Asks (Translate names)) a b x y =
       x.2 ∙ (ap (of_units left) (one_come files (sources_in (files_named names)) x.0 y.0 x.1 y.1) ∙ sym y.2)

@@ -24,7 +24,7 @@ use Rattle.icn_simulation.specs.Joined.{IsJoined}
 use Rattle.icn_simulation.specs.Law.{IsLinked, FilesMean}
 use Rattle.link_laws.specs.TranslatedUnits.{translated_units}
 use Rattle.icn_lines.specs.declared.answer.Answer.{Answer}
-use Rattle.icont_words.specs.Words.{Reading, Run, Translate, Link, Generate, Asks, Faulty, ComeTo}
+use Rattle.icont_words.specs.Words.{WordsReading, Run, Translate, Link, Generate, Asks, Faulty, ComeTo}
 use Rattle.icont_units.specs.Files.{files_named, sources_in}
 use Rattle.icont_units.specs.Generated.{GeneratedComes}
 use Rattle.icont_units.specs.Units.{Member, FromSource, FromUcode, Come, Load, units_of, link_answer}
@@ -188,7 +188,7 @@ module _ (is_joinable : UnitRead → Bool) (laws : Laws is_joinable) where
         → OfAll (IsSound is_joinable) result)
         (makes : (number turns : ℕ) (result : Result (List Member) Answer) → ComeTo words (Asks (Generate number turns)) → GeneratedComes number result
         → OfAll (IsSound is_joinable) result) where
-      pub by_reading : (reading : Reading) → ComeTo words reading → (job : Job) × IsJob words files left job
+      pub by_reading : (reading : WordsReading) → ComeTo words reading → (job : Job) × IsJob words files left job
       by_reading (Faulty kind) e = (_, IsJob.refuses _ (Refuses.wrong_words kind e))
       by_reading (Asks (Translate names)) e = let some = some_come files (sources_in (files_named names)) in with_units names some.0 e some.1
       by_reading (Asks (Link names image run)) e =

@@ -16,7 +16,7 @@ use Rattle.icn_link.specs.JoinableUnits.{is_joinable}
 use Rattle.icn_simulation.specs.Faultless.{IsFaultless}
 use Rattle.source_bytes.specs.LineBytes.{lines_are_of_bytes}
 use Rattle.icn_lines.specs.declared.answer.Answer.{Answer}
-use Rattle.icont_words.specs.Words.{Reading, Generate, Asks, ComeTo}
+use Rattle.icont_words.specs.Words.{WordsReading, Generate, Asks, ComeTo}
 use Rattle.icont_units.specs.Files.{File, files_named, source_name}
 use Rattle.icont_units.specs.Generated.{GeneratedComes, generated_base, generated_lines}
 use Rattle.icont_units.specs.Sources.{Scan, source_read}
@@ -70,8 +70,8 @@ module _ (laws : ByteLaws) where
         let few = few_asked number turns asks in
         sound_lines generated_base (generated_lines number) tokens file (generated_fits number (omega (arith, few))) (generated_are_bytes number) e y
 
-pub some_job : Laws is_joinable → ByteLaws → ((words : List (List ℕ)) → (reading : Reading) × ComeTo words reading) → (words : List (List ℕ)) (files : FileMap)
-    (left : List ℕ) → HoldBytes files → (job : Job) × IsJob words files left job
+pub some_job : Laws is_joinable → ByteLaws → ((words : List (List ℕ)) → (reading : WordsReading) × ComeTo words reading)
+    → (words : List (List ℕ)) (files : FileMap) (left : List ℕ) → HoldBytes files → (job : Job) × IsJob words files left job
 some_job laws bytes some words files left hold =
     let reading = some words in
     by_reading is_joinable laws words files left (λ names found x. sound_load bytes files hold (files_named names) found x)

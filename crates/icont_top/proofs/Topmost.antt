@@ -28,8 +28,9 @@ use Rattle.icn_lines.specs.Answers.{IsFault}
 use Rattle.icn_lines.specs.Faulting.{IsOfRun}
 use Rattle.icn_lines.specs.Lines.{line_of}
 use Rattle.icn_lines.specs.Refusing.{PutsOwn, Refuses as PutsRefusal, put, own, write_fault, want}
-use Rattle.icn_lines.specs.Telling.{Told, told}
+use Rattle.icn_lines.specs.Telling.{CallObjects, call_objects}
 use Rattle.icn_lines.proofs.Reports.{is_run_fault, puts_own}
+use Rattle.icn_lines.proofs.Telling.{at_some, if_some}
 use Rattle.icont_words.specs.Asking.{run_seen}
 use Rattle.icont_words.specs.Words.{Run, Translate, Asks, ComeTo}
 use Rattle.icont_units.specs.Files.{files_named, sources_in}
@@ -47,13 +48,6 @@ use Rattle.icont_top.specs.Usage.{usage}
 use Rattle.icont_top.proofs.LinkingRules.{image_within}
 use Rattle.icont_top.proofs.WrittenTexts.{writes_none}
 
-pub if_some : {T : Type 0} (o : Option T) (P : T → Type 0) → ((x : T) → o ≡ Some x → P x) → IfSome o P
-if_some None P f = tt
-if_some (Some x) P f = f x refl
-
-pub at_some : {T : Type 0} (P : T → Type 0) (o : Option T) (x : T) → o ≡ Some x → IfSome o P → P x
-at_some P o x e h = rw e at h
-
 -- Refusals
 
 -- an answer is what refuses the words and the files, or a fault
@@ -69,7 +63,7 @@ begins_of {left = left} answer before between is (inr stops) = inr (refusal left
 refused : {words : List (List ℕ)} {files : FileMap} {left : List ℕ} (answer given : Answer) (held held' : Option FileMap) (left' : Option (List ℕ))
     (input : ℕ) (out before after : SinkState) → Asked words files answer → held' ≡ held → left' ≡ Some left
     → PutsRefusal usage [] answer before after given
-    → Outcome words files left given (told held (call_streams left' input out before)) (told held' (call_streams left' input out after))
+    → Outcome words files left given (call_objects held (call_streams left' input out before)) (call_objects held' (call_streams left' input out after))
 refused answer given held held' left' input out before after (inl f) same d (put n h) = absurd (n f)
 refused {left = left} answer given held held' left' input out before after (inr is) same d (put n h) =
     done (refusal left answer) (refuses answer is)
@@ -105,7 +99,7 @@ given_none Holds answer _ a w m (want n between leads puts) is = m is
 pub refused_done : {words : List (List ℕ)} {files : FileMap} (answer given : Answer) (held held' : Option FileMap) (left : Option (List ℕ))
     (input : ℕ) (out before after : SinkState) → (HasWritten answer → ⊥) → Asked words files answer → held' ≡ held
     → PutsRefusal usage [] answer before after given
-    → IsDone words files given (told held (call_streams left input out before)) (told held' (call_streams left input out after))
+    → IsDone words files given (call_objects held (call_streams left input out before)) (call_objects held' (call_streams left input out after))
 refused_done answer given held held' left input out before after none asks same line = record {
   outcome = if_some left _ (λ bytes d. refused answer given held held' left input out before after asks same d line);
   headline = λ w. absurd (given_none HasWritten answer given none (λ x. x) (λ x. x) line w);
@@ -114,10 +108,11 @@ refused_done answer given held held' left input out before after none asks same 
 }
 
 -- the files as they were before they were read
-pub held_as : {words : List (List ℕ)} {files : FileMap} {answer : Answer} {streams : CallStreams} {after : Told} (held held' : Option FileMap) → held' ≡ held
-    → IsDone words files answer (told held' streams) after → IsDone words files answer (told held streams) after
+pub held_as : {words : List (List ℕ)} {files : FileMap} {answer : Answer} {streams : CallStreams} {after : CallObjects} (held held' : Option FileMap)
+    → held' ≡ held
+    → IsDone words files answer (call_objects held' streams) after → IsDone words files answer (call_objects held streams) after
 held_as {words} {files} {answer} {streams} {after} held held' e is =
-    subst (λ (h : Option FileMap). IsDone words files answer (told h streams) after) e is
+    subst (λ (h : Option FileMap). IsDone words files answer (call_objects h streams) after) e is
 
 -- where a fault is answered, a fault is given
 pub fault_given : {before after : SinkState} (answer given : Answer) → IsFault answer → PutsRefusal usage [] answer before after given → IsFault given
@@ -217,7 +212,7 @@ holds_image {files = files} members plan program back alike ready e sets =
 
 pub wrote_done : {words : List (List ℕ)} {files : FileMap} {held held' : Option FileMap} (members : List Member) (plan : PlanHeld) (program : Program)
     (streams : CallStreams) → ReadBack → EndsAlike → IsReady words files members plan program → held ≡ Some files
-    → WritesAll held held' (plan_file plan members ∷ []) → plan.run ≡ None → IsDone words files Wrote (told held streams) (told held' streams)
+    → WritesAll held held' (plan_file plan members ∷ []) → plan.run ≡ None → IsDone words files Wrote (call_objects held streams) (call_objects held' streams)
 wrote_done members plan program streams back alike ready e sets no_run =
     let none : (plan_seen plan).run ≡ None = ap (option_map run_seen) no_run in
     record {
@@ -261,7 +256,7 @@ ran_outcome : {words : List (List ℕ)} {files : FileMap} {held held' : Option F
     (program : Program) (run : Run) (answer : Answer) (before after : CallStreams) → EndsAlike → IsReady words files members plan program
     → WritesAll held held' (plan_file plan members ∷ []) → (plan_seen plan).run ≡ Some run
     → HasRun (tables_of program.made.code.code) (run_launch run left) (plan_seen plan).number answer before after
-    → Outcome words files left answer (told held before) (told held' after)
+    → Outcome words files left answer (call_objects held before) (call_objects held' after)
 ran_outcome left members plan program run answer before after alike ready sets e (has_ended seen flat same left' out err) =
     done (run_job (plan_file plan members) seen (behind (plan_seen plan).number seen.ending))
     (runs (plan_seen plan) members (linked_code members) run seen (planned ready) e (behaves alike members program ready.is (run_launch run left) seen flat))
@@ -280,7 +275,7 @@ pub ran_done : {words : List (List ℕ)} {files : FileMap} {held held' : Option 
     (run : Run) (answer : Answer) (before after : CallStreams) → ReadBack → EndsAlike → IsReady words files members plan program → held ≡ Some files
     → WritesAll held held' (plan_file plan members ∷ []) → (plan_seen plan).run ≡ Some run → IsOfRun answer
     → IfSome before.left (λ left. HasRun (tables_of program.made.code.code) (run_launch run left) (plan_seen plan).number answer before after)
-    → IsDone words files answer (told held before) (told held' after)
+    → IsDone words files answer (call_objects held before) (call_objects held' after)
 ran_done members plan program run answer before after back alike ready e sets asks o has = record {
   outcome = if_some before.left _ (λ left d. ran_outcome left members plan program run answer before after alike ready sets asks
       (at_some _ before.left left d has));
@@ -302,7 +297,7 @@ torn_no_image answer (inr e) w = rw e at w
 torn_done : {words : List (List ℕ)} {files : FileMap} {held held' : Option FileMap} (written : List WrittenFile) (answer : Answer)
     (left : Option (List ℕ)) (input : ℕ) (out before after : SinkState) → AreWritten words files written → WritesPart held held' written
     → (answer ≡ FileFault) ⊎ (answer ≡ NoMemory) → PutsOwn answer before after
-    → IsDone words files answer (told held (call_streams left input out before)) (told held' (call_streams left input out after))
+    → IsDone words files answer (call_objects held (call_streams left input out before)) (call_objects held' (call_streams left input out after))
 torn_done written answer left input out before after are part is puts = record {
   outcome = if_some left _ (λ bytes d. fault (is_torn answer is) (torn written are part refl refl (puts_own _ _ answer puts)));
   headline = λ w. absurd (torn_no_image answer is w);
@@ -313,7 +308,7 @@ torn_done written answer left input out before after are part is puts = record {
 pub image_torn : {words : List (List ℕ)} {files : FileMap} {held held' : Option FileMap} (members : List Member) (plan : PlanHeld) (program : Program)
     (answer : Answer) (left : Option (List ℕ)) (input : ℕ) (out before after : SinkState) → IsReady words files members plan program
     → WritesPart held held' (plan_file plan members ∷ []) → (answer ≡ FileFault) ⊎ (answer ≡ NoMemory) → PutsOwn answer before after
-    → IsDone words files answer (told held (call_streams left input out before)) (told held' (call_streams left input out after))
+    → IsDone words files answer (call_objects held (call_streams left input out before)) (call_objects held' (call_streams left input out after))
 image_torn members plan program answer left input out before after ready part is puts =
     torn_done (plan_file plan members ∷ []) answer left input out before after
     (AreWritten.image (plan_seen plan) members (linked_code members) (planned ready)) part is puts
@@ -322,7 +317,7 @@ image_torn members plan program answer left input out before after ready part is
 
 pub units_done : {words : List (List ℕ)} {files : FileMap} {held held' : Option FileMap} (members : List Member) (texts : List WrittenFile)
     (streams : CallStreams) → IsTranslated words files (Ok members) → texts ≡ ucode_files members → All IsReadBack members → held ≡ Some files
-    → WritesAll held held' texts → IsDone words files Wrote (told held streams) (told held' streams)
+    → WritesAll held held' texts → IsDone words files Wrote (call_objects held streams) (call_objects held' streams)
 units_done {held = held} {held'} members texts streams is e read h sets =
     let there : WritesAll held held' (ucode_files members) = subst (WritesAll held held') e sets in
     record {
@@ -336,7 +331,7 @@ units_done {held = held} {held'} members texts streams is e read h sets =
 pub units_torn : {words : List (List ℕ)} {files : FileMap} {held held' : Option FileMap} (members : List Member) (texts : List WrittenFile)
     (answer : Answer) (left : Option (List ℕ)) (input : ℕ) (out before after : SinkState) → IsTranslated words files (Ok members)
     → texts ≡ ucode_files members → WritesPart held held' texts → (answer ≡ FileFault) ⊎ (answer ≡ NoMemory) → PutsOwn answer before after
-    → IsDone words files answer (told held (call_streams left input out before)) (told held' (call_streams left input out after))
+    → IsDone words files answer (call_objects held (call_streams left input out before)) (call_objects held' (call_streams left input out after))
 units_torn {held = held} {held'} members texts answer left input out before after is e part t puts =
     torn_done (ucode_files members) answer left input out before after (AreWritten.ucode members is)
     (subst (WritesPart held held') e part) t puts

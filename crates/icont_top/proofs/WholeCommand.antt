@@ -5,29 +5,29 @@ use Rattle.icn_host.specs.FileMaps.{FileMap}
 use Rattle.icn_host.specs.Sinks.{SinkState}
 use Rattle.icn_lines.specs.declared.answer.Answer.{Answer}
 use Rattle.icn_lines.specs.declared.answer.Answer.TheVariants.{NoMemory}
-use Rattle.icn_lines.specs.Answers.{IsFault}
+use Rattle.icn_lines.specs.Answers.{IsFault, IsAbsence}
 use Rattle.icn_lines.specs.Causes.{EndsAtFirst, outside}
 use Rattle.icn_lines.specs.Refusing.{Refuses as PutsRefusal}
 use Rattle.icn_lines.specs.Reporting.{Reports}
-use Rattle.icn_lines.specs.Telling.{Told, told}
-use Rattle.icn_lines.proofs.Counts.{no_cause, refused_ends, unmoved}
+use Rattle.icn_lines.specs.Telling.{CallObjects, call_objects}
+use Rattle.icn_lines.proofs.Counts.{no_cause, refused_ends, unmoved, absence_of}
 use Rattle.icn_lines.proofs.Reports.{reports_of}
 use Rattle.icn_streams.specs.Handed.{call_streams}
 use Rattle.icn_verify.specs.Laws.{HaveOneFault, HaveNoFault}
 use Rattle.icont_words.specs.declared.words.Task.{Task as TaskHeld}
 use Rattle.icont_words.specs.declared.words.WordsFault.{WordsFault}
 use Rattle.icont_words.specs.declared.words.WordsFault.TheVariants as WordsFaults
-use Rattle.icont_words.specs.Asking.{IsReading, task_seen, texts}
-use Rattle.icont_words.specs.Words.{Asks, ComeTo, Generate, Link, Reading, Run, Task, Translate, Faulty}
+use Rattle.icont_words.specs.Asking.{IsReading, task_seen}
+use Rattle.icont_words.specs.Words.{Asks, ComeTo, Generate, Link, WordsReading, Run, Task, Translate, Faulty}
 use Rattle.icont_units.specs.Files.{files_named}
-use Rattle.icont_units.specs.Sources.{IsAbsence}
+use Rattle.icn_words.specs.Texts.{texts}
 use Rattle.icont_units.specs.Units.{Load, Member}
 use Rattle.icont_top.specs.Answered.{IsAnswered, IsCommanded, MissesText}
 use Rattle.icont_top.specs.Answering.{IsDone}
 use Rattle.icont_top.specs.Asking.{IsTold, words_answer}
 use Rattle.icont_top.specs.Outcomes.{HasWritten, HoldsWritten, IsComplete, LeavesFiles, Outcome}
 use Rattle.icont_top.specs.Usage.{usage}
-use Rattle.icont_top.proofs.AnswersGiven.{OneReading, absence_of, words_asked, words_commanded, words_no_absence, words_no_file, words_no_image, words_no_read, words_no_run, words_no_write}
+use Rattle.icont_top.proofs.AnswersGiven.{OneReading, words_asked, words_commanded, words_no_absence, words_no_file, words_no_image, words_no_read, words_no_run, words_no_write}
 use Rattle.icont_top.proofs.Completing.{complete_of}
 use Rattle.icont_top.proofs.Topmost.{fault_given, refused_done}
 
@@ -45,7 +45,7 @@ names_asked words task given items e is = subst (λ (names : List (Bor (List ℕ
 
 -- What was done
 
-module _ (words : List (List ℕ)) (answer : Answer) (before after : Told) where
+module _ (words : List (List ℕ)) (answer : Answer) (before after : CallObjects) where
   -- where the files tell what they hold
   abbrev DoneBy : Option FileMap → Type 0
   DoneBy held = IfSome held (λ files. IsDone words files answer before after)
@@ -73,7 +73,7 @@ module _ (words : List (List ℕ)) (answer : Answer) (before after : Told) where
 
 -- Linked files that are not there
 
-other_task : {T : Type 0} (a b : Reading) → a ≡ b → (a ≡ b → ⊥) → T
+other_task : {T : Type 0} (a b : WordsReading) → a ≡ b → (a ≡ b → ⊥) → T
 other_task a b e none = absurd (none e)
 
 -- words that ask for units, or for the program of a number, miss no linked file
@@ -87,7 +87,7 @@ pub number_misses : {T : Type 0} (one : OneReading) (words : List (List ℕ)) (n
 number_misses one words number turns files asks misses =
     other_task (Asks (Generate number turns)) (Asks (Link misses.names misses.image misses.run)) (one words _ _ asks misses.asks) (λ e. cc)
 
-abbrev linked_names : Reading → List (List ℕ) → List (List ℕ)
+abbrev linked_names : WordsReading → List (List ℕ) → List (List ℕ)
 linked_names (Asks (Link names image run)) other = names
 linked_names (Asks (Translate names)) other = other
 linked_names (Asks (Generate number turns)) other = other
@@ -124,7 +124,8 @@ module _ (words : List (List ℕ)) (fault : WordsFault) (answer given : Answer) 
 
   pub words_done : (held : Option FileMap) (left : Option (List ℕ)) (input : ℕ) (out : SinkState)
       → (let found : Result TaskHeld WordsFault = Err fault in IsReading words found)
-      → IfSome held (λ files. IsDone words files given (told held (call_streams left input out before)) (told held (call_streams left input out after)))
+      → IfSome held (λ files. IsDone words files given (call_objects held (call_streams left input out before))
+      (call_objects held (call_streams left input out after)))
   words_done None left input out is = tt
   words_done (Some files) left input out is =
       refused_done (words_answer fault) given (Some files) (Some files) left input out before after

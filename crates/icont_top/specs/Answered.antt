@@ -8,7 +8,7 @@ use Rattle.icn_link.specs.LinkFaults.{missing}
 use Rattle.icn_run.specs.declared.ending.Ending.{Ending}
 use Rattle.icn_lines.specs.declared.answer.Answer.{Answer}
 use Rattle.icn_lines.specs.declared.answer.Answer.TheVariants.{Wrote, Ran, Command}
-use Rattle.icn_lines.specs.Answers.{IsFault}
+use Rattle.icn_lines.specs.Answers.{IsCommand, IsFault}
 use Rattle.icont_words.specs.Words.{Run, Task, Link, Asks, Faulty, ComeTo}
 use Rattle.icont_units.specs.Files.{files_named}
 use Rattle.icont_units.specs.Units.{Load, Member, units_of}
@@ -24,10 +24,6 @@ pub data IsAnswered (words : List (List ℕ)) (files : FileMap) : Answer → Typ
       → IsAnswered words files Wrote
   ran : (plan : Plan) (members : List Member) (tables : Tables) (run : Run) (ending : Ending)
       → IsPlanned words files plan members tables → plan.run ≡ Some run → IsAnswered words files (Ran ending)
-
-abbrev pub IsCommand : Answer → Type 0
-IsCommand (Command kind) = Unit {0}
-IsCommand answer = ⊥
 
 -- faulty words are answered so, and no others are called faulty
 pub record IsCommanded (words : List (List ℕ)) (answer : Answer) : Type 0 where

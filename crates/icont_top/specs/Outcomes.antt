@@ -1,5 +1,5 @@
 -- What a call comes to, where the objects tell their content.
-use Rattle.std.specs.Prelude.{◌≡◌, ◌⊎◌, ◌≤◌, ℕ, List, [], ◌∷◌, ◌++◌, Option, Some, All, Ok, Err, drop, length, take}
+use Rattle.std.specs.Prelude.{◌≡◌, ◌⊎◌, ◌≤◌, ℕ, List, [], ◌∷◌, ◌++◌, Option, Some, All, Ok, Err, length, take}
 use Rattle.std.specs.Map.{update}
 use Rattle.std.specs.Str.{bytes_eq}
 use Rattle.icn_host.specs.FileMaps.{FileMap, Follows, IsLeftBehind}
@@ -22,7 +22,7 @@ use Rattle.icn_lines.specs.declared.answer.Answer.TheVariants.{Wrote, Ran}
 use Rattle.icn_lines.specs.Answers.{IsFault}
 use Rattle.icn_lines.specs.Faulting.{of_run}
 use Rattle.icn_lines.specs.Lines.{fault_line}
-use Rattle.icn_lines.specs.Telling.{Told, with_errors}
+use Rattle.icn_lines.specs.Telling.{CallObjects, with_errors}
 use Rattle.icont_words.specs.Words.{Run}
 use Rattle.icont_units.specs.Generated.{sizes_line}
 use Rattle.icont_units.specs.Units.{Member, unit_of}
@@ -51,7 +51,7 @@ pub record WritesPart (before after : Option FileMap) (written : List WrittenFil
       × ((q : List ℕ) → new q ≡ update bytes_eq (written_over old whole) torn.name content q))
 
 -- the job was done
-pub record Completes (job : Job) (answer : Answer) (before after : Told) : Type 0 where
+pub record Completes (job : Job) (answer : Answer) (before after : CallObjects) : Type 0 where
   pub answered : answer ≡ job.answer
   pub files : WritesAll before.files after.files job.written
   pub left : after.streams.left ≡ Some job.left
@@ -103,7 +103,7 @@ pub record BrokenBehind (members : List Member) (run : Run) (number : ℕ) (left
 -- begun; or a file could not be written whole; or the image was written, and the program was broken off as it ran, or the line behind
 -- its output was.
 pub data Faults (words : List (List ℕ)) (files : FileMap) (left : List ℕ) (answer : Answer)
-    (before after : Told) : Type 0 where
+    (before after : CallObjects) : Type 0 where
   idle : (between : SinkState) → after.files ≡ before.files → after.streams.left ≡ before.streams.left
       → after.streams.output.held ≡ before.streams.output.held
       → Begins (IsJob words files left) before.streams.errors between
@@ -132,7 +132,7 @@ pub data Faults (words : List (List ℕ)) (files : FileMap) (left : List ℕ) (a
 
 -- the job was done, or a fault is answered
 pub data Outcome (words : List (List ℕ)) (files : FileMap) (left : List ℕ) (answer : Answer)
-    (before after : Told) : Type 0 where
+    (before after : CallObjects) : Type 0 where
   done : (job : Job) → IsJob words files left job → Completes job answer before after
       → Outcome words files left answer before after
   fault : IsFault answer → Faults words files left answer before after
@@ -155,10 +155,6 @@ pub data LeavesFiles (words : List (List ℕ)) (files : FileMap) (answer : Answe
   part_written : (written : List WrittenFile) → AreWritten words files written → IsFault answer
       → WritesPart before after written
       → LeavesFiles words files answer before after
-
--- some first bytes of the input were taken
-abbrev pub LosesSome : List ℕ → Option (List ℕ) → Type 0
-LosesSome left after = (count : ℕ) × (after ≡ Some (drop count left))
 
 -- where the words and the files ask for files to be written, they were, or a fault is answered
 abbrev pub IsComplete : List (List ℕ) → FileMap → Answer → Type 0

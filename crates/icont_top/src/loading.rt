@@ -1,10 +1,11 @@
 // What is made of the files that the words name.
 ghost use Rattle.std.specs.Prelude.{◌≡◌, ⊤, IfErr, IfOk, IfSome, IsErrOf};
+ghost use Rattle.icn_lines.specs.Answers.{IsErrOfAbsence};
 ghost use Rattle.icn_host.specs.Counts.{CountsOnce, HasCause, Rose};
-ghost use Rattle.icont_units.specs.Fetching.{IsOfLoading, files_seen, texts};
+ghost use Rattle.icont_units.specs.Fetching.{IsOfLoading, files_seen};
 ghost use Rattle.icont_units.specs.Files.{files_named, sources_in};
 ghost use Rattle.icont_units.specs.Generated.{GeneratedComes};
-ghost use Rattle.icont_units.specs.Sources.{IsErrOfAbsence};
+ghost use Rattle.icn_words.specs.Texts.{texts};
 ghost use Rattle.icont_units.specs.Units.{Load};
 ghost use Rattle.icont_top.specs.Asking.{AreTranslated, IsProgramOf};
 ghost use Rattle.icont_top.specs.Basing.{first_named};

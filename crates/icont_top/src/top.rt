@@ -7,24 +7,24 @@ ghost use Rattle.icn_host.specs.Puts.{LeadsBy, PutsAll};
 ghost use Rattle.icn_host.specs.Sinks.{SinkState};
 ghost use Rattle.icn_code.specs.Seen.{tables_of};
 ghost use Rattle.icn_streams.specs.Handed.{call_streams};
-ghost use Rattle.icn_lines.specs.Answers.{IsFault, IsRefusal};
+ghost use Rattle.icn_lines.specs.Answers.{IsFault, IsRefusal, IsAbsence, IsCommand};
 ghost use Rattle.icn_lines.specs.Causes.{EndsAtFirst, RunEndsAtFirst, outside};
 ghost use Rattle.icn_lines.specs.Faulting.{IsOfRun};
 ghost use Rattle.icn_lines.specs.Refusing.{PutsOwn};
 ghost use Rattle.icn_lines.specs.Reporting.{LineStands, Reports};
-ghost use Rattle.icn_lines.specs.Telling.{told};
+ghost use Rattle.icn_lines.specs.Telling.{call_objects};
 ghost use Rattle.icont_words.specs.Asking.{run_seen};
 ghost use Rattle.icont_words.specs.Words.{Translate, Link, Generate, Asks, ComeTo};
-ghost use Rattle.icont_units.specs.Fetching.{texts};
+ghost use Rattle.icn_words.specs.Texts.{texts};
 ghost use Rattle.icont_units.specs.Files.{files_named};
 ghost use Rattle.icont_units.specs.Generated.{sizes_line};
-ghost use Rattle.icont_units.specs.Sources.{IsAbsence};
+ghost use Rattle.icn_lines.specs.InputLeft.{LosesSome};
 ghost use Rattle.icont_units.specs.Units.{Load, Member};
-ghost use Rattle.icont_top.specs.Answered.{IsAnswered, IsCommand, IsCommanded, MissesText};
+ghost use Rattle.icont_top.specs.Answered.{IsAnswered, IsCommanded, MissesText};
 ghost use Rattle.icont_top.specs.Answering.{IsDone};
 ghost use Rattle.icont_top.specs.Asking.{IsReady, IsTold, words_answer};
 ghost use Rattle.icont_top.specs.Job.{IsTranslated, run_launch, ucode_files};
-ghost use Rattle.icont_top.specs.Outcomes.{HasWritten, HoldsWritten, IsComplete, IsReadBack, LeavesFiles, LosesSome, Outcome};
+ghost use Rattle.icont_top.specs.Outcomes.{HasWritten, HoldsWritten, IsComplete, IsReadBack, LeavesFiles, Outcome};
 ghost use Rattle.icont_top.specs.Running.{HasRun, IsRanOrBroken, PutsSizes, is_done, put_answer};
 ghost use Rattle.icont_top.specs.Usage.{usage};
 ghost use Rattle.icont_top.specs.Writing.{texts_seen};
@@ -73,9 +73,9 @@ pub fn icont_main<F: Files, I: Source, O: Sink, E: Sink>(
     // Where the files and the input tell their content, the job was done, or a fault is answered and leaves a part of it.
     ensures outcome { IfSome (F.held files.old)
         (λ held. IfSome (I.left input.old) (λ left. Outcome (map string_bytes words.now) held left result
-        (told (F.held files.old)
+        (call_objects (F.held files.old)
         (call_streams (I.left input.old) (I.faults input.old) (O.state out.old) (E.state err.old)))
-        (told (F.held files.new)
+        (call_objects (F.held files.new)
         (call_streams (I.left input.new) (I.faults input.new) (O.state out.new) (E.state err.new))))) }
 
     // Where no count of faults rose, no fault is answered but want of memory.
@@ -169,8 +169,9 @@ fn translate_answer<F: Files, E: Sink>(
     ensures done { (words : List (List ℕ)) (left : Option (List ℕ)) (input : ℕ) (out : SinkState)
         → ComeTo words (Asks (Translate (texts names.now)))
         → IfSome (F.held files.old) (λ held.
-        IsDone words held result (told (F.held files.old) (call_streams left input out (E.state err.old)))
-        (told (F.held files.new) (call_streams left input out (E.state err.new)))) }
+        IsDone words held result
+        (call_objects (F.held files.old) (call_streams left input out (E.state err.old)))
+        (call_objects (F.held files.new) (call_streams left input out (E.state err.new)))) }
     ensures reported { (left : Option (List ℕ))
         → Reports usage [] left (E.state err.old) (E.state err.new) result }
     ensures command { IsCommand result → ⊥ }
@@ -193,8 +194,9 @@ fn texts_answer<F: Files, E: Sink>(texts: &[Text], files: &mut F, err: &mut E) -
         (input : ℕ) (out : SinkState)
         → IsTranslated words held (Ok members)
         → texts_seen texts.now ≡ ucode_files members → All IsReadBack members → F.held files.old ≡ Some held
-        → IsDone words held result (told (F.held files.old) (call_streams left input out (E.state err.old)))
-        (told (F.held files.new) (call_streams left input out (E.state err.new))) }
+        → IsDone words held result
+        (call_objects (F.held files.old) (call_streams left input out (E.state err.old)))
+        (call_objects (F.held files.new) (call_streams left input out (E.state err.new))) }
     ensures reported { (left : Option (List ℕ))
         → Reports usage [] left (E.state err.old) (E.state err.new) result }
     ensures no_refusal { IsRefusal result → ⊥ }
@@ -225,9 +227,9 @@ fn link_answer<F: Files, I: Source, O: Sink, E: Sink>(
         → ComeTo words (Asks (Link (texts names.now) (option_map (λ name. name.now) image.entry)
         (option_map run_seen run.entry)))
         → IfSome (F.held files.old) (λ held. IsDone words held result
-        (told (F.held files.old)
+        (call_objects (F.held files.old)
         (call_streams (I.left input.old) (I.faults input.old) (O.state out.old) (E.state err.old)))
-        (told (F.held files.new)
+        (call_objects (F.held files.new)
         (call_streams (I.left input.new) (I.faults input.new) (O.state out.new) (E.state err.new)))) }
     ensures reported { Reports usage [] (I.left input.old) (E.state err.old) (E.state err.new) result }
     ensures links { IfSome (F.held files.old)
@@ -269,9 +271,9 @@ fn generate_answer<F: Files, I: Source, O: Sink, E: Sink>(
 ) -> Answer
     ensures done { (words : List (List ℕ)) → ComeTo words (Asks (Generate number turns))
         → IfSome (F.held files.old) (λ held. IsDone words held result
-        (told (F.held files.old)
+        (call_objects (F.held files.old)
         (call_streams (I.left input.old) (I.faults input.old) (O.state out.old) (E.state err.old)))
-        (told (F.held files.new)
+        (call_objects (F.held files.new)
         (call_streams (I.left input.new) (I.faults input.new) (O.state out.new) (E.state err.new)))) }
     ensures reported { Reports usage [] (I.left input.old) (E.state err.old) (E.state err.new) result }
     ensures input { IfSome (I.left input.old) (λ left. LosesSome left (I.left input.new)) }
@@ -314,9 +316,9 @@ fn image_answer<F: Files, I: Source, O: Sink, E: Sink>(
     ensures done { (words : List (List ℕ)) (held : FileMap) (members : List Member)
         → IsReady words held members plan.entry program.now
         → F.held files.old ≡ Some held → IsDone words held result
-        (told (F.held files.old)
+        (call_objects (F.held files.old)
         (call_streams (I.left input.old) (I.faults input.old) (O.state out.old) (E.state err.old)))
-        (told (F.held files.new)
+        (call_objects (F.held files.new)
         (call_streams (I.left input.new) (I.faults input.new) (O.state out.new) (E.state err.new))) }
     ensures reported { Reports usage [] (I.left input.old) (E.state err.old) (E.state err.new) result }
     ensures input { IfSome (I.left input.old) (λ left. LosesSome left (I.left input.new)) }

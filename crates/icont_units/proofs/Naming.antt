@@ -1,5 +1,6 @@
 -- Which files names are.
 use Rattle.std.proofs.Common.{◌≡◌, ℕ, ◌-◌, Bool, true, false, not, ◌&&◌, ◌||◌, cond, nat_eq, List, [], ◌∷◌, ◌++◌, map, filter, length, take, Option, None, Some, option_map, MatchOption, Bor, refl, sym, ap, ◌∙◌, append-nil, if◌then◌else◌}
+use Rattle.icn_words.specs.Texts.{texts}
 use Rattle.std.specs.List.{ends_with, list_any}
 use Rattle.std.specs.Str.{bytes_eq}
 use Rattle.std.specs.Str.Pattern.{FindsTextSuffix, StripsSuffix}
@@ -12,7 +13,7 @@ use Rattle.indexmap.specs.IndexSet.{insert_key}
 use Rattle.icn_simulation.specs.Mentions.{firsts}
 use Rattle.icont_units.specs.declared.files.File.{File as HeldFile}
 use Rattle.icont_units.specs.Files.{File, base_before, file_named, files_named, is_source_file, same_base}
-use Rattle.icont_units.specs.Fetching.{file_seen, files_seen, new_files, texts}
+use Rattle.icont_units.specs.Fetching.{file_seen, files_seen, new_files}
 
 -- Suffixes
 

@@ -1,6 +1,5 @@
 -- How the code tells which files are named, and what it made of one.
 use Rattle.std.specs.Prelude.{◌≡◌, ◌⊎◌, ℕ, ◌+◌, true, List, [], ◌∷◌, ◌++◌, map, take, if◌then◌else◌, Option, Some, None, Result, Ok, Err, IfOk, Vec}
-use Rattle.std.specs.Borrow.{Bor}
 use Rattle.std.specs.List.{list_any}
 use Rattle.std.specs.Str.{bytes_eq, is_utf8}
 use Rattle.icn_host.specs.FileMaps.{FileMap}
@@ -21,10 +20,6 @@ use Rattle.icont_units.specs.Translating.{TokensGive}
 use Rattle.icont_units.specs.Units.{Comes, FromSource, FromUcode, AreJudged, IsAbsent, IsHeld}
 
 -- Files that are named
-
--- the texts of these names
-abbrev pub texts : List (Bor (List ℕ)) → List (List ℕ)
-texts names = map (λ name. name.now) names
 
 -- a file of a command, as definitions see it
 abbrev pub file_seen : HeldFile → File

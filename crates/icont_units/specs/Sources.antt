@@ -2,7 +2,7 @@
 use Rattle.std.specs.Prelude.{◌≡◌, ◌⊎◌, ℕ, List, [], slice_index_or, Result, Ok, Err}
 use Rattle.icn_host.specs.FileMaps.{FileMap}
 use Rattle.icn_tree.specs.declared.rule.Rule.{Rule}
-use Rattle.icn_tree.specs.declared.rule.Rule.TheVariants.{P6, S1, S2, S3, S4, C1, C2, C3, C4, C5, C6, C7, C8}
+use Rattle.icn_tree.specs.declared.rule.Rule.TheVariants.{S1, S2, S3, S4, C1, C2, C3, C4, C5, C6, C7, C8}
 use Rattle.icn_tree.specs.declared.token.Token.{Token}
 use Rattle.icn_tree.specs.declared.tree.Place.{Place}
 use Rattle.icn_tree.specs.Tokens.{Outcome, Scanned, Fault, tokens_of}
@@ -55,17 +55,6 @@ scan_of source = record { names = source.names.items; tokens = source.tokens.ite
 abbrev pub IsRead : Result Scan Answer → Result SourceTokens Answer → Type 0
 IsRead read (Ok source) = read ≡ Ok (scan_of source)
 IsRead read (Err answer) = IsFault answer ⊎ (read ≡ Err answer)
-
--- an answer that a file was not there
-abbrev pub IsAbsence : Answer → Type 0
-IsAbsence (Missing name) = Unit {0}
-IsAbsence (Refused file line rule) = rule ≡ P6
-IsAbsence _ = ⊥
-
--- the call is refused, as a file was not there
-abbrev pub IsErrOfAbsence : {A : Type 0} → Result A Answer → Type 0
-IsErrOfAbsence (Ok a) = ⊥
-IsErrOfAbsence (Err answer) = IsAbsence answer
 
 -- an answer that no program ran for, and that the words have no part in
 abbrev pub IsOfRead : Answer → Type 0

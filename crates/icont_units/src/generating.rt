@@ -4,7 +4,7 @@ ghost use Rattle.icn_tree.specs.TreeOf.{declarations_of};
 ghost use Rattle.icn_decls.specs.Spelled.{AreScanned};
 ghost use Rattle.icont_units.specs.Generated.{generated_base};
 ghost use Rattle.icont_units.specs.Generating.{AreMember, IsGenerated, IsOfLines};
-ghost use Rattle.icont_units.specs.Sources.{IsErrOfAbsence};
+ghost use Rattle.icn_lines.specs.Answers.{IsErrOfAbsence};
 ghost use Rattle.icont_units.specs.Loading.{IsSound, Stands};
 ghost use Rattle.icont_units.specs.Sources.{IsOfTokens, scan_of};
 ghost use Rattle.icont_units.specs.Units.{FromSource};

@@ -5,7 +5,7 @@ ghost use Rattle.icn_link.specs.Units.{unit_seen};
 ghost use Rattle.icont_units.specs.Fetching.{file_seen, files_seen, IsOfLoading};
 ghost use Rattle.icont_units.specs.Files.{source, ucode};
 ghost use Rattle.icont_units.specs.Loading.{AreSought, IsCome, IsLoaded, IsRead, IsSound, Stands, kept_of, with_source, with_ucode};
-ghost use Rattle.icont_units.specs.Sources.{IsErrOfAbsence};
+ghost use Rattle.icn_lines.specs.Answers.{IsErrOfAbsence};
 ghost use Rattle.icont_units.specs.Units.{Member};
 
 use crate::files::{File, Kind};

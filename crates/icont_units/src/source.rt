@@ -4,8 +4,9 @@ ghost use Rattle.icn_host.specs.Counts.{CountsOnce, HasCause};
 ghost use Rattle.icn_tree.specs.Tokens.{tokens_of};
 ghost use Rattle.icn_decls.specs.Spelled.{AreScanned};
 ghost use Rattle.icn_lines.specs.declared.answer.Answer.TheVariants.{Missing};
+ghost use Rattle.icn_lines.specs.Answers.{IsErrOfAbsence};
 ghost use Rattle.icont_units.specs.Fetching.{AreFile, IsSource};
-ghost use Rattle.icont_units.specs.Sources.{name_at, refused_at, tokens_read, fault_answer, scan_of, source_read, IsRead, IsErrOfAbsence, IsOfRead, IsOfTokens};
+ghost use Rattle.icont_units.specs.Sources.{name_at, refused_at, tokens_read, fault_answer, scan_of, source_read, IsRead, IsOfRead, IsOfTokens};
 
 use crate::checking::checked;
 use crate::files::name_with;

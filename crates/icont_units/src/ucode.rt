@@ -3,7 +3,7 @@ ghost use Rattle.std.specs.Prelude.{◌≡◌, ◌⊎◌, ◌++◌, IfSome, IfEr
 ghost use Rattle.icn_host.specs.Counts.{CountsOnce, HasCause};
 ghost use Rattle.icn_lines.specs.declared.answer.Answer.TheVariants.{BadUcode};
 ghost use Rattle.icont_units.specs.Fetching.{AreTexts, IsJudged, IsLinkedUnit, IsLost, IsNamedUnit, IsOfJudged, IsOfLinked, IsOfNamed, IsOfTexts, IsText, IsUnitOf, IsUnitOfSome};
-ghost use Rattle.icont_units.specs.Sources.{IsErrOfAbsence};
+ghost use Rattle.icn_lines.specs.Answers.{IsErrOfAbsence};
 ghost use Rattle.icont_units.specs.Units.{faulty_name, is_too_long, texts_held};
 
 use crate::files::name_with;

@@ -2,7 +2,7 @@
 use Rattle.std.proofs.Common.{◌≡◌, ◌∙◌, refl, sym, ap, subst, cond, ℕ, Bool, true, false, true≢false, List, [], ◌∷◌, unwrap_or, codes, Option, None, Some, Err}
 use Rattle.std.proofs.lemmas.Option.{none-some, same_Some}
 use Rattle.std.specs.Option.{option_map_or}
-use Rattle.icont_words.specs.Words.{Piece, Says, Order, Reading, Faulty, Asks, AreSaid, ComeTo, unsaid, said, before_run, behind_run, order_reading, order_of, own_words, task_of, wrong_kind}
+use Rattle.icont_words.specs.Words.{Piece, Says, Order, WordsReading, Faulty, Asks, AreSaid, ComeTo, unsaid, said, before_run, behind_run, order_reading, order_of, own_words, task_of, wrong_kind}
 use Rattle.icont_words.specs.Asking.{IsReading}
 use Rattle.icont_words.specs.Matched.{AreMeant, IsMatched, values_found}
 use Rattle.icont_words.specs.declared.words.WordsFault.{WordsFault}
@@ -17,12 +17,12 @@ same_pieces : (words : List (List ℕ)) (a b : List Piece) → AreSaid words a �
 same_pieces words a b first second =
     same_Some a b (sym (found (before_run (own_words words)) a first.said) ∙ found (before_run (own_words words)) b second.said)
 
-abbrev seen_as : List (List ℕ) → List Piece → Reading
+abbrev seen_as : List (List ℕ) → List Piece → WordsReading
 seen_as words pieces = order_reading (order_of pieces (behind_run (own_words words)))
 
 once_or_not : (words : List (List ℕ)) (pieces : List Piece) → Says (before_run (own_words words)) pieces → (t : Bool)
     → all_new pieces [] ≡ t
-    → (reading : Reading) × ComeTo words reading
+    → (reading : WordsReading) × ComeTo words reading
 once_or_not words pieces says true e = (seen_as words pieces, said pieces (record { said = says; once = once pieces e }))
 once_or_not words pieces says false e = (
   Faulty 1,
@@ -34,15 +34,15 @@ once_or_not words pieces says false e = (
 )
 
 some_by : (words : List (List ℕ)) (read : Pieces) → said_from (before_run (own_words words)) None ≡ read
-    → (reading : Reading) × ComeTo words reading
+    → (reading : WordsReading) × ComeTo words reading
 some_by words None e =
     (Faulty 1, unsaid (λ pieces s. none-some pieces (sym e ∙ found (before_run (own_words words)) pieces s.said)))
 some_by words (Some pieces) e = once_or_not words pieces (sound (before_run (own_words words)) pieces e) (all_new pieces []) refl
 
-pub some_reading : (words : List (List ℕ)) → (reading : Reading) × ComeTo words reading
+pub some_reading : (words : List (List ℕ)) → (reading : WordsReading) × ComeTo words reading
 some_reading words = some_by words (said_from (before_run (own_words words)) None) refl
 
-pub one_reading : (words : List (List ℕ)) (a b : Reading) → ComeTo words a → ComeTo words b → a ≡ b
+pub one_reading : (words : List (List ℕ)) (a b : WordsReading) → ComeTo words a → ComeTo words b → a ≡ b
 one_reading words _ _ (unsaid h) (unsaid k) = refl
 one_reading words _ _ (unsaid h) (said pieces s) = absurd (h pieces s)
 one_reading words _ _ (said pieces s) (unsaid k) = absurd (k pieces s)

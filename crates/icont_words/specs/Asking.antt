@@ -1,16 +1,13 @@
 -- How the code tells what the words come to.
 use Rattle.std.specs.Prelude.{ℕ, List, map, string_bytes, Result, Ok, Err}
-use Rattle.std.specs.Borrow.{Bor}
 use Rattle.std.specs.Option.{option_map}
+use Rattle.icn_words.specs.Texts.{texts}
 use Rattle.icont_words.specs.declared.words.Run.{Run as RunHeld}
 use Rattle.icont_words.specs.declared.words.Task.{Task as TaskHeld}
 use Rattle.icont_words.specs.declared.words.Task.TheVariants as Held
 use Rattle.icont_words.specs.declared.words.WordsFault.{WordsFault}
 use Rattle.icont_words.specs.declared.words.WordsFault.TheVariants as Faults
 use Rattle.icont_words.specs.Words.{Run, Task, Translate, Link, Generate, Asks, Faulty, ComeTo}
-
-abbrev pub texts : List (Bor (List ℕ)) → List (List ℕ)
-texts names = map (λ name. name.now) names
 
 abbrev pub run_seen : RunHeld → Run
 run_seen run = record { arguments = map string_bytes run.arguments.now; turns = run.turns }

@@ -195,11 +195,11 @@ task_of order = option_map_or (λ number. Generate number (bound_of order))
     (option_and_then number_of order.number) (files_task order)
 
 -- what the words come to: a task, or the kind of what is wrong with them
-pub data Reading : Type 0 where
-  Asks : Task → Reading
-  Faulty : ℕ → Reading
+pub data WordsReading : Type 0 where
+  Asks : Task → WordsReading
+  Faulty : ℕ → WordsReading
 
-abbrev pub order_reading : Order → Reading
+abbrev pub order_reading : Order → WordsReading
 order_reading order = option_map_or (λ kind. Faulty kind) (wrong_kind order) (Asks (task_of order))
 
 -- these pieces are what the words before the first `-x` say
@@ -208,7 +208,7 @@ pub record AreSaid (words : List (List ℕ)) (pieces : List Piece) : Type 0 wher
   pub once : AreSaidOnce pieces
 
 -- What the words come to. They say no pieces, or some of them twice; or the pieces are judged.
-pub data ComeTo (words : List (List ℕ)) : Reading → Type 0 where
+pub data ComeTo (words : List (List ℕ)) : WordsReading → Type 0 where
   unsaid : ((pieces : List Piece) → AreSaid words pieces → ⊥) → ComeTo words (Faulty 1)
   said : (pieces : List Piece) → AreSaid words pieces
       → ComeTo words (order_reading (order_of pieces (behind_run (own_words words))))

@@ -3,6 +3,7 @@ ghost use Rattle.std.specs.Prelude.{◌≡◌, List, [], map, string_bytes, unwr
 ghost use Rattle.std.specs.Option.{option_map};
 ghost use Rattle.clap.specs.Words.{all_of, found_of, rows_of};
 ghost use Rattle.icn_words.specs.Numbers.{number_within};
+ghost use Rattle.icn_words.specs.Texts.{texts};
 ghost use Rattle.icont_words.specs.Words.{
   Piece,
   bound_of,
@@ -16,7 +17,7 @@ ghost use Rattle.icont_words.specs.Words.{
   units_with_others,
   wrong_kind,
 };
-ghost use Rattle.icont_words.specs.Asking.{task_seen, texts};
+ghost use Rattle.icont_words.specs.Asking.{task_seen};
 ghost use Rattle.icont_words.specs.Matched.{Holds, order_seen, text_of};
 
 use crate::words::{Run, Task};

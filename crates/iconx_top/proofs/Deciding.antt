@@ -15,7 +15,7 @@ use Rattle.icn_lines.specs.Answers.{IsFault}
 use Rattle.icn_lines.specs.declared.answer.Answer.TheVariants.{Command, Missing, BadImage}
 use Rattle.iconx_top.specs.Images.{IsJudged, too_long, broken, unverified, runs}
 use Rattle.iconx_top.specs.Job.{Job, IsJob, IsRun, wrong_words, missing, bad, ran, refusal, observation}
-use Rattle.iconx_top.specs.Words.{Reading, Asks, Faulty, words_reading}
+use Rattle.iconx_top.specs.Words.{WordsReading, Asks, Faulty, words_reading}
 
 -- Values of results that are equal
 
@@ -73,39 +73,39 @@ module _ (one : HaveOneFault) (none : HaveNoFault) (bytes : List ℕ) where
 
 -- What words ask for
 
-bounds_asked : Bounds → Reading → Bounds
+bounds_asked : Bounds → WordsReading → Bounds
 bounds_asked other (Asks bounds name arguments) = bounds
 bounds_asked other (Faulty kind) = other
 
-name_asked : Reading → List ℕ
+name_asked : WordsReading → List ℕ
 name_asked (Asks bounds name arguments) = name
 name_asked (Faulty kind) = []
 
-arguments_asked : Reading → List (List ℕ)
+arguments_asked : WordsReading → List (List ℕ)
 arguments_asked (Asks bounds name arguments) = arguments
 arguments_asked (Faulty kind) = []
 
-kind_asked : Reading → ℕ
+kind_asked : WordsReading → ℕ
 kind_asked (Asks bounds name arguments) = 0
 kind_asked (Faulty kind) = kind
 
-asks_faulty : (bounds : Bounds) (name : List ℕ) (arguments : List (List ℕ)) (kind : ℕ) (reading : Reading) → reading ≡ Asks bounds name arguments
+asks_faulty : (bounds : Bounds) (name : List ℕ) (arguments : List (List ℕ)) (kind : ℕ) (reading : WordsReading) → reading ≡ Asks bounds name arguments
     → reading ≡ Faulty kind → ⊥
 asks_faulty bounds name arguments kind reading e f = cc
 
-same_name : (b c : Bounds) (n m : List ℕ) (x y : List (List ℕ)) (reading : Reading) → reading ≡ Asks b n x → reading ≡ Asks c m y → n ≡ m
+same_name : (b c : Bounds) (n m : List ℕ) (x y : List (List ℕ)) (reading : WordsReading) → reading ≡ Asks b n x → reading ≡ Asks c m y → n ≡ m
 unfolding name_asked
 same_name b c n m x y reading e f = ap name_asked (sym e ∙ f)
 
-same_bounds : (b c : Bounds) (n m : List ℕ) (x y : List (List ℕ)) (reading : Reading) → reading ≡ Asks b n x → reading ≡ Asks c m y → b ≡ c
+same_bounds : (b c : Bounds) (n m : List ℕ) (x y : List (List ℕ)) (reading : WordsReading) → reading ≡ Asks b n x → reading ≡ Asks c m y → b ≡ c
 unfolding bounds_asked
 same_bounds b c n m x y reading e f = ap (bounds_asked b) (sym e ∙ f)
 
-same_arguments : (b c : Bounds) (n m : List ℕ) (x y : List (List ℕ)) (reading : Reading) → reading ≡ Asks b n x → reading ≡ Asks c m y → x ≡ y
+same_arguments : (b c : Bounds) (n m : List ℕ) (x y : List (List ℕ)) (reading : WordsReading) → reading ≡ Asks b n x → reading ≡ Asks c m y → x ≡ y
 unfolding arguments_asked
 same_arguments b c n m x y reading e f = ap arguments_asked (sym e ∙ f)
 
-same_kind : (k j : ℕ) (reading : Reading) → reading ≡ Faulty k → reading ≡ Faulty j → k ≡ j
+same_kind : (k j : ℕ) (reading : WordsReading) → reading ≡ Faulty k → reading ≡ Faulty j → k ≡ j
 unfolding kind_asked
 same_kind k j reading e f = ap kind_asked (sym e ∙ f)
 

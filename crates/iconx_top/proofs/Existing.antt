@@ -18,7 +18,7 @@ use Rattle.icn_run_safe.specs.Ended.{AreOver}
 use Rattle.icn_lines.specs.declared.answer.Answer.TheVariants.{Command, Missing, BadImage}
 use Rattle.iconx_top.specs.Images.{IsJudged, too_long, broken, unverified, runs}
 use Rattle.iconx_top.specs.Job.{Job, IsJob, IsRun, wrong_words, missing, bad, ran, refusal, observation}
-use Rattle.iconx_top.specs.Words.{Reading, Asks, Faulty, words_reading}
+use Rattle.iconx_top.specs.Words.{WordsReading, Asks, Faulty, words_reading}
 
 -- what the laws of the crates below say
 record Laws : Type 0 where
@@ -72,7 +72,7 @@ module _ (laws : Laws) where
     named_job bounds name arguments asks None there = (refusal files left name (Missing name), missing bounds name arguments asks there)
     named_job bounds name arguments asks (Some bytes) there = judged_job bounds name bytes arguments asks there (judges bytes (hold name bytes there))
 
-    asked_job : (reading : Reading) → words_reading words ≡ reading → (job : Job) × IsJob words files left job
+    asked_job : (reading : WordsReading) → words_reading words ≡ reading → (job : Job) × IsJob words files left job
     asked_job (Faulty kind) asks = (refusal files left [] (Command kind), wrong_words kind asks)
     asked_job (Asks bounds name arguments) asks = named_job bounds name arguments asks (files name) refl
 

@@ -10,9 +10,10 @@ use Rattle.icn_image.specs.declared.fault.ImageFault.{ImageFault}
 use Rattle.icn_image.specs.declared.fault.ImageFault.TheVariants.{Broken, NoMemory as WantsMemory}
 use Rattle.icn_verify.specs.declared.verified.Verified.{Verified}
 use Rattle.icn_lines.specs.declared.answer.Answer.{Answer}
-use Rattle.icn_lines.specs.declared.answer.Answer.TheVariants.{Missing, BadImage, FileFault, NoMemory}
+use Rattle.icn_lines.specs.declared.answer.Answer.TheVariants.{Refused, Missing, BadImage, FileFault, NoMemory}
+use Rattle.icn_lines.specs.Answers.{IsErrOfAbsence}
 use Rattle.iconx_top.specs.Images.{IsJudged, too_long, broken, unverified, runs}
-use Rattle.iconx_top.specs.Loading.{IsChecked, IsJudgement, IsLoaded, IsOfImage, IsOfLoading, IsErrOfAbsence, Takes, of_image}
+use Rattle.iconx_top.specs.Loading.{IsChecked, IsJudgement, IsLoaded, IsOfImage, IsOfLoading, Takes, of_image}
 
 pub too_many : (bytes all : List ℕ) → 1073741824 < length bytes → Takes bytes all → IsJudged all (Err I6)
 too_many bytes all long t = too_long (omega (arith, long, ap length t ∙ length-take 1073741825 all))
@@ -71,4 +72,5 @@ no_file_fault (Err answer) h is = let same : answer ≡ FileFault = cc in not_fa
 pub no_absence : (result : Result Verified Answer) → IfErr result IsOfImage → IsErrOfAbsence result → ⊥
 no_absence (Ok verified) h is = is
 no_absence (Err (Missing name)) h is = h
+no_absence (Err (Refused file line rule)) h is = h
 no_absence (Err _) h is = is

@@ -1,5 +1,5 @@
 -- What the words and the files ask for, and what became of it.
-use Rattle.std.proofs.Common.{◌≡◌, ◌⊎◌, inl, inr, ℕ, List, [], Option, None, Some, IfSome, Ok, Err, refl, sym, ap, ◌∙◌, subst}
+use Rattle.std.proofs.Common.{◌≡◌, ◌⊎◌, inl, inr, ℕ, List, [], Option, Some, Ok, Err, refl, sym, ap, ◌∙◌, subst}
 use Rattle.icn_host.specs.FileMaps.{FileMap}
 use Rattle.icn_host.proofs.SinkSteps.{gains_nothing}
 use Rattle.icn_host.specs.Sinks.{SinkState}
@@ -19,19 +19,19 @@ use Rattle.icn_running.specs.Reported.{ending_seen}
 use Rattle.icn_running.specs.Runs.{EndsAtFirst as RunEnds, IsBrokenOff, RunsTo}
 use Rattle.icn_lines.specs.declared.answer.Answer.{Answer}
 use Rattle.icn_lines.specs.declared.answer.Answer.TheVariants.{Ran, Command, Missing, BadImage, FileFault, ReadFault, WriteFault, NoMemory}
-use Rattle.icn_lines.specs.Answers.{IsFault}
+use Rattle.icn_lines.specs.Answers.{IsFault, IsAbsence}
 use Rattle.icn_lines.specs.Causes.{EndsAtFirst, outside}
 use Rattle.icn_lines.specs.Endings.{ending_held}
-use Rattle.icn_lines.specs.Faulting.{IsOfRun, of_run}
+use Rattle.icn_lines.specs.Faulting.{of_run}
 use Rattle.icn_lines.specs.Lines.{line_of}
 use Rattle.icn_lines.specs.Refusing.{PutsOwn, Refuses, own, put, want, write_fault}
 use Rattle.icn_lines.specs.Reporting.{PutsSome}
-use Rattle.icn_lines.specs.Telling.{Told, told}
-use Rattle.icn_lines.proofs.Counts.{broken_first, no_cause, refused_ends, unmoved}
+use Rattle.icn_lines.specs.Telling.{CallObjects, call_objects}
+use Rattle.icn_lines.proofs.Counts.{absence_of, broken_first, no_cause, refused_ends, unmoved}
 use Rattle.icn_lines.proofs.Endings.{held_seen}
 use Rattle.icn_lines.proofs.Reports.{broken_puts, is_run_fault, puts_own}
 use Rattle.iconx_top.specs.Job.{IsJob, IsRun, bad, missing, observation, ran, refusal}
-use Rattle.iconx_top.specs.Loading.{IsAbsence, IsLoaded, IsOfLoading}
+use Rattle.iconx_top.specs.Loading.{IsLoaded, IsOfLoading}
 use Rattle.iconx_top.specs.Outcomes.{Begins, Outcome, broke, done, fault, idle}
 use Rattle.iconx_top.specs.Usage.{usage}
 use Rattle.iconx_top.specs.Words.{Asks, words_reading}
@@ -50,7 +50,7 @@ begins_of {files = files} {left} name answer before between is (inr stops) = inr
 pub refused : {words : List (List ℕ)} {files : FileMap} {left : List ℕ} (name : List ℕ) (answer given : Answer)
     (held held' : Option FileMap) (left' : Option (List ℕ)) (input : ℕ) (out before after : SinkState)
     → Asked words files left name answer → held' ≡ held → held ≡ Some files → left' ≡ Some left → Refuses usage name answer before after given
-    → Outcome words files left given (told held (call_streams left' input out before)) (told held' (call_streams left' input out after))
+    → Outcome words files left given (call_objects held (call_streams left' input out before)) (call_objects held' (call_streams left' input out after))
 refused name answer given held held' left' input out before after (inl f) same e d (put n h) = absurd (n f)
 refused {files = files} {left} name answer given held held' left' input out before after (inr is) same e d (put n h) =
     done (refusal files left name answer) is (record { answered = refl; files = same ∙ e; left = d; output = gains_nothing out.held; errors = h.gains })
@@ -84,7 +84,7 @@ run_asked left launch name verified e input is = record { name = name; bytes = i
 
 pub ran_outcome : {words : List (List ℕ)} {files : FileMap} {left : List ℕ} {before after : CallStreams} (tables : Tables) (launch : Launch) (ending : Ending)
     (held : Option FileMap) → held ≡ Some files → IsRun words files left tables launch → RunsTo tables launch (ending_seen ending) before after
-    → Outcome words files left (Ran ending) (told held before) (told held after)
+    → Outcome words files left (Ran ending) (call_objects held before) (call_objects held after)
 ran_outcome {files = files} tables launch ending held e is (seen, (ended, (runs, ends))) =
     done (observation files seen) (ran tables launch seen is runs)
     (record {
@@ -99,7 +99,7 @@ pub broke_outcome : {words : List (List ℕ)} {files : FileMap} {left : List ℕ
     {out : SinkState} (between after : SinkState) (tables : Tables) (launch : Launch) (stopped : RunFault) (held : Option FileMap)
     → IsRun words files left tables launch → RunEnds {A = Ending} (Err stopped) before (call_streams left' input out between)
     → IsBrokenOff tables launch stopped before (call_streams left' input out between) → PutsOwn (of_run stopped) between after
-    → Outcome words files left (of_run stopped) (told held before) (told held (call_streams left' input out after))
+    → Outcome words files left (of_run stopped) (call_objects held before) (call_objects held (call_streams left' input out after))
 broke_outcome {before = before} between after tables launch stopped held is first broken puts =
     fault (is_run_fault stopped) refl
     (broke stopped between tables launch refl is (broken_first before _ stopped first) broken (puts_own _ _ (of_run stopped) puts))
@@ -109,40 +109,19 @@ pub off_puts : (tables : Tables) (launch : Launch) (stopped : RunFault) (before 
     → PutsSome before.errors after.errors
 off_puts tables launch stopped before after (seen, (runs, leaves)) = broken_puts stopped launch.outside.left seen before after leaves
 
-pub if_some : {T : Type 0} (o : Option T) (P : T → Type 0) → ((x : T) → o ≡ Some x → P x) → IfSome o P
-if_some None P f = tt
-if_some (Some x) P f = f x refl
-
-pub at_some : {T : Type 0} (P : T → Type 0) (o : Option T) (x : T) → o ≡ Some x → IfSome o P → P x
-at_some P o x e h = rw e at h
-
 -- the files that are told behind a call
-pub held_as : {words : List (List ℕ)} {files : FileMap} {left : List ℕ} {answer : Answer} {before : Told} {after : CallStreams} (held held' : Option FileMap)
-    → held' ≡ held
-    → Outcome words files left answer before (told held after) → Outcome words files left answer before (told held' after)
+pub held_as : {words : List (List ℕ)} {files : FileMap} {left : List ℕ} {answer : Answer} {before : CallObjects} {after : CallStreams}
+    (held held' : Option FileMap) → held' ≡ held
+    → Outcome words files left answer before (call_objects held after) → Outcome words files left answer before (call_objects held' after)
 held_as held held' e outcome = rw e outcome
 
--- which answers a loading and a run can give
+-- which answers a loading can give
 
 pub load_no_write : (answer : Answer) → IsOfLoading answer → answer ≡ WriteFault → ⊥
 load_no_write answer is e = rw e at is
 
 pub load_no_read : (answer : Answer) → IsOfLoading answer → answer ≡ ReadFault → ⊥
 load_no_read answer is e = rw e at is
-
-pub run_no_file : (answer : Answer) → IsOfRun answer → answer ≡ FileFault → ⊥
-run_no_file answer is e = rw e at is
-
-pub run_no_absence : (answer : Answer) → IsOfRun answer → IsAbsence answer → ⊥
-run_no_absence (Missing name) is a = is
-run_no_absence _ is a = a
-
-pub absence_of : {name : List ℕ} {before after : SinkState} (answer given : Answer) → Refuses usage name answer before after given → IsAbsence given
-    → IsAbsence answer
-absence_of answer _ (put n whole) is = is
-absence_of answer _ (own f puts) is = is
-absence_of answer _ (write_fault n stops) is = absurd is
-absence_of answer _ (want n between leads puts) is = absurd is
 
 -- faulty words
 pub command_ends : {files absences input : ℕ} {left : Option (List ℕ)} {out before after : SinkState} (kind : ℕ) (given : Answer)

@@ -61,13 +61,3 @@ IsOfLoading (BadImage rule) = Unit {0}
 IsOfLoading FileFault = Unit {0}
 IsOfLoading NoMemory = Unit {0}
 IsOfLoading answer = ⊥
-
--- the answer is that a file was not there
-abbrev pub IsAbsence : Answer → Type 0
-IsAbsence (Missing name) = Unit {0}
-IsAbsence answer = ⊥
-
--- the call is refused, as a file was not there
-abbrev pub IsErrOfAbsence : {A : Type 0} → Result A Answer → Type 0
-IsErrOfAbsence (Ok a) = ⊥
-IsErrOfAbsence (Err answer) = IsAbsence answer

@@ -12,11 +12,11 @@ use Rattle.icn_lines.specs.Answers.{IsFault}
 use Rattle.icn_lines.specs.Causes.{IsFirstFaultOf}
 use Rattle.icn_lines.specs.Faulting.{of_run}
 use Rattle.icn_lines.specs.Lines.{fault_line}
-use Rattle.icn_lines.specs.Telling.{Told, with_errors}
+use Rattle.icn_lines.specs.Telling.{CallObjects, with_errors}
 use Rattle.iconx_top.specs.Job.{Job, IsJob, IsRun}
 
 -- the job was done
-pub record Completes (job : Job) (answer : Answer) (before after : Told) : Type 0 where
+pub record Completes (job : Job) (answer : Answer) (before after : CallObjects) : Type 0 where
   pub answered : answer ≡ job.answer
   pub files : after.files ≡ Some job.files
   pub left : after.streams.left ≡ Some job.left
@@ -31,7 +31,7 @@ Begins IsJobOf before between =
 -- A fault: nothing was done but that a refusal's line may be begun; or the run of the image that the words name was broken off, by the first
 -- failure. The fault's own line comes behind, as far as the error output took it.
 pub data Faults (words : List (List ℕ)) (files : FileMap) (left : List ℕ) (answer : Answer)
-    (before after : Told) : Type 0 where
+    (before after : CallObjects) : Type 0 where
   idle : (between : SinkState) → after.streams.left ≡ before.streams.left
       → after.streams.output ≡ before.streams.output
       → Begins (IsJob words files left) before.streams.errors between
@@ -46,7 +46,7 @@ pub data Faults (words : List (List ℕ)) (files : FileMap) (left : List ℕ) (a
 
 -- the job was done, or a fault is answered
 pub data Outcome (words : List (List ℕ)) (files : FileMap) (left : List ℕ) (answer : Answer)
-    (before after : Told) : Type 0 where
+    (before after : CallObjects) : Type 0 where
   done : (job : Job) → IsJob words files left job → Completes job answer before after
       → Outcome words files left answer before after
   fault : IsFault answer → after.files ≡ before.files → Faults words files left answer before after

@@ -8,9 +8,9 @@ use Rattle.iconx_top.specs.declared.words.Limit.TheVariants.{Turns, Strings, Cel
 use Rattle.icn_words.specs.Numbers.{number_within}
 
 -- a run of an image under these limits with these arguments, or the way in which the first wrong word is wrong
-pub data Reading : Type 0 where
-  Asks : Bounds → List ℕ → List (List ℕ) → Reading
-  Faulty : ℕ → Reading
+pub data WordsReading : Type 0 where
+  Asks : Bounds → List ℕ → List (List ℕ) → WordsReading
+  Faulty : ℕ → WordsReading
 
 abbrev pub option_of : List ℕ → Option Limit
 option_of word =
@@ -34,34 +34,35 @@ is_dashed [] = false
 is_dashed (b ∷ rest) = b == 45
 
 -- the image, and the arguments behind it
-abbrev pub image_asked : Bounds → List ℕ → List (List ℕ) → Reading
+abbrev pub image_asked : Bounds → List ℕ → List (List ℕ) → WordsReading
 image_asked bounds word words = if is_dashed word then Faulty 5 else Asks bounds word words
 
-abbrev pub last_word : Bounds → List ℕ → Option Limit → Reading
+abbrev pub last_word : Bounds → List ℕ → Option Limit → WordsReading
 last_word bounds word None = image_asked bounds word []
 last_word bounds word (Some option) = Faulty 3
 
-abbrev pub or_faulty : Option Bounds → (Bounds → Reading) → Reading
+abbrev pub or_faulty : Option Bounds → (Bounds → WordsReading) → WordsReading
 or_faulty None next = Faulty 4
 or_faulty (Some bounds) next = next bounds
 
-abbrev pub two_words : Bounds → List ℕ → List ℕ → List (List ℕ) → Option Limit → (Bounds → Reading) → Reading
+abbrev pub two_words : Bounds → List ℕ → List ℕ → List (List ℕ) → Option Limit
+    → (Bounds → WordsReading) → WordsReading
 two_words bounds word value words None next = image_asked bounds word (value ∷ words)
 two_words bounds word value words (Some option) next = or_faulty (with_limit option bounds value) next
 
 -- While the next word is an option, the word after it is its value, and a later one replaces an earlier. Then the image stands.
-abbrev pub options : Bounds → List (List ℕ) → Reading
+abbrev pub options : Bounds → List (List ℕ) → WordsReading
 options bounds [] = Faulty 2
 options bounds (word ∷ []) = last_word bounds word (option_of word)
 options bounds (word ∷ value ∷ words) =
     two_words bounds word value words (option_of word) (λ next. options next words)
 
 -- the program's own name stands first
-abbrev pub words_reading : List (List ℕ) → Reading
+abbrev pub words_reading : List (List ℕ) → WordsReading
 words_reading [] = Faulty 2
 words_reading (program ∷ words) = options default_limits words
 
 -- the name of the image that words ask for
-abbrev pub image_name : Reading → List ℕ
+abbrev pub image_name : WordsReading → List ℕ
 image_name (Asks bounds name arguments) = name
 image_name (Faulty kind) = []

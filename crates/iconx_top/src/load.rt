@@ -1,8 +1,9 @@
 // The image that is to run.
 ghost use Rattle.std.specs.Prelude.{◌≡◌, ◌⊎◌, ℕ, List, Some, None, IfSome, IfErr, IsErrOf};
+ghost use Rattle.icn_lines.specs.Answers.{IsErrOfAbsence};
 ghost use Rattle.icn_host.specs.Counts.{CountsOnce, HasCause};
 ghost use Rattle.icn_code.specs.Seen.{tables_of};
-ghost use Rattle.iconx_top.specs.Loading.{IsChecked, IsErrOfAbsence, IsJudgement, IsLoaded, IsOfImage, IsOfLoading, Takes, of_image};
+ghost use Rattle.iconx_top.specs.Loading.{IsChecked, IsJudgement, IsLoaded, IsOfImage, IsOfLoading, Takes, of_image};
 
 use icn_code::Code;
 use icn_host::{Files, Look};

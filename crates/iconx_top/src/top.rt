@@ -3,27 +3,30 @@ ghost use Rattle.std.specs.Prelude.{◌≡◌, ◌⊎◌, ℕ, List, Option, Ok,
 ghost use Rattle.icn_host.specs.Counts.{Rose};
 ghost use Rattle.icn_host.specs.FileMaps.{FileMap};
 ghost use Rattle.icn_streams.specs.Handed.{call_streams};
-ghost use Rattle.icn_lines.specs.Answers.{IsFault, IsRefusal};
-ghost use Rattle.iconx_top.specs.Answered.{IsAnswered};
-ghost use Rattle.iconx_top.specs.Asking.{run_reading};
-ghost use Rattle.iconx_top.specs.Commanded.{IsCommand, IsCommanded};
+ghost use Rattle.icn_lines.specs.Answers.{IsAbsence, IsCommand, IsFault};
 ghost use Rattle.icn_lines.specs.Causes.{EndsAtFirst, RunEndsAtFirst, outside};
 ghost use Rattle.icn_lines.specs.Faulting.{IsOfRun};
-ghost use Rattle.iconx_top.specs.Loading.{IsAbsence, IsLoaded};
-ghost use Rattle.icn_lines.specs.Telling.{told};
-ghost use Rattle.iconx_top.specs.Outcomes.{Outcome};
+ghost use Rattle.icn_lines.specs.InputLeft.{LosesSome};
 ghost use Rattle.icn_lines.specs.Reporting.{LineStands, Reports};
+ghost use Rattle.icn_lines.specs.Telling.{call_objects};
+ghost use Rattle.iconx_top.specs.Answered.{IsAnswered};
+ghost use Rattle.iconx_top.specs.Asking.{run_reading};
+ghost use Rattle.iconx_top.specs.Commanded.{IsCommanded};
+ghost use Rattle.iconx_top.specs.Loading.{IsLoaded};
+ghost use Rattle.iconx_top.specs.Outcomes.{Outcome};
 ghost use Rattle.iconx_top.specs.Usage.{usage};
 ghost use Rattle.iconx_top.specs.Words.{words_reading as read, image_name};
 
 use crate::load::load;
 use crate::words::{RunAsked, asked};
 use icn_cells::VecStack;
+use icn_defs::broken_off;
 use icn_frames::Cell;
 use icn_host::{Files, Sink, Source};
 use icn_lines::{Answer, answer_of, own_line, refuse};
 use icn_running::run;
 use icn_verify::Verified;
+use outside_laws::runs_leave;
 use std::alloc::Global;
 
 const USAGE: &[u8] =
@@ -42,9 +45,9 @@ pub fn iconx_main<F: Files, I: Source, O: Sink, E: Sink>(
     // Where the files and the input tell their content, the job was done, or a fault is answered and leaves a part of it.
     ensures outcome { IfSome (F.held files.old)
         (λ held. IfSome (I.left input.old) (λ left. Outcome (map string_bytes words.now) held left result
-        (told (F.held files.old)
+        (call_objects (F.held files.old)
         (call_streams (I.left input.old) (I.faults input.old) (O.state out.old) (E.state err.old)))
-        (told (F.held files.new)
+        (call_objects (F.held files.new)
         (call_streams (I.left input.new) (I.faults input.new) (O.state out.new) (E.state err.new))))) }
     // Where no count of faults rose, no fault is answered but want of memory.
     ensures faultless { ¬ Rose (F.faults files.old) (F.faults files.new)
@@ -71,9 +74,12 @@ pub fn iconx_main<F: Files, I: Source, O: Sink, E: Sink>(
     // The words are faulty exactly where they name no run of an image, in that way.
     ensures command { IsCommanded (read (map string_bytes words.now)) result }
 
-    // A refusal leaves the output and the input as they were.
-    ensures refused { IsRefusal result → (O.state out.new).held ≡ (O.state out.old).held }
-    ensures unread { IsRefusal result → I.left input.new ≡ I.left input.old }
+    // Where the input tells what it has left, some first bytes of it were taken, whatever the files tell.
+    ensures input { IfSome (I.left input.old) (λ left. LosesSome left (I.left input.new)) }
+
+    // An answer that no run gives leaves the output and the input as they were; the files stay so whatever is answered.
+    ensures refused { (IsOfRun result → ⊥) → (O.state out.new).held ≡ (O.state out.old).held }
+    ensures unread { (IsOfRun result → ⊥) → I.left input.new ≡ I.left input.old }
     ensures files { F.held files.new ≡ F.held files.old }
 
     // The first fault ends the call: its object's count rose once, and no other count did but at the put of the fault's own line. An
@@ -101,17 +107,18 @@ fn image_answer<F: Files, I: Source, O: Sink, E: Sink>(
 ) -> Answer
     ensures outcome { (words : List (List ℕ)) → read words ≡ run_reading run.entry
         → IfSome (F.held files.old) (λ held. IfSome (I.left input.old) (λ left. Outcome words held left result
-        (told (F.held files.old)
+        (call_objects (F.held files.old)
         (call_streams (I.left input.old) (I.faults input.old) (O.state out.old) (E.state err.old)))
-        (told (F.held files.new)
+        (call_objects (F.held files.new)
         (call_streams (I.left input.new) (I.faults input.new) (O.state out.new) (E.state err.new))))) }
     ensures reported { Reports usage run.entry.image.now (I.left input.old) (E.state err.old)
         (E.state err.new) result }
     ensures answered { (words : List (List ℕ)) → read words ≡ run_reading run.entry
         → IfSome (F.held files.old) (λ held. IsAnswered words held result) }
+    ensures input { IfSome (I.left input.old) (λ left. LosesSome left (I.left input.new)) }
     ensures command { IsCommand result → ⊥ }
-    ensures refused { IsRefusal result → (O.state out.new).held ≡ (O.state out.old).held }
-    ensures unread { IsRefusal result → I.left input.new ≡ I.left input.old }
+    ensures refused { (IsOfRun result → ⊥) → (O.state out.new).held ≡ (O.state out.old).held }
+    ensures unread { (IsOfRun result → ⊥) → I.left input.new ≡ I.left input.old }
     ensures files { F.held files.new ≡ F.held files.old }
     ensures causes { EndsAtFirst result (IsAbsence result)
         (outside (F.faults files.old) (F.absences files.old)
@@ -138,17 +145,20 @@ fn run_answer<I: Source, O: Sink, E: Sink>(
         → read words ≡ run_reading asked.entry
         → IsLoaded (held asked.entry.image.now) asked.entry.image.now (Ok code.now) → told_files ≡ Some held
         → IfSome (I.left input.old) (λ left. Outcome words held left result
-        (told told_files
+        (call_objects told_files
         (call_streams (I.left input.old) (I.faults input.old) (O.state out.old) (E.state err.old)))
-        (told told_files
+        (call_objects told_files
         (call_streams (I.left input.new) (I.faults input.new) (O.state out.new) (E.state err.new)))) }
     ensures reported { (name : List ℕ)
         → Reports usage name (I.left input.old) (E.state err.old) (E.state err.new) result }
+    ensures input { IfSome (I.left input.old) (λ left. LosesSome left (I.left input.new)) }
     ensures others { IsOfRun result }
     ensures causes { RunEndsAtFirst result
         (call_streams (I.left input.old) (I.faults input.old) (O.state out.old) (E.state err.old))
         (call_streams (I.left input.new) (I.faults input.new) (O.state out.new) (E.state err.new)) }
 {
+    runs_leave();
+    broken_off();
     match run::<VecStack<Cell>, I, O, E>(
         alloc,
         code,

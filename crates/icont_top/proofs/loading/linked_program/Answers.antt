@@ -1,11 +1,12 @@
 use Rattle.std.proofs.Common.{◌≡◌, ◌∙◌, ap, sym, subst, Ok}
-use Rattle.icont_units.specs.Fetching.{files_seen, texts}
+use Rattle.icn_lines.proofs.Telling.{at_some, if_some}
+use Rattle.icont_units.specs.Fetching.{files_seen}
 use Rattle.icont_units.specs.Files.{files_named}
 use Rattle.icont_units.specs.Units.{Load}
 use Rattle.icont_top.specs.Basing.{first_named}
 use Rattle.icont_top.proofs.FirstBase.{load_base}
 use Rattle.icont_top.proofs.LoadedProgram.{no_program_of, told_of}
-use Rattle.icont_top.proofs.Topmost.{at_some, if_some}
+use Rattle.icn_words.specs.Texts.{texts}
 use Rattle.icont_top.proofs.loading.linked_program.Goals as goal
 
 pub returns-in-Ok-make-clause-program : goal.returns-in-Ok-make-clause-program

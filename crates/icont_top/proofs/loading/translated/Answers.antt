@@ -1,12 +1,13 @@
 use Rattle.std.proofs.Common.{◌≡◌, ◌∙◌, ap, subst, Ok}
+use Rattle.icn_lines.proofs.Telling.{at_some, if_some}
 use Rattle.icn_link.specs.LinkFaults.{unit_names}
 use Rattle.icn_link.specs.Units.{units_seen}
-use Rattle.icont_units.specs.Fetching.{files_seen, texts}
+use Rattle.icont_units.specs.Fetching.{files_seen}
 use Rattle.icont_units.specs.Files.{files_named, sources_in}
 use Rattle.icont_units.specs.Units.{Come, units_of}
 use Rattle.icont_top.specs.Writing.{bases}
 use Rattle.icont_top.proofs.FirstBase.{come_names}
-use Rattle.icont_top.proofs.Topmost.{at_some, if_some}
+use Rattle.icn_words.specs.Texts.{texts}
 use Rattle.icont_top.proofs.WrittenTexts.{all_read, are_ucode}
 use Rattle.icont_top.proofs.loading.translated.Goals as goal
 

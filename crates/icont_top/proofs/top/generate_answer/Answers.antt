@@ -1,10 +1,11 @@
 use Rattle.std.proofs.Common.{refl, ap, Ok, Err}
-use Rattle.icn_lines.proofs.Counts.{no_cause, refused_ends, unmoved}
+use Rattle.icn_lines.proofs.Counts.{no_cause, refused_ends, unmoved, absence_of}
 use Rattle.icn_lines.proofs.Reports.{reports_of}
+use Rattle.icn_lines.proofs.Telling.{if_some}
 use Rattle.icont_units.specs.Generated.{GeneratedComes}
 use Rattle.icont_top.specs.Job.{of_number}
-use Rattle.icont_top.proofs.AnswersGiven.{absence_of, command_refuses, loading_no_image, loading_no_read, loading_no_run, loading_no_write, no_command}
-use Rattle.icont_top.proofs.Topmost.{asked_program, if_some, refused_done}
+use Rattle.icont_top.proofs.AnswersGiven.{command_refuses, loading_no_image, loading_no_read, loading_no_run, loading_no_write, no_command}
+use Rattle.icont_top.proofs.Topmost.{asked_program, refused_done}
 use Rattle.icont_top.proofs.top.generate_answer.Goals as goal
 
 pub returns-in-Ok-clause-done : goal.returns-in-Ok-clause-done

@@ -3,12 +3,13 @@ use Rattle.std.specs.Prelude.{string_bytes}
 use Rattle.std.specs.Option.{option_map}
 use Rattle.icn_lines.proofs.Counts.{faultless_of}
 use Rattle.icn_lines.proofs.Reports.{line_of_reports}
+use Rattle.icn_lines.proofs.Telling.{at_some, if_some}
 use Rattle.icont_words.specs.declared.words.Task.TheVariants as Held
-use Rattle.icont_words.specs.Asking.{run_seen, texts}
+use Rattle.icont_words.specs.Asking.{run_seen}
 use Rattle.icont_words.specs.Words.{Generate, Link, Translate}
 use Rattle.icont_top.proofs.AnswersGiven.{task_commanded}
 use Rattle.icont_top.proofs.WholeCommand.{answered_of, complete_by, headline_of, link_misses, names_asked, number_misses, outcome_of, task_asked, units_miss, words_called, words_done, words_end, words_miss, words_reported, written_of}
-use Rattle.icont_top.proofs.Topmost.{at_some, if_some}
+use Rattle.icn_words.specs.Texts.{texts}
 use Rattle.icont_top.proofs.top.icont_main.Goals as goal
 
 pub returns-in-Ok-Translate-clause-outcome : goal.returns-in-Ok-Translate-clause-outcome

@@ -1,12 +1,13 @@
 use Rattle.std.proofs.Common.{◌∙◌, ap, arith, Err}
 use Rattle.std.specs.Option.{option_map}
 use Rattle.icn_lines.specs.declared.answer.Answer.TheVariants.{Wrote}
-use Rattle.icn_lines.proofs.Counts.{none_counts, own_counts}
+use Rattle.icn_lines.proofs.Counts.{none_counts, own_counts, run_no_absence, run_no_file}
 use Rattle.icn_lines.proofs.Reports.{own_reports, wrote_no_fault}
+use Rattle.icn_lines.proofs.Telling.{at_some, if_some}
 use Rattle.icont_words.specs.Asking.{run_seen}
 use Rattle.icont_units.proofs.Matching.{same_Err}
-use Rattle.icont_top.proofs.AnswersGiven.{run_no_absence, run_no_file, said_name, torn_no_absence, torn_no_read, torn_no_write}
-use Rattle.icont_top.proofs.Topmost.{image_torn, is_torn, ran_done, writes_image, writes_part, wrote_done, at_some, if_some}
+use Rattle.icont_top.proofs.AnswersGiven.{said_name, torn_no_absence, torn_no_read, torn_no_write}
+use Rattle.icont_top.proofs.Topmost.{image_torn, is_torn, ran_done, writes_image, writes_part, wrote_done}
 use Rattle.icont_top.proofs.InputLeft.{run_lost}
 use Rattle.icont_top.proofs.top.image_answer.Goals as goal
 

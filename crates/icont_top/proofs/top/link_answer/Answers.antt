@@ -1,13 +1,14 @@
 use Rattle.std.proofs.Common.{◌∙◌, inr, Ok}
 use Rattle.icn_lines.specs.declared.answer.Answer.TheVariants.{FileFault}
-use Rattle.icn_lines.proofs.Counts.{after_read, err_counts, refused_ends}
+use Rattle.icn_lines.proofs.Counts.{after_read, err_counts, refused_ends, absence_of}
 use Rattle.icn_lines.proofs.Reports.{reports_of}
-use Rattle.icont_units.specs.Fetching.{texts}
+use Rattle.icn_lines.proofs.Telling.{at_some, if_some}
+use Rattle.icn_words.specs.Texts.{texts}
 use Rattle.icont_units.specs.Files.{files_named}
 use Rattle.icont_units.specs.Units.{Load}
 use Rattle.icont_top.specs.Job.{of_files}
-use Rattle.icont_top.proofs.AnswersGiven.{absence_of, command_refuses, given_or_told, loading_no_image, loading_no_read, loading_no_run, loading_no_write, no_command, told_again, told_refused}
-use Rattle.icont_top.proofs.Topmost.{asked_program, at_some, held_as, if_some, refused_done}
+use Rattle.icont_top.proofs.AnswersGiven.{command_refuses, given_or_told, loading_no_image, loading_no_read, loading_no_run, loading_no_write, no_command, told_again, told_refused}
+use Rattle.icont_top.proofs.Topmost.{asked_program, held_as, refused_done}
 use Rattle.icont_top.proofs.top.link_answer.Goals as goal
 
 pub returns-in-Ok-clause-done : goal.returns-in-Ok-clause-done

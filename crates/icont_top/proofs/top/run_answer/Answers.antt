@@ -6,7 +6,7 @@ use Rattle.icn_lines.proofs.Counts.{broken_counts, ran_counts}
 use Rattle.icn_lines.proofs.Reports.{fault_reports, ran_reports}
 use Rattle.icont_words.specs.Asking.{run_seen}
 use Rattle.icont_top.proofs.RunsUnder.{off_puts, run_broken, run_ended}
-use Rattle.icont_top.proofs.Topmost.{if_some}
+use Rattle.icn_lines.proofs.Telling.{if_some}
 use Rattle.icont_top.proofs.top.run_answer.Goals as goal
 
 pub returns-in-Ok-clause-ran : goal.returns-in-Ok-clause-ran

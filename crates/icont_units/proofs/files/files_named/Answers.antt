@@ -1,6 +1,7 @@
 use Rattle.std.proofs.Common.{drop}
+use Rattle.icn_words.specs.Texts.{texts}
 use Rattle.std.proofs.lemmas.List.{drop_all}
-use Rattle.icont_units.specs.Fetching.{files_seen, texts}
+use Rattle.icont_units.specs.Fetching.{files_seen}
 use Rattle.icont_units.proofs.Naming.{all_named}
 use Rattle.icont_units.proofs.files.files_named.Goals as goal
 

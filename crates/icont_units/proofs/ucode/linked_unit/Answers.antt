@@ -1,5 +1,5 @@
 use Rattle.icont_units.proofs.Judging.{linked, lost, no_cause, not_linked, not_text}
-use Rattle.icont_units.proofs.Matching.{at_some, if_some}
+use Rattle.icn_lines.proofs.Telling.{at_some, if_some}
 use Rattle.icont_units.proofs.ucode.linked_unit.Goals as goal
 
 pub returns-in_default-clause-links : goal.returns-in_default-clause-links

@@ -3,9 +3,10 @@ use Rattle.icn_lines.specs.declared.answer.Answer.TheVariants.{Command}
 use Rattle.iconx_top.specs.Job.{wrong_words}
 use Rattle.iconx_top.specs.Answered.{wrong_words as by_words}
 use Rattle.iconx_top.proofs.Answering.{answer_put}
-use Rattle.iconx_top.proofs.Refusals.{command_ends, command_unrun, if_some, refused}
+use Rattle.iconx_top.proofs.Refusals.{command_ends, command_unrun, refused}
 use Rattle.icn_lines.proofs.Counts.{faultless_of}
 use Rattle.icn_lines.proofs.Reports.{line_of_reports, reports_of}
+use Rattle.icn_lines.proofs.Telling.{if_some}
 use Rattle.iconx_top.proofs.ReportLines.{asked_reports}
 use Rattle.iconx_top.proofs.top.iconx_main.Goals as goal
 
@@ -40,3 +41,6 @@ returns-in-Err-clause-faultless g c = faultless_of c.refuse.result (command_ends
 
 pub returns-in-Ok-clause-faultless : goal.returns-in-Ok-clause-faultless
 returns-in-Ok-clause-faultless g c = faultless_of c.image_answer.result c.image_answer.ensures.causes
+
+pub returns-in-Err-clause-input : goal.returns-in-Err-clause-input
+returns-in-Err-clause-input g c = if_some (g.I.Source.left c.args.input.now) _ (λ left d. (0, d))

@@ -2,10 +2,11 @@ use Rattle.std.proofs.Common.{map}
 use Rattle.std.specs.Prelude.{string_bytes}
 use Rattle.icn_value.specs.Limited.{limits_of}
 use Rattle.iconx_top.proofs.Answering.{answer_put, load_answered, run_answered}
-use Rattle.iconx_top.proofs.Refusals.{absence_of, asked_load, at_some, held_as, if_some, load_no_read, load_no_write, refused, run_no_absence, run_no_file}
+use Rattle.iconx_top.proofs.Refusals.{asked_load, held_as, load_no_read, load_no_write, refused}
 use Rattle.icn_lines.specs.declared.answer.Answer.TheVariants.{FileFault}
-use Rattle.icn_lines.proofs.Counts.{err_counts, refused_ends}
+use Rattle.icn_lines.proofs.Counts.{err_counts, refused_ends, absence_of, run_no_absence, run_no_file}
 use Rattle.icn_lines.proofs.Reports.{reports_of}
+use Rattle.icn_lines.proofs.Telling.{at_some, if_some}
 use Rattle.iconx_top.proofs.ReportLines.{load_unrun}
 use Rattle.iconx_top.proofs.top.image_answer.Goals as goal
 
@@ -58,3 +59,6 @@ returns-in-Err-clause-causes g c =
     refused_ends c.in-Err.answer c.refuse.result (load_no_write c.in-Err.answer c.in-Err.ensures.others) (load_no_read c.in-Err.answer c.in-Err.ensures.others)
     (err_counts c.in-Err.answer FileFault c.in-Err.ensures.file_fault) c.in-Err.ensures.absence
     (absence_of c.in-Err.answer c.refuse.result c.refuse.ensures.line) c.refuse.ensures.line
+
+pub returns-in-Err-clause-input : goal.returns-in-Err-clause-input
+returns-in-Err-clause-input g c = if_some (g.I.Source.left c.args.input.now) _ (λ left d. (0, d))

@@ -3,8 +3,10 @@ use Rattle.icn_value.specs.Store.{outside_of}
 use Rattle.icn_code.specs.Seen.{tables_of}
 use Rattle.icn_machine.specs.Starting.{launch_with}
 use Rattle.icn_lines.proofs.Counts.{broken_counts, ran_counts}
+use Rattle.icn_lines.proofs.InputLeft.{broken_lost, ended_lost}
 use Rattle.icn_lines.proofs.Reports.{fault_reports, ran_reports}
-use Rattle.iconx_top.proofs.Refusals.{broke_outcome, if_some, off_puts, ran_outcome, run_asked}
+use Rattle.icn_lines.proofs.Telling.{if_some}
+use Rattle.iconx_top.proofs.Refusals.{broke_outcome, off_puts, ran_outcome, run_asked}
 use Rattle.iconx_top.proofs.top.run_answer.Goals as goal
 
 pub returns-in-Ok-clause-outcome : goal.returns-in-Ok-clause-outcome
@@ -39,3 +41,19 @@ returns-in-Ok-clause-causes g c = ran_counts c.in-Ok.ending c.in-Ok.ensures.firs
 pub returns-in-Err-clause-causes : goal.returns-in-Err-clause-causes
 returns-in-Err-clause-causes g c =
     rw c.answer_of-answer.ensures (broken_counts _ _ c.in-Err.fault c.in-Err.ensures.first_fault (rw c.answer_of-answer.ensures at c.own_line.ensures.puts))
+
+pub returns-in-Ok-clause-input : goal.returns-in-Ok-clause-input
+returns-in-Ok-clause-input g c =
+    if_some (g.I.Source.left c.args.input.now) _ (λ left d.
+    let ends = c.in-Ok.ensures.ends left d in
+    ended_lost c.runs_leave.ensures.on_stacks (tables_of c.args.code.now.code)
+    (launch_with c.args.asked.arguments.now c.args.asked.limits (outside_of left)) left ends.0 (c.broken_off.ensures.begun left) ends.1.1.0
+    ends.1.1.1.left)
+
+pub returns-in-Err-clause-input : goal.returns-in-Err-clause-input
+returns-in-Err-clause-input g c =
+    if_some (g.I.Source.left c.args.input.now) _ (λ left d.
+    let off = c.in-Err.ensures.breaks left d in
+    broken_lost c.runs_leave.ensures.on_stacks c.broken_off.ensures.reading (tables_of c.args.code.now.code)
+    (launch_with c.args.asked.arguments.now c.args.asked.limits (outside_of left)) c.in-Err.fault left off.0 _ _ (c.broken_off.ensures.begun left) off.1.0
+    off.1.1)
