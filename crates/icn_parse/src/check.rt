@@ -27,7 +27,7 @@ impl From<Place> for Unfit {
 }
 
 // Where the first unknown keyword of a procedure stands.
-#[tactic(auto, using(crate::proofs::Unknown::unknown_kept, crate::proofs::Unknown::unknown_then))]
+#[tactic(auto, using(crate::proofs::UnknownKeywords::unknown_kept, crate::proofs::UnknownKeywords::unknown_then))]
 fn check_procedure(procedure: &Procedure) -> Result<(), Place>
     ensures { place_found result ≡ first_unknown (initial_keywords (procedure_of procedure.now).initial
         ++ all_keywords (procedure_of procedure.now).body) }

@@ -19,7 +19,7 @@ fn check_name(name: &Name) -> Result<(), Place>
 
 /// Where the first unknown keyword of an expression stands.
 #[cycle(keywords)]
-#[tactic(auto, using(crate::proofs::Unknown::unknown_kept, crate::proofs::Unknown::unknown_then))]
+#[tactic(auto, using(crate::proofs::UnknownKeywords::unknown_kept, crate::proofs::UnknownKeywords::unknown_then))]
 pub fn check(expr: &Expr) -> Result<(), Place>
     ensures { place_found result ≡ first_unknown (keywords (tree_of expr.now)) }
 {
