@@ -3,4 +3,5 @@ pub mod Counts
 pub mod Endings
 pub mod Rising
 pub mod Telling
+pub mod Leaving
 pub mod InputLeft

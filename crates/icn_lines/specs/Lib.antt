@@ -8,3 +8,5 @@ pub mod Telling
 pub mod InputLeft
 pub mod Causes
 pub mod Falling
+pub mod FilesRead
+pub mod Leaving

@@ -6,11 +6,11 @@ use Rattle.std.specs.Str.{bytes_eq}
 use Rattle.std.proofs.lemmas.Bool.{cond-true}
 use Rattle.std.proofs.lemmas.Slice.Eq.{bytes_eq-Decides}
 use Rattle.icn_host.specs.FileMaps.{FileMap, Sets, SetsPart}
-use Rattle.icn_host.proofs.Putting.{leads_of, puts_nothing}
+use Rattle.icn_host.proofs.Putting.{puts_nothing}
 use Rattle.icn_host.proofs.SinkSteps.{gains_nothing}
-use Rattle.icn_host.specs.Puts.{all, Leads}
+use Rattle.icn_host.specs.Puts.{all, LeadsBy}
 use Rattle.icn_host.specs.Sinks.{SinkState}
-use Rattle.icn_host.specs.declared.fault.Fault.TheVariants.{Failed, NoMemory as Wants}
+use Rattle.icn_host.specs.declared.fault.Fault.TheVariants.{NoMemory as Wants}
 use Rattle.icn_tree.specs.Trees.{Declaration}
 use Rattle.icn_code.specs.Codes.{Tables}
 use Rattle.icn_code.specs.Rules.{keeps_rules}
@@ -29,7 +29,7 @@ use Rattle.icn_lines.specs.Faulting.{IsOfRun}
 use Rattle.icn_lines.specs.Lines.{line_of}
 use Rattle.icn_lines.specs.Refusing.{PutsOwn, Refuses as PutsRefusal, put, own, write_fault, want}
 use Rattle.icn_lines.specs.Telling.{CallObjects, call_objects}
-use Rattle.icn_lines.proofs.Reports.{is_run_fault, puts_own}
+use Rattle.icn_lines.proofs.Reports.{is_run_fault, no_fault, puts_own}
 use Rattle.icn_lines.proofs.Telling.{at_some, if_some}
 use Rattle.icont_words.specs.Asking.{run_seen}
 use Rattle.icont_words.specs.Words.{Run, Translate, Asks, ComeTo}
@@ -40,8 +40,8 @@ use Rattle.icont_top.specs.declared.top.Plan.{Plan as PlanHeld}
 use Rattle.icont_top.specs.Answered.{IsAnswered, fault as answered_fault, refused as answered_refused, translated as answered_translated, wrote as answered_wrote, ran as answered_ran}
 use Rattle.icont_top.specs.Answering.{IsDone}
 use Rattle.icont_top.specs.Asking.{IsProgram, IsProgramOf, IsReady, plan_seen}
-use Rattle.icont_top.specs.Job.{IsJob, IsPlanned, IsTranslated, Plan, Plans, Refuses, WrittenFile, behind, image_file, image_name, run_launch, no_members, no_program, no_units, refusal, refuses, run_job, runs, translates, ucode_files, writes, files_job}
-use Rattle.icont_top.specs.Outcomes.{AreWritten, Begins, HasWritten, HoldsNow, HoldsWritten, IsImage, IsReadBack, Outcome, WritesAll, WritesPart, all_written, broke, broke_behind, done, fault, idle, left_alone, part_written, torn}
+use Rattle.icont_top.specs.Job.{IsJob, Job, IsPlanned, IsTranslated, Plan, Plans, Refuses, WrittenFile, behind, image_file, image_name, run_launch, no_members, no_program, no_units, refusal, refuses, run_job, runs, translates, ucode_files, writes, files_job}
+use Rattle.icont_top.specs.Outcomes.{AreWritten, HasWritten, HoldsNow, HoldsWritten, IsBehindFiles, IsIdleFault, IsImage, IsReadBack, IsTornFault, IsUnwritten, Outcome, WritesAll, WritesPart, all_written, broke, broke_behind, done, fault, idle, left_alone, part_written, torn}
 use Rattle.icont_top.specs.Programs.{Behaves, Links, RunsBy, files_of, is_program, linked_code, not_linked, unverified}
 use Rattle.icont_top.specs.Running.{HasRun, has_ended, was_broken, was_broken_behind}
 use Rattle.icont_top.specs.Usage.{usage}
@@ -54,28 +54,45 @@ use Rattle.icont_top.proofs.WrittenTexts.{writes_none}
 abbrev pub Asked : List (List ℕ) → FileMap → Answer → Type 0
 Asked words files answer = IsFault answer ⊎ Refuses words files answer
 
-begins_of : {words : List (List ℕ)} {files : FileMap} {left : List ℕ} (answer : Answer) (before between : SinkState)
-    → Refuses words files answer → Leads before between (line_of usage [] answer) → Begins (IsJob words files left) before between
-begins_of answer before between is (inl same) = inl same
-begins_of {left = left} answer before between is (inr stops) = inr (refusal left answer, refuses answer is, refl, stops)
+-- a fault that is none of the input or an output was answered before a line was put
+idle_of : (IsJobOf : Job → Type 0) (answer : Answer) (before : SinkState) → IsFault answer → (answer ≡ WriteFault → ⊥) → (answer ≡ ReadFault → ⊥)
+    → IsIdleFault IsJobOf answer before before
+idle_of IsJobOf Wrote before f no_write no_read = absurd (no_fault Wrote refl f)
+idle_of IsJobOf (Ran ending) before f no_write no_read = absurd (no_fault (Ran ending) refl f)
+idle_of IsJobOf (Refused file line rule) before f no_write no_read = absurd (no_fault (Refused file line rule) refl f)
+idle_of IsJobOf (Command kind) before f no_write no_read = absurd (no_fault (Command kind) refl f)
+idle_of IsJobOf (Missing name) before f no_write no_read = absurd (no_fault (Missing name) refl f)
+idle_of IsJobOf (BadUcode name rule) before f no_write no_read = absurd (no_fault (BadUcode name rule) refl f)
+idle_of IsJobOf (BadImage rule) before f no_write no_read = absurd (no_fault (BadImage rule) refl f)
+idle_of IsJobOf FileFault before f no_write no_read = refl
+idle_of IsJobOf ReadFault before f no_write no_read = absurd (no_read refl)
+idle_of IsJobOf WriteFault before f no_write no_read = absurd (no_write refl)
+idle_of IsJobOf NoMemory before f no_write no_read = inl refl
+
+-- memory was wanting as a refusal's line was put
+idle_short : {words : List (List ℕ)} {files : FileMap} {left : List ℕ} (answer : Answer) (before between : SinkState)
+    → Refuses words files answer → LeadsBy Wants before between (line_of usage [] answer)
+    → IsIdleFault (IsJob words files left) NoMemory before between
+idle_short answer before between is (inl same) = inl same
+idle_short {left = left} answer before between is (inr short) = inr (refusal left answer, refuses answer is, refl, short)
 
 -- nothing was done but to put a line
 refused : {words : List (List ℕ)} {files : FileMap} {left : List ℕ} (answer given : Answer) (held held' : Option FileMap) (left' : Option (List ℕ))
-    (input : ℕ) (out before after : SinkState) → Asked words files answer → held' ≡ held → left' ≡ Some left
-    → PutsRefusal usage [] answer before after given
+    (input : ℕ) (out before after : SinkState) → Asked words files answer → (answer ≡ WriteFault → ⊥) → (answer ≡ ReadFault → ⊥)
+    → held' ≡ held → left' ≡ Some left → PutsRefusal usage [] answer before after given
     → Outcome words files left given (call_objects held (call_streams left' input out before)) (call_objects held' (call_streams left' input out after))
-refused answer given held held' left' input out before after (inl f) same d (put n h) = absurd (n f)
-refused {left = left} answer given held held' left' input out before after (inr is) same d (put n h) =
+refused answer given held held' left' input out before after (inl f) no_write no_read same d (put n h) = absurd (n f)
+refused {left = left} answer given held held' left' input out before after (inr is) no_write no_read same d (put n h) =
     done (refusal left answer) (refuses answer is)
     (record { answered = refl; files = writes_none held held' same; left = d; output = gains_nothing out.held; errors = h.gains })
-refused answer given held held' left' input out before after asks same d (own f puts) =
-    fault f (idle before same refl refl (inl refl) (puts_own _ _ answer puts))
-refused answer given held held' left' input out before after (inl f) same d (write_fault n leads) = absurd (n f)
-refused answer given held held' left' input out before after (inr is) same d (write_fault n stops) =
-    fault refl (idle after same refl refl (begins_of answer before after is (leads_of _ _ _ Failed stops)) (all (puts_nothing after)))
-refused answer given held held' left' input out before after (inl f) same d (want n between leads puts) = absurd (n f)
-refused answer given held held' left' input out before after (inr is) same d (want n between leads puts) =
-    fault refl (idle between same refl refl (begins_of answer before between is (leads_of _ _ _ Wants leads)) puts)
+refused {words} {files} {left} answer given held held' left' input out before after asks no_write no_read same d (own f puts) =
+    fault f (idle before same refl refl (idle_of (IsJob words files left) answer before f no_write no_read) (puts_own _ _ answer puts))
+refused answer given held held' left' input out before after (inl f) no_write no_read same d (write_fault n stops) = absurd (n f)
+refused {left = left} answer given held held' left' input out before after (inr is) no_write no_read same d (write_fault n stops) =
+    fault refl (idle after same refl refl (refusal left answer, refuses answer is, refl, stops) (all (puts_nothing after)))
+refused answer given held held' left' input out before after (inl f) no_write no_read same d (want n between leads puts) = absurd (n f)
+refused answer given held held' left' input out before after (inr is) no_write no_read same d (want n between leads puts) =
+    fault refl (idle between same refl refl (idle_short answer before between is leads) puts)
 
 asked_answer : {words : List (List ℕ)} {files : FileMap} (answer : Answer) → Asked words files answer → IsAnswered words files answer
 asked_answer answer (inl f) = answered_fault answer f
@@ -96,14 +113,35 @@ given_none Holds answer _ a w m (own f puts) is = a is
 given_none Holds answer _ a w m (write_fault n leads) is = w is
 given_none Holds answer _ a w m (want n between leads puts) is = m is
 
+-- an answer that no file was written for, and that is no fault of the input
+unwritten : (answer : Answer) → (HasWritten answer → ⊥) → (answer ≡ ReadFault → ⊥) → IsUnwritten answer
+unwritten Wrote none no_read = none tt
+unwritten (Ran ending) none no_read = none tt
+unwritten (Refused file line rule) none no_read = tt
+unwritten (Command kind) none no_read = tt
+unwritten (Missing name) none no_read = tt
+unwritten (BadUcode name rule) none no_read = tt
+unwritten (BadImage rule) none no_read = tt
+unwritten FileFault none no_read = tt
+unwritten ReadFault none no_read = no_read refl
+unwritten WriteFault none no_read = tt
+unwritten NoMemory none no_read = tt
+
+given_unwritten : {before after : SinkState} (answer given : Answer) → IsUnwritten answer → PutsRefusal usage [] answer before after given
+    → IsUnwritten given
+given_unwritten answer _ is (put n h) = is
+given_unwritten answer _ is (own f puts) = is
+given_unwritten answer _ is (write_fault n stops) = tt
+given_unwritten answer _ is (want n between leads puts) = tt
+
 pub refused_done : {words : List (List ℕ)} {files : FileMap} (answer given : Answer) (held held' : Option FileMap) (left : Option (List ℕ))
-    (input : ℕ) (out before after : SinkState) → (HasWritten answer → ⊥) → Asked words files answer → held' ≡ held
-    → PutsRefusal usage [] answer before after given
+    (input : ℕ) (out before after : SinkState) → (HasWritten answer → ⊥) → (answer ≡ WriteFault → ⊥) → (answer ≡ ReadFault → ⊥)
+    → Asked words files answer → held' ≡ held → PutsRefusal usage [] answer before after given
     → IsDone words files given (call_objects held (call_streams left input out before)) (call_objects held' (call_streams left input out after))
-refused_done answer given held held' left input out before after none asks same line = record {
-  outcome = if_some left _ (λ bytes d. refused answer given held held' left input out before after asks same d line);
+refused_done answer given held held' left input out before after none no_write no_read asks same line = record {
+  outcome = if_some left _ (λ bytes d. refused answer given held held' left input out before after asks no_write no_read same d line);
   headline = λ w. absurd (given_none HasWritten answer given none (λ x. x) (λ x. x) line w);
-  leaves = left_alone (given_none HasWritten answer given none (λ x. x) (λ x. x) line) same;
+  leaves = left_alone (given_unwritten answer given (unwritten answer none no_read) line) same;
   answered = answer_put answer given (asked_answer answer asks) line;
 }
 
@@ -220,7 +258,7 @@ wrote_done members plan program streams back alike ready e sets no_run =
           (writes (plan_seen plan) members (linked_code members) (planned ready) none)
           (record { answered = refl; files = sets; left = d; output = gains_nothing streams.output.held; errors = gains_nothing streams.errors.held }));
       headline = λ w. holds_image members plan program back alike ready e sets;
-      leaves = all_written _ (AreWritten.image (plan_seen plan) members (linked_code members) (planned ready)) (inl tt) sets;
+      leaves = all_written _ (AreWritten.image (plan_seen plan) members (linked_code members) (planned ready)) tt sets;
       answered = answered_wrote (plan_seen plan) members (linked_code members) (planned ready) none;
     }
 
@@ -239,18 +277,19 @@ run_answered (BadUcode other rule) is e o = absurd o
 run_answered (BadImage rule) is e o = absurd o
 run_answered FileFault is e o = absurd o
 
-ran_or_fault : (answer : Answer) → IsOfRun answer → HasWritten answer ⊎ IsFault answer
-ran_or_fault (Ran ending) o = inl tt
-ran_or_fault ReadFault o = inr refl
-ran_or_fault WriteFault o = inr refl
-ran_or_fault NoMemory o = inr refl
-ran_or_fault Wrote o = absurd o
-ran_or_fault (Refused other line rule) o = absurd o
-ran_or_fault (Command kind) o = absurd o
-ran_or_fault (Missing other) o = absurd o
-ran_or_fault (BadUcode other rule) o = absurd o
-ran_or_fault (BadImage rule) o = absurd o
-ran_or_fault FileFault o = absurd o
+-- which of them may come where all files were written
+behind_files : (answer : Answer) → IsOfRun answer → IsBehindFiles answer
+behind_files (Ran ending) o = tt
+behind_files ReadFault o = tt
+behind_files WriteFault o = tt
+behind_files NoMemory o = tt
+behind_files Wrote o = absurd o
+behind_files (Refused other line rule) o = absurd o
+behind_files (Command kind) o = absurd o
+behind_files (Missing other) o = absurd o
+behind_files (BadUcode other rule) o = absurd o
+behind_files (BadImage rule) o = absurd o
+behind_files FileFault o = absurd o
 
 ran_outcome : {words : List (List ℕ)} {files : FileMap} {held held' : Option FileMap} (left : List ℕ) (members : List Member) (plan : PlanHeld)
     (program : Program) (run : Run) (answer : Answer) (before after : CallStreams) → EndsAlike → IsReady words files members plan program
@@ -280,7 +319,7 @@ ran_done members plan program run answer before after back alike ready e sets as
   outcome = if_some before.left _ (λ left d. ran_outcome left members plan program run answer before after alike ready sets asks
       (at_some _ before.left left d has));
   headline = λ w. holds_image members plan program back alike ready e sets;
-  leaves = all_written _ (AreWritten.image (plan_seen plan) members (linked_code members) (planned ready)) (ran_or_fault answer o) sets;
+  leaves = all_written _ (AreWritten.image (plan_seen plan) members (linked_code members) (planned ready)) (behind_files answer o) sets;
   answered = run_answered answer (planned ready) asks o;
 }
 
@@ -289,6 +328,10 @@ ran_done members plan program run answer before after back alike ready e sets as
 pub is_torn : (answer : Answer) → (answer ≡ FileFault) ⊎ (answer ≡ NoMemory) → IsFault answer
 is_torn answer (inl e) = rw e refl
 is_torn answer (inr e) = rw e refl
+
+torn_fault : (answer : Answer) → (answer ≡ FileFault) ⊎ (answer ≡ NoMemory) → IsTornFault answer
+torn_fault answer (inl e) = rw e tt
+torn_fault answer (inr e) = rw e tt
 
 torn_no_image : (answer : Answer) → (answer ≡ FileFault) ⊎ (answer ≡ NoMemory) → HasWritten answer → ⊥
 torn_no_image answer (inl e) w = rw e at w
@@ -299,9 +342,9 @@ torn_done : {words : List (List ℕ)} {files : FileMap} {held held' : Option Fil
     → (answer ≡ FileFault) ⊎ (answer ≡ NoMemory) → PutsOwn answer before after
     → IsDone words files answer (call_objects held (call_streams left input out before)) (call_objects held' (call_streams left input out after))
 torn_done written answer left input out before after are part is puts = record {
-  outcome = if_some left _ (λ bytes d. fault (is_torn answer is) (torn written are part refl refl (puts_own _ _ answer puts)));
+  outcome = if_some left _ (λ bytes d. fault (is_torn answer is) (torn written (torn_fault answer is) are part refl refl (puts_own _ _ answer puts)));
   headline = λ w. absurd (torn_no_image answer is w);
-  leaves = part_written written are (is_torn answer is) part;
+  leaves = part_written written are (torn_fault answer is) part;
   answered = answered_fault answer (is_torn answer is);
 }
 
@@ -324,7 +367,7 @@ units_done {held = held} {held'} members texts streams is e read h sets =
       outcome = if_some streams.left _ (λ left d. done (files_job (ucode_files members) left) (translates members is)
           (record { answered = refl; files = there; left = d; output = gains_nothing streams.output.held; errors = gains_nothing streams.errors.held }));
       headline = λ w. HoldsWritten.ucode members is (subst (λ (was : Option FileMap). WritesAll was held' (ucode_files members)) h there) read;
-      leaves = all_written (ucode_files members) (AreWritten.ucode members is) (inl tt) there;
+      leaves = all_written (ucode_files members) (AreWritten.ucode members is) tt there;
       answered = answered_translated members is;
     }
 

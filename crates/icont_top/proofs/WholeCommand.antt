@@ -129,7 +129,7 @@ module _ (words : List (List ℕ)) (fault : WordsFault) (answer given : Answer) 
   words_done None left input out is = tt
   words_done (Some files) left input out is =
       refused_done (words_answer fault) given (Some files) (Some files) left input out before after
-      (words_no_image fault) (words_asked fault is) refl line_again
+      (words_no_image fault) (words_no_write fault) (words_no_read fault) (words_asked fault is) refl line_again
 
   pub words_end : (files absences input : ℕ) (left : Option (List ℕ)) (out : SinkState)
       → EndsAtFirst given (IsAbsence given) (outside files absences (call_streams left input out before))

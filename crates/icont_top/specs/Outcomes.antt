@@ -3,7 +3,7 @@ use Rattle.std.specs.Prelude.{◌≡◌, ◌⊎◌, ◌≤◌, ℕ, List, [], �
 use Rattle.std.specs.Map.{update}
 use Rattle.std.specs.Str.{bytes_eq}
 use Rattle.icn_host.specs.FileMaps.{FileMap, Follows, IsLeftBehind}
-use Rattle.icn_host.specs.Puts.{Stops, Puts}
+use Rattle.icn_host.specs.Puts.{BreaksOff, Puts, RunsShort}
 use Rattle.icn_host.specs.Sinks.{Gains, SinkState}
 use Rattle.icn_code.specs.Codes.{Tables}
 use Rattle.icn_defs.specs.Running.{Done, Launch, Observed}
@@ -18,7 +18,7 @@ use Rattle.icn_running.specs.declared.fault.RunFault.{RunFault}
 use Rattle.icn_running.specs.declared.fault.RunFault.TheVariants as RunFaults
 use Rattle.icn_running.specs.Runs.{EndsAtFirst, LeavesBy}
 use Rattle.icn_lines.specs.declared.answer.Answer.{Answer}
-use Rattle.icn_lines.specs.declared.answer.Answer.TheVariants.{Wrote, Ran}
+use Rattle.icn_lines.specs.declared.answer.Answer.TheVariants.{Wrote, Ran, Refused, Command, Missing, BadUcode, BadImage, FileFault, ReadFault, WriteFault, NoMemory}
 use Rattle.icn_lines.specs.Answers.{IsFault}
 use Rattle.icn_lines.specs.Faulting.{of_run}
 use Rattle.icn_lines.specs.Lines.{fault_line}
@@ -65,10 +65,36 @@ pub data AreWritten (words : List (List ℕ)) (files : FileMap) : List WrittenFi
   image : (plan : Plan) (members : List Member) (tables : Tables) → IsPlanned words files plan members tables
       → AreWritten words files (image_file plan.image members tables ∷ [])
 
--- the line of a job that writes no file was not begun, or a part of it was put
-abbrev pub Begins : (Job → Type 0) → SinkState → SinkState → Type 0
-Begins IsJobOf before between =
-    (between ≡ before) ⊎ ((job : Job) × IsJobOf job × (job.written ≡ []) × Stops before between job.errors)
+-- Where nothing was done, what was put before the fault's own line, by the answer: of a file fault nothing; of a failed put of the line of a job
+-- that writes no file, a part of it; of want of memory nothing, or such a part. No other answer leaves nothing done.
+abbrev pub IsIdleFault : (Job → Type 0) → Answer → SinkState → SinkState → Type 0
+IsIdleFault IsJobOf Wrote before between = ⊥
+IsIdleFault IsJobOf (Ran ending) before between = ⊥
+IsIdleFault IsJobOf (Refused file line rule) before between = ⊥
+IsIdleFault IsJobOf (Command kind) before between = ⊥
+IsIdleFault IsJobOf (Missing name) before between = ⊥
+IsIdleFault IsJobOf (BadUcode name rule) before between = ⊥
+IsIdleFault IsJobOf (BadImage rule) before between = ⊥
+IsIdleFault IsJobOf FileFault before between = between ≡ before
+IsIdleFault IsJobOf ReadFault before between = ⊥
+IsIdleFault IsJobOf WriteFault before between =
+    (job : Job) × IsJobOf job × (job.written ≡ []) × BreaksOff before between job.errors
+IsIdleFault IsJobOf NoMemory before between =
+    (between ≡ before) ⊎ ((job : Job) × IsJobOf job × (job.written ≡ []) × RunsShort before between job.errors)
+
+-- what a file may fail to be written whole by: a fault of the files, or want of memory
+abbrev pub IsTornFault : Answer → Type 0
+IsTornFault Wrote = ⊥
+IsTornFault (Ran ending) = ⊥
+IsTornFault (Refused file line rule) = ⊥
+IsTornFault (Command kind) = ⊥
+IsTornFault (Missing name) = ⊥
+IsTornFault (BadUcode name rule) = ⊥
+IsTornFault (BadImage rule) = ⊥
+IsTornFault FileFault = Unit {0}
+IsTornFault ReadFault = ⊥
+IsTornFault WriteFault = ⊥
+IsTornFault NoMemory = Unit {0}
 
 -- What a fault leaves of a program that is run with this input: all is said of what is observed of it, as each program comes to an end.
 pub record BrokenOff (members : List Member) (run : Run) (left : List ℕ) (fault : RunFault)
@@ -99,16 +125,16 @@ pub record BrokenBehind (members : List Member) (run : Run) (number : ℕ) (left
   pub behaves : Behaves members (run_launch run left) seen
   pub leaves : LeavesBehind number seen before after
 
--- What a fault leaves, with its own line behind, as far as the error output took it. Nothing was done but that a refusal's line may be
--- begun; or a file could not be written whole; or the image was written, and the program was broken off as it ran, or the line behind
--- its output was.
+-- What a fault leaves, told apart by the answer, with its own line behind, as far as the error output took it. Nothing was done but that a
+-- refusal's line may be begun; or a file could not be written whole; or the image was written, and the program was broken off as it ran,
+-- or the line behind its output was.
 pub data Faults (words : List (List ℕ)) (files : FileMap) (left : List ℕ) (answer : Answer)
     (before after : CallObjects) : Type 0 where
   idle : (between : SinkState) → after.files ≡ before.files → after.streams.left ≡ before.streams.left
       → after.streams.output.held ≡ before.streams.output.held
-      → Begins (IsJob words files left) before.streams.errors between
+      → IsIdleFault (IsJob words files left) answer before.streams.errors between
       → Puts between after.streams.errors (fault_line answer) → Faults words files left answer before after
-  torn : (written : List WrittenFile) → AreWritten words files written
+  torn : (written : List WrittenFile) → IsTornFault answer → AreWritten words files written
       → WritesPart before.files after.files written
       → after.streams.left ≡ before.streams.left
       → after.streams.output.held ≡ before.streams.output.held
@@ -144,15 +170,43 @@ HasWritten Wrote = Unit {0}
 HasWritten (Ran ending) = Unit {0}
 HasWritten answer = ⊥
 
--- What a call leaves of the files, whatever the input tells: they are as they were, where nothing was written; or all that is asked for
--- was written; or, where a fault is answered, some first ones were, and perhaps a part of the next.
+-- an answer that may come where no file was written: a refusal, or a fault that is none of the input
+abbrev pub IsUnwritten : Answer → Type 0
+IsUnwritten Wrote = ⊥
+IsUnwritten (Ran ending) = ⊥
+IsUnwritten (Refused file line rule) = Unit {0}
+IsUnwritten (Command kind) = Unit {0}
+IsUnwritten (Missing name) = Unit {0}
+IsUnwritten (BadUcode name rule) = Unit {0}
+IsUnwritten (BadImage rule) = Unit {0}
+IsUnwritten FileFault = Unit {0}
+IsUnwritten ReadFault = ⊥
+IsUnwritten WriteFault = Unit {0}
+IsUnwritten NoMemory = Unit {0}
+
+-- an answer that may come where all files were written: that they were, or of a run, or a fault of it
+abbrev pub IsBehindFiles : Answer → Type 0
+IsBehindFiles Wrote = Unit {0}
+IsBehindFiles (Ran ending) = Unit {0}
+IsBehindFiles (Refused file line rule) = ⊥
+IsBehindFiles (Command kind) = ⊥
+IsBehindFiles (Missing name) = ⊥
+IsBehindFiles (BadUcode name rule) = ⊥
+IsBehindFiles (BadImage rule) = ⊥
+IsBehindFiles FileFault = ⊥
+IsBehindFiles ReadFault = Unit {0}
+IsBehindFiles WriteFault = Unit {0}
+IsBehindFiles NoMemory = Unit {0}
+
+-- What a call leaves of the files, whatever the input tells, told apart by the answer: they are as they were; or all that is asked for was
+-- written; or some first ones were, and perhaps a part of the next.
 pub data LeavesFiles (words : List (List ℕ)) (files : FileMap) (answer : Answer)
     (before after : Option FileMap) : Type 0 where
-  left_alone : (HasWritten answer → ⊥) → after ≡ before → LeavesFiles words files answer before after
-  all_written : (written : List WrittenFile) → AreWritten words files written
-      → HasWritten answer ⊎ IsFault answer → WritesAll before after written
+  left_alone : IsUnwritten answer → after ≡ before → LeavesFiles words files answer before after
+  all_written : (written : List WrittenFile) → AreWritten words files written → IsBehindFiles answer
+      → WritesAll before after written
       → LeavesFiles words files answer before after
-  part_written : (written : List WrittenFile) → AreWritten words files written → IsFault answer
+  part_written : (written : List WrittenFile) → AreWritten words files written → IsTornFault answer
       → WritesPart before after written
       → LeavesFiles words files answer before after
 

@@ -1,7 +1,8 @@
 // What is made of the files that the words name.
 ghost use Rattle.std.specs.Prelude.{◌≡◌, ⊤, IfErr, IfOk, IfSome, IsErrOf};
 ghost use Rattle.icn_lines.specs.Answers.{IsErrOfAbsence};
-ghost use Rattle.icn_host.specs.Counts.{CountsOnce, HasCause, Rose};
+ghost use Rattle.icn_lines.specs.FilesRead.{ReadsFiles, files_state};
+ghost use Rattle.icn_host.specs.Counts.{Rose};
 ghost use Rattle.icont_units.specs.Fetching.{IsOfLoading, files_seen};
 ghost use Rattle.icont_units.specs.Files.{files_named, sources_in};
 ghost use Rattle.icont_units.specs.Generated.{GeneratedComes};
@@ -37,10 +38,9 @@ pub fn translated<F: Files>(
 ) -> Result<Vec<Text>, Answer>
     ensures translated { IfSome (F.held files.old) (λ held. AreTranslated held (texts names.now) result) }
     ensures others { IfErr result IsOfLoading }
-    ensures files { F.held files.new ≡ F.held files.old }
-    ensures file_fault { CountsOnce (F.faults files.old) (F.faults files.new)
-        (IsErrOf result Answer.FileFault) }
-    ensures absence { HasCause (F.absences files.old) (F.absences files.new) (IsErrOfAbsence result) }
+    ensures reads { ReadsFiles result (IsErrOfAbsence result)
+        (files_state (F.held files.old) (F.faults files.old) (F.absences files.old))
+        (files_state (F.held files.new) (F.faults files.new) (F.absences files.new)) }
 {
     one_spelling();
     let Ok(sources) = named_sources(alloc, names) else {
@@ -78,10 +78,9 @@ pub fn linked_program<'a, F: Files>(
         (λ held. IsProgramOf (Load held (files_named (texts names.now)))
         (Rose (F.absences files.old) (F.absences files.new)) result) }
     ensures others { IfErr result IsOfLoading }
-    ensures files { F.held files.new ≡ F.held files.old }
-    ensures file_fault { CountsOnce (F.faults files.old) (F.faults files.new)
-        (IsErrOf result Answer.FileFault) }
-    ensures absence { HasCause (F.absences files.old) (F.absences files.new) (IsErrOfAbsence result) }
+    ensures reads { ReadsFiles result (IsErrOfAbsence result)
+        (files_state (F.held files.old) (F.faults files.old) (F.absences files.old))
+        (files_state (F.held files.new) (F.faults files.new) (F.absences files.new)) }
 {
     one_spelling();
     let Ok(named) = files_named(alloc, names) else {

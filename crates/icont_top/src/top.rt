@@ -19,6 +19,7 @@ ghost use Rattle.icn_words.specs.Texts.{texts};
 ghost use Rattle.icont_units.specs.Files.{files_named};
 ghost use Rattle.icont_units.specs.Generated.{sizes_line};
 ghost use Rattle.icn_lines.specs.InputLeft.{LosesSome};
+ghost use Rattle.icn_lines.specs.Leaving.{LeavesOutside};
 ghost use Rattle.icont_units.specs.Units.{Load, Member};
 ghost use Rattle.icont_top.specs.Answered.{IsAnswered, IsCommanded, MissesText};
 ghost use Rattle.icont_top.specs.Answering.{IsDone};
@@ -235,12 +236,9 @@ fn link_answer<F: Files, I: Source, O: Sink, E: Sink>(
     ensures links { IfSome (F.held files.old)
         (λ held. (members : List Member) → Load held (files_named (texts names.now)) (Ok members)
         → IsFault result ⊎ IsTold (Rose (F.absences files.old) (F.absences files.new)) members) }
-    ensures input { IfSome (I.left input.old) (λ left. LosesSome left (I.left input.new)) }
     ensures command { IsCommand result → ⊥ }
     ensures untouched { IsRefusal result → F.held files.new ≡ F.held files.old }
-    ensures refused { (IsOfRun result → ⊥) → (O.state out.new).held ≡ (O.state out.old).held }
-    ensures unread { (IsOfRun result → ⊥) → I.left input.new ≡ I.left input.old }
-    ensures causes { EndsAtFirst result (IsAbsence result)
+    ensures leaves { LeavesOutside result
         (outside (F.faults files.old) (F.absences files.old)
         (call_streams (I.left input.old) (I.faults input.old) (O.state out.old) (E.state err.old)))
         (outside (F.faults files.new) (F.absences files.new)
@@ -276,12 +274,9 @@ fn generate_answer<F: Files, I: Source, O: Sink, E: Sink>(
         (call_objects (F.held files.new)
         (call_streams (I.left input.new) (I.faults input.new) (O.state out.new) (E.state err.new)))) }
     ensures reported { Reports usage [] (I.left input.old) (E.state err.old) (E.state err.new) result }
-    ensures input { IfSome (I.left input.old) (λ left. LosesSome left (I.left input.new)) }
     ensures command { IsCommand result → ⊥ }
     ensures untouched { IsRefusal result → F.held files.new ≡ F.held files.old }
-    ensures refused { (IsOfRun result → ⊥) → (O.state out.new).held ≡ (O.state out.old).held }
-    ensures unread { (IsOfRun result → ⊥) → I.left input.new ≡ I.left input.old }
-    ensures causes { EndsAtFirst result (IsAbsence result)
+    ensures leaves { LeavesOutside result
         (outside (F.faults files.old) (F.absences files.old)
         (call_streams (I.left input.old) (I.faults input.old) (O.state out.old) (E.state err.old)))
         (outside (F.faults files.new) (F.absences files.new)
@@ -321,11 +316,8 @@ fn image_answer<F: Files, I: Source, O: Sink, E: Sink>(
         (call_objects (F.held files.new)
         (call_streams (I.left input.new) (I.faults input.new) (O.state out.new) (E.state err.new))) }
     ensures reported { Reports usage [] (I.left input.old) (E.state err.old) (E.state err.new) result }
-    ensures input { IfSome (I.left input.old) (λ left. LosesSome left (I.left input.new)) }
     ensures no_refusal { IsRefusal result → ⊥ }
-    ensures refused { (IsOfRun result → ⊥) → (O.state out.new).held ≡ (O.state out.old).held }
-    ensures unread { (IsOfRun result → ⊥) → I.left input.new ≡ I.left input.old }
-    ensures causes { EndsAtFirst result (IsAbsence result)
+    ensures leaves { LeavesOutside result
         (outside (F.faults files.old) (F.absences files.old)
         (call_streams (I.left input.old) (I.faults input.old) (O.state out.old) (E.state err.old)))
         (outside (F.faults files.new) (F.absences files.new)

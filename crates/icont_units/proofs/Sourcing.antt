@@ -12,7 +12,7 @@ use Rattle.icn_decls.specs.Spelled.{AreScanned}
 use Rattle.icn_tree.specs.Tokens.{Outcome, Scanned, Fault, tokens_of}
 use Rattle.icn_prep.specs.declared.fault.PrepFault.{PrepFault}
 use Rattle.icn_prep.specs.declared.fault.PrepFault.TheVariants as Prep
-use Rattle.icn_prep.specs.Answers.{IsTextFault}
+use Rattle.icn_prep.specs.Answers.{IsAbsent, IsTextFault}
 use Rattle.icn_prep.specs.SourceLines.{Source, source_lines}
 use Rattle.icn_prep.proofs.Faults.{fault_of_text}
 use Rattle.icn_lines.specs.declared.answer.Answer.{Answer}
@@ -46,6 +46,17 @@ file_fault_from name fault answer (inl is) e = of_fault name fault (sym is ∙ e
   of_fault name (Prep.Broken rule file line) e = cc
   of_fault name Prep.FileFault e = refl
   of_fault name Prep.NoMemory e = cc
+
+-- the answer says that a file was not there only where the fault does
+pub absence_from : (name : List ℕ) (fault : PrepFault) (answer : Answer) → (answer ≡ fault_answer name fault) ⊎ (answer ≡ NoMemory) → IsAbsence answer
+    → IsAbsent fault
+absence_from name fault answer (inr none) a = absurd (rw none at a)
+absence_from name fault answer (inl is) a = of_absence name fault (rw is at a) where
+  of_absence : (name : List ℕ) (fault : PrepFault) → IsAbsence (fault_answer name fault) → IsAbsent fault
+  of_absence name Prep.Missing a = tt
+  of_absence name (Prep.Broken rule file line) a = a
+  of_absence name Prep.FileFault a = a
+  of_absence name Prep.NoMemory a = a
 
 -- No job asks for a fault
 

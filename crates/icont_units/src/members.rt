@@ -1,11 +1,11 @@
 // The units of a command.
-ghost use Rattle.std.specs.Prelude.{◌≡◌, List, Err, IfSome, IfOk, IfErr, IsErrOf, OnOk};
-ghost use Rattle.icn_host.specs.Counts.{CountsOnce, HasCause};
+ghost use Rattle.std.specs.Prelude.{◌≡◌, List, Err, IfSome, IfOk, IfErr, OnOk};
 ghost use Rattle.icn_link.specs.Units.{unit_seen};
 ghost use Rattle.icont_units.specs.Fetching.{file_seen, files_seen, IsOfLoading};
 ghost use Rattle.icont_units.specs.Files.{source, ucode};
 ghost use Rattle.icont_units.specs.Loading.{AreSought, IsCome, IsLoaded, IsRead, IsSound, Stands, kept_of, with_source, with_ucode};
 ghost use Rattle.icn_lines.specs.Answers.{IsErrOfAbsence};
+ghost use Rattle.icn_lines.specs.FilesRead.{ReadsFiles, files_state};
 ghost use Rattle.icont_units.specs.Units.{Member};
 
 use crate::files::{File, Kind};
@@ -39,10 +39,9 @@ pub fn load<F: Files>(alloc: Global, named: &[File<'_>], files: &mut F) -> Resul
     ensures absent { IfOk result
         (λ members. AreSought (F.absences files.old) (F.absences files.new) (kept_of members).units) }
     ensures others { IfErr result IsOfLoading }
-    ensures files { F.held files.new ≡ F.held files.old }
-    ensures file_fault { CountsOnce (F.faults files.old) (F.faults files.new)
-        (IsErrOf result Answer.FileFault) }
-    ensures absence { HasCause (F.absences files.old) (F.absences files.new) (IsErrOfAbsence result) }
+    ensures reads { ReadsFiles result (IsErrOfAbsence result)
+        (files_state (F.held files.old) (F.faults files.old) (F.absences files.old))
+        (files_state (F.held files.new) (F.faults files.new) (F.absences files.new)) }
 {
     let mut members = come(alloc, named, files)?;
     gather(alloc, &mut members, files)?;
@@ -58,10 +57,9 @@ pub fn come<F: Files>(alloc: Global, named: &[File<'_>], files: &mut F) -> Resul
     ensures come { IfSome (F.held files.old) (λ held. IsCome held (files_seen named.now) result) }
     ensures sound { IfOk result IsSound }
     ensures others { IfErr result IsOfLoading }
-    ensures files { F.held files.new ≡ F.held files.old }
-    ensures file_fault { CountsOnce (F.faults files.old) (F.faults files.new)
-        (IsErrOf result Answer.FileFault) }
-    ensures absence { HasCause (F.absences files.old) (F.absences files.new) (IsErrOfAbsence result) }
+    ensures reads { ReadsFiles result (IsErrOfAbsence result)
+        (files_state (F.held files.old) (F.faults files.old) (F.absences files.old))
+        (files_state (F.held files.new) (F.faults files.new) (F.absences files.new)) }
 {
     let mut members = Members {
         units: Vec::new(alloc),
@@ -84,10 +82,9 @@ fn add_file<F: Files>(
         → IsRead held (file_seen file.now) before members.new result) }
     ensures sound { IsSound members.old → OnOk result (IsSound members.new) }
     ensures others { IfErr result IsOfLoading }
-    ensures files { F.held files.new ≡ F.held files.old }
-    ensures file_fault { CountsOnce (F.faults files.old) (F.faults files.new)
-        (IsErrOf result Answer.FileFault) }
-    ensures absence { HasCause (F.absences files.old) (F.absences files.new) (IsErrOfAbsence result) }
+    ensures reads { ReadsFiles result (IsErrOfAbsence result)
+        (files_state (F.held files.old) (F.faults files.old) (F.absences files.old))
+        (files_state (F.held files.new) (F.faults files.new) (F.absences files.new)) }
 {
     match file.kind {
         Kind::Source => add_source(alloc, file.base, members, files),
@@ -106,10 +103,9 @@ fn add_source<F: Files>(
         → IsRead held (source base.now) before members.new result) }
     ensures sound { IsSound members.old → OnOk result (IsSound members.new) }
     ensures others { IfErr result IsOfLoading }
-    ensures files { F.held files.new ≡ F.held files.old }
-    ensures file_fault { CountsOnce (F.faults files.old) (F.faults files.new)
-        (IsErrOf result Answer.FileFault) }
-    ensures absence { HasCause (F.absences files.old) (F.absences files.new) (IsErrOfAbsence result) }
+    ensures reads { ReadsFiles result (IsErrOfAbsence result)
+        (files_state (F.held files.old) (F.faults files.old) (F.absences files.old))
+        (files_state (F.held files.new) (F.faults files.new) (F.absences files.new)) }
 {
     let checked = checked_source(alloc, base, files)?;
     match unit(alloc, base.as_bytes(), &checked) {
@@ -129,10 +125,9 @@ fn add_named<F: Files>(
         → IsRead held (ucode base.now) before members.new result) }
     ensures sound { IsSound members.old → OnOk result (IsSound members.new) }
     ensures others { IfErr result IsOfLoading }
-    ensures files { F.held files.new ≡ F.held files.old }
-    ensures file_fault { CountsOnce (F.faults files.old) (F.faults files.new)
-        (IsErrOf result Answer.FileFault) }
-    ensures absence { HasCause (F.absences files.old) (F.absences files.new) (IsErrOfAbsence result) }
+    ensures reads { ReadsFiles result (IsErrOfAbsence result)
+        (files_state (F.held files.old) (F.faults files.old) (F.absences files.old))
+        (files_state (F.held files.new) (F.faults files.new) (F.absences files.new)) }
 {
     let unit = named_unit(alloc, base, files)?;
     push_ucode(members, unit)

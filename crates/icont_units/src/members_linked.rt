@@ -1,12 +1,12 @@
 // The units that a command links.
-ghost use Rattle.std.specs.Prelude.{◌≡◌, ◌≤◌, ◌<◌, ◌++◌, ◌∷◌, [], ℕ, false, List, not, map, vec_len, IfSome, IfOk, IfErr, IsErrOf, OnOk};
+ghost use Rattle.std.specs.Prelude.{◌≡◌, ◌<◌, ◌++◌, ◌∷◌, [], ℕ, false, List, not, map, vec_len, IfSome, IfOk, IfErr, OnOk};
 ghost use Rattle.std.specs.List.{flat_map, list_any};
 ghost use Rattle.std.specs.Str.{bytes_eq};
-ghost use Rattle.icn_host.specs.Counts.{CountsOnce};
 ghost use Rattle.icn_unit.specs.UnitViews.{decl_seen};
 ghost use Rattle.icn_link.specs.Gathering.{with_text, with_texts};
 ghost use Rattle.icn_link.specs.LinkFaults.{base_of, unit_names};
 ghost use Rattle.icn_link.specs.Units.{units_seen};
+ghost use Rattle.icn_lines.specs.FilesRead.{ReadsFiles, files_state};
 ghost use Rattle.icont_units.specs.Fetching.{IsOfLinked};
 ghost use Rattle.icont_units.specs.Loading.{AreSought, Grows, IsGathered, IsSought, IsSound, Knows, Stands, kept_of, texts_in, links_at};
 ghost use Rattle.icont_units.specs.Units.{IsAbsent, Member, link_in, links_in};
@@ -33,10 +33,9 @@ pub fn gather<F: Files>(alloc: Global, members: &mut Members, files: &mut F) -> 
     ensures absent { OnOk result
         (AreSought (F.absences files.old) (F.absences files.new) (kept_of members.new).units) }
     ensures others { IfErr result IsOfLinked }
-    ensures files { F.held files.new ≡ F.held files.old }
-    ensures file_fault { CountsOnce (F.faults files.old) (F.faults files.new)
-        (IsErrOf result Answer.FileFault) }
-    ensures absence { F.absences files.old ≤ F.absences files.new }
+    ensures reads { ReadsFiles result ⊥
+        (files_state (F.held files.old) (F.faults files.old) (F.absences files.old))
+        (files_state (F.held files.new) (F.faults files.new) (F.absences files.new)) }
 {
     let Ok(mut known) = names_of(alloc, &members.units) else {
         return Err(Answer::NoMemory);
@@ -87,10 +86,9 @@ fn gather_unit<F: Files>(
     ensures grows { OnOk result (Grows (F.absences files.old) (F.absences files.new) members.old members.new
         (texts_in known.old.keys) (texts_in known.new.keys) (links_at (kept_of members.old).units place)) }
     ensures others { IfErr result IsOfLinked }
-    ensures files { F.held files.new ≡ F.held files.old }
-    ensures file_fault { CountsOnce (F.faults files.old) (F.faults files.new)
-        (IsErrOf result Answer.FileFault) }
-    ensures absence { F.absences files.old ≤ F.absences files.new }
+    ensures reads { ReadsFiles result ⊥
+        (files_state (F.held files.old) (F.faults files.old) (F.absences files.old))
+        (files_state (F.held files.new) (F.faults files.new) (F.absences files.new)) }
 {
     let Ok(bases) = linked_bases(alloc, &members.units[place].decls) else {
         return Err(Answer::NoMemory);
@@ -142,10 +140,9 @@ fn gather_bases<F: Files>(
     ensures grows { OnOk result (Grows (F.absences files.old) (F.absences files.new) members.old members.new
         (texts_in known.old.keys) (texts_in known.new.keys) (texts_in bases.now)) }
     ensures others { IfErr result IsOfLinked }
-    ensures files { F.held files.new ≡ F.held files.old }
-    ensures file_fault { CountsOnce (F.faults files.old) (F.faults files.new)
-        (IsErrOf result Answer.FileFault) }
-    ensures absence { F.absences files.old ≤ F.absences files.new }
+    ensures reads { ReadsFiles result ⊥
+        (files_state (F.held files.old) (F.faults files.old) (F.absences files.old))
+        (files_state (F.held files.new) (F.faults files.new) (F.absences files.new)) }
 {
     for base in bases {
         gather_base(alloc, base, members, known, files)?;
@@ -167,10 +164,9 @@ fn gather_base<F: Files>(
     ensures grows { OnOk result (Grows (F.absences files.old) (F.absences files.new) members.old members.new
         (texts_in known.old.keys) (texts_in known.new.keys) (base.now ∷ [])) }
     ensures others { IfErr result IsOfLinked }
-    ensures files { F.held files.new ≡ F.held files.old }
-    ensures file_fault { CountsOnce (F.faults files.old) (F.faults files.new)
-        (IsErrOf result Answer.FileFault) }
-    ensures absence { F.absences files.old ≤ F.absences files.new }
+    ensures reads { ReadsFiles result ⊥
+        (files_state (F.held files.old) (F.faults files.old) (F.absences files.old))
+        (files_state (F.held files.new) (F.faults files.new) (F.absences files.new)) }
 {
     match enter(alloc, known, base) {
         Ok(true) => add_linked(alloc, base, members, files),
@@ -194,10 +190,9 @@ fn add_linked<F: Files>(
         → OnOk result (Grows (F.absences files.old) (F.absences files.new) members.old members.new
         known (known ++ base.now ∷ []) (base.now ∷ [])) }
     ensures others { IfErr result IsOfLinked }
-    ensures files { F.held files.new ≡ F.held files.old }
-    ensures file_fault { CountsOnce (F.faults files.old) (F.faults files.new)
-        (IsErrOf result Answer.FileFault) }
-    ensures absence { F.absences files.old ≤ F.absences files.new }
+    ensures reads { ReadsFiles result ⊥
+        (files_state (F.held files.old) (F.faults files.old) (F.absences files.old))
+        (files_state (F.held files.new) (F.faults files.new) (F.absences files.new)) }
 {
     match linked_unit(alloc, base, files)? {
         Some(unit) => push_ucode(members, unit),

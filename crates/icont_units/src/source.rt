@@ -1,10 +1,10 @@
 // What is read of a source: its tokens, and the file that they are.
 ghost use Rattle.std.specs.Prelude.{◌≡◌, ◌⊎◌, IfSome, IfOk, IfErr, IsErrOf};
-ghost use Rattle.icn_host.specs.Counts.{CountsOnce, HasCause};
 ghost use Rattle.icn_tree.specs.Tokens.{tokens_of};
 ghost use Rattle.icn_decls.specs.Spelled.{AreScanned};
 ghost use Rattle.icn_lines.specs.declared.answer.Answer.TheVariants.{Missing};
 ghost use Rattle.icn_lines.specs.Answers.{IsErrOfAbsence};
+ghost use Rattle.icn_lines.specs.FilesRead.{ReadsFiles, files_state};
 ghost use Rattle.icont_units.specs.Fetching.{AreFile, IsSource};
 ghost use Rattle.icont_units.specs.Sources.{name_at, refused_at, tokens_read, fault_answer, scan_of, source_read, IsRead, IsOfRead, IsOfTokens};
 
@@ -37,10 +37,9 @@ pub struct SourceTokens {
 pub fn checked_source<F: Files>(alloc: Global, base: &str, files: &mut F) -> Result<Checked, Answer>
     ensures comes { IfSome (F.held files.old) (λ held. IsSource held base.now result) }
     ensures others { IfErr result IsOfRead }
-    ensures files { F.held files.new ≡ F.held files.old }
-    ensures file_fault { CountsOnce (F.faults files.old) (F.faults files.new)
-        (IsErrOf result Answer.FileFault) }
-    ensures absence { HasCause (F.absences files.old) (F.absences files.new) (IsErrOfAbsence result) }
+    ensures reads { ReadsFiles result (IsErrOfAbsence result)
+        (files_state (F.held files.old) (F.faults files.old) (F.absences files.old))
+        (files_state (F.held files.new) (F.faults files.new) (F.absences files.new)) }
 {
     let Ok(name) = name_with(alloc, base, ".icn") else {
         return Err(Answer::NoMemory);
@@ -75,10 +74,9 @@ pub fn source_tokens<F: Files>(
     ensures read { IfSome (F.held files.old) (λ held. IsRead (source_read held name.now) result) }
     ensures scanned { IfOk result (λ source. AreScanned source.tokens.items) }
     ensures others { IfErr result IsOfRead }
-    ensures files { F.held files.new ≡ F.held files.old }
-    ensures file_fault { CountsOnce (F.faults files.old) (F.faults files.new)
-        (IsErrOf result Answer.FileFault) }
-    ensures absence { HasCause (F.absences files.old) (F.absences files.new) (IsErrOfAbsence result) }
+    ensures reads { ReadsFiles result (IsErrOfAbsence result)
+        (files_state (F.held files.old) (F.faults files.old) (F.absences files.old))
+        (files_state (F.held files.new) (F.faults files.new) (F.absences files.new)) }
 {
     match preprocess(alloc, name, files) {
         Ok(lines) => line_tokens(alloc, lines),

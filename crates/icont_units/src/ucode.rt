@@ -1,9 +1,9 @@
 // Units that are there as ucode.
-ghost use Rattle.std.specs.Prelude.{◌≡◌, ◌⊎◌, ◌++◌, IfSome, IfErr, IsErrOf};
-ghost use Rattle.icn_host.specs.Counts.{CountsOnce, HasCause};
+ghost use Rattle.std.specs.Prelude.{◌≡◌, ◌⊎◌, ◌++◌, IfSome, IfErr};
 ghost use Rattle.icn_lines.specs.declared.answer.Answer.TheVariants.{BadUcode};
 ghost use Rattle.icont_units.specs.Fetching.{AreTexts, IsJudged, IsLinkedUnit, IsLost, IsNamedUnit, IsOfJudged, IsOfLinked, IsOfNamed, IsOfTexts, IsText, IsUnitOf, IsUnitOfSome};
 ghost use Rattle.icn_lines.specs.Answers.{IsErrOfAbsence};
+ghost use Rattle.icn_lines.specs.FilesRead.{ReadsFiles, files_state};
 ghost use Rattle.icont_units.specs.Units.{faulty_name, is_too_long, texts_held};
 
 use crate::files::name_with;
@@ -34,10 +34,9 @@ pub fn named_unit<F: Files>(alloc: Global, base: &str, files: &mut F) -> Result<
     ensures comes { IfSome (F.held files.old) (λ held. IsNamedUnit held base.now result) }
     ensures name { IsUnitOf base.now result }
     ensures others { IfErr result IsOfNamed }
-    ensures files { F.held files.new ≡ F.held files.old }
-    ensures file_fault { CountsOnce (F.faults files.old) (F.faults files.new)
-        (IsErrOf result Answer.FileFault) }
-    ensures absence { HasCause (F.absences files.old) (F.absences files.new) (IsErrOfAbsence result) }
+    ensures reads { ReadsFiles result (IsErrOfAbsence result)
+        (files_state (F.held files.old) (F.faults files.old) (F.absences files.old))
+        (files_state (F.held files.new) (F.faults files.new) (F.absences files.new)) }
 {
     match both_texts(alloc, base, files) {
         Ok(texts) => unit_read(alloc, base, &texts),
@@ -58,10 +57,9 @@ pub fn linked_unit<F: Files>(
     ensures links { IfSome (F.held files.old) (λ held. IsLinkedUnit held base.now result) }
     ensures name { IsUnitOfSome base.now result }
     ensures others { IfErr result IsOfLinked }
-    ensures files { F.held files.new ≡ F.held files.old }
-    ensures file_fault { CountsOnce (F.faults files.old) (F.faults files.new)
-        (IsErrOf result Answer.FileFault) }
-    ensures absence { HasCause (F.absences files.old) (F.absences files.new) (IsLost base.now result) }
+    ensures reads { ReadsFiles result (IsLost base.now result)
+        (files_state (F.held files.old) (F.faults files.old) (F.absences files.old))
+        (files_state (F.held files.new) (F.faults files.new) (F.absences files.new)) }
 {
     let Ok(base) = str::from_utf8(base) else {
         return Ok(None);
@@ -119,10 +117,9 @@ fn bad_ucode(alloc: Global, base: &str, second: bool, rule: Rule) -> Answer
 fn both_texts<F: Files>(alloc: Global, base: &str, files: &mut F) -> Result<UnitTexts, Answer>
     ensures texts { IfSome (F.held files.old) (λ held. AreTexts (texts_held held base.now) result) }
     ensures others { IfErr result IsOfTexts }
-    ensures files { F.held files.new ≡ F.held files.old }
-    ensures file_fault { CountsOnce (F.faults files.old) (F.faults files.new)
-        (IsErrOf result Answer.FileFault) }
-    ensures absence { HasCause (F.absences files.old) (F.absences files.new) (IsErrOfAbsence result) }
+    ensures reads { ReadsFiles result (IsErrOfAbsence result)
+        (files_state (F.held files.old) (F.faults files.old) (F.absences files.old))
+        (files_state (F.held files.new) (F.faults files.new) (F.absences files.new)) }
 {
     let first = text(alloc, base, ".u1", files)?;
     let second = text(alloc, base, ".u2", files)?;
@@ -134,10 +131,9 @@ fn text<F: Files>(alloc: Global, base: &str, suffix: &str, files: &mut F) -> Res
     ensures text { IfSome (F.held files.old)
         (λ held. IsText (held (base.now ++ suffix.now)) (base.now ++ suffix.now) result) }
     ensures others { IfErr result IsOfTexts }
-    ensures files { F.held files.new ≡ F.held files.old }
-    ensures file_fault { CountsOnce (F.faults files.old) (F.faults files.new)
-        (IsErrOf result Answer.FileFault) }
-    ensures absence { HasCause (F.absences files.old) (F.absences files.new) (IsErrOfAbsence result) }
+    ensures reads { ReadsFiles result (IsErrOfAbsence result)
+        (files_state (F.held files.old) (F.faults files.old) (F.absences files.old))
+        (files_state (F.held files.new) (F.faults files.new) (F.absences files.new)) }
 {
     let Ok(name) = name_with(alloc, base, suffix) else {
         return Err(Answer::NoMemory);

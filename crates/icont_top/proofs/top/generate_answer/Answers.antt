@@ -1,5 +1,6 @@
 use Rattle.std.proofs.Common.{refl, ap, Ok, Err}
 use Rattle.icn_lines.proofs.Counts.{no_cause, refused_ends, unmoved, absence_of}
+use Rattle.icn_lines.proofs.Leaving.{leaves_both}
 use Rattle.icn_lines.proofs.Reports.{reports_of}
 use Rattle.icn_lines.proofs.Telling.{if_some}
 use Rattle.icont_units.specs.Generated.{GeneratedComes}
@@ -18,6 +19,7 @@ pub returns-in-Err-clause-done : goal.returns-in-Err-clause-done
 returns-in-Err-clause-done g c words asks =
     if_some (g.F.Files.held c.args.files.now) _ (λ held e.
     refused_done c.in-Err.answer c.refuse.result _ _ _ _ _ _ _ (loading_no_image c.in-Err.answer c.in-Err.ensures.others)
+    (loading_no_write c.in-Err.answer c.in-Err.ensures.others) (loading_no_read c.in-Err.answer c.in-Err.ensures.others)
     (asked_program (GeneratedComes c.args.number) _ c.in-Err.answer (λ result comes. of_number c.args.number c.args.turns result asks comes)
     c.in-Err.ensures.program) refl c.refuse.ensures.line)
 
@@ -30,12 +32,12 @@ returns-in-Ok-clause-command g c is = command_refuses c.image_answer.result c.im
 pub returns-in-Err-clause-command : goal.returns-in-Err-clause-command
 returns-in-Err-clause-command g c is = no_command c.in-Err.answer c.refuse.result c.in-Err.ensures.others c.refuse.ensures.line is
 
-pub returns-in-Err-clause-causes : goal.returns-in-Err-clause-causes
-returns-in-Err-clause-causes g c =
-    refused_ends c.in-Err.answer c.refuse.result (loading_no_write c.in-Err.answer c.in-Err.ensures.others)
+pub returns-in-Err-clause-leaves : goal.returns-in-Err-clause-leaves
+returns-in-Err-clause-leaves g c =
+    leaves_both refl refl (refused_ends c.in-Err.answer c.refuse.result (loading_no_write c.in-Err.answer c.in-Err.ensures.others)
     (loading_no_read c.in-Err.answer c.in-Err.ensures.others) (unmoved (λ e. c.in-Err.ensures.no_file (ap (λ a. Err a) e)))
     (no_cause c.in-Err.ensures.no_absence)
-    (absence_of c.in-Err.answer c.refuse.result c.refuse.ensures.line) c.refuse.ensures.line
+    (absence_of c.in-Err.answer c.refuse.result c.refuse.ensures.line) c.refuse.ensures.line)
 
-pub returns-in-Err-clause-input : goal.returns-in-Err-clause-input
-returns-in-Err-clause-input g c = if_some (g.I.Source.left c.args.input.now) _ (λ left d. (0, d))
+pub returns-in-Ok-clause-leaves : goal.returns-in-Ok-clause-leaves
+returns-in-Ok-clause-leaves g c = c.image_answer.ensures.leaves

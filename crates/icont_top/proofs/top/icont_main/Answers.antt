@@ -122,7 +122,7 @@ pub returns-in-Ok-Link-clause-line : goal.returns-in-Ok-Link-clause-line
 returns-in-Ok-Link-clause-line g c = line_of_reports c.link_answer.ensures.reported
 
 pub returns-in-Ok-Link-clause-faultless : goal.returns-in-Ok-Link-clause-faultless
-returns-in-Ok-Link-clause-faultless g c = faultless_of c.link_answer.result c.link_answer.ensures.causes
+returns-in-Ok-Link-clause-faultless g c = faultless_of c.link_answer.result c.link_answer.ensures.leaves.causes
 
 pub returns-in-Ok-Link-clause-command : goal.returns-in-Ok-Link-clause-command
 returns-in-Ok-Link-clause-command g c =
@@ -174,7 +174,7 @@ returns-in-Ok-Generate-clause-line g c = line_of_reports c.generate_answer.ensur
 
 pub returns-in-Ok-Generate-clause-faultless : goal.returns-in-Ok-Generate-clause-faultless
 returns-in-Ok-Generate-clause-faultless g c =
-    faultless_of c.generate_answer.result c.generate_answer.ensures.causes
+    faultless_of c.generate_answer.result c.generate_answer.ensures.leaves.causes
 
 pub returns-in-Ok-Generate-clause-command : goal.returns-in-Ok-Generate-clause-command
 returns-in-Ok-Generate-clause-command g c =
@@ -293,3 +293,27 @@ returns-in-Ok-Translate-clause-input g c = if_some (g.I.Source.left c.args.input
 
 pub returns-in-Err-clause-input : goal.returns-in-Err-clause-input
 returns-in-Err-clause-input g c = if_some (g.I.Source.left c.args.input.now) _ (λ left d. (0, d))
+
+pub returns-in-Ok-Link-clause-causes : goal.returns-in-Ok-Link-clause-causes
+returns-in-Ok-Link-clause-causes g c = c.link_answer.ensures.leaves.causes
+
+pub returns-in-Ok-Link-clause-input : goal.returns-in-Ok-Link-clause-input
+returns-in-Ok-Link-clause-input g c = c.link_answer.ensures.leaves.input
+
+pub returns-in-Ok-Link-clause-refused : goal.returns-in-Ok-Link-clause-refused
+returns-in-Ok-Link-clause-refused g c = c.link_answer.ensures.leaves.refused
+
+pub returns-in-Ok-Link-clause-unread : goal.returns-in-Ok-Link-clause-unread
+returns-in-Ok-Link-clause-unread g c = c.link_answer.ensures.leaves.unread
+
+pub returns-in-Ok-Generate-clause-causes : goal.returns-in-Ok-Generate-clause-causes
+returns-in-Ok-Generate-clause-causes g c = c.generate_answer.ensures.leaves.causes
+
+pub returns-in-Ok-Generate-clause-input : goal.returns-in-Ok-Generate-clause-input
+returns-in-Ok-Generate-clause-input g c = c.generate_answer.ensures.leaves.input
+
+pub returns-in-Ok-Generate-clause-refused : goal.returns-in-Ok-Generate-clause-refused
+returns-in-Ok-Generate-clause-refused g c = c.generate_answer.ensures.leaves.refused
+
+pub returns-in-Ok-Generate-clause-unread : goal.returns-in-Ok-Generate-clause-unread
+returns-in-Ok-Generate-clause-unread g c = c.generate_answer.ensures.leaves.unread

@@ -1,7 +1,8 @@
-use Rattle.std.proofs.Common.{◌∙◌, ap, arith, Err}
+use Rattle.std.proofs.Common.{◌∙◌, ap, arith, Err, refl}
 use Rattle.std.specs.Option.{option_map}
 use Rattle.icn_lines.specs.declared.answer.Answer.TheVariants.{Wrote}
 use Rattle.icn_lines.proofs.Counts.{none_counts, own_counts, run_no_absence, run_no_file}
+use Rattle.icn_lines.proofs.Leaving.{leaves_both}
 use Rattle.icn_lines.proofs.Reports.{own_reports, wrote_no_fault}
 use Rattle.icn_lines.proofs.Telling.{at_some, if_some}
 use Rattle.icont_words.specs.Asking.{run_seen}
@@ -35,29 +36,36 @@ pub returns-in-Err-clause-reported : goal.returns-in-Err-clause-reported
 returns-in-Err-clause-reported g c =
     own_reports c.torn_answer.result (is_torn c.torn_answer.result c.torn_answer.ensures.others) c.torn_answer.ensures.puts
 
-pub returns-in-Some-clause-causes : goal.returns-in-Some-clause-causes
-returns-in-Some-clause-causes g c = record {
-  file_fault = record {
-    later = c.in-Ok.ensures.cause.later;
-    rose = λ e. absurd (run_no_file c.ran_answer.result c.ran_answer.ensures.others e);
-    stayed = λ _. c.in-Ok.ensures.cause.stayed (λ e. cc);
+pub returns-in-Some-clause-leaves : goal.returns-in-Some-clause-leaves
+returns-in-Some-clause-leaves g c = record {
+  causes = record {
+    file_fault = record {
+      later = c.in-Ok.ensures.cause.later;
+      rose = λ e. absurd (run_no_file c.ran_answer.result c.ran_answer.ensures.others e);
+      stayed = λ _. c.in-Ok.ensures.cause.stayed (λ e. cc);
+    };
+    absence = record {
+      later = omega (arith, c.in-Ok.ensures.absences);
+      rose = λ a. absurd (run_no_absence c.ran_answer.result c.ran_answer.ensures.others a);
+    };
+    others = c.ran_answer.ensures.causes;
   };
-  absence = record {
-    later = omega (arith, c.in-Ok.ensures.absences);
-    rose = λ a. absurd (run_no_absence c.ran_answer.result c.ran_answer.ensures.others a);
-  };
-  others = c.ran_answer.ensures.causes;
+  input = if_some (g.I.Source.left c.args.input.now) _ (λ left d.
+      run_lost c.runs_leave.ensures.on_stacks c.broken_off.ensures.reading c.broken_off.ensures.begun (run_seen c.in-Some.asked) left
+      (at_some _ (g.I.Source.left c.args.input.now) left d c.ran_answer.ensures.ran));
+  refused = λ none. absurd (none c.ran_answer.ensures.others);
+  unread = λ none. absurd (none c.ran_answer.ensures.others);
 }
 
-pub returns-in-None-clause-causes : goal.returns-in-None-clause-causes
-returns-in-None-clause-causes g c = record {
+pub returns-in-None-clause-leaves : goal.returns-in-None-clause-leaves
+returns-in-None-clause-leaves g c = leaves_both refl refl (record {
   file_fault = record { later = c.in-Ok.ensures.cause.later; rose = λ e. cc; stayed = λ _. c.in-Ok.ensures.cause.stayed (λ e. cc) };
   absence = record { later = omega (arith, c.in-Ok.ensures.absences); rose = λ a. absurd a };
   others = none_counts Wrote wrote_no_fault;
-}
+})
 
-pub returns-in-Err-clause-causes : goal.returns-in-Err-clause-causes
-returns-in-Err-clause-causes g c = record {
+pub returns-in-Err-clause-leaves : goal.returns-in-Err-clause-leaves
+returns-in-Err-clause-leaves g c = leaves_both refl refl (record {
   file_fault = record {
     later = c.in-Err.ensures.cause.later;
     rose = λ e. c.in-Err.ensures.cause.rose (ap (λ f. Err f) (c.torn_answer.ensures.failed.0 e));
@@ -69,16 +77,4 @@ returns-in-Err-clause-causes g c = record {
   };
   others = own_counts c.torn_answer.result (torn_no_write c.torn_answer.result c.torn_answer.ensures.others)
       (torn_no_read c.torn_answer.result c.torn_answer.ensures.others) c.torn_answer.ensures.puts;
-}
-
-pub returns-in-Some-clause-input : goal.returns-in-Some-clause-input
-returns-in-Some-clause-input g c =
-    if_some (g.I.Source.left c.args.input.now) _ (λ left d.
-    run_lost c.runs_leave.ensures.on_stacks c.broken_off.ensures.reading c.broken_off.ensures.begun (run_seen c.in-Some.asked) left
-    (at_some _ (g.I.Source.left c.args.input.now) left d c.ran_answer.ensures.ran))
-
-pub returns-in-None-clause-input : goal.returns-in-None-clause-input
-returns-in-None-clause-input g c = if_some (g.I.Source.left c.args.input.now) _ (λ left d. (0, d))
-
-pub returns-in-Err-clause-input : goal.returns-in-Err-clause-input
-returns-in-Err-clause-input g c = if_some (g.I.Source.left c.args.input.now) _ (λ left d. (0, d))
+})

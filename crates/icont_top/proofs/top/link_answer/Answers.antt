@@ -1,6 +1,7 @@
-use Rattle.std.proofs.Common.{◌∙◌, inr, Ok}
+use Rattle.std.proofs.Common.{◌∙◌, inr, Ok, refl}
 use Rattle.icn_lines.specs.declared.answer.Answer.TheVariants.{FileFault}
-use Rattle.icn_lines.proofs.Counts.{after_read, err_counts, refused_ends, absence_of}
+use Rattle.icn_lines.proofs.Counts.{err_counts, refused_ends, absence_of}
+use Rattle.icn_lines.proofs.Leaving.{leaves_after, leaves_both}
 use Rattle.icn_lines.proofs.Reports.{reports_of}
 use Rattle.icn_lines.proofs.Telling.{at_some, if_some}
 use Rattle.icn_words.specs.Texts.{texts}
@@ -15,22 +16,23 @@ pub returns-in-Ok-clause-done : goal.returns-in-Ok-clause-done
 returns-in-Ok-clause-done g c words asks =
     if_some (g.F.Files.held c.args.files.now) _ (λ held e.
     let loaded = at_some _ (g.F.Files.held c.args.files.now) held e c.in-Ok.ensures.program in
-    held_as _ _ c.in-Ok.ensures.files (c.image_answer.ensures.done words held loaded.0
-    (record { plans = of_files (texts c.args.names.now) _ _ (Ok loaded.0) asks loaded.1.0; is = loaded.1.1.1 }) (c.in-Ok.ensures.files ∙ e)))
+    held_as _ _ c.in-Ok.ensures.reads.files (c.image_answer.ensures.done words held loaded.0
+    (record { plans = of_files (texts c.args.names.now) _ _ (Ok loaded.0) asks loaded.1.0; is = loaded.1.1.1 }) (c.in-Ok.ensures.reads.files ∙ e)))
 
 pub returns-in-Err-clause-done : goal.returns-in-Err-clause-done
 returns-in-Err-clause-done g c words asks =
     if_some (g.F.Files.held c.args.files.now) _ (λ held e.
     refused_done c.in-Err.answer c.refuse.result _ _ _ _ _ _ _ (loading_no_image c.in-Err.answer c.in-Err.ensures.others)
+    (loading_no_write c.in-Err.answer c.in-Err.ensures.others) (loading_no_read c.in-Err.answer c.in-Err.ensures.others)
     (asked_program (Load held (files_named (texts c.args.names.now))) _ c.in-Err.answer (λ result load. of_files (texts c.args.names.now) _ _ result asks load)
-    (at_some _ (g.F.Files.held c.args.files.now) held e c.in-Err.ensures.program)) c.in-Err.ensures.files c.refuse.ensures.line)
+    (at_some _ (g.F.Files.held c.args.files.now) held e c.in-Err.ensures.program)) c.in-Err.ensures.reads.files c.refuse.ensures.line)
 
 pub returns-in-Ok-clause-links : goal.returns-in-Ok-clause-links
 returns-in-Ok-clause-links g c =
     if_some (g.F.Files.held c.args.files.now) _ (λ held e.
     let loaded = at_some _ (g.F.Files.held c.args.files.now) held e c.in-Ok.ensures.program in
     λ members load. inr (told_again _ _ _ held (files_named (texts c.args.names.now)) loaded.0 members loaded.1.0 loaded.1.1.0
-    c.image_answer.ensures.causes.absence.later load))
+    c.image_answer.ensures.leaves.causes.absence.later load))
 
 pub returns-in-Err-clause-links : goal.returns-in-Err-clause-links
 returns-in-Err-clause-links g c =
@@ -48,15 +50,16 @@ returns-in-Ok-clause-command g c is = command_refuses c.image_answer.result c.im
 pub returns-in-Err-clause-command : goal.returns-in-Err-clause-command
 returns-in-Err-clause-command g c is = no_command c.in-Err.answer c.refuse.result c.in-Err.ensures.others c.refuse.ensures.line is
 
-pub returns-in-Ok-clause-causes : goal.returns-in-Ok-clause-causes
-returns-in-Ok-clause-causes g c =
-    after_read c.image_answer.result (c.in-Ok.ensures.file_fault.stayed (λ e. cc)) c.in-Ok.ensures.absence.later c.image_answer.ensures.causes
+pub returns-in-Ok-clause-leaves : goal.returns-in-Ok-clause-leaves
+returns-in-Ok-clause-leaves g c =
+    leaves_after c.image_answer.result (c.in-Ok.ensures.reads.file_fault.stayed (λ e. cc)) c.in-Ok.ensures.reads.absence.later
+    c.image_answer.ensures.leaves
 
-pub returns-in-Err-clause-causes : goal.returns-in-Err-clause-causes
-returns-in-Err-clause-causes g c =
-    refused_ends c.in-Err.answer c.refuse.result (loading_no_write c.in-Err.answer c.in-Err.ensures.others)
-    (loading_no_read c.in-Err.answer c.in-Err.ensures.others) (err_counts c.in-Err.answer FileFault c.in-Err.ensures.file_fault) c.in-Err.ensures.absence
-    (absence_of c.in-Err.answer c.refuse.result c.refuse.ensures.line) c.refuse.ensures.line
+pub returns-in-Err-clause-leaves : goal.returns-in-Err-clause-leaves
+returns-in-Err-clause-leaves g c =
+    leaves_both refl refl (refused_ends c.in-Err.answer c.refuse.result (loading_no_write c.in-Err.answer c.in-Err.ensures.others)
+    (loading_no_read c.in-Err.answer c.in-Err.ensures.others) (err_counts c.in-Err.answer FileFault c.in-Err.ensures.reads.file_fault)
+    c.in-Err.ensures.reads.absence (absence_of c.in-Err.answer c.refuse.result c.refuse.ensures.line) c.refuse.ensures.line)
 
-pub returns-in-Err-clause-input : goal.returns-in-Err-clause-input
-returns-in-Err-clause-input g c = if_some (g.I.Source.left c.args.input.now) _ (λ left d. (0, d))
+pub returns-in-Err-clause-untouched : goal.returns-in-Err-clause-untouched
+returns-in-Err-clause-untouched g c is = c.in-Err.ensures.reads.files

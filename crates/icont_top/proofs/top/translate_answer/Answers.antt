@@ -13,16 +13,17 @@ pub returns-in-Ok-clause-done : goal.returns-in-Ok-clause-done
 returns-in-Ok-clause-done g c words left input out asks =
     if_some (g.F.Files.held c.args.files.now) _ (λ held e.
     let made = at_some _ (g.F.Files.held c.args.files.now) held e c.in-Ok.ensures.translated in
-    held_as _ _ c.in-Ok.ensures.files (c.texts_answer.ensures.done words held made.0 left input out
+    held_as _ _ c.in-Ok.ensures.reads.files (c.texts_answer.ensures.done words held made.0 left input out
     (record { names = texts c.args.names.now; asks = asks; come = made.1.0 }) (ap texts_seen c.deref.ensures.value ∙ made.1.1.0) made.1.1.1
-    (c.in-Ok.ensures.files ∙ e)))
+    (c.in-Ok.ensures.reads.files ∙ e)))
 
 pub returns-in-Err-clause-done : goal.returns-in-Err-clause-done
 returns-in-Err-clause-done g c words left input out asks =
     if_some (g.F.Files.held c.args.files.now) _ (λ held e.
     refused_done c.in-Err.answer c.refuse.result _ _ left input out _ _ (loading_no_image c.in-Err.answer c.in-Err.ensures.others)
+    (loading_no_write c.in-Err.answer c.in-Err.ensures.others) (loading_no_read c.in-Err.answer c.in-Err.ensures.others)
     (units_asked (texts c.args.names.now) c.in-Err.answer asks (at_some _ (g.F.Files.held c.args.files.now) held e c.in-Err.ensures.translated))
-    c.in-Err.ensures.files c.refuse.ensures.line)
+    c.in-Err.ensures.reads.files c.refuse.ensures.line)
 
 pub returns-in-Err-clause-reported : goal.returns-in-Err-clause-reported
 returns-in-Err-clause-reported g c left = reports_of (loading_no_run c.in-Err.answer c.in-Err.ensures.others) c.refuse.ensures.line
@@ -35,10 +36,13 @@ returns-in-Err-clause-command g c is = no_command c.in-Err.answer c.refuse.resul
 
 pub returns-in-Ok-clause-causes : goal.returns-in-Ok-clause-causes
 returns-in-Ok-clause-causes g c left input out =
-    after_read c.texts_answer.result (c.in-Ok.ensures.file_fault.stayed (λ e. cc)) c.in-Ok.ensures.absence.later (c.texts_answer.ensures.causes left input out)
+    after_read c.texts_answer.result (c.in-Ok.ensures.reads.file_fault.stayed (λ e. cc)) c.in-Ok.ensures.reads.absence.later (c.texts_answer.ensures.causes left input out)
 
 pub returns-in-Err-clause-causes : goal.returns-in-Err-clause-causes
 returns-in-Err-clause-causes g c left input out =
     refused_ends c.in-Err.answer c.refuse.result (loading_no_write c.in-Err.answer c.in-Err.ensures.others)
-    (loading_no_read c.in-Err.answer c.in-Err.ensures.others) (err_counts c.in-Err.answer FileFault c.in-Err.ensures.file_fault) c.in-Err.ensures.absence
+    (loading_no_read c.in-Err.answer c.in-Err.ensures.others) (err_counts c.in-Err.answer FileFault c.in-Err.ensures.reads.file_fault) c.in-Err.ensures.reads.absence
     (absence_of c.in-Err.answer c.refuse.result c.refuse.ensures.line) c.refuse.ensures.line
+
+pub returns-in-Err-clause-untouched : goal.returns-in-Err-clause-untouched
+returns-in-Err-clause-untouched g c is = c.in-Err.ensures.reads.files

@@ -28,9 +28,9 @@ loop-file-preserved g c = record {
       _ c.loop-file.members c.add_file.new.members so
       (files_from c.args.named.now c.loop-file.file-index _ c.loop-file-test.true) (read so.members so.stands);
   sound = c.in_ok-add_file.ensures.sound c.loop-file.invariant.sound;
-  same = c.in_ok-add_file.ensures.files ∙ c.loop-file.invariant.same;
-  faults = c.in_ok-add_file.ensures.file_fault.stayed (λ is. cc) ∙ c.loop-file.invariant.faults;
-  absences = le_trans c.loop-file.invariant.absences c.in_ok-add_file.ensures.absence.later;
+  same = c.in_ok-add_file.ensures.reads.files ∙ c.loop-file.invariant.same;
+  faults = c.in_ok-add_file.ensures.reads.file_fault.stayed (λ is. cc) ∙ c.loop-file.invariant.faults;
+  absences = le_trans c.loop-file.invariant.absences c.in_ok-add_file.ensures.reads.absence.later;
 }
 
 pub returns-clause-come : goal.returns-clause-come

@@ -15,7 +15,7 @@ pub returns-in_err-gather-clause-loaded : goal.returns-in_err-gather-clause-load
 returns-in_err-gather-clause-loaded g c =
     if_some (g.F.Files.held c.args.files.now) _ (λ held e.
     let came = at_some _ (g.F.Files.held c.args.files.now) held e c.in_ok-members.ensures.come in
-    let gathered = at_some _ (g.F.Files.held c.come.new.files) held (c.in_ok-members.ensures.files ∙ e)
+    let gathered = at_some _ (g.F.Files.held c.come.new.files) held (c.in_ok-members.ensures.reads.files ∙ e)
     c.in_err-gather.ensures.gathered in
     load_passed held (files_seen c.args.named.now) c.in_err-gather.field-0.0 _ c.from_residual-in_err-gather.ensures.1
     (load_gathered held (files_seen c.args.named.now) came.0 c.in_err-gather.field-0.0 came.1.0 (gathered came.0 came.1.1)))
@@ -24,6 +24,6 @@ pub returns-clause-loaded : goal.returns-clause-loaded
 returns-clause-loaded g c =
     if_some (g.F.Files.held c.args.files.now) _ (λ held e.
     let came = at_some _ (g.F.Files.held c.args.files.now) held e c.in_ok-members.ensures.come in
-    let gathered = at_some _ (g.F.Files.held c.come.new.files) held (c.in_ok-members.ensures.files ∙ e)
+    let gathered = at_some _ (g.F.Files.held c.come.new.files) held (c.in_ok-members.ensures.reads.files ∙ e)
     c.in_ok-gather.ensures.gathered in
     load_all held (files_seen c.args.named.now) came.0 c.gather.new.members came.1.0 (gathered came.0 came.1.1))

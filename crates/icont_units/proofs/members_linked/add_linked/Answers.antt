@@ -26,7 +26,7 @@ pub returns-in-Some-clause-grows : goal.returns-in-Some-clause-grows
 returns-in-Some-clause-grows g c known new =
     unit_grows (g.F.Files.absences c.args.files.now) (g.F.Files.absences c.linked_unit.new.files) c.args.members.now
     c.push_ucode.new.members c.args.base.now known c.in-Some.unit c.push_ucode.result
-    c.in_ok-unit.ensures.absence.later (subst (λ found. IsUnitOfSome c.args.base.now (Ok found)) c.in-Some.is
+    c.in_ok-unit.ensures.reads.absence.later (subst (λ found. IsUnitOfSome c.args.base.now (Ok found)) c.in-Some.is
     c.in_ok-unit.ensures.name) c.push_ucode.ensures.added new
 
 pub returns-in-None-clause-sought : goal.returns-in-None-clause-sought
@@ -41,4 +41,4 @@ returns-in-None-clause-grows g c known new =
     none_grows (g.F.Files.absences c.args.files.now) (g.F.Files.absences c.linked_unit.new.files) c.args.members.now
     c.args.base.now known
     (subst (λ found. HasCause (g.F.Files.absences c.args.files.now) (g.F.Files.absences c.linked_unit.new.files)
-    (IsLost c.args.base.now (Ok found))) c.in-None.is c.in_ok-unit.ensures.absence) new
+    (IsLost c.args.base.now (Ok found))) c.in-None.is c.in_ok-unit.ensures.reads.absence) new

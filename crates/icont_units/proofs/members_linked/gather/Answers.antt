@@ -64,8 +64,8 @@ loop-place-preserved g c =
           (texts_in c.loop-place.known.keys) (texts_in c.gather_unit.new.known.keys) c.loop-place.place
           (c.loop-place.place + 1) (omega arith)
           seen c.loop-place.invariant.grows c.in_ok-gather_unit.ensures.grows;
-      same = c.in_ok-gather_unit.ensures.files ∙ c.loop-place.invariant.same;
-      faults = c.in_ok-gather_unit.ensures.file_fault.stayed (λ is. cc) ∙ c.loop-place.invariant.faults;
+      same = c.in_ok-gather_unit.ensures.reads.files ∙ c.loop-place.invariant.same;
+      faults = c.in_ok-gather_unit.ensures.reads.file_fault.stayed (λ is. cc) ∙ c.loop-place.invariant.faults;
     }
 
 pub returns-clause-gathered : goal.returns-clause-gathered

@@ -42,6 +42,6 @@ loop-base-preserved g c = record {
       (subst (λ base. Grows (g.F.Files.absences c.loop-base.files) (g.F.Files.absences c.gather_base.new.files)
       c.loop-base.members c.gather_base.new.members (texts_in c.loop-base.known.keys)
       (texts_in c.gather_base.new.known.keys) (base ∷ [])) c.deref.ensures.value c.in_ok-gather_base.ensures.grows);
-  same = c.in_ok-gather_base.ensures.files ∙ c.loop-base.invariant.same;
-  faults = c.in_ok-gather_base.ensures.file_fault.stayed (λ is. cc) ∙ c.loop-base.invariant.faults;
+  same = c.in_ok-gather_base.ensures.reads.files ∙ c.loop-base.invariant.same;
+  faults = c.in_ok-gather_base.ensures.reads.file_fault.stayed (λ is. cc) ∙ c.loop-base.invariant.faults;
 }

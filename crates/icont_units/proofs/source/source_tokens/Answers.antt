@@ -2,14 +2,22 @@ use Rattle.std.proofs.Common.{ap, Err}
 use Rattle.icn_prep.specs.declared.fault.PrepFault.TheVariants as Prep
 use Rattle.icn_lines.specs.declared.answer.Answer.TheVariants.{FileFault}
 use Rattle.icont_units.proofs.Matching.{same_Err}
-use Rattle.icont_units.proofs.Sourcing.{file_fault_from}
+use Rattle.icont_units.proofs.Sourcing.{absence_from, file_fault_from}
 use Rattle.icont_units.proofs.source.source_tokens.Goals as goal
 
-pub returns-in-Err-clause-file_fault : goal.returns-in-Err-clause-file_fault
-returns-in-Err-clause-file_fault g c = record {
-  later = c.in-Err.ensures.file_fault.later;
-  rose = λ e. c.in-Err.ensures.file_fault.rose
-      (ap (λ f. Err f)
-      (file_fault_from c.args.name.now c.in-Err.fault c.fault_answer.result c.fault_answer.ensures.given (same_Err c.fault_answer.result FileFault e)));
-  stayed = λ n. c.in-Err.ensures.file_fault.stayed (λ e. n (ap (λ a. Err a) (c.fault_answer.ensures.file_fault (same_Err c.in-Err.fault Prep.FileFault e))));
+pub returns-in-Err-clause-reads : goal.returns-in-Err-clause-reads
+returns-in-Err-clause-reads g c = record {
+  files = c.in-Err.ensures.same;
+  file_fault = record {
+    later = c.in-Err.ensures.file_fault.later;
+    rose = λ e. c.in-Err.ensures.file_fault.rose
+        (ap (λ f. Err f)
+        (file_fault_from c.args.name.now c.in-Err.fault c.fault_answer.result c.fault_answer.ensures.given (same_Err c.fault_answer.result FileFault e)));
+    stayed = λ n. c.in-Err.ensures.file_fault.stayed
+        (λ e. n (ap (λ a. Err a) (c.fault_answer.ensures.file_fault (same_Err c.in-Err.fault Prep.FileFault e))));
+  };
+  absence = record {
+    later = c.in-Err.ensures.absence.later;
+    rose = λ a. c.in-Err.ensures.absence.rose (absence_from c.args.name.now c.in-Err.fault c.fault_answer.result c.fault_answer.ensures.given a);
+  };
 }

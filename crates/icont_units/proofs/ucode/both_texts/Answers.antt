@@ -9,4 +9,4 @@ returns-clause-texts g c =
     let texts : UnitTexts = record { first = c.in_ok-first.first; second = c.in_ok-second.second } in
     if_some (g.F.Files.held c.args.files.now) _ (λ held e. both_there held c.args.base.now texts
     (at_some _ (g.F.Files.held c.args.files.now) held e c.in_ok-first.ensures.text)
-    (at_some _ (g.F.Files.held c.text.new.files) held (c.text.ensures.files ∙ e) c.in_ok-second.ensures.text))
+    (at_some _ (g.F.Files.held c.text.new.files) held (c.text.ensures.reads.files ∙ e) c.in_ok-second.ensures.text))

@@ -1,3 +1,5 @@
+use Rattle.std.proofs.Common.{refl}
+use Rattle.icn_lines.proofs.Counts.{unmoved}
 use Rattle.icont_units.proofs.Judging.{linked, lost, no_cause, not_linked, not_text}
 use Rattle.icn_lines.proofs.Telling.{at_some, if_some}
 use Rattle.icont_units.proofs.ucode.linked_unit.Goals as goal
@@ -5,8 +7,12 @@ use Rattle.icont_units.proofs.ucode.linked_unit.Goals as goal
 pub returns-in_default-clause-links : goal.returns-in_default-clause-links
 returns-in_default-clause-links g c = if_some (g.F.Files.held c.args.files.now) _ (λ held e. not_text held c.args.base.now c.in_default.ensures.cases.0)
 
-pub returns-in_default-clause-absence : goal.returns-in_default-clause-absence
-returns-in_default-clause-absence g c = no_cause (g.F.Files.absences c.args.files.now) c.args.base.now c.in_default.ensures.cases.0
+pub returns-in_default-clause-reads : goal.returns-in_default-clause-reads
+returns-in_default-clause-reads g c = record {
+  files = refl;
+  file_fault = unmoved (λ e. cc);
+  absence = no_cause (g.F.Files.absences c.args.files.now) c.args.base.now c.in_default.ensures.cases.0;
+}
 
 pub returns-in-Ok-unit_read-clause-links : goal.returns-in-Ok-unit_read-clause-links
 returns-in-Ok-unit_read-clause-links g c =
