@@ -3,9 +3,9 @@ use Rattle.std.proofs.Common.{◌≡◌, ◌⊎◌, inl, inr, ℕ, List, [], Opt
 use Rattle.icn_host.specs.FileMaps.{FileMap}
 use Rattle.icn_host.proofs.SinkSteps.{gains_nothing}
 use Rattle.icn_host.specs.Sinks.{SinkState}
-use Rattle.icn_host.specs.declared.fault.Fault.TheVariants.{Failed, NoMemory as Wants}
-use Rattle.icn_host.proofs.Putting.{leads_of, puts_nothing}
-use Rattle.icn_host.specs.Puts.{all, Leads}
+use Rattle.icn_host.specs.declared.fault.Fault.TheVariants.{NoMemory as Wants}
+use Rattle.icn_host.proofs.Putting.{puts_nothing}
+use Rattle.icn_host.specs.Puts.{all, LeadsBy}
 use Rattle.icn_value.specs.Limited.{Bounds}
 use Rattle.icn_value.specs.Store.{outside_of}
 use Rattle.icn_defs.specs.Running.{Launch}
@@ -18,7 +18,7 @@ use Rattle.icn_running.specs.declared.fault.RunFault.{RunFault}
 use Rattle.icn_running.specs.Reported.{ending_seen}
 use Rattle.icn_running.specs.Runs.{EndsAtFirst as RunEnds, IsBrokenOff, RunsTo}
 use Rattle.icn_lines.specs.declared.answer.Answer.{Answer}
-use Rattle.icn_lines.specs.declared.answer.Answer.TheVariants.{Ran, Command, Missing, BadImage, FileFault, ReadFault, WriteFault, NoMemory}
+use Rattle.icn_lines.specs.declared.answer.Answer.TheVariants.{Wrote, Ran, Refused, Command, Missing, BadUcode, BadImage, FileFault, ReadFault, WriteFault, NoMemory}
 use Rattle.icn_lines.specs.Answers.{IsFault, IsAbsence}
 use Rattle.icn_lines.specs.Causes.{EndsAtFirst, outside}
 use Rattle.icn_lines.specs.Endings.{ending_held}
@@ -29,10 +29,10 @@ use Rattle.icn_lines.specs.Reporting.{PutsSome}
 use Rattle.icn_lines.specs.Telling.{CallObjects, call_objects}
 use Rattle.icn_lines.proofs.Counts.{absence_of, broken_first, no_cause, refused_ends, unmoved}
 use Rattle.icn_lines.proofs.Endings.{held_seen}
-use Rattle.icn_lines.proofs.Reports.{broken_puts, is_run_fault, puts_own}
-use Rattle.iconx_top.specs.Job.{IsJob, IsRun, bad, missing, observation, ran, refusal}
+use Rattle.icn_lines.proofs.Reports.{broken_puts, is_run_fault, no_fault, puts_own}
+use Rattle.iconx_top.specs.Job.{IsJob, IsRun, Job, bad, missing, observation, ran, refusal}
 use Rattle.iconx_top.specs.Loading.{IsLoaded, IsOfLoading}
-use Rattle.iconx_top.specs.Outcomes.{Begins, Outcome, broke, done, fault, idle}
+use Rattle.iconx_top.specs.Outcomes.{IsIdleFault, Outcome, broke, done, fault, idle}
 use Rattle.iconx_top.specs.Usage.{usage}
 use Rattle.iconx_top.specs.Words.{Asks, words_reading}
 
@@ -40,28 +40,45 @@ use Rattle.iconx_top.specs.Words.{Asks, words_reading}
 abbrev pub Asked : List (List ℕ) → FileMap → List ℕ → List ℕ → Answer → Type 0
 Asked words files left name answer = IsFault answer ⊎ IsJob words files left (refusal files left name answer)
 
-begins_of : {words : List (List ℕ)} {files : FileMap} {left : List ℕ} (name : List ℕ) (answer : Answer) (before between : SinkState)
-    → IsJob words files left (refusal files left name answer) → Leads before between (line_of usage name answer)
-    → Begins (IsJob words files left) before between
-begins_of name answer before between is (inl same) = inl same
-begins_of {files = files} {left} name answer before between is (inr stops) = inr (refusal files left name answer, is, stops)
+-- a fault that is none of the input or an output was answered before a line was put
+idle_of : (IsJobOf : Job → Type 0) (answer : Answer) (before : SinkState) → IsFault answer → (answer ≡ WriteFault → ⊥) → (answer ≡ ReadFault → ⊥)
+    → IsIdleFault IsJobOf answer before before
+idle_of IsJobOf Wrote before f no_write no_read = absurd (no_fault Wrote refl f)
+idle_of IsJobOf (Ran ending) before f no_write no_read = absurd (no_fault (Ran ending) refl f)
+idle_of IsJobOf (Refused file line rule) before f no_write no_read = absurd (no_fault (Refused file line rule) refl f)
+idle_of IsJobOf (Command kind) before f no_write no_read = absurd (no_fault (Command kind) refl f)
+idle_of IsJobOf (Missing name) before f no_write no_read = absurd (no_fault (Missing name) refl f)
+idle_of IsJobOf (BadUcode name rule) before f no_write no_read = absurd (no_fault (BadUcode name rule) refl f)
+idle_of IsJobOf (BadImage rule) before f no_write no_read = absurd (no_fault (BadImage rule) refl f)
+idle_of IsJobOf FileFault before f no_write no_read = refl
+idle_of IsJobOf ReadFault before f no_write no_read = absurd (no_read refl)
+idle_of IsJobOf WriteFault before f no_write no_read = absurd (no_write refl)
+idle_of IsJobOf NoMemory before f no_write no_read = inl refl
+
+-- memory was wanting as a refusal's line was put
+idle_short : {words : List (List ℕ)} {files : FileMap} {left : List ℕ} (name : List ℕ) (answer : Answer) (before between : SinkState)
+    → IsJob words files left (refusal files left name answer) → LeadsBy Wants before between (line_of usage name answer)
+    → IsIdleFault (IsJob words files left) NoMemory before between
+idle_short name answer before between is (inl same) = inl same
+idle_short {files = files} {left} name answer before between is (inr short) = inr (refusal files left name answer, is, short)
 
 -- nothing was done but to put a line
 pub refused : {words : List (List ℕ)} {files : FileMap} {left : List ℕ} (name : List ℕ) (answer given : Answer)
     (held held' : Option FileMap) (left' : Option (List ℕ)) (input : ℕ) (out before after : SinkState)
-    → Asked words files left name answer → held' ≡ held → held ≡ Some files → left' ≡ Some left → Refuses usage name answer before after given
+    → Asked words files left name answer → (answer ≡ WriteFault → ⊥) → (answer ≡ ReadFault → ⊥) → held' ≡ held → held ≡ Some files
+    → left' ≡ Some left → Refuses usage name answer before after given
     → Outcome words files left given (call_objects held (call_streams left' input out before)) (call_objects held' (call_streams left' input out after))
-refused name answer given held held' left' input out before after (inl f) same e d (put n h) = absurd (n f)
-refused {files = files} {left} name answer given held held' left' input out before after (inr is) same e d (put n h) =
+refused name answer given held held' left' input out before after (inl f) no_write no_read same e d (put n h) = absurd (n f)
+refused {files = files} {left} name answer given held held' left' input out before after (inr is) no_write no_read same e d (put n h) =
     done (refusal files left name answer) is (record { answered = refl; files = same ∙ e; left = d; output = gains_nothing out.held; errors = h.gains })
-refused name answer given held held' left' input out before after asks same e d (own f puts) =
-    fault f same (idle before refl refl (inl refl) (puts_own _ _ answer puts))
-refused name answer given held held' left' input out before after (inl f) same e d (write_fault n leads) = absurd (n f)
-refused name answer given held held' left' input out before after (inr is) same e d (write_fault n stops) =
-    fault refl same (idle after refl refl (begins_of name answer before after is (leads_of _ _ _ Failed stops)) (all (puts_nothing after)))
-refused name answer given held held' left' input out before after (inl f) same e d (want n between leads puts) = absurd (n f)
-refused name answer given held held' left' input out before after (inr is) same e d (want n between leads puts) =
-    fault refl same (idle between refl refl (begins_of name answer before between is (leads_of _ _ _ Wants leads)) puts)
+refused {words} {files} {left} name answer given held held' left' input out before after asks no_write no_read same e d (own f puts) =
+    fault f same (idle before refl refl (idle_of (IsJob words files left) answer before f no_write no_read) (puts_own _ _ answer puts))
+refused name answer given held held' left' input out before after (inl f) no_write no_read same e d (write_fault n stops) = absurd (n f)
+refused {files = files} {left} name answer given held held' left' input out before after (inr is) no_write no_read same e d (write_fault n stops) =
+    fault refl same (idle after refl refl (refusal files left name answer, is, stops) (all (puts_nothing after)))
+refused name answer given held held' left' input out before after (inl f) no_write no_read same e d (want n between leads puts) = absurd (n f)
+refused name answer given held held' left' input out before after (inr is) no_write no_read same e d (want n between leads puts) =
+    fault refl same (idle between refl refl (idle_short name answer before between is leads) puts)
 
 -- what was loaded
 
@@ -124,21 +141,23 @@ pub load_no_read : (answer : Answer) → IsOfLoading answer → answer ≡ ReadF
 load_no_read answer is e = rw e at is
 
 -- faulty words
+
+pub command_no_write : (kind : ℕ) → Command kind ≡ WriteFault → ⊥
+command_no_write kind e = cc
+
+pub command_no_read : (kind : ℕ) → Command kind ≡ ReadFault → ⊥
+command_no_read kind e = cc
+
+command_no_file : (kind : ℕ) → Command kind ≡ FileFault → ⊥
+command_no_file kind e = cc
+
 pub command_ends : {files absences input : ℕ} {left : Option (List ℕ)} {out before after : SinkState} (kind : ℕ) (given : Answer)
     → Refuses usage [] (Command kind) before after given
     → EndsAtFirst given (IsAbsence given) (outside files absences (call_streams left input out before))
     (outside files absences (call_streams left input out after))
 command_ends kind given refuses =
-    refused_ends (Command kind) given no_write no_read (unmoved no_file) (no_cause (λ (a : IsAbsence (Command kind)). a))
-    (absence_of (Command kind) given refuses) refuses where
-      no_write : Command kind ≡ WriteFault → ⊥
-      no_write e = cc
-
-      no_read : Command kind ≡ ReadFault → ⊥
-      no_read e = cc
-
-      no_file : Command kind ≡ FileFault → ⊥
-      no_file e = cc
+    refused_ends (Command kind) given (command_no_write kind) (command_no_read kind) (unmoved (command_no_file kind))
+    (no_cause (λ (a : IsAbsence (Command kind)). a)) (absence_of (Command kind) given refuses) refuses
 
 pub command_unrun : (kind : ℕ) (ending : Ending) → Command kind ≡ Ran ending → ⊥
 command_unrun kind ending e = cc

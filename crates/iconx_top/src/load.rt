@@ -1,7 +1,7 @@
 // The image that is to run.
-ghost use Rattle.std.specs.Prelude.{◌≡◌, ◌⊎◌, ℕ, List, Some, None, IfSome, IfErr, IsErrOf};
+ghost use Rattle.std.specs.Prelude.{◌≡◌, ◌⊎◌, ℕ, List, Some, None, IfSome, IfErr};
 ghost use Rattle.icn_lines.specs.Answers.{IsErrOfAbsence};
-ghost use Rattle.icn_host.specs.Counts.{CountsOnce, HasCause};
+ghost use Rattle.icn_lines.specs.FilesRead.{ReadsFiles, files_state};
 ghost use Rattle.icn_code.specs.Seen.{tables_of};
 ghost use Rattle.iconx_top.specs.Loading.{IsChecked, IsJudgement, IsLoaded, IsOfImage, IsOfLoading, Takes, of_image};
 
@@ -20,10 +20,9 @@ const LONGEST: u64 = 1073741824;
 pub fn load<F: Files>(alloc: Global, name: &str, files: &mut F) -> Result<Verified, Answer>
     ensures loaded { IfSome (F.held files.old) (λ held. IsLoaded (held name.now) name.now result) }
     ensures others { IfErr result IsOfLoading }
-    ensures files { F.held files.new ≡ F.held files.old }
-    ensures file_fault { CountsOnce (F.faults files.old) (F.faults files.new)
-        (IsErrOf result Answer.FileFault) }
-    ensures absence { HasCause (F.absences files.old) (F.absences files.new) (IsErrOfAbsence result) }
+    ensures reads { ReadsFiles result (IsErrOfAbsence result)
+        (files_state (F.held files.old) (F.faults files.old) (F.absences files.old))
+        (files_state (F.held files.new) (F.faults files.new) (F.absences files.new)) }
 {
     let mut bytes = Vec::new(alloc);
     match files.read(name, LONGEST, &mut bytes) {

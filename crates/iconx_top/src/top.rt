@@ -7,6 +7,7 @@ ghost use Rattle.icn_lines.specs.Answers.{IsAbsence, IsCommand, IsFault};
 ghost use Rattle.icn_lines.specs.Causes.{EndsAtFirst, RunEndsAtFirst, outside};
 ghost use Rattle.icn_lines.specs.Faulting.{IsOfRun};
 ghost use Rattle.icn_lines.specs.InputLeft.{LosesSome};
+ghost use Rattle.icn_lines.specs.Leaving.{LeavesOutside};
 ghost use Rattle.icn_lines.specs.Reporting.{LineStands, Reports};
 ghost use Rattle.icn_lines.specs.Telling.{call_objects};
 ghost use Rattle.iconx_top.specs.Answered.{IsAnswered};
@@ -115,12 +116,9 @@ fn image_answer<F: Files, I: Source, O: Sink, E: Sink>(
         (E.state err.new) result }
     ensures answered { (words : List (List ℕ)) → read words ≡ run_reading run.entry
         → IfSome (F.held files.old) (λ held. IsAnswered words held result) }
-    ensures input { IfSome (I.left input.old) (λ left. LosesSome left (I.left input.new)) }
     ensures command { IsCommand result → ⊥ }
-    ensures refused { (IsOfRun result → ⊥) → (O.state out.new).held ≡ (O.state out.old).held }
-    ensures unread { (IsOfRun result → ⊥) → I.left input.new ≡ I.left input.old }
     ensures files { F.held files.new ≡ F.held files.old }
-    ensures causes { EndsAtFirst result (IsAbsence result)
+    ensures leaves { LeavesOutside result
         (outside (F.faults files.old) (F.absences files.old)
         (call_streams (I.left input.old) (I.faults input.old) (O.state out.old) (E.state err.old)))
         (outside (F.faults files.new) (F.absences files.new)

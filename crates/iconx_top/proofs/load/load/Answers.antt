@@ -8,12 +8,13 @@ returns-in-Ok-clause-loaded g c = loaded (g.F.Files.held c.args.files.now) c.arg
 pub returns-in-Ok-clause-others : goal.returns-in-Ok-clause-others
 returns-in-Ok-clause-others g c = of_loading c.judge.result c.judge.ensures.others
 
-pub returns-in-Ok-clause-file_fault : goal.returns-in-Ok-clause-file_fault
-returns-in-Ok-clause-file_fault g c = record {
-  later = c.read.ensures.cause.later;
-  rose = λ is. absurd (no_file_fault c.judge.result c.judge.ensures.others is);
-  stayed = λ n. c.in-Ok.ensures.cause.stayed (λ is. cc);
+pub returns-in-Ok-clause-reads : goal.returns-in-Ok-clause-reads
+returns-in-Ok-clause-reads g c = record {
+  files = c.read.ensures.same;
+  file_fault = record {
+    later = c.read.ensures.cause.later;
+    rose = λ is. absurd (no_file_fault c.judge.result c.judge.ensures.others is);
+    stayed = λ n. c.in-Ok.ensures.cause.stayed (λ is. cc);
+  };
+  absence = record { later = c.read.ensures.absence.later; rose = λ is. absurd (no_absence c.judge.result c.judge.ensures.others is) };
 }
-
-pub returns-in-Ok-clause-absence : goal.returns-in-Ok-clause-absence
-returns-in-Ok-clause-absence g c = record { later = c.read.ensures.absence.later; rose = λ is. absurd (no_absence c.judge.result c.judge.ensures.others is) }

@@ -1,10 +1,11 @@
-use Rattle.std.proofs.Common.{map}
+use Rattle.std.proofs.Common.{map, refl}
 use Rattle.std.specs.Prelude.{string_bytes}
 use Rattle.icn_value.specs.Limited.{limits_of}
 use Rattle.iconx_top.proofs.Answering.{answer_put, load_answered, run_answered}
 use Rattle.iconx_top.proofs.Refusals.{asked_load, held_as, load_no_read, load_no_write, refused}
 use Rattle.icn_lines.specs.declared.answer.Answer.TheVariants.{FileFault}
 use Rattle.icn_lines.proofs.Counts.{err_counts, refused_ends, absence_of, run_no_absence, run_no_file}
+use Rattle.icn_lines.proofs.Leaving.{leaves_both}
 use Rattle.icn_lines.proofs.Reports.{reports_of}
 use Rattle.icn_lines.proofs.Telling.{at_some, if_some}
 use Rattle.iconx_top.proofs.ReportLines.{load_unrun}
@@ -15,12 +16,14 @@ returns-in-Err-clause-outcome g c words asks =
     if_some (g.F.Files.held c.args.files.now) _ (λ held e. if_some (g.I.Source.left c.args.input.now) _ (λ left d.
     refused c.args.run.image.now c.in-Err.answer c.refuse.result _ _ _ _ _ _ _
     (asked_load (limits_of c.args.run.limits) c.args.run.image.now (map string_bytes c.args.run.arguments.now) c.in-Err.answer asks
-    (at_some _ (g.F.Files.held c.args.files.now) held e c.in-Err.ensures.loaded)) c.in-Err.ensures.files e d c.refuse.ensures.line))
+    (at_some _ (g.F.Files.held c.args.files.now) held e c.in-Err.ensures.loaded))
+    (load_no_write c.in-Err.answer c.in-Err.ensures.others) (load_no_read c.in-Err.answer c.in-Err.ensures.others)
+    c.in-Err.ensures.reads.files e d c.refuse.ensures.line))
 
 pub returns-in-Ok-clause-outcome : goal.returns-in-Ok-clause-outcome
 returns-in-Ok-clause-outcome g c words asks =
     if_some (g.F.Files.held c.args.files.now) _ (λ held e. if_some (g.I.Source.left c.args.input.now) _ (λ left d.
-    held_as _ _ c.in-Ok.ensures.files
+    held_as _ _ c.in-Ok.ensures.reads.files
     (at_some _ (g.I.Source.left c.args.input.now) left d
     (c.run_answer.ensures.outcome words held (g.F.Files.held c.args.files.now) asks
     (at_some _ (g.F.Files.held c.args.files.now) held e c.in-Ok.ensures.loaded) e))))
@@ -43,22 +46,33 @@ returns-in-Ok-clause-answered g c words asks =
     (map string_bytes c.args.run.arguments.now) c.in-Ok.verified c.run_answer.result asks
     (at_some _ (g.F.Files.held c.args.files.now) held e c.in-Ok.ensures.loaded) c.run_answer.ensures.others)
 
-pub returns-in-Ok-clause-causes : goal.returns-in-Ok-clause-causes
-returns-in-Ok-clause-causes g c = record {
-  file_fault = record {
-    later = c.in-Ok.ensures.file_fault.later;
-    rose = λ e. absurd (run_no_file c.run_answer.result c.run_answer.ensures.others e);
-    stayed = λ _. c.in-Ok.ensures.file_fault.stayed (λ e. cc);
+pub returns-in-Ok-clause-leaves : goal.returns-in-Ok-clause-leaves
+returns-in-Ok-clause-leaves g c = record {
+  causes = record {
+    file_fault = record {
+      later = c.in-Ok.ensures.reads.file_fault.later;
+      rose = λ e. absurd (run_no_file c.run_answer.result c.run_answer.ensures.others e);
+      stayed = λ _. c.in-Ok.ensures.reads.file_fault.stayed (λ e. cc);
+    };
+    absence = record {
+      later = c.in-Ok.ensures.reads.absence.later;
+      rose = λ a. absurd (run_no_absence c.run_answer.result c.run_answer.ensures.others a);
+    };
+    others = c.run_answer.ensures.causes;
   };
-  absence = record { later = c.in-Ok.ensures.absence.later; rose = λ a. absurd (run_no_absence c.run_answer.result c.run_answer.ensures.others a) };
-  others = c.run_answer.ensures.causes;
+  input = c.run_answer.ensures.input;
+  refused = λ none. absurd (none c.run_answer.ensures.others);
+  unread = λ none. absurd (none c.run_answer.ensures.others);
 }
 
-pub returns-in-Err-clause-causes : goal.returns-in-Err-clause-causes
-returns-in-Err-clause-causes g c =
-    refused_ends c.in-Err.answer c.refuse.result (load_no_write c.in-Err.answer c.in-Err.ensures.others) (load_no_read c.in-Err.answer c.in-Err.ensures.others)
-    (err_counts c.in-Err.answer FileFault c.in-Err.ensures.file_fault) c.in-Err.ensures.absence
-    (absence_of c.in-Err.answer c.refuse.result c.refuse.ensures.line) c.refuse.ensures.line
+pub returns-in-Err-clause-leaves : goal.returns-in-Err-clause-leaves
+returns-in-Err-clause-leaves g c =
+    leaves_both refl refl (refused_ends c.in-Err.answer c.refuse.result (load_no_write c.in-Err.answer c.in-Err.ensures.others)
+    (load_no_read c.in-Err.answer c.in-Err.ensures.others) (err_counts c.in-Err.answer FileFault c.in-Err.ensures.reads.file_fault)
+    c.in-Err.ensures.reads.absence (absence_of c.in-Err.answer c.refuse.result c.refuse.ensures.line) c.refuse.ensures.line)
 
-pub returns-in-Err-clause-input : goal.returns-in-Err-clause-input
-returns-in-Err-clause-input g c = if_some (g.I.Source.left c.args.input.now) _ (λ left d. (0, d))
+pub returns-in-Ok-clause-files : goal.returns-in-Ok-clause-files
+returns-in-Ok-clause-files g c = c.in-Ok.ensures.reads.files
+
+pub returns-in-Err-clause-files : goal.returns-in-Err-clause-files
+returns-in-Err-clause-files g c = c.in-Err.ensures.reads.files
