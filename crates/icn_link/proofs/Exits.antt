@@ -1,8 +1,8 @@
 -- Rules that are looked at one after the other.
-use Rattle.std.proofs.Common.{◌≡◌, ℕ, List, [], ◌∷◌, inl, inr, Option, Some, None, Result, Ok, Err, OnOk, IfOk, IfErr, IsErrAnd, ap, ◌∙◌, sym, subst}
+use Rattle.std.proofs.Common.{◌≡◌, inl, inr, Option, None, Result, Ok, Err, OnOk, IfErr, IsErrAnd, ap, ◌∙◌, sym, subst}
 use Rattle.std.specs.Option.{option_or}
 use Rattle.icn_link.specs.declared.fault.LinkFault.{LinkFault}
-use Rattle.icn_link.specs.LinkFaults.{IsFault, over}
+use Rattle.icn_link.specs.LinkFaults.{IsFault}
 
 -- a fault of the first rule is one of all
 pub first_fault_is : (a b : Option LinkFault) (fault : LinkFault) → IsFault a fault → IsFault (option_or a b) fault
@@ -16,19 +16,6 @@ later_fault_is a b fault kept (inr e) = inr (ap (λ x. option_or x b) kept ∙ e
 
 pub both_kept : (a b : Option LinkFault) → a ≡ None → b ≡ None → option_or a b ≡ None
 both_kept a b e f = ap (λ x. option_or x b) e ∙ f
-
--- A check of one number, where it is the number asked for
-
-pub one_kept : {A : Type 0} (result : Result A LinkFault) (most count sum : ℕ) → count ≡ sum
-    → OnOk result ((rest : List ℕ) → over most (count ∷ rest) ≡ over most rest) → OnOk result (over most (sum ∷ []) ≡ None)
-one_kept (Ok done) most count sum same h = ap (λ n. over most (n ∷ [])) (sym same) ∙ h []
-one_kept (Err fault) most count sum same h = tt
-
-pub one_fault : {A : Type 0} (result : Result A LinkFault) (most count sum : ℕ) → count ≡ sum
-    → IfErr result (λ fault. (rest : List ℕ) → over most (count ∷ rest) ≡ Some fault)
-    → IfErr result (IsFault (over most (sum ∷ [])))
-one_fault (Ok done) most count sum same h = tt
-one_fault (Err fault) most count sum same h = inr (ap (λ n. over most (n ∷ [])) (sym same) ∙ h [])
 
 -- What a check says of one list, where that is the list asked for
 
@@ -51,8 +38,3 @@ later_fault result a b kept h = subst (λ x. IfErr result (IsFault (option_or x 
 pub err_is : {T : Type 0} (r : Result T LinkFault) (P : LinkFault → Type 0) (fault : LinkFault) → IsErrAnd r (λ other. other ≡ fault) → P fault → IfErr r P
 err_is (Ok value) P fault same is = tt
 err_is (Err other) P fault same is = subst P (sym same) is
-
--- A number that is another one
-
-pub sum_is : (result : Result ℕ LinkFault) (a b : ℕ) → a ≡ b → IfOk result (λ n. n ≡ a) → IfOk result (λ n. n ≡ b)
-sum_is result a b same h = subst (λ m. IfOk result (λ n. n ≡ m)) same h

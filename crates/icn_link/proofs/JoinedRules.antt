@@ -42,7 +42,7 @@ all_within most [] h = refl
 all_within most (n ∷ counts) h = let t = within most n counts h in both (le-leb _ _ t.0) (all_within most counts t.1)
 
 -- a part of a sum
-sizes_within : (most : ℕ) (procs : List Proc) → sum_by size_of procs ≤ most → list_all (λ proc. nat_le (size_of proc) most) procs ≡ true
+pub sizes_within : (most : ℕ) (procs : List Proc) → sum_by size_of procs ≤ most → list_all (λ proc. nat_le (size_of proc) most) procs ≡ true
 sizes_within most [] h = refl
 sizes_within most (proc ∷ procs) h =
     let sum = sum_by-cons size_of proc procs in
@@ -120,14 +120,14 @@ place_within (other ∷ names) name n e = place_by name other names (bytes_eq na
 
 -- Records, by the declarations
 
-records_long : (M : AllMentions) (decls : List Decl) → length (flat_map (records_in M) decls) ≡ length (record_sizes decls)
+pub records_long : (M : AllMentions) (decls : List Decl) → length (flat_map (records_in M) decls) ≡ length (record_sizes decls)
 records_long M [] = refl
 records_long M (GlobalDecl name ∷ decls) = records_long M decls
 records_long M (Procedure name ∷ decls) = records_long M decls
 records_long M (Link text ∷ decls) = records_long M decls
 records_long M (Record name fields ∷ decls) = ap suc (records_long M decls)
 
-names_long : (M : AllMentions) (decls : List Decl) → length (flat_map (records_in M) decls) ≡ length (record_names decls)
+pub names_long : (M : AllMentions) (decls : List Decl) → length (flat_map (records_in M) decls) ≡ length (record_names decls)
 names_long M [] = refl
 names_long M (GlobalDecl name ∷ decls) = names_long M decls
 names_long M (Procedure name ∷ decls) = names_long M decls

@@ -1,17 +1,18 @@
 -- The tables that are made are the joined code.
-use Rattle.std.proofs.Common.{◌≡◌, ℕ, true, List, [], ◌∷◌, length, map, sym, ap, subst, ◌∙◌}
+use Rattle.std.proofs.Common.{◌≡◌, ℕ, true, List, [], ◌∷◌, ◌≤◌, length, map, sym, ap, subst, ◌∙◌, arith}
 use Rattle.std.specs.Prelude.{nat_le}
-use Rattle.std.specs.List.{flat_map, list_all}
+use Rattle.std.specs.List.{flat_map, list_all, sum_by}
+use Rattle.std.proofs.lemmas.List.{length-map}
 use Rattle.icn_code.specs.Codes.{Tables}
 use Rattle.icn_code.specs.Rules.{keeps_rules}
 use Rattle.icn_unit.specs.PlainUnits.{Proc, Decl, proc_names}
 use Rattle.icn_link.specs.Gathering.{text_place}
 use Rattle.icn_link.specs.Joined.{cset_of, global_entry, joined_of, locals_in, proc_entry, records_in, statics_in, tables_with}
-use Rattle.icn_link.specs.LinkFaults.{local_counts, record_sizes, static_counts}
+use Rattle.icn_link.specs.LinkFaults.{local_counts, record_sizes, size_of, static_counts}
 use Rattle.icn_link.specs.Mentions.{AllMentions, globals, all_mentions, record_names}
 use Rattle.icn_link.specs.Views.{AreFew, Joinable}
 use Rattle.icn_link.proofs.Each.{all_unmapped}
-use Rattle.icn_link.proofs.JoinedRules.{all_within, joined_kept, within}
+use Rattle.icn_link.proofs.JoinedRules.{all_within, joined_kept, names_long, records_long, sizes_within, within}
 
 -- what is found of each part
 pub record Parts (M : AllMentions) (decls : List Decl) (procs : List Proc) (T : Tables) : Type 0 where
@@ -40,8 +41,14 @@ pub tables_kept : (M : AllMentions) (decls : List Decl) (procs : List Proc) (T :
     → Joinable decls procs → Parts M decls procs T → keeps_rules T ≡ true
 tables_kept M decls procs T is J p = ap keeps_rules (tables_made M decls procs T is p) ∙ joined_kept decls procs J
 
-few : (decls : List Decl) (procs : List Proc) → Joinable decls procs → AreFew (all_mentions decls procs)
-few decls procs J =
+-- how many entries there are
+record Bounds (M : AllMentions) (D : List Decl) (P : List Proc) : Type 0 where
+  tables : AreFew M
+  records : length (record_names D) ≤ 65535
+  procs : length (proc_names P) ≤ 65535
+
+bounds : (decls : List Decl) (procs : List Proc) → Joinable decls procs → Bounds (all_mentions decls procs) decls procs
+bounds decls procs J =
     let M : AllMentions = all_mentions decls procs in
     let k7 : List ℕ = length procs ∷ [] in
     let k6 : List ℕ = length M.globals ∷ k7 in
@@ -55,10 +62,24 @@ few decls procs J =
     let s4 = within 65535 (length M.fields) k5 s3.1 in
     let s5 = within 65535 (length (record_sizes decls)) k6 s4.1 in
     let s6 = within 65535 (length M.globals) k7 s5.1 in
-    record { strings = s1.0; sets = s2.0; integers = s3.0; fields = s4.0; globals = s6.0 }
+    let s7 = within 65535 (length procs) [] s6.1 in
+    record {
+      tables = record { strings = s1.0; sets = s2.0; integers = s3.0; fields = s4.0; globals = s6.0 };
+      records = omega (arith, s5.0, records_long M decls, names_long M decls);
+      procs = omega (arith, s7.0, length-map procs (λ (proc : Proc). proc.name));
+    }
 
 pub are_few : (M : AllMentions) (decls : List Decl) (procs : List Proc) → M ≡ all_mentions decls procs → Joinable decls procs → AreFew M
-are_few M decls procs is J = subst AreFew (sym is) (few decls procs J)
+are_few M decls procs is J = subst AreFew (sym is) (bounds decls procs J).tables
+
+pub few_records : (decls : List Decl) (procs : List Proc) → Joinable decls procs → length (record_names decls) ≤ 65535
+few_records decls procs J = (bounds decls procs J).records
+
+pub few_procs : (decls : List Decl) (procs : List Proc) → Joinable decls procs → length (proc_names procs) ≤ 65535
+few_procs decls procs J = (bounds decls procs J).procs
+
+pub few_instrs : (decls : List Decl) (procs : List Proc) → Joinable decls procs → list_all (λ (proc : Proc). nat_le (size_of proc) 16777216) procs ≡ true
+few_instrs decls procs J = sizes_within 16777216 procs (within 16777216 (sum_by size_of procs) [] J.instrs).0
 
 pub few_locals : (M : AllMentions) (decls : List Decl) (procs : List Proc) → M ≡ all_mentions decls procs → Joinable decls procs
     → list_all (λ (proc : Proc). nat_le (locals_in M.globals proc.names) 65535) procs ≡ true

@@ -15,3 +15,4 @@ pub mod Places
 pub mod Repeating
 pub mod Stages
 pub mod Steps
+pub mod ToldCounts

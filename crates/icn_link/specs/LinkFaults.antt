@@ -1,5 +1,5 @@
 -- Why units can't be joined: the first rule that they break.
-use Rattle.std.specs.Prelude.{◌≡◌, ◌⊎◌, ℕ, suc, ◌-◌, Bool, not, is_some, List, [], ◌∷◌, ◌++◌, length, map, take, codes, find, nat_eq, nat_lt, Option, Some, None, if◌then◌else◌, count_by}
+use Rattle.std.specs.Prelude.{◌≡◌, ◌⊎◌, ℕ, suc, ◌-◌, ◌^◌, min, Bool, not, is_some, List, [], ◌∷◌, ◌++◌, length, map, take, codes, find, nat_eq, nat_lt, Option, Some, None, if◌then◌else◌, count_by}
 use Rattle.std.specs.List.{flat_map, list_any, sum_by, ends_with}
 use Rattle.std.specs.Option.{option_map, option_or}
 use Rattle.std.specs.Str.{bytes_eq}
@@ -104,9 +104,13 @@ repeated_name units = repeated_from [] (owners_from 0 units)
 
 -- Programs that are too large
 
--- something is too large, by this number
+-- the number that a fault tells: the count, and of one past 64 bits the greatest number of 64 bits
+abbrev pub count_told : ℕ → ℕ
+count_told count = min count (2 ^ 64 - 1)
+
+-- something is too large, by this count, as far as 64 bits can tell it
 abbrev pub count_fault : ℕ → LinkFault
-count_fault count = K3 count
+count_fault count = K3 (count_told count)
 
 -- the first number above a bound
 abbrev pub over : ℕ → List ℕ → Option LinkFault

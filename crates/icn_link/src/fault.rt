@@ -29,7 +29,7 @@ pub enum LinkFault {
         unit: u64,
         name: Bytes,
     },
-    /// The program is too large: the first number that is above its bound.
+    /// The program is too large: the first number that is above its bound. One past 64 bits is told as the greatest number of 64 bits.
     K3 {
         count: u64,
     },

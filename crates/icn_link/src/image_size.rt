@@ -1,103 +1,89 @@
 // How many bytes the image of a code has.
-ghost use Rattle.std.specs.Prelude.{◌≡◌, ◌*◌, length, IfErr, IfOk};
+ghost use Rattle.std.specs.Prelude.{◌≡◌, ◌+◌, ◌*◌, length};
 ghost use Rattle.icn_code.specs.Codes.{proc_of, procs_of, record_of, records_of};
 ghost use Rattle.icn_code.specs.Seen.{tables_of};
 ghost use Rattle.icn_image.specs.Spelling.{image_of};
-ghost use Rattle.icn_link.specs.declared.fault.LinkFault.TheVariants.{NoMemory};
 ghost use Rattle.icn_link.specs.ImageSizes.{body_size, bodies_size, instr_size, records_size, strings_size};
+ghost use Rattle.icn_link.specs.LinkFaults.{count_told};
 
-use crate::fault::LinkFault;
-use crate::numbers::plus;
 use icn_code::{Code, Instr, Procedure, Record};
 use icn_tree::Bytes;
 
-/// How many bytes the image of a code has. An error is `NoMemory`: so many have no number of 64 bits.
-pub fn image_size(code: &Code) -> Result<u64, LinkFault>
-    ensures size { IfOk result (λ size. size ≡ length (image_of (tables_of code.now))) }
-    ensures fault { IfErr result (λ fault. fault ≡ NoMemory) }
+/// How many bytes the image of a code has, as far as 64 bits can tell it.
+pub fn image_size(code: &Code) -> u64
+    ensures { result ≡ count_told (length (image_of (tables_of code.now))) }
 {
-    let strings = strings_size(&code.strings)?;
-    let csets = entries_size(&code.csets, 32)?;
-    let integers = entries_size(&code.integers, 8)?;
-    let fields = entries_size(&code.fields, 2)?;
-    let records = records_size(&code.records)?;
-    let globals = entries_size(&code.globals, 5)?;
-    let heads = entries_size(&code.procs, 13)?;
-    let bodies = bodies_size(&code.procs)?;
-    let size = plus(22, strings)?;
-    let size = plus(size, csets)?;
-    let size = plus(size, integers)?;
-    let size = plus(size, fields)?;
-    let size = plus(size, records)?;
-    let size = plus(size, globals)?;
-    let size = plus(size, heads)?;
-    plus(size, bodies)
+    let size = strings_size(&code.strings).saturating_add(22);
+    let size = size.saturating_add(entries_size(&code.csets, 32));
+    let size = size.saturating_add(entries_size(&code.integers, 8));
+    let size = size.saturating_add(entries_size(&code.fields, 2));
+    let size = size.saturating_add(records_size(&code.records));
+    let size = size.saturating_add(entries_size(&code.globals, 5));
+    let size = size.saturating_add(entries_size(&code.procs, 13));
+    size.saturating_add(bodies_size(&code.procs))
 }
 
 // Entries of so many bytes each.
-fn entries_size<T>(entries: &[T], each: u64) -> Result<u64, LinkFault>
-    ensures size { IfOk result (λ size. size ≡ length entries.now * each) }
-    ensures fault { IfErr result (λ fault. fault ≡ NoMemory) }
+fn entries_size<T>(entries: &[T], each: u64) -> u64
+    ensures { result ≡ count_told (length entries.now * each) }
 {
-    product(entries.len() as u64, each)
-}
-
-fn product(a: u64, b: u64) -> Result<u64, LinkFault>
-    ensures product { IfOk result (λ product. product ≡ a * b) }
-    ensures fault { IfErr result (λ fault. fault ≡ NoMemory) }
-{
-    match a.checked_mul(b) {
-        Some(product) => Ok(product),
-        None => Err(LinkFault::NoMemory),
-    }
+    (entries.len() as u64).saturating_mul(each)
 }
 
 // Strings, each behind its length.
-fn strings_size(strings: &[Bytes]) -> Result<u64, LinkFault>
-    ensures size { IfOk result (λ size. size ≡ strings_size strings.now) }
-    ensures fault { IfErr result (λ fault. fault ≡ NoMemory) }
+fn strings_size(strings: &[Bytes]) -> u64
+    ensures { result ≡ count_told (strings_size strings.now) }
 {
-    let mut size = 0;
+    let mut size: u64 = 0;
     for string in strings {
-        size = plus(size, plus(string.as_slice().len() as u64, 2)?)?;
+        size = size.saturating_add(string_size(string.as_slice()));
     }
-    Ok(size)
+    size
+}
+
+fn string_size(string: &[u8]) -> u64
+    ensures { result ≡ count_told (length string.now + 2) }
+{
+    (string.len() as u64).saturating_add(2)
 }
 
 // Records, each with its name and the count of its fields.
-fn records_size(records: &[Record]) -> Result<u64, LinkFault>
-    ensures size { IfOk result (λ size. size ≡ records_size (records_of records.now)) }
-    ensures fault { IfErr result (λ fault. fault ≡ NoMemory) }
+fn records_size(records: &[Record]) -> u64
+    ensures { result ≡ count_told (records_size (records_of records.now)) }
 {
-    let mut size = 0;
+    let mut size: u64 = 0;
     for record in records {
-        let fields = product(record.fields.len() as u64, 2)?;
-        size = plus(size, plus(fields, 4)?)?;
+        size = size.saturating_add(record_size(&record.fields));
     }
-    Ok(size)
+    size
+}
+
+// A record of these fields.
+fn record_size(fields: &[u32]) -> u64
+    ensures { result ≡ count_told (length fields.now * 2 + 4) }
+{
+    entries_size(fields, 2).saturating_add(4)
 }
 
 // The instructions of procedures.
-fn bodies_size(procs: &[Procedure]) -> Result<u64, LinkFault>
-    ensures size { IfOk result (λ size. size ≡ bodies_size (procs_of procs.now)) }
-    ensures fault { IfErr result (λ fault. fault ≡ NoMemory) }
+fn bodies_size(procs: &[Procedure]) -> u64
+    ensures { result ≡ count_told (bodies_size (procs_of procs.now)) }
 {
-    let mut size = 0;
+    let mut size: u64 = 0;
     for proc in procs {
-        size = plus(size, body_size(&proc.instrs)?)?;
+        size = size.saturating_add(body_size(&proc.instrs));
     }
-    Ok(size)
+    size
 }
 
-fn body_size(instrs: &[Instr]) -> Result<u64, LinkFault>
-    ensures size { IfOk result (λ size. size ≡ body_size instrs.now) }
-    ensures fault { IfErr result (λ fault. fault ≡ NoMemory) }
+fn body_size(instrs: &[Instr]) -> u64
+    ensures { result ≡ count_told (body_size instrs.now) }
 {
-    let mut size = 0;
+    let mut size: u64 = 0;
     for instr in instrs {
-        size = plus(size, instr_size(*instr))?;
+        size = size.saturating_add(instr_size(*instr));
     }
-    Ok(size)
+    size
 }
 
 // An instruction: its number, and an operand of two bytes or a label of four.

@@ -1,11 +1,11 @@
 // The addresses of labels.
-ghost use Rattle.std.specs.Prelude.{◌≡◌, ◌∷◌, ℕ, List, IfOk, OnOk};
+ghost use Rattle.std.specs.Prelude.{◌≡◌, ◌≤◌, ◌+◌, ◌∷◌, ℕ, List, IfOk, OnOk, count_by};
 ghost use Rattle.icn_unit.specs.declared.unit.UnitInstr.{UnitInstr};
 ghost use Rattle.icn_unit.specs.UnitRules.{own_label};
+ghost use Rattle.icn_link.specs.LinkFaults.{is_instruction};
 ghost use Rattle.icn_link.specs.Resolving.{label_address};
 ghost use Rattle.icn_link.specs.Views.{address_from, address_in};
 
-use crate::numbers::next_place;
 use icn_unit::UnitInstr;
 use indexmap::IndexMap;
 use std::alloc::{AllocError, Global};
@@ -20,6 +20,7 @@ pub struct Labels {
 
 /// The addresses of the labels among instructions.
 pub fn labels_of(alloc: Global, instrs: &[UnitInstr]) -> Result<Labels, AllocError>
+    requires few { count_by is_instruction instrs.now ≤ 16777216 }
     ensures { IfOk result (λ labels. (label : ℕ) → address_in labels label ≡ label_address label instrs.now) }
 {
     let mut labels = Labels {
@@ -34,8 +35,11 @@ pub fn labels_of(alloc: Global, instrs: &[UnitInstr]) -> Result<Labels, AllocErr
 
 // Goes on over an instruction. A label has its first place.
 fn pass(labels: &mut Labels, instr: &UnitInstr) -> Result<(), AllocError>
-    ensures { OnOk result ((label : ℕ) (rest : List UnitInstr) →
+    requires few { labels.now.end ≤ 16777216 }
+    ensures addresses { OnOk result ((label : ℕ) (rest : List UnitInstr) →
         address_from labels.new label rest ≡ address_from labels.old label (instr.now ∷ rest)) }
+    ensures end { OnOk result ((rest : List UnitInstr) → labels.new.end + count_by is_instruction rest
+        ≡ labels.old.end + count_by is_instruction (instr.now ∷ rest)) }
 {
     match place_of(instr) {
         Some(label) => {
@@ -46,7 +50,7 @@ fn pass(labels: &mut Labels, instr: &UnitInstr) -> Result<(), AllocError>
             Ok(())
         }
         None => {
-            labels.end = next_place(labels.end)?;
+            labels.end += 1;
             Ok(())
         }
     }

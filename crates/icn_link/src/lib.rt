@@ -10,7 +10,6 @@ mod linking;
 mod lists;
 mod mention;
 mod missing;
-mod numbers;
 mod repeats;
 mod resolve;
 mod sizes;

@@ -1,5 +1,5 @@
 // The code of units.
-ghost use Rattle.std.specs.Prelude.{◌≡◌, ◌≤◌, ◌-◌, ◌++◌, ◌∷◌, ℕ, List, [], None, Some, if◌then◌else◌, length, map, nat_le, IfErr, IfOk, OnOk, true};
+ghost use Rattle.std.specs.Prelude.{◌≡◌, ◌≤◌, ◌-◌, ◌++◌, ◌∷◌, ℕ, List, [], None, Some, if◌then◌else◌, count_by, length, map, nat_le, IfErr, IfOk, OnOk, true};
 ghost use Rattle.std.specs.List.{flat_map, list_all, sum_by};
 ghost use Rattle.std.specs.Option.{option_or};
 ghost use Rattle.std.specs.Str.{bytes_eq};
@@ -8,11 +8,10 @@ ghost use Rattle.icn_code.specs.Seen.{tables_of};
 ghost use Rattle.icn_image.specs.Spelling.{image_of};
 ghost use Rattle.icn_unit.specs.PlainUnits.{params_in, proc_names};
 ghost use Rattle.icn_unit.specs.UnitViews.{decl_seen, proc_seen};
-ghost use Rattle.icn_link.specs.declared.fault.LinkFault.TheVariants.{NoMemory};
 ghost use Rattle.icn_link.specs.Gathering.{text_place};
 ghost use Rattle.icn_link.specs.Joined.{cset_of, entry_of, global_entry, global_with, is_among, joined, joined_of, locals_in, place_of, proc_entry, record_entry, records_in, start_by, statics_in, tables_with, with_bit, with_bits};
 ghost use Rattle.icn_link.specs.JoinableUnits.{is_joinable_decl, is_joinable_proc};
-ghost use Rattle.icn_link.specs.LinkFaults.{first_fault, over, size_of, too_large_of, IsFault};
+ghost use Rattle.icn_link.specs.LinkFaults.{first_fault, is_instruction, over, size_of, too_large_of, IsFault};
 ghost use Rattle.icn_link.specs.Mentions.{function_named, all_mentions, record_name_in, record_names};
 ghost use Rattle.icn_link.specs.Units.{units_seen};
 ghost use Rattle.icn_link.specs.Views.{decls_seen, gathered_seen, procs_seen, places_in, texts_seen, AreFew, Joinable};
@@ -23,7 +22,6 @@ use crate::image_size::image_size;
 use crate::labels::labels_of;
 use crate::lists::{decls_of, procs_of};
 use crate::missing::check_links;
-use crate::numbers::next_place;
 use crate::repeats::check_owners;
 use crate::resolve::resolved;
 use crate::sizes::{
@@ -49,7 +47,7 @@ const MOST_BYTES: u64 = 1073741824;
 /// repeats one. `K3` where the program is too large: the first number above its bound, in the order of all instructions
 /// (16777216), the entries of the tables (65535 each, as all that follow but the last), the operands of a call or a list, the
 /// fields of a record, the parameters and other locals of a procedure together, its statics, and the bytes of the image
-/// (1073741824). `NoMemory` where memory ran out.
+/// (1073741824); a number past 64 bits is told as the greatest number of 64 bits. `NoMemory` where memory ran out.
 pub fn link(alloc: Global, units: &[Unit]) -> Result<Code, LinkFault>
     ensures joined { IfOk result (λ code. tables_of code ≡ joined (units_seen units.now)) }
     ensures fits { OnOk result (first_fault (units_seen units.now) ≡ None) }
@@ -105,10 +103,10 @@ fn join_with(
 // Refuses a code whose image is too long.
 fn check_image(code: &Code) -> Result<(), LinkFault>
     ensures none { OnOk result (over 1073741824 (length (image_of (tables_of code.now)) ∷ []) ≡ None) }
-    ensures fault { IfErr result (IsFault (over 1073741824 (length (image_of (tables_of code.now)) ∷ []))) }
+    ensures fault { IfErr result
+        (λ fault. over 1073741824 (length (image_of (tables_of code.now)) ∷ []) ≡ Some fault) }
 {
-    let size = image_size(code)?;
-    check_count(size, MOST_BYTES)
+    check_count(image_size(code), MOST_BYTES)
 }
 
 // The code of declarations and procedures that are not too large.
@@ -117,12 +115,11 @@ fn code_of(
     tables: &Gathered<'_>,
     decls: &[&UnitDecl],
     procs: &[&ProcCode],
-) -> Result<Code, LinkFault>
+) -> Result<Code, AllocError>
     requires tables { gathered_seen tables.now ≡ all_mentions (decls_seen decls.now) (procs_seen procs.now) }
     requires joinable { Joinable (decls_seen decls.now) (procs_seen procs.now) }
-    ensures joined { IfOk result
+    ensures { IfOk result
         (λ code. tables_of code ≡ joined_of (decls_seen decls.now) (procs_seen procs.now)) }
-    ensures fault { IfErr result (λ fault. fault ≡ NoMemory) }
 {
     let strings = copies(alloc, tables.strings.as_slice())?;
     let csets = csets(alloc, tables.sets.as_slice())?;
@@ -273,6 +270,8 @@ fn globals(
     procs: &[&ProcCode],
 ) -> Result<Vec<Variable>, AllocError>
     requires few { AreFew (gathered_seen tables.now) }
+    requires records { length (record_names (decls_seen decls.now)) ≤ 65535 }
+    requires procs { length (proc_names (procs_seen procs.now)) ≤ 65535 }
     ensures { IfOk result (λ globals. globals.items ≡ map (global_entry (gathered_seen tables.now) (proc_names
         (procs_seen procs.now)) (record_names (decls_seen decls.now))) (gathered_seen tables.now).globals) }
 {
@@ -356,14 +355,13 @@ fn first_places<'a>(
     alloc: Global,
     names: &[&'a [u8]],
 ) -> Result<IndexMap<&'a [u8], u32>, AllocError>
+    requires few { length (texts_seen names.now) ≤ 65535 }
     ensures { IfOk result
         (λ places. (name : List ℕ) → places_in places name ≡ place_of (texts_seen names.now) name) }
 {
     let mut places = IndexMap::new(alloc);
-    let mut place = 0;
-    for name in names {
-        put_place(&mut places, name, place)?;
-        place = next_place(place)?;
+    for (place, name) in names.iter().enumerate() {
+        put_place(&mut places, name, place as u32)?;
     }
     Ok(places)
 }
@@ -421,15 +419,15 @@ fn entries(
     alloc: Global,
     tables: &Gathered<'_>,
     procs: &[&ProcCode],
-) -> Result<Vec<Procedure>, LinkFault>
+) -> Result<Vec<Procedure>, AllocError>
     requires few { AreFew (gathered_seen tables.now) }
+    requires sizes { list_all (λ proc. nat_le (size_of proc) 16777216) (procs_seen procs.now) ≡ true }
     requires locals { list_all (λ proc. nat_le (locals_in (gathered_seen tables.now).globals proc.names)
         65535) (procs_seen procs.now) ≡ true }
     requires statics { list_all (λ proc. nat_le (statics_in (gathered_seen tables.now).globals proc.names)
         65535) (procs_seen procs.now) ≡ true }
-    ensures entries { IfOk result (λ entries. procs_of entries.items
+    ensures { IfOk result (λ entries. procs_of entries.items
         ≡ map (proc_entry (gathered_seen tables.now)) (procs_seen procs.now)) }
-    ensures fault { IfErr result (λ fault. fault ≡ NoMemory) }
 {
     let mut entries = Vec::new(alloc);
     for proc in procs {
@@ -443,32 +441,32 @@ fn put_entry(
     alloc: Global,
     tables: &Gathered<'_>,
     proc: &ProcCode,
-) -> Result<(), LinkFault>
+) -> Result<(), AllocError>
     requires few { AreFew (gathered_seen tables.now) }
+    requires size { count_by is_instruction proc.now.instrs.items ≤ 16777216 }
     requires locals { locals_in (gathered_seen tables.now).globals proc.now.names.items ≤ 65535 }
     requires statics { statics_in (gathered_seen tables.now).globals proc.now.names.items ≤ 65535 }
-    ensures entry { OnOk result (procs_of entries.new.items ≡ procs_of entries.old.items
+    ensures { OnOk result (procs_of entries.new.items ≡ procs_of entries.old.items
         ++ proc_entry (gathered_seen tables.now) (proc_seen proc.now) ∷ []) }
-    ensures fault { IfErr result (λ fault. fault ≡ NoMemory) }
 {
     let entry = entry(alloc, tables, proc)?;
     entries.push(entry)?;
     Ok(())
 }
 
-fn entry(alloc: Global, tables: &Gathered<'_>, proc: &ProcCode) -> Result<Procedure, LinkFault>
+fn entry(alloc: Global, tables: &Gathered<'_>, proc: &ProcCode) -> Result<Procedure, AllocError>
     requires few { AreFew (gathered_seen tables.now) }
+    requires size { count_by is_instruction proc.now.instrs.items ≤ 16777216 }
     requires locals { locals_in (gathered_seen tables.now).globals proc.now.names.items ≤ 65535 }
     requires statics { statics_in (gathered_seen tables.now).globals proc.now.names.items ≤ 65535 }
-    ensures entry { IfOk result
+    ensures { IfOk result
         (λ entry. proc_of entry ≡ proc_entry (gathered_seen tables.now) (proc_seen proc.now)) }
-    ensures fault { IfErr result (λ fault. fault ≡ NoMemory) }
 {
     let names = variables(alloc, &tables.globals, &proc.names)?;
     let labels = labels_of(alloc, &proc.instrs)?;
     let instrs = resolved(alloc, tables, &names, &labels, &proc.instrs)?;
-    let locals = locals_in(&tables.globals, &proc.names)?;
-    let statics = statics_in(&tables.globals, &proc.names)?;
+    let locals = locals_in(&tables.globals, &proc.names);
+    let statics = statics_in(&tables.globals, &proc.names);
     Ok(entry_with(tables, proc, locals as u32, statics as u32, instrs))
 }
 

@@ -10,7 +10,6 @@ ghost use Rattle.icn_link.specs.Views.{texts_seen};
 
 use crate::fault::LinkFault;
 use crate::gathered::enter;
-use crate::numbers::next;
 use icn_tree::Bytes;
 use icn_unit::{Unit, UnitDecl};
 use indexmap::IndexSet;
@@ -43,10 +42,8 @@ fn check_all(alloc: Global, names: &IndexSet<&[u8]>, units: &[Unit]) -> Result<(
     ensures fault { IfErr result
         (IsFault (missing_from (texts_seen names.now.keys) 0 (units_seen units.now))) }
 {
-    let mut place = 0;
-    for unit in units {
-        check_unit(alloc, names, place, &unit.decls)?;
-        place = next(place)?;
+    for (place, unit) in units.iter().enumerate() {
+        check_unit(alloc, names, place as u64, &unit.decls)?;
     }
     Ok(())
 }

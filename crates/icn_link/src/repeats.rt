@@ -8,7 +8,6 @@ ghost use Rattle.icn_link.specs.Units.{units_seen};
 ghost use Rattle.icn_link.specs.Views.{owner_seen};
 
 use crate::fault::{DeclPlace, LinkFault};
-use crate::numbers::next;
 use icn_tree::Bytes;
 use icn_unit::{Unit, UnitDecl};
 use indexmap::IndexMap;
@@ -31,16 +30,13 @@ pub fn check_owners(alloc: Global, units: &[Unit]) -> Result<(), LinkFault>
 }
 
 // The procedures and records of units.
-fn owners_of<'a>(alloc: Global, units: &'a [Unit]) -> Result<Vec<Owner<'a>>, LinkFault>
-    ensures owners { IfOk result
+fn owners_of<'a>(alloc: Global, units: &'a [Unit]) -> Result<Vec<Owner<'a>>, AllocError>
+    ensures { IfOk result
         (λ owners. map owner_seen owners.items ≡ owners_from 0 (units_seen units.now)) }
-    ensures fault { IfErr result (λ fault. fault ≡ NoMemory) }
 {
     let mut owners = Vec::new(alloc);
-    let mut place = 0;
-    for unit in units {
-        put_owners(&mut owners, place, &unit.decls)?;
-        place = next(place)?;
+    for (place, unit) in units.iter().enumerate() {
+        put_owners(&mut owners, place as u64, &unit.decls)?;
     }
     Ok(owners)
 }
@@ -50,22 +46,16 @@ fn put_owners<'a>(
     owners: &mut Vec<Owner<'a>>,
     unit: u64,
     decls: &'a [UnitDecl],
-) -> Result<(), LinkFault>
-    ensures owners { OnOk result (map owner_seen owners.new.items ≡ map owner_seen owners.old.items
+) -> Result<(), AllocError>
+    ensures { OnOk result (map owner_seen owners.new.items ≡ map owner_seen owners.old.items
         ++ owners_in unit 0 (map decl_seen decls.now)) }
-    ensures fault { IfErr result (λ fault. fault ≡ NoMemory) }
 {
-    let mut decl_place = 0;
-    for decl in decls {
-        put_owner(
-            owners,
-            DeclPlace {
-                unit,
-                decl: decl_place,
-            },
-            decl,
-        )?;
-        decl_place = next(decl_place)?;
+    for (place, decl) in decls.iter().enumerate() {
+        let place = DeclPlace {
+            unit,
+            decl: place as u64,
+        };
+        put_owner(owners, place, decl)?;
     }
     Ok(())
 }

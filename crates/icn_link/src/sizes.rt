@@ -3,8 +3,8 @@ ghost use Rattle.std.specs.Prelude.{◌≡◌, ◌≤◌, ◌∷◌, ◌++◌, [
 ghost use Rattle.std.specs.List.{flat_map, sum_by};
 ghost use Rattle.icn_unit.specs.PlainUnits.{Decl};
 ghost use Rattle.icn_unit.specs.UnitViews.{decl_seen, proc_seen};
-ghost use Rattle.icn_link.specs.declared.fault.LinkFault.TheVariants.{K3, NoMemory};
-ghost use Rattle.icn_link.specs.LinkFaults.{field_counts, is_instruction, local_counts, over, record_sizes, size_of, static_counts, table_sizes, IsFault};
+ghost use Rattle.icn_link.specs.declared.fault.LinkFault.TheVariants.{K3};
+ghost use Rattle.icn_link.specs.LinkFaults.{count_told, field_counts, is_instruction, local_counts, over, record_sizes, size_of, static_counts, table_sizes};
 ghost use Rattle.icn_link.specs.Mentions.{mention_of, mentioned_by, operands_in};
 ghost use Rattle.icn_link.specs.Views.{decls_seen, gathered_seen, procs_seen, texts_seen};
 
@@ -12,7 +12,6 @@ use crate::fault::LinkFault;
 use crate::gathered::Gathered;
 use crate::labels::place_of;
 use crate::mention::{Mention, mention_of};
-use crate::numbers::{next, plus};
 use crate::variable::{locals_in, statics_in};
 use icn_unit::{ProcCode, UnitDecl, UnitInstr};
 use indexmap::IndexSet;
@@ -35,35 +34,30 @@ pub fn check_count(count: u64, most: u64) -> Result<(), LinkFault>
 /// Refuses procedures of too many instructions.
 pub fn check_instrs(procs: &[&ProcCode]) -> Result<(), LinkFault>
     ensures none { OnOk result (over 16777216 (sum_by size_of (procs_seen procs.now) ∷ []) ≡ None) }
-    ensures fault { IfErr result (IsFault (over 16777216 (sum_by size_of (procs_seen procs.now) ∷ []))) }
+    ensures fault { IfErr result
+        (λ fault. over 16777216 (sum_by size_of (procs_seen procs.now) ∷ []) ≡ Some fault) }
 {
-    let count = instrs_in(procs)?;
-    check_count(count, MOST_INSTRS)
+    check_count(instrs_in(procs), MOST_INSTRS)
 }
 
-// How many instructions procedures have.
-fn instrs_in(procs: &[&ProcCode]) -> Result<u64, LinkFault>
-    ensures count { IfOk result (λ count. count ≡ sum_by size_of (procs_seen procs.now)) }
-    ensures fault { IfErr result (λ fault. fault ≡ NoMemory) }
+// How many instructions procedures have, as far as 64 bits can tell it.
+fn instrs_in(procs: &[&ProcCode]) -> u64
+    ensures { result ≡ count_told (sum_by size_of (procs_seen procs.now)) }
 {
-    let mut count = 0;
+    let mut count: u64 = 0;
     for proc in procs {
-        count = plus(count, size_of(&proc.instrs)?)?;
+        count = count.saturating_add(size_of(&proc.instrs));
     }
-    Ok(count)
+    count
 }
 
-fn size_of(instrs: &[UnitInstr]) -> Result<u64, LinkFault>
-    ensures count { IfOk result (λ count. count ≡ count_by is_instruction instrs.now) }
-    ensures fault { IfErr result (λ fault. fault ≡ NoMemory) }
+fn size_of(instrs: &[UnitInstr]) -> u64
+    ensures { result ≡ count_by is_instruction instrs.now }
 {
-    let mut count = 0;
-    for instr in instrs {
-        if place_of(instr).is_none() {
-            count = next(count)?;
-        }
-    }
-    Ok(count)
+    instrs
+        .iter()
+        .filter(|instr| place_of(instr).is_none())
+        .count() as u64
 }
 
 /// Refuses tables of too many entries.
@@ -74,16 +68,15 @@ pub fn check_tables(
 ) -> Result<(), LinkFault>
     ensures none { OnOk result (over 65535
         (table_sizes (gathered_seen tables.now) (decls_seen decls.now) (procs_seen procs.now)) ≡ None) }
-    ensures fault { IfErr result (IsFault (over 65535
-        (table_sizes (gathered_seen tables.now) (decls_seen decls.now) (procs_seen procs.now)))) }
+    ensures fault { IfErr result (λ fault. over 65535
+        (table_sizes (gathered_seen tables.now) (decls_seen decls.now) (procs_seen procs.now)) ≡ Some fault) }
 {
-    let records = records_in(decls)?;
     let counts = [
         tables.strings.len() as u64,
         tables.sets.len() as u64,
         tables.integers.len() as u64,
         tables.fields.len() as u64,
-        records,
+        records_in(decls),
         tables.globals.len() as u64,
         procs.len() as u64,
     ];
@@ -92,7 +85,7 @@ pub fn check_tables(
 
 fn check_counts(counts: &[u64]) -> Result<(), LinkFault>
     ensures none { OnOk result (over 65535 counts.now ≡ None) }
-    ensures fault { IfErr result (IsFault (over 65535 counts.now)) }
+    ensures fault { IfErr result (λ fault. over 65535 counts.now ≡ Some fault) }
 {
     for count in counts {
         check_count(*count, MOST_ENTRIES)?;
@@ -101,23 +94,23 @@ fn check_counts(counts: &[u64]) -> Result<(), LinkFault>
 }
 
 // How many records there are.
-fn records_in(decls: &[&UnitDecl]) -> Result<u64, LinkFault>
-    ensures count { IfOk result (λ count. count ≡ length (record_sizes (decls_seen decls.now))) }
-    ensures fault { IfErr result (λ fault. fault ≡ NoMemory) }
+fn records_in(decls: &[&UnitDecl]) -> u64
+    ensures { result ≡ length (record_sizes (decls_seen decls.now)) }
 {
-    let mut count = 0;
+    let mut count: u64 = 0;
     for decl in decls {
         if let UnitDecl::Record(_, _) = decl {
-            count = next(count)?;
+            count += 1;
         }
     }
-    Ok(count)
+    count
 }
 
 /// Refuses a call or a list of too many operands.
 pub fn check_operands(procs: &[&ProcCode]) -> Result<(), LinkFault>
     ensures none { OnOk result (over 65535 (mentioned_by operands_in (procs_seen procs.now)) ≡ None) }
-    ensures fault { IfErr result (IsFault (over 65535 (mentioned_by operands_in (procs_seen procs.now)))) }
+    ensures fault { IfErr result
+        (λ fault. over 65535 (mentioned_by operands_in (procs_seen procs.now)) ≡ Some fault) }
 {
     for proc in procs {
         check_operands_in(&proc.instrs)?;
@@ -156,7 +149,7 @@ fn check_operands_of(instr: &UnitInstr) -> Result<(), LinkFault>
 /// Refuses a record of too many fields.
 pub fn check_records(decls: &[&UnitDecl]) -> Result<(), LinkFault>
     ensures none { OnOk result (over 65535 (record_sizes (decls_seen decls.now)) ≡ None) }
-    ensures fault { IfErr result (IsFault (over 65535 (record_sizes (decls_seen decls.now)))) }
+    ensures fault { IfErr result (λ fault. over 65535 (record_sizes (decls_seen decls.now)) ≡ Some fault) }
 {
     for decl in decls {
         check_record(decl)?;
@@ -183,11 +176,10 @@ pub fn check_locals(globals: &IndexSet<&[u8]>, procs: &[&ProcCode]) -> Result<()
     ensures none { OnOk result
         (over 65535 (local_counts (texts_seen globals.now.keys) (procs_seen procs.now)) ≡ None) }
     ensures fault { IfErr result
-        (IsFault (over 65535 (local_counts (texts_seen globals.now.keys) (procs_seen procs.now)))) }
+        (λ fault. over 65535 (local_counts (texts_seen globals.now.keys) (procs_seen procs.now)) ≡ Some fault) }
 {
     for proc in procs {
-        let count = locals_in(globals, &proc.names)?;
-        check_count(count, MOST_ENTRIES)?;
+        check_count(locals_in(globals, &proc.names), MOST_ENTRIES)?;
     }
     Ok(())
 }
@@ -197,11 +189,10 @@ pub fn check_statics(globals: &IndexSet<&[u8]>, procs: &[&ProcCode]) -> Result<(
     ensures none { OnOk result
         (over 65535 (static_counts (texts_seen globals.now.keys) (procs_seen procs.now)) ≡ None) }
     ensures fault { IfErr result
-        (IsFault (over 65535 (static_counts (texts_seen globals.now.keys) (procs_seen procs.now)))) }
+        (λ fault. over 65535 (static_counts (texts_seen globals.now.keys) (procs_seen procs.now)) ≡ Some fault) }
 {
     for proc in procs {
-        let count = statics_in(globals, &proc.names)?;
-        check_count(count, MOST_ENTRIES)?;
+        check_count(statics_in(globals, &proc.names), MOST_ENTRIES)?;
     }
     Ok(())
 }

@@ -1,13 +1,10 @@
 // What the names of a procedure stand for.
-ghost use Rattle.std.specs.Prelude.{◌≡◌, ◌≤◌, ◌++◌, ◌∷◌, List, length, IfErr, IfOk, OnOk};
+ghost use Rattle.std.specs.Prelude.{◌≡◌, ◌≤◌, ◌+◌, ◌++◌, ◌∷◌, List, length, IfOk, OnOk};
 ghost use Rattle.icn_unit.specs.declared.unit.UnitName.{UnitName};
-ghost use Rattle.icn_link.specs.declared.fault.LinkFault.TheVariants.{NoMemory};
 ghost use Rattle.icn_link.specs.Joined.{locals_in, statics_in, variable_of, variables};
 ghost use Rattle.icn_link.specs.Views.{texts_seen};
 
-use crate::fault::LinkFault;
 use crate::gathered::text_place;
-use crate::numbers::{next, next_place};
 use icn_code::Instr;
 use icn_unit::{NameKind, UnitName};
 use indexmap::IndexSet;
@@ -46,6 +43,8 @@ pub fn variables(
     names: &[UnitName],
 ) -> Result<Vec<Instr>, AllocError>
     requires few { length (texts_seen globals.now.keys) ≤ 65535 }
+    requires locals { locals_in (texts_seen globals.now.keys) names.now ≤ 65535 }
+    requires statics { statics_in (texts_seen globals.now.keys) names.now ≤ 65535 }
     ensures { IfOk result (λ instrs. instrs.items ≡ variables (texts_seen globals.now.keys) 0 0 names.now) }
 {
     let mut instrs = Vec::new(alloc);
@@ -66,7 +65,15 @@ fn put_variable(
     entry: &UnitName,
 ) -> Result<(), AllocError>
     requires few { length (texts_seen globals.now.keys) ≤ 65535 }
-    ensures { OnOk result ((rest : List UnitName) →
+    requires locals { locals.now ≤ 65535 }
+    requires statics { statics.now ≤ 65535 }
+    ensures locals { OnOk result ((rest : List UnitName) →
+        locals.new + locals_in (texts_seen globals.now.keys) rest
+        ≡ locals.old + locals_in (texts_seen globals.now.keys) (entry.now ∷ rest)) }
+    ensures statics { OnOk result ((rest : List UnitName) →
+        statics.new + statics_in (texts_seen globals.now.keys) rest
+        ≡ statics.old + statics_in (texts_seen globals.now.keys) (entry.now ∷ rest)) }
+    ensures instrs { OnOk result ((rest : List UnitName) →
         instrs.new.items ++ variables (texts_seen globals.now.keys) locals.new statics.new rest
         ≡ instrs.old.items
         ++ variables (texts_seen globals.now.keys) locals.old statics.old (entry.now ∷ rest)) }
@@ -74,12 +81,12 @@ fn put_variable(
     match variable_of(globals, entry) {
         Variable::Local => {
             instrs.push(Instr::Local(*locals))?;
-            *locals = next_place(*locals)?;
+            *locals += 1;
             Ok(())
         }
         Variable::Static => {
             instrs.push(Instr::Static(*statics))?;
-            *statics = next_place(*statics)?;
+            *statics += 1;
             Ok(())
         }
         Variable::Global => {
@@ -90,29 +97,21 @@ fn put_variable(
 }
 
 /// How many locals there are among names, parameters among them.
-pub fn locals_in(globals: &IndexSet<&[u8]>, names: &[UnitName]) -> Result<u64, LinkFault>
-    ensures locals { IfOk result (λ count. count ≡ locals_in (texts_seen globals.now.keys) names.now) }
-    ensures fault { IfErr result (λ fault. fault ≡ NoMemory) }
+pub fn locals_in(globals: &IndexSet<&[u8]>, names: &[UnitName]) -> u64
+    ensures { result ≡ locals_in (texts_seen globals.now.keys) names.now }
 {
-    let mut count = 0;
-    for entry in names {
-        if variable_of(globals, entry) == Variable::Local {
-            count = next(count)?;
-        }
-    }
-    Ok(count)
+    names
+        .iter()
+        .filter(|entry| matches!(variable_of(globals, entry), Variable::Local))
+        .count() as u64
 }
 
 /// How many statics there are among names.
-pub fn statics_in(globals: &IndexSet<&[u8]>, names: &[UnitName]) -> Result<u64, LinkFault>
-    ensures statics { IfOk result (λ count. count ≡ statics_in (texts_seen globals.now.keys) names.now) }
-    ensures fault { IfErr result (λ fault. fault ≡ NoMemory) }
+pub fn statics_in(globals: &IndexSet<&[u8]>, names: &[UnitName]) -> u64
+    ensures { result ≡ statics_in (texts_seen globals.now.keys) names.now }
 {
-    let mut count = 0;
-    for entry in names {
-        if variable_of(globals, entry) == Variable::Static {
-            count = next(count)?;
-        }
-    }
-    Ok(count)
+    names
+        .iter()
+        .filter(|entry| matches!(variable_of(globals, entry), Variable::Static))
+        .count() as u64
 }

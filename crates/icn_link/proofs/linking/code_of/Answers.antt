@@ -5,7 +5,7 @@ use Rattle.icn_link.specs.Gathering.{text_place}
 use Rattle.icn_link.specs.Joined.{cset_of}
 use Rattle.icn_link.specs.Mentions.{AllMentions}
 use Rattle.icn_link.specs.Views.{AreFew, decls_seen, gathered_seen, procs_seen, texts_seen}
-use Rattle.icn_link.proofs.JoinedTables.{Parts, are_few, few_locals, few_statics, tables_kept, tables_made}
+use Rattle.icn_link.proofs.JoinedTables.{Parts, are_few, few_instrs, few_locals, few_procs, few_records, few_statics, tables_kept, tables_made}
 use Rattle.icn_link.proofs.linking.code_of.Goals as goal
 
 pub places-requires : goal.places-requires
@@ -18,13 +18,22 @@ pub records-requires : goal.records-requires
 records-requires c =
     record { few = are_few (gathered_seen c.args.tables.now) (decls_seen c.args.decls.now) (procs_seen c.args.procs.now) c.requires.tables c.requires.joinable }
 
-pub globals-requires : goal.globals-requires
-globals-requires c =
-    record { few = are_few (gathered_seen c.args.tables.now) (decls_seen c.args.decls.now) (procs_seen c.args.procs.now) c.requires.tables c.requires.joinable }
+pub globals-requires-clause-few : goal.globals-requires-clause-few
+globals-requires-clause-few c =
+    are_few (gathered_seen c.args.tables.now) (decls_seen c.args.decls.now) (procs_seen c.args.procs.now) c.requires.tables c.requires.joinable
+
+pub globals-requires-clause-records : goal.globals-requires-clause-records
+globals-requires-clause-records c = few_records (decls_seen c.args.decls.now) (procs_seen c.args.procs.now) c.requires.joinable
+
+pub globals-requires-clause-procs : goal.globals-requires-clause-procs
+globals-requires-clause-procs c = few_procs (decls_seen c.args.decls.now) (procs_seen c.args.procs.now) c.requires.joinable
 
 pub entries-requires-clause-few : goal.entries-requires-clause-few
 entries-requires-clause-few c =
     are_few (gathered_seen c.args.tables.now) (decls_seen c.args.decls.now) (procs_seen c.args.procs.now) c.requires.tables c.requires.joinable
+
+pub entries-requires-clause-sizes : goal.entries-requires-clause-sizes
+entries-requires-clause-sizes c = few_instrs (decls_seen c.args.decls.now) (procs_seen c.args.procs.now) c.requires.joinable
 
 pub entries-requires-clause-locals : goal.entries-requires-clause-locals
 entries-requires-clause-locals c =
@@ -55,12 +64,12 @@ invariant_of-result c =
       fields = c.in_ok-fields.ensures ∙ ap (λ names. map (text_place M.strings) (texts_seen names)) c.as_slice-4.ensures.keys;
       records = c.in_ok-records.ensures;
       globals = c.in_ok-globals.ensures;
-      entries = c.in_ok-procs.ensures.entries;
+      entries = c.in_ok-procs.ensures;
     } in
     record { rules = tables_kept M D P T c.requires.tables c.requires.joinable parts }
 
-pub returns-clause-joined : goal.returns-clause-joined
-returns-clause-joined c =
+pub returns : goal.returns
+returns c =
     let M : AllMentions = gathered_seen c.args.tables.now in
     let D : List Decl = decls_seen c.args.decls.now in
     let P : List Proc = procs_seen c.args.procs.now in
@@ -80,6 +89,6 @@ returns-clause-joined c =
       fields = c.in_ok-fields.ensures ∙ ap (λ names. map (text_place M.strings) (texts_seen names)) c.as_slice-4.ensures.keys;
       records = c.in_ok-records.ensures;
       globals = c.in_ok-globals.ensures;
-      entries = c.in_ok-procs.ensures.entries;
+      entries = c.in_ok-procs.ensures;
     } in
     tables_made M D P T c.requires.tables parts

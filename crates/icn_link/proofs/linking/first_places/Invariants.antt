@@ -5,6 +5,6 @@ use Rattle.icn_link.specs.Views.{texts_seen, places_in}
 use Rattle.icn_link.proofs.Maps.{numbered}
 use Rattle.icn_link.proofs.linking.first_places.Given as goal
 
-abbrev pub invariant-loop-name : goal.invariant-loop-name
-invariant-loop-name l = (name : List ℕ) → option_or (places_in l.places name) (numbered l.place (texts_seen (drop l.name-index l.names)) name)
+abbrev pub invariant-loop-place : goal.invariant-loop-place
+invariant-loop-place l = (name : List ℕ) → option_or (places_in l.places name) (numbered l.place (texts_seen (drop l.place l.names)) name)
     ≡ place_of (texts_seen l.names) name

@@ -1,4 +1,4 @@
-use Rattle.std.proofs.Common.{refl}
+use Rattle.std.proofs.Common.{inr, refl}
 use Rattle.icn_link.specs.LinkFaults.{IsFault, too_large_of}
 use Rattle.icn_link.specs.Views.{decls_seen, procs_seen}
 use Rattle.icn_link.proofs.Exits.{err_is}
@@ -11,4 +11,4 @@ returns-in_err-check_instrs-clause-fault c =
     err_is c.from_residual.result
     (IsFault (too_large_of (decls_seen c.args.decls.now) (procs_seen c.args.procs.now))) c.in_err-check_instrs.field-0.0 c.from_residual.ensures.1
     (instrs_exit (all_mentions (decls_seen c.args.decls.now) (procs_seen c.args.procs.now)) (decls_seen c.args.decls.now)
-    (procs_seen c.args.procs.now) refl c.in_err-check_instrs.field-0.0 c.in_err-check_instrs.ensures.fault)
+    (procs_seen c.args.procs.now) refl c.in_err-check_instrs.field-0.0 (inr c.in_err-check_instrs.ensures.fault))

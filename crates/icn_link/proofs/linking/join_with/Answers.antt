@@ -1,4 +1,4 @@
-use Rattle.std.proofs.Common.{inl}
+use Rattle.std.proofs.Common.{inr}
 use Rattle.icn_code.specs.Seen.{tables_of}
 use Rattle.icn_link.specs.LinkFaults.{IsFault, too_large_of}
 use Rattle.icn_link.specs.Views.{decls_seen, gathered_seen, procs_seen}
@@ -11,7 +11,7 @@ returns-in_err-check_tables-clause-fault c =
     err_is c.from_residual.result
     (IsFault (too_large_of (decls_seen c.args.decls.now) (procs_seen c.args.procs.now))) c.in_err-check_tables.field-0.0 c.from_residual.ensures.1
     (tables_exit (gathered_seen c.args.tables.now) (decls_seen c.args.decls.now) (procs_seen c.args.procs.now) c.requires.tables c.in_err-check_tables.field-0.0
-    c.requires.instrs c.in_err-check_tables.ensures.fault)
+    c.requires.instrs (inr c.in_err-check_tables.ensures.fault))
 
 pub returns-in_err-check_operands-clause-fault : goal.returns-in_err-check_operands-clause-fault
 returns-in_err-check_operands-clause-fault c =
@@ -19,7 +19,7 @@ returns-in_err-check_operands-clause-fault c =
     c.in_err-check_operands.field-0.0 c.from_residual-in_err-check_operands.ensures.1
     (operands_exit (gathered_seen c.args.tables.now) (decls_seen c.args.decls.now)
     (procs_seen c.args.procs.now) c.requires.tables c.in_err-check_operands.field-0.0
-    c.requires.instrs c.in_ok-check_tables.ensures.none c.in_err-check_operands.ensures.fault)
+    c.requires.instrs c.in_ok-check_tables.ensures.none (inr c.in_err-check_operands.ensures.fault))
 
 pub returns-in_err-check_records-clause-fault : goal.returns-in_err-check_records-clause-fault
 returns-in_err-check_records-clause-fault c =
@@ -27,7 +27,7 @@ returns-in_err-check_records-clause-fault c =
     c.in_err-check_records.field-0.0 c.from_residual-in_err-check_records.ensures.1
     (records_exit (gathered_seen c.args.tables.now) (decls_seen c.args.decls.now)
     (procs_seen c.args.procs.now) c.requires.tables c.in_err-check_records.field-0.0
-    c.requires.instrs c.in_ok-check_tables.ensures.none c.in_ok-check_operands.ensures.none c.in_err-check_records.ensures.fault)
+    c.requires.instrs c.in_ok-check_tables.ensures.none c.in_ok-check_operands.ensures.none (inr c.in_err-check_records.ensures.fault))
 
 pub returns-in_err-check_locals-clause-fault : goal.returns-in_err-check_locals-clause-fault
 returns-in_err-check_locals-clause-fault c =
@@ -35,7 +35,7 @@ returns-in_err-check_locals-clause-fault c =
     c.in_err-check_locals.field-0.0 c.from_residual-in_err-check_locals.ensures.1
     (locals_exit (gathered_seen c.args.tables.now) (decls_seen c.args.decls.now) (procs_seen c.args.procs.now) c.requires.tables c.in_err-check_locals.field-0.0
     c.requires.instrs c.in_ok-check_tables.ensures.none c.in_ok-check_operands.ensures.none c.in_ok-check_records.ensures.none
-    c.in_err-check_locals.ensures.fault)
+    (inr c.in_err-check_locals.ensures.fault))
 
 pub returns-in_err-check_statics-clause-fault : goal.returns-in_err-check_statics-clause-fault
 returns-in_err-check_statics-clause-fault c =
@@ -44,7 +44,7 @@ returns-in_err-check_statics-clause-fault c =
     (statics_exit (gathered_seen c.args.tables.now) (decls_seen c.args.decls.now)
     (procs_seen c.args.procs.now) c.requires.tables c.in_err-check_statics.field-0.0
     c.requires.instrs c.in_ok-check_tables.ensures.none c.in_ok-check_operands.ensures.none c.in_ok-check_records.ensures.none c.in_ok-check_locals.ensures.none
-    c.in_err-check_statics.ensures.fault)
+    (inr c.in_err-check_statics.ensures.fault))
 
 pub code_of-requires-clause-joinable : goal.code_of-requires-clause-joinable
 code_of-requires-clause-joinable c =
@@ -53,24 +53,18 @@ code_of-requires-clause-joinable c =
     c.requires.instrs c.in_ok-check_tables.ensures.none c.in_ok-check_operands.ensures.none c.in_ok-check_records.ensures.none c.in_ok-check_locals.ensures.none
     c.in_ok-check_statics.ensures.none
 
-pub returns-in_err-code-clause-fault : goal.returns-in_err-code-clause-fault
-returns-in_err-code-clause-fault c =
-    err_is c.from_residual-in_err-code.result
-    (IsFault (too_large_of (decls_seen c.args.decls.now) (procs_seen c.args.procs.now))) c.in_err-code.field-0.0 c.from_residual-in_err-code.ensures.1
-    (inl c.in_err-code.ensures.fault)
-
 pub returns-in_err-check_image-clause-fault : goal.returns-in_err-check_image-clause-fault
 returns-in_err-check_image-clause-fault c =
     err_is c.from_residual-in_err-check_image.result (IsFault (too_large_of (decls_seen c.args.decls.now) (procs_seen c.args.procs.now)))
     c.in_err-check_image.field-0.0 c.from_residual-in_err-check_image.ensures.1
     (image_exit (gathered_seen c.args.tables.now) (decls_seen c.args.decls.now) (procs_seen c.args.procs.now) c.requires.tables
-    (tables_of c.in_ok-code.code) c.in_err-check_image.field-0.0 c.in_ok-code.ensures.joined
+    (tables_of c.in_ok-code.code) c.in_err-check_image.field-0.0 c.in_ok-code.ensures
     c.requires.instrs c.in_ok-check_tables.ensures.none c.in_ok-check_operands.ensures.none c.in_ok-check_records.ensures.none c.in_ok-check_locals.ensures.none
-    c.in_ok-check_statics.ensures.none c.in_err-check_image.ensures.fault)
+    c.in_ok-check_statics.ensures.none (inr c.in_err-check_image.ensures.fault))
 
 pub returns-clause-fits : goal.returns-clause-fits
 returns-clause-fits c =
     sizes_kept (gathered_seen c.args.tables.now) (decls_seen c.args.decls.now) (procs_seen c.args.procs.now) c.requires.tables
-    (tables_of c.in_ok-code.code) c.in_ok-code.ensures.joined
+    (tables_of c.in_ok-code.code) c.in_ok-code.ensures
     c.requires.instrs c.in_ok-check_tables.ensures.none c.in_ok-check_operands.ensures.none c.in_ok-check_records.ensures.none c.in_ok-check_locals.ensures.none
     c.in_ok-check_statics.ensures.none c.in_ok-check_image.ensures.none

@@ -4,6 +4,6 @@ use Rattle.icn_link.specs.LinkFaults.{owners_in}
 use Rattle.icn_link.specs.Views.{owner_seen}
 use Rattle.icn_link.proofs.repeats.put_owners.Given as goal
 
-abbrev pub invariant-loop-decl : goal.invariant-loop-decl
-invariant-loop-decl l = map owner_seen l.owners.items ++ owners_in l.unit l.decl_place (map decl_seen (drop l.decl-index l.decls))
+abbrev pub invariant-loop-place : goal.invariant-loop-place
+invariant-loop-place l = map owner_seen l.owners.items ++ owners_in l.unit l.place (map decl_seen (drop l.place l.decls))
     ≡ map owner_seen l.initial.owners.items ++ owners_in l.unit 0 (map decl_seen l.decls)

@@ -1,0 +1,8 @@
+use Rattle.std.proofs.Common.{◌*◌, arith, length, sym}
+use Rattle.icn_link.proofs.ToldCounts.{told_plus, told_same}
+use Rattle.icn_link.proofs.image_size.record_size.Goals as goal
+
+pub returns : goal.returns
+returns c =
+    told_plus (length c.args.fields.now * 2) 4 c.entries_size.result 4 c.saturating_add.result c.entries_size.ensures (sym (told_same 4 (omega arith)))
+    c.saturating_add.ensures
