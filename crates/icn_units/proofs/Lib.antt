@@ -14,3 +14,6 @@ pub mod OperandTexts
 pub mod CodeTexts
 pub mod RulesKept
 pub mod ByteLists
+pub mod Spelling
+pub mod RoomOfTrees
+pub mod RoomOfFiles

@@ -29,19 +29,12 @@ use Rattle.icn_units.specs.CodeNames.{variable_is_named, fields_differ}
 use Rattle.icn_units.specs.TypeBounds.{number_fits, numbers_fit, bytes_fit}
 use Rattle.icn_units.specs.Written.{is_short, name_fits, names_fit, item_fits, operand_fits, procedure_fits, collects_fits, declaration_fits, file_fits, all_locals_fit, initial_fits, trees_fit}
 use Rattle.icn_units.proofs.Forms.{none_before}
-use Rattle.icn_units.proofs.WrittenTrees.{both, first_of, second_of, le_test}
+use Rattle.icn_units.proofs.WrittenTrees.{both, first_of, second_of, le_test, le_by}
 use Rattle.icn_units.proofs.WrittenFiles.{spelled_fits}
 use Rattle.icn_units.proofs.Procedures.{differ, are_placed}
 use Rattle.icn_units.proofs.EntryNames.{declared_named, names_declared, names_length, code_names_differ, code_names_in_order, code_variables_named}
 use Rattle.icn_units.proofs.CodeTexts.{code_names_fit, code_operands_fit, texts_fit}
 use Rattle.icn_units.proofs.FileNames.{first_faultless, others_faultless, names_are_same, unit_fields_differ, unit_owners_differ, unit_procedures_differ}
-
-le_by : (a b : ℕ) → nat_le a b ≡ true → a ≤ b
-le_by a b h = by (leb_tells a b)
-  where
-    by : ((nat_le a b ≡ true) × (a ≤ b)) ⊎ ((nat_le a b ≡ false) × (b < a)) → a ≤ b
-    by (inl t) = t.1
-    by (inr t) = absurd (let f = t.0 in cc)
 
 -- Instructions
 

@@ -105,7 +105,7 @@ module _ (passes : List ℕ → Bool) where
   fits_file (declaration ∷ others) = keeps_map (keeps_then (fits_declaration declaration) (fits_file others))
       (λ y. both y.0 y.1)
 
-of_outcome : (tokens : List Token) (file : List Declaration) → IsOutcome tokens (IsTree file) → IsTreeOf file tokens
+pub of_outcome : (tokens : List Token) (file : List Declaration) → IsOutcome tokens (IsTree file) → IsTreeOf file tokens
 of_outcome tokens file (is_tree other tree high fault) = tree
 
 -- a text that is spelled by tokens as the scanner gives them, whose texts pass the test

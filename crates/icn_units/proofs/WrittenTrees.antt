@@ -57,6 +57,13 @@ le_test a b h = by (leb_tells a b)
     by (inl t) = t.0
     by (inr t) = let k = t.1 in absurd (omega arith)
 
+pub le_by : (a b : ℕ) → nat_le a b ≡ true → a ≤ b
+le_by a b h = by (leb_tells a b)
+  where
+    by : ((nat_le a b ≡ true) × (a ≤ b)) ⊎ ((nat_le a b ≡ false) × (b < a)) → a ≤ b
+    by (inl t) = t.1
+    by (inr t) = absurd (let f = t.0 in cc)
+
 name_by : (text : List ℕ) → length text ≤ 65535 → Bounds.is_name text ≡ true → is_name text ≡ true
 name_by [] h g = absurd (cc)
 name_by (b ∷ rest) h g = both g (le_test (length rest) 65534 (omega arith))

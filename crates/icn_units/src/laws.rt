@@ -6,6 +6,7 @@ ghost use Rattle.icn_decls.specs.Faults.{context_faults, procedure_faults};
 ghost use Rattle.icn_tree.specs.NameSets.{NameTest};
 ghost use Rattle.icn_decls.specs.Spelled.{IsSpelled};
 ghost use Rattle.icn_translate.specs.FileUnits.{proc_codes, unit_decls};
+ghost use Rattle.icn_translate.specs.Numbers.{HaveRoom};
 ghost use Rattle.icn_translate.specs.ProcCodes.{proc_code};
 ghost use Rattle.icn_unit.specs.PlainUnits.{entry_names, owned_names, proc_names};
 ghost use Rattle.icn_unit.specs.UnitOperands.{is_name};
@@ -53,6 +54,12 @@ pub fn names_and_literals_fit()
     ensures bytes { (file : List Declaration) (spelled : IsSpelled file)
         → All (λ token. HasBytes token.kind) spelled.tokens
         → file_fits is_byte_text file ≡ true }
+{}
+
+/// The code of each procedure of a checked text takes fewer than 2 ^ 32 numbers: of labels, of names, and of elements that are
+/// counted.
+pub fn codes_have_room()
+    ensures { (file : List Declaration) → ∥ IsSpelled file ∥₁ → HaveRoom file }
 {}
 
 /// Where the names and the literals of a procedure are such, so are those of its code, for any test of texts.

@@ -6,7 +6,7 @@ mod laws;
 mod making;
 
 pub use laws::{
-    code_texts_fit, file_names_differ, labels_have_one_place, names_and_literals_fit,
-    names_stand_once, units_keep_rules,
+    code_texts_fit, codes_have_room, file_names_differ, labels_have_one_place,
+    names_and_literals_fit, names_stand_once, units_keep_rules,
 };
 pub use making::unit;

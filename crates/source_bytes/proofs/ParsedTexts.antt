@@ -1,5 +1,5 @@
 -- The literals and the linked names of what is parsed are bytes, where the lines are.
-use Rattle.std.proofs.Common.{◌≡◌, ◌≤◌, true, List, [], ◌∷◌, arith}
+use Rattle.std.proofs.Common.{◌≡◌, ◌≤◌, true, List, [], ◌∷◌}
 use Rattle.std.specs.Prelude.{All}
 use Rattle.std.proofs.lemmas.Bool.{and_parts}
 use Rattle.icn_tree.specs.declared.lines.SourceLine.{SourceLine}
@@ -9,11 +9,11 @@ use Rattle.icn_tree.specs.declared.token.Token.{Token}
 use Rattle.icn_tree.specs.SourceTexts.{joined_len}
 use Rattle.icn_tree.specs.Tokens.{Scanned, tokens_of}
 use Rattle.icn_tree.specs.Trees.{Declaration}
-use Rattle.icn_tree.proofs.Scanning.{tokens_sound, all_sized, all_formed, tokens_counted, all_none, all_next}
+use Rattle.icn_tree.proofs.Scanning.{all_none, all_next}
 use Rattle.icn_parse.specs.Outcomes.{IsOutcome, IsTree}
-use Rattle.icn_decls.specs.Spelled.{AreScanned, IsSpelled}
 use Rattle.icn_unit.specs.UnitRules.{is_byte_text}
 use Rattle.icn_units.specs.Written.{HasBytes, file_fits}
+use Rattle.icn_units.proofs.Spelling.{spelled_by}
 use Rattle.icn_units.proofs.WrittenFiles.{spelled_bytes}
 use Rattle.source_bytes.specs.LineBytes.{lines_are_of_bytes}
 use Rattle.source_bytes.specs.TokenBytes.{kind_is_of_bytes, token_is_of_bytes, tokens_are_of_bytes}
@@ -36,17 +36,6 @@ tokens_have (token ∷ tokens) h =
     let parts = and_parts (token_is_of_bytes token) (tokens_are_of_bytes tokens) h in
     all_next (λ (token : Token). HasBytes token.kind) token tokens (kind_has token.kind parts.0)
     (tokens_have tokens parts.1)
-
--- what the tokens of lines that a named file may give spell
-spelled_by : (lines : List SourceLine) (tokens : List Token) (file : List Declaration)
-    → joined_len lines ≤ 16777216
-    → tokens_of lines ≡ Scanned tokens → IsOutcome tokens (IsTree file) → IsSpelled file
-spelled_by lines tokens file short e tree =
-    let sound = tokens_sound lines tokens e in
-    let count = tokens_counted lines tokens e in
-    let scanned : AreScanned tokens =
-    record { few = omega arith; sized = all_sized tokens sound; formed = all_formed tokens sound } in
-    record { tokens = tokens; scanned = scanned; tree = tree }
 
 pub texts_are_bytes : (lines : List SourceLine) (tokens : List Token) (file : List Declaration)
     → joined_len lines ≤ 16777216

@@ -4,8 +4,9 @@ use icn_host::SureFiles;
 use icn_lex::tokens;
 use icn_parse::parse;
 use icn_prep::preprocess;
-use icn_translate::proc_code;
-use icn_tree::{Decl, File, Lines, Token};
+use icn_translate::proc_codes;
+use icn_tree::Lines;
+use icn_unit::ProcCode;
 use std::alloc::{AllocError, Global};
 use std::collections::BTreeMap;
 
@@ -40,27 +41,28 @@ fn lines(alloc: Global, case: &[u8]) -> Result<Option<Lines>, AllocError> {
     Ok(preprocess(alloc, "f.icn", &mut SureFiles::new(alloc, files)).ok())
 }
 
-fn file(alloc: Global, tokens: &[Token]) -> Option<File> {
-    parse(alloc, "f.icn", tokens).ok()
-}
-
 /// The code of the first procedure of a case, or why there is none.
 pub fn code(alloc: Global, case: &[u8]) -> Result<String, AllocError> {
-    let Some(lines) = lines(alloc, case)? else {
-        return String::from_str(alloc, "no lines");
-    };
-    let Ok(tokens) = tokens(alloc, &lines) else {
-        return String::from_str(alloc, "no tokens");
-    };
-    match file(alloc, &tokens) {
-        Some(file) => first_code(alloc, &file),
-        None => String::from_str(alloc, "no tree"),
+    match lines(alloc, case)? {
+        Some(lines) => code_of_lines(alloc, &lines),
+        None => String::from_str(alloc, "no lines"),
     }
 }
 
-fn first_code(alloc: Global, file: &File) -> Result<String, AllocError> {
-    match file.decls.as_slice().first() {
-        Some(Decl::Procedure(procedure)) => shown(alloc, &proc_code(alloc, procedure)?),
-        _ => String::from_str(alloc, "no procedure"),
+fn code_of_lines(alloc: Global, lines: &Lines) -> Result<String, AllocError> {
+    let tokens = match tokens(alloc, lines) {
+        Ok(tokens) => tokens,
+        Err(_) => return String::from_str(alloc, "no tokens"),
+    };
+    match parse(alloc, "f.icn", &tokens) {
+        Ok(file) => first_code(alloc, &proc_codes(alloc, &file.decls)?),
+        Err(_) => String::from_str(alloc, "no tree"),
+    }
+}
+
+fn first_code(alloc: Global, codes: &[ProcCode]) -> Result<String, AllocError> {
+    match codes.first() {
+        Some(code) => shown(alloc, code),
+        None => String::from_str(alloc, "no procedure"),
     }
 }
