@@ -4,4 +4,6 @@ pub mod Translation
 pub mod Instructions
 pub mod Open
 pub mod Drafts
+pub mod Numbers
+pub mod Room
 pub mod FileUnits

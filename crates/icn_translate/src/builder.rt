@@ -1,9 +1,10 @@
 // The code of a procedure as far as it is written.
-ghost use Rattle.std.specs.Prelude.{◌≡◌, [], IfOk, OnOk, map};
+ghost use Rattle.std.specs.Prelude.{◌≡◌, ◌+◌, ◌<◌, ◌≤◌, [], IfOk, OnOk, length, map};
 ghost use Rattle.icn_unit.specs.declared.unit.UnitInstr.TheVariants.{Cofail, Coret, Create as CreateInstr, Efail, Field as FieldInstr, Goto as GotoInstr, Lab as LabInstr, Loop as LoopInstr, Mark as MarkInstr};
 ghost use Rattle.icn_translate.specs.Drafts.{case_end, end_number, in_case, in_loop, innermost, last_number, name_place, next_label, next_number, number_of, numbered, outside_case, outside_loop, put, put_end, put_last, put_next, put_variable, unmentioned, with_end, with_label, with_last, with_name, with_next, ◌▹◌};
 ghost use Rattle.icn_translate.specs.Instructions.{literal_instr};
 ghost use Rattle.icn_translate.specs.Open.{unmarks_for_break, unmarks_for_next};
+ghost use Rattle.icn_translate.specs.Room.{IsRoomFor, TakesAtMost, numbers_given};
 ghost use Rattle.icn_translate.specs.Translation.{loop_end, put_mark};
 ghost use Rattle.icn_translate.specs.Views.{draft_of, open_of};
 
@@ -24,8 +25,8 @@ pub struct Ways {
     pub last: Option<u32>,
 }
 
-/// The code of a procedure as far as it is written. Each call that may fail fails for want of memory, or where a number has
-/// no 32 bits.
+/// The code of a procedure as far as it is written. Each call that may fail fails for want of memory. Its numbers have 32 bits:
+/// a call that gives a new one asks for room.
 #[derive(Drop)]
 pub struct Builder<'a> {
     /// Where what it keeps is allocated.
@@ -43,26 +44,25 @@ pub struct Builder<'a> {
 }
 
 /// A count as an operand.
-pub fn counted(n: usize) -> Result<u32, AllocError>
-    ensures { IfOk result (λ count. count ≡ n) }
+pub fn counted(n: usize) -> u32
+    requires { n < 4294967296 }
+    ensures { result ≡ n }
 {
-    match u32::try_from(n) {
-        Ok(count) => Ok(count),
-        Err(_) => Err(AllocError),
-    }
+    n as u32
 }
 
 impl<'a> Builder<'a> {
     /// No instructions yet, with these names.
-    #[tactic(auto, unfolding(crate::specs::Views::draft_of))]
+    #[tactic(auto, unfolding(crate::specs::Views::draft_of, crate::specs::Room::numbers_given))]
     pub fn new(alloc: Global, names: IndexSet<&'a [u8]>) -> Self
-        ensures { draft_of result ≡ record {
+        ensures draft { draft_of result ≡ record {
           instrs = [];
           labels = 0;
           names = map (λ name. name.now) names.entry.keys;
           loops = [];
           cases = [];
         } }
+        ensures given { numbers_given (draft_of result) ≤ length names.entry.keys }
     {
         Builder {
             alloc,
@@ -91,9 +91,10 @@ impl<'a> Builder<'a> {
     }
 
     /// Writes an instruction.
-    #[tactic(auto, unfolding(crate::specs::Views::draft_of, crate::specs::Drafts::put))]
+    #[tactic(auto, unfolding(crate::specs::Views::draft_of, crate::specs::Drafts::put, crate::specs::Room::numbers_given))]
     pub fn put(&mut self, instr: UnitInstr) -> Result<(), AllocError>
-        ensures { OnOk result (draft_of self.new ≡ put instr (draft_of self.old)) }
+        ensures draft { OnOk result (draft_of self.new ≡ put instr (draft_of self.old)) }
+        ensures given { OnOk result (TakesAtMost 0 (draft_of self.old) (draft_of self.new)) }
     {
         self.instrs.push(instr)?;
         Ok(())
@@ -101,7 +102,8 @@ impl<'a> Builder<'a> {
 
     /// Writes the instruction of a literal.
     pub fn put_literal(&mut self, value: &Literal) -> Result<(), AllocError>
-        ensures { OnOk result (draft_of self.new ≡ put (literal_instr value.now) (draft_of self.old)) }
+        ensures draft { OnOk result (draft_of self.new ≡ put (literal_instr value.now) (draft_of self.old)) }
+        ensures given { OnOk result (TakesAtMost 0 (draft_of self.old) (draft_of self.new)) }
     {
         let instr = literal_instr(self.alloc, value)?;
         self.put(instr)
@@ -109,7 +111,8 @@ impl<'a> Builder<'a> {
 
     /// Writes `field` with a name.
     pub fn put_field(&mut self, name: &[u8]) -> Result<(), AllocError>
-        ensures { OnOk result (draft_of self.new ≡ put (FieldInstr name.now) (draft_of self.old)) }
+        ensures draft { OnOk result (draft_of self.new ≡ put (FieldInstr name.now) (draft_of self.old)) }
+        ensures given { OnOk result (TakesAtMost 0 (draft_of self.old) (draft_of self.new)) }
     {
         let name = Bytes::from_slice(self.alloc, name)?;
         self.put(UnitInstr::Field(name))
@@ -117,50 +120,56 @@ impl<'a> Builder<'a> {
 
     /// Writes two instructions.
     pub fn put_two(&mut self, first: UnitInstr, second: UnitInstr) -> Result<(), AllocError>
-        ensures { OnOk result (draft_of self.new ≡ put second (put first (draft_of self.old))) }
+        ensures draft { OnOk result (draft_of self.new ≡ put second (put first (draft_of self.old))) }
+        ensures given { OnOk result (TakesAtMost 0 (draft_of self.old) (draft_of self.new)) }
     {
         self.put(first)?;
         self.put(second)
     }
 
     /// A new label.
-    #[tactic(auto, unfolding(crate::specs::Views::draft_of, crate::specs::Drafts::next_label, crate::specs::Drafts::with_label))]
-    pub fn label(&mut self) -> Result<u32, AllocError>
-        ensures number { IfOk result (λ label. label ≡ next_label (draft_of self.old)) }
-        ensures draft { OnOk result (draft_of self.new ≡ with_label (draft_of self.old)) }
+    #[tactic(auto, unfolding(crate::specs::Views::draft_of, crate::specs::Drafts::next_label, crate::specs::Drafts::with_label, crate::specs::Room::numbers_given))]
+    pub fn label(&mut self) -> u32
+        requires { IsRoomFor 1 (draft_of self.old) }
+        ensures number { result ≡ next_label (draft_of self.old) }
+        ensures draft { draft_of self.new ≡ with_label (draft_of self.old) }
+        ensures given { TakesAtMost 1 (draft_of self.old) (draft_of self.new) }
     {
-        let Some(label) = self.labels.checked_add(1) else {
-            return Err(AllocError);
-        };
-        self.labels = label;
-        Ok(label)
+        self.labels += 1;
+        self.labels
     }
 
     /// Writes `mark` with a new label.
     pub fn put_mark(&mut self) -> Result<u32, AllocError>
+        requires { IsRoomFor 1 (draft_of self.old) }
         ensures number { IfOk result (λ label. label ≡ next_label (draft_of self.old)) }
         ensures draft { OnOk result (draft_of self.new ≡ put_mark (draft_of self.old)) }
+        ensures given { OnOk result (TakesAtMost 1 (draft_of self.old) (draft_of self.new)) }
     {
-        let label = self.label()?;
+        let label = self.label();
         self.put(UnitInstr::Mark(label))?;
         Ok(label)
     }
 
     // The number of a label, which may have been mentioned.
-    fn number(&mut self, known: Option<u32>) -> Result<u32, AllocError>
-        ensures number { IfOk result (λ label. label ≡ number_of known (draft_of self.old)) }
-        ensures draft { OnOk result (draft_of self.new ≡ numbered known (draft_of self.old)) }
+    fn number(&mut self, known: Option<u32>) -> u32
+        requires { IsRoomFor 1 (draft_of self.old) }
+        ensures number { result ≡ number_of known (draft_of self.old) }
+        ensures draft { draft_of self.new ≡ numbered known (draft_of self.old) }
+        ensures given { TakesAtMost 1 (draft_of self.old) (draft_of self.new) }
     {
         match known {
-            Some(label) => Ok(label),
+            Some(label) => label,
             None => self.label(),
         }
     }
 
     /// Writes the variable of a name.
-    #[tactic(auto, unfolding(crate::specs::Views::draft_of, crate::specs::Drafts::put_variable))]
+    #[tactic(auto, unfolding(crate::specs::Views::draft_of, crate::specs::Drafts::put_variable, crate::specs::Room::numbers_given))]
     pub fn put_variable(&mut self, name: &'a [u8]) -> Result<(), AllocError>
-        ensures { OnOk result (draft_of self.new ≡ put_variable name.now (draft_of self.old)) }
+        requires { IsRoomFor 1 (draft_of self.old) }
+        ensures draft { OnOk result (draft_of self.new ≡ put_variable name.now (draft_of self.old)) }
+        ensures given { OnOk result (TakesAtMost 1 (draft_of self.old) (draft_of self.new)) }
     {
         let place = enter_name(&mut self.names, name)?;
         self.instrs.push(UnitInstr::Var(place))?;
@@ -168,19 +177,21 @@ impl<'a> Builder<'a> {
     }
 
     /// Goes on in one more loop, with these labels.
-    #[tactic(auto, unfolding(crate::specs::Views::draft_of, crate::specs::Drafts::in_loop))]
+    #[tactic(auto, unfolding(crate::specs::Views::draft_of, crate::specs::Drafts::in_loop, crate::specs::Room::numbers_given))]
     pub fn enter_loop(&mut self, ways: Ways) -> Result<(), AllocError>
-        ensures { OnOk result (draft_of self.new ≡ in_loop ways (draft_of self.old)) }
+        ensures draft { OnOk result (draft_of self.new ≡ in_loop ways (draft_of self.old)) }
+        ensures given { OnOk result (TakesAtMost 0 (draft_of self.old) (draft_of self.new)) }
     {
         self.loops.push_front(ways)?;
         Ok(())
     }
 
     /// Goes on outside the innermost loop, and gives its labels.
-    #[tactic(auto, unfolding(crate::specs::Views::draft_of, crate::specs::Drafts::outside_loop, crate::specs::Drafts::innermost))]
+    #[tactic(auto, unfolding(crate::specs::Views::draft_of, crate::specs::Drafts::outside_loop, crate::specs::Drafts::innermost, crate::specs::Room::numbers_given))]
     pub fn leave_loop(&mut self) -> Ways
         ensures ways { result ≡ innermost (draft_of self.old) }
         ensures draft { draft_of self.new ≡ outside_loop (draft_of self.old) }
+        ensures given { TakesAtMost 0 (draft_of self.old) (draft_of self.new) }
     {
         match self.loops.pop_front() {
             Some(ways) => ways,
@@ -190,11 +201,13 @@ impl<'a> Builder<'a> {
 
     /// The label that `next` goes to in the innermost loop, which is mentioned.
     pub fn next_label(&mut self) -> Result<u32, AllocError>
+        requires { IsRoomFor 1 (draft_of self.old) }
         ensures number { IfOk result (λ label. label ≡ next_number (draft_of self.old)) }
         ensures draft { OnOk result (draft_of self.new ≡ with_next (draft_of self.old)) }
+        ensures given { OnOk result (TakesAtMost 1 (draft_of self.old) (draft_of self.new)) }
     {
         let ways = self.leave_loop();
-        let label = self.number(ways.next)?;
+        let label = self.number(ways.next);
         self.enter_loop(Ways {
             next: Some(label),
             last: ways.last,
@@ -204,11 +217,13 @@ impl<'a> Builder<'a> {
 
     /// The last label of the innermost loop, which is mentioned.
     pub fn last_label(&mut self) -> Result<u32, AllocError>
+        requires { IsRoomFor 1 (draft_of self.old) }
         ensures number { IfOk result (λ label. label ≡ last_number (draft_of self.old)) }
         ensures draft { OnOk result (draft_of self.new ≡ with_last (draft_of self.old)) }
+        ensures given { OnOk result (TakesAtMost 1 (draft_of self.old) (draft_of self.new)) }
     {
         let ways = self.leave_loop();
-        let label = self.number(ways.last)?;
+        let label = self.number(ways.last);
         self.enter_loop(Ways {
             next: ways.next,
             last: Some(label),
@@ -217,19 +232,21 @@ impl<'a> Builder<'a> {
     }
 
     /// Goes on in one more case.
-    #[tactic(auto, unfolding(crate::specs::Views::draft_of, crate::specs::Drafts::in_case))]
+    #[tactic(auto, unfolding(crate::specs::Views::draft_of, crate::specs::Drafts::in_case, crate::specs::Room::numbers_given))]
     pub fn enter_case(&mut self, end: Option<u32>) -> Result<(), AllocError>
-        ensures { OnOk result (draft_of self.new ≡ in_case end (draft_of self.old)) }
+        ensures draft { OnOk result (draft_of self.new ≡ in_case end (draft_of self.old)) }
+        ensures given { OnOk result (TakesAtMost 0 (draft_of self.old) (draft_of self.new)) }
     {
         self.cases.push_front(end)?;
         Ok(())
     }
 
     /// Goes on outside the innermost case, and gives its last label.
-    #[tactic(auto, unfolding(crate::specs::Views::draft_of, crate::specs::Drafts::outside_case, crate::specs::Drafts::case_end))]
+    #[tactic(auto, unfolding(crate::specs::Views::draft_of, crate::specs::Drafts::outside_case, crate::specs::Drafts::case_end, crate::specs::Room::numbers_given))]
     pub fn leave_case(&mut self) -> Option<u32>
         ensures label { result ≡ case_end (draft_of self.old) }
         ensures draft { draft_of self.new ≡ outside_case (draft_of self.old) }
+        ensures given { TakesAtMost 0 (draft_of self.old) (draft_of self.new) }
     {
         match self.cases.pop_front() {
             Some(end) => end,
@@ -239,19 +256,22 @@ impl<'a> Builder<'a> {
 
     /// The last label of the innermost case, which is mentioned.
     pub fn end_label(&mut self) -> Result<u32, AllocError>
+        requires { IsRoomFor 1 (draft_of self.old) }
         ensures number { IfOk result (λ label. label ≡ end_number (draft_of self.old)) }
         ensures draft { OnOk result (draft_of self.new ≡ with_end (draft_of self.old)) }
+        ensures given { OnOk result (TakesAtMost 1 (draft_of self.old) (draft_of self.new)) }
     {
         let end = self.leave_case();
-        let label = self.number(end)?;
+        let label = self.number(end);
         self.enter_case(Some(label))?;
         Ok(label)
     }
 
     /// Writes `unmark` for each mark that was opened in the innermost loop.
     pub fn put_unmarks_for_break(&mut self, within: Open<'_>) -> Result<(), AllocError>
-        ensures { OnOk result
+        ensures draft { OnOk result
             (draft_of self.new ≡ unmarks_for_break (open_of within.entry) (draft_of self.old)) }
+        ensures given { OnOk result (TakesAtMost 0 (draft_of self.old) (draft_of self.new)) }
     {
         match within {
             Open::Outermost | Open::Loop(_) => Ok(()),
@@ -265,8 +285,9 @@ impl<'a> Builder<'a> {
 
     /// Writes `unmark` for each mark that was opened since the place that `next` goes to was last passed.
     pub fn put_unmarks_for_next(&mut self, within: Open<'_>) -> Result<(), AllocError>
-        ensures { OnOk result
+        ensures draft { OnOk result
             (draft_of self.new ≡ unmarks_for_next (open_of within.entry) (draft_of self.old)) }
+        ensures given { OnOk result (TakesAtMost 0 (draft_of self.old) (draft_of self.new)) }
     {
         match within {
             Open::Outermost | Open::Loop(_) | Open::Each(_) => Ok(()),
@@ -279,20 +300,24 @@ impl<'a> Builder<'a> {
 
     /// Writes a new label at its place.
     pub fn put_label(&mut self) -> Result<u32, AllocError>
+        requires { IsRoomFor 1 (draft_of self.old) }
         ensures number { IfOk result (λ label. label ≡ next_label (draft_of self.old)) }
         ensures draft { OnOk result (draft_of self.new ≡ (draft_of self.old ▹ with_label
             ▹ put (LabInstr (next_label (draft_of self.old))))) }
+        ensures given { OnOk result (TakesAtMost 1 (draft_of self.old) (draft_of self.new)) }
     {
-        let label = self.label()?;
+        let label = self.label();
         self.put(UnitInstr::Lab(label))?;
         Ok(label)
     }
 
     /// Begins a loop with its first label, and gives the instruction that goes back there.
     pub fn begin_loop(&mut self) -> Result<UnitInstr, AllocError>
+        requires { IsRoomFor 1 (draft_of self.old) }
         ensures back { IfOk result (λ back. back ≡ LoopInstr (next_label (draft_of self.old))) }
         ensures draft { OnOk result (draft_of self.new ≡ (draft_of self.old ▹ with_label
             ▹ put (LabInstr (next_label (draft_of self.old))) ▹ in_loop unmentioned)) }
+        ensures given { OnOk result (TakesAtMost 1 (draft_of self.old) (draft_of self.new)) }
     {
         let start = self.put_label()?;
         self.enter_loop(UNMENTIONED)?;
@@ -301,7 +326,9 @@ impl<'a> Builder<'a> {
 
     /// Writes `mark` with the label that `next` goes to.
     pub fn put_next_mark(&mut self) -> Result<(), AllocError>
-        ensures { OnOk result (draft_of self.new ≡ put_next MarkInstr (draft_of self.old)) }
+        requires { IsRoomFor 1 (draft_of self.old) }
+        ensures draft { OnOk result (draft_of self.new ≡ put_next MarkInstr (draft_of self.old)) }
+        ensures given { OnOk result (TakesAtMost 1 (draft_of self.old) (draft_of self.new)) }
     {
         let label = self.next_label()?;
         self.put(UnitInstr::Mark(label))
@@ -309,7 +336,9 @@ impl<'a> Builder<'a> {
 
     /// Writes what ends a loop: the label that `next` goes to, an instruction, and the last label.
     pub fn end_loop(&mut self, back: UnitInstr) -> Result<(), AllocError>
-        ensures { OnOk result (draft_of self.new ≡ loop_end back (draft_of self.old)) }
+        requires { IsRoomFor 2 (draft_of self.old) }
+        ensures draft { OnOk result (draft_of self.new ≡ loop_end back (draft_of self.old)) }
+        ensures given { OnOk result (TakesAtMost 2 (draft_of self.old) (draft_of self.new)) }
     {
         let next = self.next_label()?;
         self.put_two(UnitInstr::Lab(next), back)?;
@@ -321,7 +350,9 @@ impl<'a> Builder<'a> {
 
     /// Writes `goto` to the label that `next` goes to.
     pub fn put_next_goto(&mut self) -> Result<(), AllocError>
-        ensures { OnOk result (draft_of self.new ≡ put_next GotoInstr (draft_of self.old)) }
+        requires { IsRoomFor 1 (draft_of self.old) }
+        ensures draft { OnOk result (draft_of self.new ≡ put_next GotoInstr (draft_of self.old)) }
+        ensures given { OnOk result (TakesAtMost 1 (draft_of self.old) (draft_of self.new)) }
     {
         let label = self.next_label()?;
         self.put(UnitInstr::Goto(label))
@@ -329,7 +360,9 @@ impl<'a> Builder<'a> {
 
     /// Goes on in one more loop, with these labels, and writes `goto` to its last one.
     pub fn put_last_goto(&mut self, ways: Ways) -> Result<(), AllocError>
-        ensures { OnOk result (draft_of self.new ≡ put_last GotoInstr (in_loop ways (draft_of self.old))) }
+        requires { IsRoomFor 1 (draft_of self.old) }
+        ensures draft { OnOk result (draft_of self.new ≡ put_last GotoInstr (in_loop ways (draft_of self.old))) }
+        ensures given { OnOk result (TakesAtMost 1 (draft_of self.old) (draft_of self.new)) }
     {
         self.enter_loop(ways)?;
         let label = self.last_label()?;
@@ -338,7 +371,9 @@ impl<'a> Builder<'a> {
 
     /// Writes `goto` to the last label of the innermost case.
     pub fn put_end_goto(&mut self) -> Result<(), AllocError>
-        ensures { OnOk result (draft_of self.new ≡ put_end GotoInstr (draft_of self.old)) }
+        requires { IsRoomFor 1 (draft_of self.old) }
+        ensures draft { OnOk result (draft_of self.new ≡ put_end GotoInstr (draft_of self.old)) }
+        ensures given { OnOk result (TakesAtMost 1 (draft_of self.old) (draft_of self.new)) }
     {
         let label = self.end_label()?;
         self.put(UnitInstr::Goto(label))
@@ -346,7 +381,9 @@ impl<'a> Builder<'a> {
 
     /// Ends a case with its last label.
     pub fn end_case(&mut self) -> Result<(), AllocError>
-        ensures { OnOk result (draft_of self.new ≡ outside_case (put_end LabInstr (draft_of self.old))) }
+        requires { IsRoomFor 1 (draft_of self.old) }
+        ensures draft { OnOk result (draft_of self.new ≡ outside_case (put_end LabInstr (draft_of self.old))) }
+        ensures given { OnOk result (TakesAtMost 1 (draft_of self.old) (draft_of self.new)) }
     {
         let label = self.end_label()?;
         self.put(UnitInstr::Lab(label))?;
@@ -356,30 +393,35 @@ impl<'a> Builder<'a> {
 
     /// Writes `goto` with a new label, and a label at its place.
     pub fn put_goto(&mut self, label: u32) -> Result<u32, AllocError>
+        requires { IsRoomFor 1 (draft_of self.old) }
         ensures number { IfOk result (λ end. end ≡ next_label (draft_of self.old)) }
         ensures draft { OnOk result (draft_of self.new ≡ (draft_of self.old ▹ with_label
             ▹ put (GotoInstr (next_label (draft_of self.old))) ▹ put (LabInstr label))) }
+        ensures given { OnOk result (TakesAtMost 1 (draft_of self.old) (draft_of self.new)) }
     {
-        let end = self.label()?;
+        let end = self.label();
         self.put_two(UnitInstr::Goto(end), UnitInstr::Lab(label))?;
         Ok(end)
     }
 
     /// Writes `create` with a new label.
     pub fn put_create(&mut self) -> Result<u32, AllocError>
+        requires { IsRoomFor 1 (draft_of self.old) }
         ensures number { IfOk result (λ label. label ≡ next_label (draft_of self.old)) }
         ensures draft { OnOk result (draft_of self.new ≡ (draft_of self.old ▹ with_label
             ▹ put (CreateInstr (next_label (draft_of self.old))))) }
+        ensures given { OnOk result (TakesAtMost 1 (draft_of self.old) (draft_of self.new)) }
     {
-        let label = self.label()?;
+        let label = self.label();
         self.put(UnitInstr::Create(label))?;
         Ok(label)
     }
 
     /// Writes what ends a create body, whose marks have these labels.
     pub fn end_created(&mut self, inner: u32, outer: u32) -> Result<(), AllocError>
-        ensures { OnOk result (draft_of self.new ≡ (draft_of self.old ▹ put Coret ▹ put Efail
+        ensures draft { OnOk result (draft_of self.new ≡ (draft_of self.old ▹ put Coret ▹ put Efail
             ▹ put (LabInstr inner) ▹ put Cofail ▹ put (LabInstr outer))) }
+        ensures given { OnOk result (TakesAtMost 0 (draft_of self.old) (draft_of self.new)) }
     {
         self.put_two(UnitInstr::Coret, UnitInstr::Efail)?;
         self.put_two(UnitInstr::Lab(inner), UnitInstr::Cofail)?;
@@ -395,12 +437,13 @@ pub const UNMENTIONED: Ways = Ways {
 
 /// The place of a name among names, which it joins where it is new.
 pub fn enter_name<'a>(names: &mut IndexSet<&'a [u8]>, name: &'a [u8]) -> Result<u32, AllocError>
+    requires { length names.old.keys < 4294967296 }
     ensures place { IfOk result
         (λ place. place ≡ name_place (map (λ name. name.now) names.old.keys) name.now) }
     ensures names { OnOk result
         (map (λ name. name.now) names.new.keys ≡ with_name (map (λ name. name.now) names.old.keys) name.now) }
+    ensures given { OnOk result (length names.new.keys ≤ length names.old.keys + 1) }
 {
     let (place, _) = names.insert_full(name)?;
-    let number = counted(place)?;
-    Ok(number)
+    Ok(counted(place))
 }

@@ -1,8 +1,10 @@
 // The code of expressions.
-ghost use Rattle.std.specs.Prelude.{◌≡◌, IfOk, OnOk};
+ghost use Rattle.std.specs.Prelude.{◌≡◌, ◌+◌, IfOk, OnOk};
 ghost use Rattle.icn_tree.specs.TreeOf.{all_clauses_of, all_of, clause_of, tree_of};
 ghost use Rattle.icn_translate.specs.Drafts.{next_label};
 ghost use Rattle.icn_translate.specs.Open.{Marked, Outermost as OutermostOpen};
+ghost use Rattle.icn_translate.specs.Numbers.{all_numbers, clause_numbers, numbers};
+ghost use Rattle.icn_translate.specs.Room.{IsRoomFor, TakesAtMost, default_numbers, guard_numbers, guarded_numbers};
 ghost use Rattle.icn_translate.specs.Translation.{alternative, arguments, back, bounded_code, case_of, compound, conjunction, control_part, create_code, creations, default_part, either_step, elements, guarded, guarded_clause, in_body, in_control, is_empty, is_no_element, looped_body, operands, other_creations, prefix_by, subscripts, translate, unless_empty};
 ghost use Rattle.icn_translate.specs.Views.{draft_of, open_of};
 
@@ -18,8 +20,11 @@ impl<'a> Builder<'a> {
     /// Writes the code of an expression, with these marks and loops open.
     #[cycle(translate)]
     pub fn put_expr(&mut self, expr: &'a Expr, within: Open<'_>) -> Result<(), AllocError>
-        ensures { OnOk result
+        requires { IsRoomFor (numbers (tree_of expr.now)) (draft_of self.old) }
+        ensures draft { OnOk result
             (draft_of self.new ≡ translate (open_of within.entry) (tree_of expr.now) (draft_of self.old)) }
+        ensures given { OnOk result
+            (TakesAtMost (numbers (tree_of expr.now)) (draft_of self.old) (draft_of self.new)) }
     {
         match expr {
             Expr::Empty => self.put(UnitInstr::Pnull),
@@ -273,9 +278,12 @@ impl<'a> Builder<'a> {
         form: PrefixForm,
         within: Open<'_>,
     ) -> Result<(), AllocError>
-        ensures { OnOk result
+        requires { IsRoomFor (1 + numbers (tree_of operand.now)) (draft_of self.old) }
+        ensures draft { OnOk result
             (draft_of self.new ≡ prefix_by form (translate (open_of within.entry) (tree_of operand.now))
             (translate (Marked (open_of within.entry)) (tree_of operand.now)) (draft_of self.old)) }
+        ensures given { OnOk result
+            (TakesAtMost (1 + numbers (tree_of operand.now)) (draft_of self.old) (draft_of self.new)) }
     {
         match form {
             PrefixForm::Activation => {
@@ -304,8 +312,11 @@ impl<'a> Builder<'a> {
         label: u32,
         within: Open<'_>,
     ) -> Result<(), AllocError>
-        ensures { OnOk result (draft_of self.new
+        requires { IsRoomFor (1 + numbers (tree_of branch.now)) (draft_of self.old) }
+        ensures draft { OnOk result (draft_of self.new
             ≡ alternative (translate (open_of within.entry) (tree_of branch.now)) label (draft_of self.old)) }
+        ensures given { OnOk result
+            (TakesAtMost (1 + numbers (tree_of branch.now)) (draft_of self.old) (draft_of self.new)) }
     {
         let end = self.put_goto(label)?;
         self.put_expr(branch, within)?;
@@ -315,8 +326,11 @@ impl<'a> Builder<'a> {
     /// Writes the code of an expression in a mark with a new label, where this is open in that mark.
     #[cycle(translate)]
     pub fn put_bounded(&mut self, expr: &'a Expr, marked: Open<'_>) -> Result<(), AllocError>
-        ensures { OnOk result (draft_of self.new
+        requires { IsRoomFor (1 + numbers (tree_of expr.now)) (draft_of self.old) }
+        ensures draft { OnOk result (draft_of self.new
             ≡ bounded_code (translate (open_of marked.entry) (tree_of expr.now)) (draft_of self.old)) }
+        ensures given { OnOk result
+            (TakesAtMost (1 + numbers (tree_of expr.now)) (draft_of self.old) (draft_of self.new)) }
     {
         let label = self.put_mark()?;
         self.put_expr(expr, marked)?;
@@ -331,9 +345,12 @@ impl<'a> Builder<'a> {
         kind: LoopKind,
         within: Open<'_>,
     ) -> Result<UnitInstr, AllocError>
+        requires { IsRoomFor (2 + numbers (tree_of control.now)) (draft_of self.old) }
         ensures back { IfOk result (λ instr. instr ≡ back kind (next_label (draft_of self.old))) }
         ensures draft { OnOk result (draft_of self.new ≡ control_part kind
             (translate (in_control kind (open_of within.entry)) (tree_of control.now)) (draft_of self.old)) }
+        ensures given { OnOk result
+            (TakesAtMost (2 + numbers (tree_of control.now)) (draft_of self.old) (draft_of self.new)) }
     {
         let looped = Open::Loop(&within);
         let marked = Open::Mark(&looped);
@@ -371,9 +388,12 @@ impl<'a> Builder<'a> {
         kind: LoopKind,
         within: Open<'_>,
     ) -> Result<(), AllocError>
-        ensures { OnOk result (draft_of self.new
+        requires { IsRoomFor (1 + numbers (tree_of body.now)) (draft_of self.old) }
+        ensures draft { OnOk result (draft_of self.new
             ≡ looped_body (translate (Marked (in_body kind (open_of within.entry))) (tree_of body.now))
             (draft_of self.old)) }
+        ensures given { OnOk result
+            (TakesAtMost (1 + numbers (tree_of body.now)) (draft_of self.old) (draft_of self.new)) }
     {
         let looped = in_body(kind, &within);
         self.put_next_mark()?;
@@ -384,8 +404,11 @@ impl<'a> Builder<'a> {
     // A co-expression.
     #[cycle(translate)]
     fn put_created(&mut self, body: &'a Expr) -> Result<(), AllocError>
-        ensures { OnOk result (draft_of self.new
+        requires { IsRoomFor (2 + numbers (tree_of body.now)) (draft_of self.old) }
+        ensures draft { OnOk result (draft_of self.new
             ≡ create_code (translate OutermostOpen (tree_of body.now)) (draft_of self.old)) }
+        ensures given { OnOk result
+            (TakesAtMost (2 + numbers (tree_of body.now)) (draft_of self.old) (draft_of self.new)) }
     {
         let outer = self.put_create()?;
         let inner = self.put_mark()?;
@@ -396,8 +419,11 @@ impl<'a> Builder<'a> {
     // Operands in a row.
     #[cycle(translate)]
     fn put_operands(&mut self, exprs: &'a [Expr], within: Open<'_>) -> Result<(), AllocError>
-        ensures { OnOk result
+        requires { IsRoomFor (all_numbers (all_of exprs.now)) (draft_of self.old) }
+        ensures draft { OnOk result
             (draft_of self.new ≡ operands (open_of within.entry) (all_of exprs.now) (draft_of self.old)) }
+        ensures given { OnOk result
+            (TakesAtMost (all_numbers (all_of exprs.now)) (draft_of self.old) (draft_of self.new)) }
     {
         for expr in exprs {
             self.put_expr(expr, within)?;
@@ -408,36 +434,45 @@ impl<'a> Builder<'a> {
     // The elements of a list, and how many they are.
     #[cycle(translate)]
     fn put_arguments(&mut self, exprs: &'a [Expr], within: Open<'_>) -> Result<u32, AllocError>
+        requires { IsRoomFor (all_numbers (all_of exprs.now)) (draft_of self.old) }
         ensures count { IfOk result (λ count. count ≡ elements (all_of exprs.now)) }
         ensures draft { OnOk result
             (draft_of self.new ≡ arguments (open_of within.entry) (all_of exprs.now) (draft_of self.old)) }
+        ensures given { OnOk result
+            (TakesAtMost (all_numbers (all_of exprs.now)) (draft_of self.old) (draft_of self.new)) }
     {
         if is_no_element(exprs) {
             return Ok(0);
         }
         self.put_operands(exprs, within)?;
-        let count = counted(exprs.len())?;
+        let count = counted(exprs.len());
         Ok(count)
     }
 
     // A co-expression of each element of a list, and how many they are.
     #[cycle(translate)]
     fn put_creations(&mut self, exprs: &'a [Expr]) -> Result<u32, AllocError>
+        requires { IsRoomFor (all_numbers (all_of exprs.now)) (draft_of self.old) }
         ensures count { IfOk result (λ count. count ≡ elements (all_of exprs.now)) }
         ensures draft { OnOk result (draft_of self.new ≡ creations (all_of exprs.now) (draft_of self.old)) }
+        ensures given { OnOk result
+            (TakesAtMost (all_numbers (all_of exprs.now)) (draft_of self.old) (draft_of self.new)) }
     {
         if is_no_element(exprs) {
             return Ok(0);
         }
         self.put_other_creations(exprs)?;
-        let count = counted(exprs.len())?;
+        let count = counted(exprs.len());
         Ok(count)
     }
 
     // Co-expressions in a row.
     #[cycle(translate)]
     fn put_other_creations(&mut self, exprs: &'a [Expr]) -> Result<(), AllocError>
-        ensures { OnOk result (draft_of self.new ≡ other_creations (all_of exprs.now) (draft_of self.old)) }
+        requires { IsRoomFor (all_numbers (all_of exprs.now)) (draft_of self.old) }
+        ensures draft { OnOk result (draft_of self.new ≡ other_creations (all_of exprs.now) (draft_of self.old)) }
+        ensures given { OnOk result
+            (TakesAtMost (all_numbers (all_of exprs.now)) (draft_of self.old) (draft_of self.new)) }
     {
         for expr in exprs {
             self.put_created(expr)?;
@@ -448,8 +483,11 @@ impl<'a> Builder<'a> {
     // Expressions with `pop` between them.
     #[cycle(translate)]
     fn put_conjunction(&mut self, exprs: &'a [Expr], within: Open<'_>) -> Result<(), AllocError>
-        ensures { OnOk result
+        requires { IsRoomFor (all_numbers (all_of exprs.now)) (draft_of self.old) }
+        ensures draft { OnOk result
             (draft_of self.new ≡ conjunction (open_of within.entry) (all_of exprs.now) (draft_of self.old)) }
+        ensures given { OnOk result
+            (TakesAtMost (all_numbers (all_of exprs.now)) (draft_of self.old) (draft_of self.new)) }
     {
         let Some((first, others)) = exprs.split_first() else {
             return Ok(());
@@ -465,8 +503,11 @@ impl<'a> Builder<'a> {
     // The expressions of a compound.
     #[cycle(translate)]
     fn put_compound(&mut self, exprs: &'a [Expr], within: Open<'_>) -> Result<(), AllocError>
-        ensures { OnOk result
+        requires { IsRoomFor (all_numbers (all_of exprs.now)) (draft_of self.old) }
+        ensures draft { OnOk result
             (draft_of self.new ≡ compound (open_of within.entry) (all_of exprs.now) (draft_of self.old)) }
+        ensures given { OnOk result
+            (TakesAtMost (all_numbers (all_of exprs.now)) (draft_of self.old) (draft_of self.new)) }
     {
         for (place, expr) in exprs.iter().enumerate() {
             self.put_part(expr, place + 1 == exprs.len(), within)?;
@@ -482,10 +523,13 @@ impl<'a> Builder<'a> {
         is_last: bool,
         within: Open<'_>,
     ) -> Result<(), AllocError>
-        ensures { OnOk result (draft_of self.new ≡ either_step is_last
+        requires { IsRoomFor (1 + numbers (tree_of expr.now)) (draft_of self.old) }
+        ensures draft { OnOk result (draft_of self.new ≡ either_step is_last
             (translate (open_of within.entry) (tree_of expr.now)) (unless_empty (tree_of expr.now)
             (bounded_code (translate (Marked (open_of within.entry)) (tree_of expr.now))))
             (draft_of self.old)) }
+        ensures given { OnOk result
+            (TakesAtMost (1 + numbers (tree_of expr.now)) (draft_of self.old) (draft_of self.new)) }
     {
         if is_last {
             return self.put_expr(expr, within);
@@ -499,8 +543,11 @@ impl<'a> Builder<'a> {
     // Subscripts in a row.
     #[cycle(translate)]
     fn put_subscripts(&mut self, exprs: &'a [Expr], within: Open<'_>) -> Result<(), AllocError>
-        ensures { OnOk result
+        requires { IsRoomFor (all_numbers (all_of exprs.now)) (draft_of self.old) }
+        ensures draft { OnOk result
             (draft_of self.new ≡ subscripts (open_of within.entry) (all_of exprs.now) (draft_of self.old)) }
+        ensures given { OnOk result
+            (TakesAtMost (all_numbers (all_of exprs.now)) (draft_of self.old) (draft_of self.new)) }
     {
         for expr in exprs {
             self.put_expr(expr, within)?;
@@ -512,9 +559,12 @@ impl<'a> Builder<'a> {
     // The clauses of a `case`, behind its subject.
     #[cycle(translate)]
     fn put_clauses(&mut self, clauses: &'a [Clause], within: Open<'_>) -> Result<(), AllocError>
-        ensures { OnOk result
+        requires { IsRoomFor (1 + clause_numbers (all_clauses_of clauses.now)) (draft_of self.old) }
+        ensures draft { OnOk result
             (draft_of self.new ≡ case_of (guarded (open_of within.entry) (all_clauses_of clauses.now))
             (default_part (open_of within.entry) (all_clauses_of clauses.now)) (draft_of self.old)) }
+        ensures given { OnOk result
+            (TakesAtMost (1 + clause_numbers (all_clauses_of clauses.now)) (draft_of self.old) (draft_of self.new)) }
     {
         self.enter_case(None)?;
         self.put_guarded(clauses, within)?;
@@ -526,8 +576,11 @@ impl<'a> Builder<'a> {
     // The clauses but the default.
     #[cycle(translate)]
     fn put_guarded(&mut self, clauses: &'a [Clause], within: Open<'_>) -> Result<(), AllocError>
-        ensures { OnOk result (draft_of self.new
+        requires { IsRoomFor (guarded_numbers (all_clauses_of clauses.now)) (draft_of self.old) }
+        ensures draft { OnOk result (draft_of self.new
             ≡ guarded (open_of within.entry) (all_clauses_of clauses.now) (draft_of self.old)) }
+        ensures given { OnOk result
+            (TakesAtMost (guarded_numbers (all_clauses_of clauses.now)) (draft_of self.old) (draft_of self.new)) }
     {
         for clause in clauses {
             self.put_guarded_clause(clause, within)?;
@@ -537,8 +590,11 @@ impl<'a> Builder<'a> {
 
     #[cycle(translate)]
     fn put_guarded_clause(&mut self, clause: &'a Clause, within: Open<'_>) -> Result<(), AllocError>
-        ensures { OnOk result (draft_of self.new
+        requires { IsRoomFor (guard_numbers (clause_of clause.now)) (draft_of self.old) }
+        ensures draft { OnOk result (draft_of self.new
             ≡ guarded_clause (open_of within.entry) (clause_of clause.now) (draft_of self.old)) }
+        ensures given { OnOk result
+            (TakesAtMost (guard_numbers (clause_of clause.now)) (draft_of self.old) (draft_of self.new)) }
     {
         match clause {
             Clause::Default { .. } => Ok(()),
@@ -558,8 +614,11 @@ impl<'a> Builder<'a> {
     // The first default, or `efail`.
     #[cycle(translate)]
     fn put_default(&mut self, clauses: &'a [Clause], within: Open<'_>) -> Result<(), AllocError>
-        ensures { OnOk result (draft_of self.new
+        requires { IsRoomFor (default_numbers (all_clauses_of clauses.now)) (draft_of self.old) }
+        ensures draft { OnOk result (draft_of self.new
             ≡ default_part (open_of within.entry) (all_clauses_of clauses.now) (draft_of self.old)) }
+        ensures given { OnOk result
+            (TakesAtMost (default_numbers (all_clauses_of clauses.now)) (draft_of self.old) (draft_of self.new)) }
     {
         for clause in clauses {
             if let Clause::Default { value, .. } = clause {

@@ -4,6 +4,7 @@ ghost use Rattle.icn_tree.specs.TreeOf.{declaration_of};
 ghost use Rattle.icn_unit.specs.PlainUnits.{Global as GlobalLine, Link as LinkLine, Procedure as ProcedureLine, Record as RecordLine};
 ghost use Rattle.icn_unit.specs.UnitViews.{decl_seen, proc_seen};
 ghost use Rattle.icn_translate.specs.FileUnits.{codes_in, item_text, lines_in, proc_codes, unit_decls};
+ghost use Rattle.icn_translate.specs.Numbers.{HasRoom, HaveRoom};
 ghost use Rattle.icn_translate.specs.ProcCodes.{texts_of};
 
 use crate::procedure::proc_code;
@@ -11,8 +12,9 @@ use icn_tree::{Bytes, Decl, Item, Name};
 use icn_unit::{ProcCode, UnitDecl};
 use std::alloc::{AllocError, Global};
 
-/// The codes of the procedures among declarations, in their order. The errors are those of `proc_code`.
+/// The codes of the procedures among declarations, in their order. An error is want of memory.
 pub fn proc_codes(alloc: Global, decls: &[Decl]) -> Result<Vec<ProcCode>, AllocError>
+    requires room { HaveRoom (map declaration_of decls.now) }
     ensures { IfOk result (λ codes. map proc_seen codes.items ≡ proc_codes (map declaration_of decls.now)) }
 {
     let mut codes = Vec::new(alloc);
@@ -24,6 +26,7 @@ pub fn proc_codes(alloc: Global, decls: &[Decl]) -> Result<Vec<ProcCode>, AllocE
 
 #[tactic(auto, using(crate::proofs::Entries::seen_more))]
 fn put_codes(codes: &mut Vec<ProcCode>, alloc: Global, decl: &Decl) -> Result<(), AllocError>
+    requires { HasRoom (declaration_of decl.now) }
     ensures { OnOk result (map proc_seen codes.new.items ≡ map proc_seen codes.old.items
         ++ codes_in (declaration_of decl.now)) }
 {

@@ -1,5 +1,5 @@
 // The code of a procedure.
-ghost use Rattle.std.specs.Prelude.{◌≡◌, ◌++◌, ◌∷◌, [], IfOk, OnOk, drop, map};
+ghost use Rattle.std.specs.Prelude.{◌≡◌, ◌+◌, ◌<◌, ◌≤◌, ◌++◌, ◌∷◌, [], IfOk, OnOk, drop, length, map};
 ghost use Rattle.std.specs.List.{flat_map};
 ghost use Rattle.icn_tree.specs.TreeOf.{all_of, initial_of, locals_of, procedure_of, tree_of};
 ghost use Rattle.icn_unit.specs.declared.unit.NameKind.TheVariants.{Undeclared};
@@ -8,6 +8,8 @@ ghost use Rattle.icn_translate.specs.Drafts.{put, with_names, ◌▹◌};
 ghost use Rattle.icn_unit.specs.declared.unit.UnitInstr.TheVariants.{Pfail};
 ghost use Rattle.icn_translate.specs.Open.{Outermost as OutermostOpen};
 ghost use Rattle.icn_translate.specs.ProcCodes.{first_draft, declared_entries, declared_texts, entry_of, kind_of, local_entries, local_texts, proc_code, texts_of};
+ghost use Rattle.icn_translate.specs.Numbers.{all_numbers, initial_numbers, local_numbers, numbers, procedure_numbers};
+ghost use Rattle.icn_translate.specs.Room.{IsRoomFor, TakesAtMost, declared_numbers, numbers_given};
 ghost use Rattle.icn_translate.specs.Translation.{body, bounded_code, initially, translate, unless_empty};
 ghost use Rattle.icn_translate.specs.Views.{draft_of};
 
@@ -19,13 +21,13 @@ use icn_unit::{NameKind, ProcCode, UnitInstr, UnitName};
 use indexmap::IndexSet;
 use std::alloc::{AllocError, Global};
 
-/// The code of a procedure.
+/// The code of a procedure, whose labels, names and counts of operands have numbers of 32 bits.
 ///
 /// # Errors
 ///
-/// Want of memory; and a place of a name, a count of operands or a number of a label that has no 32 bits, which no checked
-/// text has.
+/// Want of memory.
 pub fn proc_code(alloc: Global, procedure: &Procedure) -> Result<ProcCode, AllocError>
+    requires room { procedure_numbers (procedure_of procedure.now) < 4294967296 }
     ensures { IfOk result (λ code. proc_seen code ≡ proc_code (procedure_of procedure.now)) }
 {
     let mut builder = begun(alloc, procedure)?;
@@ -43,7 +45,10 @@ pub fn proc_code(alloc: Global, procedure: &Procedure) -> Result<ProcCode, Alloc
 
 // The draft before the first instruction: its names are those that are declared.
 fn begun<'a>(alloc: Global, procedure: &'a Procedure) -> Result<Builder<'a>, AllocError>
-    ensures { IfOk result (λ builder. draft_of builder ≡ first_draft (procedure_of procedure.now)) }
+    requires { declared_numbers (procedure_of procedure.now) < 4294967296 }
+    ensures draft { IfOk result (λ builder. draft_of builder ≡ first_draft (procedure_of procedure.now)) }
+    ensures given { IfOk result
+        (λ builder. numbers_given (draft_of builder) ≤ declared_numbers (procedure_of procedure.now)) }
 {
     let names = declared_names(alloc, procedure)?;
     Ok(Builder::new(alloc, names))
@@ -54,8 +59,11 @@ fn declared_names<'a>(
     alloc: Global,
     procedure: &'a Procedure,
 ) -> Result<IndexSet<&'a [u8]>, AllocError>
-    ensures { IfOk result (λ names. map (λ name. name.now) names.keys
+    requires { declared_numbers (procedure_of procedure.now) < 4294967296 }
+    ensures names { IfOk result (λ names. map (λ name. name.now) names.keys
         ≡ with_names [] (declared_texts (procedure_of procedure.now))) }
+    ensures given { IfOk result
+        (λ names. length names.keys ≤ declared_numbers (procedure_of procedure.now)) }
 {
     let mut names = IndexSet::new(alloc);
     enter_names(&mut names, &procedure.parameters)?;
@@ -64,8 +72,11 @@ fn declared_names<'a>(
 }
 
 fn enter_locals<'a>(names: &mut IndexSet<&'a [u8]>, locals: &'a [Locals]) -> Result<(), AllocError>
-    ensures { OnOk result (map (λ name. name.now) names.new.keys ≡ with_names
+    requires { length names.old.keys + local_numbers (map locals_of locals.now) < 4294967296 }
+    ensures names { OnOk result (map (λ name. name.now) names.new.keys ≡ with_names
         (map (λ name. name.now) names.old.keys) (flat_map local_texts (map locals_of locals.now))) }
+    ensures given { OnOk result
+        (length names.new.keys ≤ length names.old.keys + local_numbers (map locals_of locals.now)) }
 {
     for local in locals {
         enter_names(names, &local.names)?;
@@ -74,8 +85,11 @@ fn enter_locals<'a>(names: &mut IndexSet<&'a [u8]>, locals: &'a [Locals]) -> Res
 }
 
 fn enter_names<'a>(names: &mut IndexSet<&'a [u8]>, entries: &'a [Name]) -> Result<(), AllocError>
-    ensures { OnOk result (map (λ name. name.now) names.new.keys
+    requires { length names.old.keys + length entries.now < 4294967296 }
+    ensures names { OnOk result (map (λ name. name.now) names.new.keys
         ≡ with_names (map (λ name. name.now) names.old.keys) (texts_of entries.now)) }
+    ensures given { OnOk result
+        (length names.new.keys ≤ length names.old.keys + length entries.now) }
 {
     for entry in entries {
         enter_name(names, entry.text.as_slice())?;
@@ -85,6 +99,8 @@ fn enter_names<'a>(names: &mut IndexSet<&'a [u8]>, entries: &'a [Name]) -> Resul
 
 // Writes the instructions of a procedure.
 fn put_procedure<'a>(builder: &mut Builder<'a>, procedure: &'a Procedure) -> Result<(), AllocError>
+    requires { IsRoomFor (initial_numbers (initial_of procedure.now.initial)
+        + all_numbers (all_of procedure.now.body.items)) (draft_of builder.old) }
     ensures { OnOk result
         (draft_of builder.new ≡ (draft_of builder.old ▹ initially (initial_of procedure.now.initial)
         ▹ body (all_of procedure.now.body.items) ▹ put Pfail)) }
@@ -98,12 +114,16 @@ fn put_initial<'a>(
     builder: &mut Builder<'a>,
     initial: &'a Option<Initial>,
 ) -> Result<(), AllocError>
-    ensures { OnOk result (draft_of builder.new ≡ initially (initial_of initial.now) (draft_of builder.old)) }
+    requires { IsRoomFor (initial_numbers (initial_of initial.now)) (draft_of builder.old) }
+    ensures draft { OnOk result
+        (draft_of builder.new ≡ initially (initial_of initial.now) (draft_of builder.old)) }
+    ensures given { OnOk result
+        (TakesAtMost (initial_numbers (initial_of initial.now)) (draft_of builder.old) (draft_of builder.new)) }
 {
     match initial {
         None => Ok(()),
         Some(initial) => {
-            let label = builder.label()?;
+            let label = builder.label();
             builder.put_two(UnitInstr::Init(label), UnitInstr::Mark(label))?;
             builder.put_expr(&initial.value, Open::Outermost)?;
             builder.put_two(UnitInstr::Unmark, UnitInstr::Lab(label))
@@ -112,6 +132,7 @@ fn put_initial<'a>(
 }
 
 fn put_body<'a>(builder: &mut Builder<'a>, exprs: &'a [Expr]) -> Result<(), AllocError>
+    requires { IsRoomFor (all_numbers (all_of exprs.now)) (draft_of builder.old) }
     ensures { OnOk result (draft_of builder.new ≡ body (all_of exprs.now) (draft_of builder.old)) }
 {
     for expr in exprs {
@@ -122,8 +143,11 @@ fn put_body<'a>(builder: &mut Builder<'a>, exprs: &'a [Expr]) -> Result<(), Allo
 
 // An expression of a body. An empty one has no code.
 fn put_bounded<'a>(builder: &mut Builder<'a>, expr: &'a Expr) -> Result<(), AllocError>
-    ensures { OnOk result (draft_of builder.new ≡ unless_empty (tree_of expr.now)
+    requires { IsRoomFor (1 + numbers (tree_of expr.now)) (draft_of builder.old) }
+    ensures draft { OnOk result (draft_of builder.new ≡ unless_empty (tree_of expr.now)
         (bounded_code (translate OutermostOpen (tree_of expr.now))) (draft_of builder.old)) }
+    ensures given { OnOk result
+        (TakesAtMost (1 + numbers (tree_of expr.now)) (draft_of builder.old) (draft_of builder.new)) }
 {
     if is_empty(expr) {
         return Ok(());

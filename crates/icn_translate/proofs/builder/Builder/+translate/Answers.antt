@@ -1,31 +1,34 @@
-use Rattle.std.proofs.Common.{rules, sym, ◌∙◌}
+use Rattle.std.proofs.Common.{◌≡◌, ◌+◌, ◌<◌, rules, sym, ◌∙◌, arith}
 use Rattle.icn_tree.proofs.TreeRows.{row_trees, row_clauses}
 use Rattle.icn_tree.specs.declared.tree.Expr.{the_lemmas}
-use Rattle.icn_tree.specs.TreeOf.{all_of}
+use Rattle.icn_tree.specs.TreeOf.{all_of, all_clauses_of, tree_of}
+use Rattle.icn_translate.specs.Numbers.{all_numbers, clause_numbers, numbers}
+use Rattle.icn_translate.specs.Room.{default_numbers, guarded_numbers, numbers_given}
 use Rattle.icn_translate.specs.Views.{draft_of, open_of}
 use Rattle.icn_translate.proofs.Lists.{all_arguments, all_counted, all_creations, compound_step, no_arguments, no_count, no_creations}
+use Rattle.icn_translate.proofs.Numbering.{both_kinds, no_more, on_ok, row_left}
 use Rattle.icn_translate.proofs.builder.Builder.+translate.Goals as goal
 
-pub put_expr-returns-in-Parentheses : goal.put_expr-returns-in-Parentheses
-put_expr-returns-in-Parentheses n c = search (rules, row_trees, the_lemmas)
+pub put_expr-returns-in-Parentheses-clause-draft : goal.put_expr-returns-in-Parentheses-clause-draft
+put_expr-returns-in-Parentheses-clause-draft n c = search (rules, row_trees, the_lemmas)
 
-pub put_expr-returns-in_ok-count-in-List : goal.put_expr-returns-in_ok-count-in-List
-put_expr-returns-in_ok-count-in-List n c = search (rules, row_trees, the_lemmas)
+pub put_expr-returns-in_ok-count-in-List-clause-draft : goal.put_expr-returns-in_ok-count-in-List-clause-draft
+put_expr-returns-in_ok-count-in-List-clause-draft n c = search (rules, row_trees, the_lemmas)
 
-pub put_expr-returns-in-Compound : goal.put_expr-returns-in-Compound
-put_expr-returns-in-Compound n c = search (rules, row_trees, the_lemmas)
+pub put_expr-returns-in-Compound-clause-draft : goal.put_expr-returns-in-Compound-clause-draft
+put_expr-returns-in-Compound-clause-draft n c = search (rules, row_trees, the_lemmas)
 
-pub put_expr-returns-in_ok-count-in-Call : goal.put_expr-returns-in_ok-count-in-Call
-put_expr-returns-in_ok-count-in-Call n c = search (rules, row_trees, the_lemmas)
+pub put_expr-returns-in_ok-count-in-Call-clause-draft : goal.put_expr-returns-in_ok-count-in-Call-clause-draft
+put_expr-returns-in_ok-count-in-Call-clause-draft n c = search (rules, row_trees, the_lemmas)
 
-pub put_expr-returns-in_ok-count-in-CoCall : goal.put_expr-returns-in_ok-count-in-CoCall
-put_expr-returns-in_ok-count-in-CoCall n c = search (rules, row_trees, the_lemmas)
+pub put_expr-returns-in_ok-count-in-CoCall-clause-draft : goal.put_expr-returns-in_ok-count-in-CoCall-clause-draft
+put_expr-returns-in_ok-count-in-CoCall-clause-draft n c = search (rules, row_trees, the_lemmas)
 
-pub put_expr-returns-in_ok-put_expr-in-Subscript : goal.put_expr-returns-in_ok-put_expr-in-Subscript
-put_expr-returns-in_ok-put_expr-in-Subscript n c = search (rules, row_trees, the_lemmas)
+pub put_expr-returns-in_ok-put_expr-in-Subscript-clause-draft : goal.put_expr-returns-in_ok-put_expr-in-Subscript-clause-draft
+put_expr-returns-in_ok-put_expr-in-Subscript-clause-draft n c = search (rules, row_trees, the_lemmas)
 
-pub put_expr-returns-in_ok-put-in-Case-2 : goal.put_expr-returns-in_ok-put-in-Case-2
-put_expr-returns-in_ok-put-in-Case-2 n c = search (rules, row_clauses, the_lemmas)
+pub put_expr-returns-in_ok-put-in-Case-2-clause-draft : goal.put_expr-returns-in_ok-put-in-Case-2-clause-draft
+put_expr-returns-in_ok-put-in-Case-2-clause-draft n c = search (rules, row_clauses, the_lemmas)
 
 pub put_arguments-returns-then-is_no_element-clause-count : goal.put_arguments-returns-then-is_no_element-clause-count
 put_arguments-returns-then-is_no_element-clause-count n c = no_count (all_of c.args.exprs.now) (sym c.is_no_element.ensures ∙ c.if-is_no_element.true)
@@ -35,10 +38,10 @@ put_arguments-returns-then-is_no_element-clause-draft n c =
     no_arguments (open_of c.args.within) (all_of c.args.exprs.now) (draft_of c.args.self.now) (sym c.is_no_element.ensures ∙ c.if-is_no_element.true)
 
 pub put_arguments-returns-clause-count : goal.put_arguments-returns-clause-count
-put_arguments-returns-clause-count n c = c.in_ok-count.ensures ∙ all_counted c.args.exprs.now (sym c.is_no_element.ensures ∙ c.if-is_no_element.false)
+put_arguments-returns-clause-count n c = c.counted-count.ensures ∙ all_counted c.args.exprs.now (sym c.is_no_element.ensures ∙ c.if-is_no_element.false)
 
 pub put_arguments-returns-clause-draft : goal.put_arguments-returns-clause-draft
-put_arguments-returns-clause-draft n c = c.in_ok-put_operands.ensures
+put_arguments-returns-clause-draft n c = c.in_ok-put_operands.ensures.draft
     ∙ all_arguments (open_of c.args.within) (all_of c.args.exprs.now) (draft_of c.args.self.now) (sym c.is_no_element.ensures ∙ c.if-is_no_element.false)
 
 pub put_creations-returns-then-is_no_element-clause-count : goal.put_creations-returns-then-is_no_element-clause-count
@@ -49,14 +52,139 @@ put_creations-returns-then-is_no_element-clause-draft n c =
     no_creations (all_of c.args.exprs.now) (draft_of c.args.self.now) (sym c.is_no_element.ensures ∙ c.if-is_no_element.true)
 
 pub put_creations-returns-clause-count : goal.put_creations-returns-clause-count
-put_creations-returns-clause-count n c = c.in_ok-count.ensures ∙ all_counted c.args.exprs.now (sym c.is_no_element.ensures ∙ c.if-is_no_element.false)
+put_creations-returns-clause-count n c = c.counted-count.ensures ∙ all_counted c.args.exprs.now (sym c.is_no_element.ensures ∙ c.if-is_no_element.false)
 
 pub put_creations-returns-clause-draft : goal.put_creations-returns-clause-draft
-put_creations-returns-clause-draft n c = c.in_ok-put_other_creations.ensures
+put_creations-returns-clause-draft n c = c.in_ok-put_other_creations.ensures.draft
     ∙ all_creations (all_of c.args.exprs.now) (draft_of c.args.self.now) (sym c.is_no_element.ensures ∙ c.if-is_no_element.false)
+
+pub put_arguments-counted-count-requires : goal.put_arguments-counted-count-requires
+put_arguments-counted-count-requires n c = omega (arith, no_more c.args.exprs.now, c.requires)
+
+pub put_creations-counted-count-requires : goal.put_creations-counted-count-requires
+put_creations-counted-count-requires n c = omega (arith, no_more c.args.exprs.now, c.requires)
 
 pub put_compound-loop-place-preserved : goal.put_compound-loop-place-preserved
 put_compound-loop-place-preserved n c =
-    compound_step (open_of c.args.within) c.args.exprs.now c.loop-place.place c.index-exprs-place.result (draft_of c.loop-place.self)
-    (draft_of c.put_part.new.self) c.loop-place-test.true c.index-exprs-place.is c.in_ok-put_part.ensures
-    ∙ c.loop-place.invariant
+    let left = row_left c.args.exprs.now c.loop-place.place c.index-exprs-place.result c.loop-place-test.true c.index-exprs-place.is in
+    record {
+      draft = compound_step (open_of c.args.within) c.args.exprs.now c.loop-place.place c.index-exprs-place.result (draft_of c.loop-place.self)
+          (draft_of c.put_part.new.self) c.loop-place-test.true c.index-exprs-place.is c.in_ok-put_part.ensures.draft
+          ∙ c.loop-place.invariant.draft;
+      given = omega (arith, left, c.in_ok-put_part.ensures.given, c.loop-place.invariant.given);
+    }
+
+pub put_clauses-put_guarded-requires : goal.put_clauses-put_guarded-requires
+put_clauses-put_guarded-requires n c =
+    let clauses = all_clauses_of c.args.clauses.now in
+    let room : numbers_given (draft_of c.enter_case.new.self) + guarded_numbers clauses < 4294967296 =
+    omega (arith, both_kinds clauses, c.in_ok-enter_case.ensures.given, c.requires) in
+    search rules
+
+pub put_clauses-put_default-requires : goal.put_clauses-put_default-requires
+put_clauses-put_default-requires n c =
+    let clauses = all_clauses_of c.args.clauses.now in
+    let room : numbers_given (draft_of c.put.new.self) + default_numbers clauses < 4294967296 =
+    omega (arith, both_kinds clauses, c.in_ok-enter_case.ensures.given, c.in_ok-put_guarded.ensures.given, c.in_ok-put.ensures.given, c.requires) in
+    search rules
+
+pub put_clauses-end_case-requires : goal.put_clauses-end_case-requires
+put_clauses-end_case-requires n c =
+    omega (
+      arith,
+      both_kinds (all_clauses_of c.args.clauses.now),
+      c.in_ok-enter_case.ensures.given,
+      c.in_ok-put_guarded.ensures.given,
+      c.in_ok-put.ensures.given,
+      c.in_ok-put_default.ensures.given,
+      c.requires,
+    )
+
+pub put_clauses-returns-clause-given : goal.put_clauses-returns-clause-given
+put_clauses-returns-clause-given n c =
+    on_ok c.end_case.result _ _ c.end_case.ensures.given (λ h. omega (
+      arith,
+      h,
+      both_kinds (all_clauses_of c.args.clauses.now),
+      c.in_ok-enter_case.ensures.given,
+      c.in_ok-put_guarded.ensures.given,
+      c.in_ok-put.ensures.given,
+      c.in_ok-put_default.ensures.given,
+    ))
+
+pub put_expr-put_conjunction-requires : goal.put_expr-put_conjunction-requires
+put_expr-put_conjunction-requires n c =
+    let all : numbers (tree_of c.args.expr.now) ≡ all_numbers (all_of c.deref.result.now) = search (rules, row_trees, the_lemmas) in
+    let room : numbers_given (draft_of c.args.self.now) + all_numbers (all_of c.deref.result.now) < 4294967296 = omega (arith, all, c.requires) in
+    search (rules, row_trees, the_lemmas)
+
+pub put_expr-put_arguments-requires : goal.put_expr-put_arguments-requires
+put_expr-put_arguments-requires n c =
+    let all : numbers (tree_of c.args.expr.now) ≡ all_numbers (all_of c.deref-in-List.result.now) = search (rules, row_trees, the_lemmas) in
+    let room : numbers_given (draft_of c.args.self.now) + all_numbers (all_of c.deref-in-List.result.now) < 4294967296 = omega (arith, all, c.requires) in
+    search (rules, row_trees, the_lemmas)
+
+pub put_expr-put_compound-requires : goal.put_expr-put_compound-requires
+put_expr-put_compound-requires n c =
+    let all : numbers (tree_of c.args.expr.now) ≡ all_numbers (all_of c.deref-in-Compound.result.now) = search (rules, row_trees, the_lemmas) in
+    let room : numbers_given (draft_of c.args.self.now) + all_numbers (all_of c.deref-in-Compound.result.now) < 4294967296 = omega (arith, all, c.requires) in
+    search (rules, row_trees, the_lemmas)
+
+pub put_expr-put_arguments-requires-in-Call : goal.put_expr-put_arguments-requires-in-Call
+put_expr-put_arguments-requires-in-Call n c =
+    let all : numbers (tree_of c.args.expr.now) ≡ numbers (tree_of c.deref-in-Call.result.now) + all_numbers (all_of c.deref-in-Call-2.result.now) = search (rules, row_trees, the_lemmas) in
+    let room : numbers_given (draft_of c.put_expr.new.self) + all_numbers (all_of c.deref-in-Call-2.result.now) < 4294967296 = omega (arith, all, c.in_ok-put_expr-in-Call.ensures.given, c.requires) in
+    search (rules, row_trees, the_lemmas)
+
+pub put_expr-put_creations-requires : goal.put_expr-put_creations-requires
+put_expr-put_creations-requires n c =
+    let all : numbers (tree_of c.args.expr.now) ≡ numbers (tree_of c.deref-in-CoCall.result.now) + all_numbers (all_of c.deref-in-CoCall-2.result.now) = search (rules, row_trees, the_lemmas) in
+    let room : numbers_given (draft_of c.put_expr-in-CoCall.new.self) + all_numbers (all_of c.deref-in-CoCall-2.result.now) < 4294967296 = omega (arith, all, c.in_ok-put_expr-in-CoCall.ensures.given, c.requires) in
+    search (rules, row_trees, the_lemmas)
+
+pub put_expr-put_subscripts-requires : goal.put_expr-put_subscripts-requires
+put_expr-put_subscripts-requires n c =
+    let all : numbers (tree_of c.args.expr.now) ≡ numbers (tree_of c.deref-in-Subscript.result.now) + all_numbers (all_of c.deref-in-Subscript-2.result.now) = search (rules, row_trees, the_lemmas) in
+    let room : numbers_given (draft_of c.put_expr-in-Subscript.new.self) + all_numbers (all_of c.deref-in-Subscript-2.result.now) < 4294967296 = omega (arith, all, c.in_ok-put_expr-in-Subscript.ensures.given, c.requires) in
+    search (rules, row_trees, the_lemmas)
+
+pub put_expr-put_clauses-requires : goal.put_expr-put_clauses-requires
+put_expr-put_clauses-requires n c =
+    let all : numbers (tree_of c.args.expr.now) ≡ 1 + numbers (tree_of c.deref-in-Case.result.now) + clause_numbers (all_clauses_of c.deref-in-Case-2.result.now) = search (rules, row_clauses, the_lemmas) in
+    let room : numbers_given (draft_of c.put-in-Case-2.new.self) + (1 + clause_numbers (all_clauses_of c.deref-in-Case-2.result.now)) < 4294967296 = omega (arith, all, c.in_ok-put-in-Case.ensures.given, c.in_ok-put_expr-in-Case.ensures.given, c.in_ok-put-in-Case-2.ensures.given, c.requires) in
+    search (rules, row_clauses, the_lemmas)
+
+pub put_expr-returns-in-Parentheses-clause-given : goal.put_expr-returns-in-Parentheses-clause-given
+put_expr-returns-in-Parentheses-clause-given n c =
+    let all : numbers (tree_of c.args.expr.now) ≡ all_numbers (all_of c.deref.result.now) = search (rules, row_trees, the_lemmas) in
+    on_ok c.put_conjunction.result _ _ c.put_conjunction.ensures.given (λ h. omega (arith, all, h))
+
+pub put_expr-returns-in_ok-count-in-List-clause-given : goal.put_expr-returns-in_ok-count-in-List-clause-given
+put_expr-returns-in_ok-count-in-List-clause-given n c =
+    let all : numbers (tree_of c.args.expr.now) ≡ all_numbers (all_of c.deref-in-List.result.now) = search (rules, row_trees, the_lemmas) in
+    on_ok c.put-in-List.result _ _ c.put-in-List.ensures.given (λ h. omega (arith, all, h, c.in_ok-count-in-List.ensures.given))
+
+pub put_expr-returns-in-Compound-clause-given : goal.put_expr-returns-in-Compound-clause-given
+put_expr-returns-in-Compound-clause-given n c =
+    let all : numbers (tree_of c.args.expr.now) ≡ all_numbers (all_of c.deref-in-Compound.result.now) = search (rules, row_trees, the_lemmas) in
+    on_ok c.put_compound.result _ _ c.put_compound.ensures.given (λ h. omega (arith, all, h))
+
+pub put_expr-returns-in_ok-count-in-Call-clause-given : goal.put_expr-returns-in_ok-count-in-Call-clause-given
+put_expr-returns-in_ok-count-in-Call-clause-given n c =
+    let all : numbers (tree_of c.args.expr.now) ≡ numbers (tree_of c.deref-in-Call.result.now) + all_numbers (all_of c.deref-in-Call-2.result.now) = search (rules, row_trees, the_lemmas) in
+    on_ok c.put-in-Call.result _ _ c.put-in-Call.ensures.given (λ h. omega (arith, all, h, c.in_ok-put_expr-in-Call.ensures.given, c.in_ok-count-in-Call.ensures.given))
+
+pub put_expr-returns-in_ok-count-in-CoCall-clause-given : goal.put_expr-returns-in_ok-count-in-CoCall-clause-given
+put_expr-returns-in_ok-count-in-CoCall-clause-given n c =
+    let all : numbers (tree_of c.args.expr.now) ≡ numbers (tree_of c.deref-in-CoCall.result.now) + all_numbers (all_of c.deref-in-CoCall-2.result.now) = search (rules, row_trees, the_lemmas) in
+    on_ok c.put_two.result _ _ c.put_two.ensures.given (λ h. omega (arith, all, h, c.in_ok-put_expr-in-CoCall.ensures.given, c.in_ok-count-in-CoCall.ensures.given))
+
+pub put_expr-returns-in_ok-put_expr-in-Subscript-clause-given : goal.put_expr-returns-in_ok-put_expr-in-Subscript-clause-given
+put_expr-returns-in_ok-put_expr-in-Subscript-clause-given n c =
+    let all : numbers (tree_of c.args.expr.now) ≡ numbers (tree_of c.deref-in-Subscript.result.now) + all_numbers (all_of c.deref-in-Subscript-2.result.now) = search (rules, row_trees, the_lemmas) in
+    on_ok c.put_subscripts.result _ _ c.put_subscripts.ensures.given (λ h. omega (arith, all, h, c.in_ok-put_expr-in-Subscript.ensures.given))
+
+pub put_expr-returns-in_ok-put-in-Case-2-clause-given : goal.put_expr-returns-in_ok-put-in-Case-2-clause-given
+put_expr-returns-in_ok-put-in-Case-2-clause-given n c =
+    let all : numbers (tree_of c.args.expr.now) ≡ 1 + numbers (tree_of c.deref-in-Case.result.now) + clause_numbers (all_clauses_of c.deref-in-Case-2.result.now) = search (rules, row_clauses, the_lemmas) in
+    on_ok c.put_clauses.result _ _ c.put_clauses.ensures.given (λ h. omega (arith, all, h, c.in_ok-put-in-Case.ensures.given, c.in_ok-put_expr-in-Case.ensures.given, c.in_ok-put-in-Case-2.ensures.given))
