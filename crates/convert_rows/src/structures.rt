@@ -1,5 +1,5 @@
 // Structures that are made in a heap whose records have names.
-ghost use Rattle.std.specs.Prelude.{◌<◌, length, IfOk};
+ghost use Rattle.std.specs.Prelude.{◌<◌, ◌≤◌, ◌^◌, length, IfOk};
 ghost use Rattle.std.specs.List.{All};
 ghost use Rattle.icn_convert.specs.Naming.{AreRecordsNamed};
 ghost use Rattle.icn_heap.specs.Extents.{IsLive, Keeps};
@@ -63,9 +63,10 @@ pub fn table(heap: &mut Heap) -> Result<Val, Full>
     Ok(heap.make_table(Val::Null)?)
 }
 
-// A record of this constructor with these fields.
+// A record of this constructor with these fields, at most 2^16.
 pub fn rec(heap: &mut Heap, kind: u16, fields: &[Val]) -> Result<Val, Full>
     requires fields { All (IsLive (extent_of heap.old)) fields.now }
+    requires few { length fields.now ≤ 2 ^ 16 }
     requires known { kind < length some_names.records }
     requires named { AreRecordsNamed some_names (heap_of heap.old) }
     ensures live { IfOk result (IsLive (extent_of heap.new)) }

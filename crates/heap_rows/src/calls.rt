@@ -15,6 +15,9 @@ use icn_value::{Span, Val};
 use icn_vars::World;
 use std::alloc::AllocError;
 
+// A record has at most so many fields.
+const MOST_FIELDS: usize = 1 << 16;
+
 // What a call comes to. One of a structure or a text has it as its first argument.
 pub fn called(out: &mut String, w: &mut World, word: &str, args: &[Val]) -> Result<(), AllocError>
     requires { All (IsLive (extent_of w.old.heap)) args.now }
@@ -60,7 +63,8 @@ fn structure_of(w: &mut World, word: &str, x: Val, args: &[Val]) -> Result<Val, 
         "set" => w.heap.make_set(),
         "table" => w.heap.make_table(x),
         "members" => w.heap.set_from(args),
-        _ => w.heap.make_rec(7, args),
+        _ if args.len() <= MOST_FIELDS => w.heap.make_rec(7, args),
+        _ => Err(Full::NoMemory),
     }
 }
 

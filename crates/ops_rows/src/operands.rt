@@ -11,6 +11,9 @@ use icn_value::{Cset, File, Item, Root, Val, VarRef};
 use icn_vars::World;
 use std::alloc::{AllocError, Global};
 
+// A record has at most so many fields.
+const MOST_FIELDS: usize = 1 << 16;
+
 // The values that the fields of a line behind the first are or hold, made in a world.
 pub fn operands(alloc: Global, w: &mut World, line: &str) -> Result<Vec<Val>, Full>
     ensures { IfOk result (λ vals. All (IsLive (extent_of w.new.heap)) vals.items) }
@@ -67,6 +70,9 @@ fn operand(alloc: Global, w: &mut World, field: &[u8]) -> Result<Val, Full>
         }
         Some((b'(', rest)) => {
             let items = integers(alloc, front(rest))?;
+            if items.len() > MOST_FIELDS {
+                return Err(Full::NoMemory);
+            }
             w.heap.make_rec(0, &items)
         }
         Some((b'<', rest)) => {
