@@ -5,7 +5,7 @@ ghost use Rattle.std.specs.Prelude.{◌≡◌, true, List};
 ghost use Rattle.icn_tree.specs.Trees.{Declaration};
 ghost use Rattle.icn_code.specs.Codes.{Tables};
 ghost use Rattle.icn_code.specs.Rules.{keeps_rules};
-ghost use Rattle.icn_defs.specs.Running.{Launch, Observed};
+ghost use Rattle.icn_defs.specs.Running.{Launch, Observation};
 ghost use Rattle.icn_simulation.specs.Law.{IsLinked, FilesMean};
 
 use icn_code_sound::joined_code_is_verified;
@@ -17,7 +17,7 @@ use icn_simulation::same_ends;
 pub fn programs_mean()
     ensures { (files : List (List Declaration)) (tables : Tables) (launch : Launch)
         → IsLinked files tables → keeps_rules tables ≡ true
-        → (seen : Observed) × FilesMean files launch seen }
+        → (seen : Observation) × FilesMean files launch seen }
 {
     joined_code_is_verified();
     runs_end();

@@ -2,7 +2,7 @@
 use Rattle.std.proofs.Common.{◌≡◌, ◌∙◌, sym, ap, ◌+◌, List, length, Err, Ok, subst, ⊎_elim}
 use Rattle.icn_value.specs.declared.full.Full.{Full}
 use Rattle.icn_value.specs.declared.full.Full.TheVariants.{Strings, Cells, NoMemory}
-use Rattle.icn_structs.specs.Numbered.{Numbered}
+use Rattle.icn_structs.specs.Numbered.{NumberedList}
 use Rattle.icn_value.specs.Values.{Value, AList}
 use Rattle.icn_value.specs.Store.{Heap, Setting, having_heap}
 use Rattle.icn_value.specs.Changes.{ChangedHeap, Refuses, and_then, charged_cells, having_list, made_list, next_list}
@@ -23,7 +23,7 @@ list_made setting items made is next =
     let paid = charged_then (having_list items) (charged_cells setting.world.heap (1 + length items)) made is in
     (cells_change (1 + length items)).ok setting paid.0 paid.1 (after_charge items next)
     ∙ (ap (λ (heap : Heap). next (AList (length paid.0.lists)) (having_heap (λ other. heap) setting)) paid.2
-    ∙ ap (λ (lists : List (Numbered Value)). next (AList (length lists)) (having_heap (λ other. made) setting))
+    ∙ ap (λ (lists : List (NumberedList Value)). next (AList (length lists)) (having_heap (λ other. made) setting))
     ((cells_change (1 + length items)).charged setting.world.heap paid.0 paid.1).lists)
 
 -- the charge of the list is refused

@@ -1,13 +1,13 @@
 // Texts and csets between quotes.
 ghost use Rattle.std.specs.Prelude.{◌≡◌, ◌++◌, ◌<◌, false, OnOk, flat_map};
-ghost use Rattle.icn_defs.specs.Images.{letter_of, plain_or_hex, escaped, quoted, cset_image};
+ghost use Rattle.icn_defs.specs.Images.{letter_of, plain_or_hex, escape_of, in_quotes, cset_image};
 ghost use Rattle.std.specs.Fmt.{digit_glyph};
 
 use std::alloc::AllocError;
 
 // Appends a text between quotes, with what needs it escaped.
 pub fn push_quoted(out: &mut Vec<u8>, quote: u8, text: &[u8]) -> Result<(), AllocError>
-    ensures { OnOk result (out.new.items ≡ out.old.items ++ quoted quote text.now) }
+    ensures { OnOk result (out.new.items ≡ out.old.items ++ in_quotes quote text.now) }
 {
     out.push(quote)?;
     push_escaped_all(out, quote, text)?;
@@ -16,7 +16,7 @@ pub fn push_quoted(out: &mut Vec<u8>, quote: u8, text: &[u8]) -> Result<(), Allo
 }
 
 fn push_escaped_all(out: &mut Vec<u8>, quote: u8, text: &[u8]) -> Result<(), AllocError>
-    ensures { OnOk result (out.new.items ≡ out.old.items ++ flat_map (escaped quote) text.now) }
+    ensures { OnOk result (out.new.items ≡ out.old.items ++ flat_map (escape_of quote) text.now) }
 {
     for byte in text {
         push_escaped(out, quote, *byte)?;
@@ -25,7 +25,7 @@ fn push_escaped_all(out: &mut Vec<u8>, quote: u8, text: &[u8]) -> Result<(), All
 }
 
 fn push_escaped(out: &mut Vec<u8>, quote: u8, byte: u8) -> Result<(), AllocError>
-    ensures { OnOk result (out.new.items ≡ out.old.items ++ escaped quote byte) }
+    ensures { OnOk result (out.new.items ≡ out.old.items ++ escape_of quote byte) }
 {
     if byte == quote {
         out.extend_from_slice(&[b'\\', quote])

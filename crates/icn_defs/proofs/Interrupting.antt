@@ -7,7 +7,7 @@ use Rattle.std.proofs.lemmas.List.{length-drop, drop_min, drop-drop, length-appe
 use Rattle.icn_host.specs.Sinks.{Gains, GainsPart}
 use Rattle.icn_value.specs.Values.{File, Input, Output, Errout}
 use Rattle.icn_value.specs.Store.{Request, Reading, Outside, outside_of}
-use Rattle.icn_defs.specs.Running.{Observed}
+use Rattle.icn_defs.specs.Running.{Observation}
 use Rattle.icn_defs.specs.InputOutput.{put_on}
 use Rattle.icn_defs.specs.Interruptions.{Streams, LosesPart, Ends, taken_of, Breaks, asked_of, BreaksReading, after_reading, IsReadingOf, IsOutsideOf}
 
@@ -15,7 +15,7 @@ use Rattle.icn_defs.specs.Interruptions.{Streams, LosesPart, Ends, taken_of, Bre
 most : (input : List ℕ) (m n : ℕ) → m ≤ n → min m (length input) ≤ length input - length (drop n input)
 most input m n le = let e : length (drop n input) ≡ length input - n = length-drop n input in omega arith
 
-loses : (input : List ℕ) (m n : ℕ) (left : Option (List ℕ)) (seen : Observed) → m ≤ n → seen.outside.left ≡ drop n input → left ≡ Some (drop m input)
+loses : (input : List ℕ) (m n : ℕ) (left : Option (List ℕ)) (seen : Observation) → m ≤ n → seen.outside.left ≡ drop n input → left ≡ Some (drop m input)
     → LosesPart input (taken_of input seen) left
 loses input m n left seen le e is = record {
   count = min m (length input);
@@ -29,7 +29,7 @@ whole {before} {after} text g = record { count = length text; appends = subst (A
 part : {before after : Option (List ℕ)} (text : List ℕ) (n : ℕ) → Gains before after (take n text) → GainsPart before after text
 part text n g = record { count = n; appends = g.appends }
 
-pub ending_breaks : (input : List ℕ) (seen : Observed) (before after : Streams) → IsOutsideOf input seen.outside → Ends seen before after
+pub ending_breaks : (input : List ℕ) (seen : Observation) (before after : Streams) → IsOutsideOf input seen.outside → Ends seen before after
     → Breaks input seen before after
 ending_breaks input seen before after h e = record {
   left = loses input h.taken h.taken after.left seen (omega arith) h.left (e.left ∙ ap (λ x. Some x) h.left);
@@ -37,7 +37,7 @@ ending_breaks input seen before after h e = record {
   errors = whole seen.outside.errors e.errors;
 }
 
-pub reading_breaks : (input : List ℕ) (seen : Observed) (before after : Streams) → IsOutsideOf input seen.outside → BreaksReading seen before after
+pub reading_breaks : (input : List ℕ) (seen : Observation) (before after : Streams) → IsOutsideOf input seen.outside → BreaksReading seen before after
     → Breaks input seen before after
 reading_breaks input seen before after h b =
     let r = h.readings b.place b.reading b.made in

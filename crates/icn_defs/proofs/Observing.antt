@@ -1,8 +1,8 @@
 -- A run is seen in one way at most.
 use Rattle.std.proofs.Common.{◌≡◌, ℕ, zero, suc, Option, Some, refl, sym, ap, ◌∙◌}
-use Rattle.icn_defs.specs.Running.{Observed, after_steps, Observes}
+use Rattle.icn_defs.specs.Running.{Observation, after_steps, Observes}
 
-module _ {S : Type 0} (step : S → S) (observed : S → Option Observed) where
+module _ {S : Type 0} (step : S → S) (observed : S → Option Observation) where
   one : (m : ℕ) (s : S) → after_steps step m (step s) ≡ step (after_steps step m s)
   one zero s = refl
   one (suc m) s = one m (step s)
@@ -13,16 +13,16 @@ module _ {S : Type 0} (step : S → S) (observed : S → Option Observed) where
 
   -- where something is observed, it is observed from then on
   abbrev pub Lasts : Type 0
-  Lasts = (s : S) (seen : Observed) → observed s ≡ Some seen → observed (step s) ≡ Some seen
+  Lasts = (s : S) (seen : Observation) → observed s ≡ Some seen → observed (step s) ≡ Some seen
 
-  lasts : Lasts → (m : ℕ) (s : S) (seen : Observed) → observed s ≡ Some seen → observed (after_steps step m s) ≡ Some seen
+  lasts : Lasts → (m : ℕ) (s : S) (seen : Observation) → observed s ≡ Some seen → observed (after_steps step m s) ≡ Some seen
   lasts kept zero s seen e = e
   lasts kept (suc m) s seen e = lasts kept m (step s) seen (kept s seen e)
 
-  inner : {a b : Observed} → Some a ≡ Some b → a ≡ b
+  inner : {a b : Observation} → Some a ≡ Some b → a ≡ b
   inner e = cc e
 
-  pub observed_once : Lasts → (start : S) (a b : Observed) → Observes step observed start a → Observes step observed start b → a ≡ b
+  pub observed_once : Lasts → (start : S) (a b : Observation) → Observes step observed start a → Observes step observed start b → a ≡ b
   observed_once kept start a b x y =
       inner (sym (lasts kept y.count (after_steps step x.count start) a x.is) ∙ ap observed (swap x.count y.count start)
       ∙ lasts kept x.count (after_steps step y.count start) b y.is)

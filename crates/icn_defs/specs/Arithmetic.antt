@@ -5,7 +5,7 @@ use Rattle.std.specs.Ordering.{int_cmp, int_eq, is_lt, is_le, is_eq, is_ge, is_g
 use Rattle.icn_text.specs.declared.arithmetic.Arith.{Arith}
 use Rattle.icn_text.specs.IntegerArithmetic.{fitting, within_64_bits, sum, difference, product, quotient, remainder, power}
 use Rattle.icn_value.specs.Values.{Integer, Item, Val}
-use Rattle.icn_defs.specs.Rows.{Row, ◌>>=◌, ◌>>◌, Counting, fails, gives_value, suspends, check, computed, passing}
+use Rattle.icn_defs.specs.Rows.{Row, ◌>>=◌, ◌>>◌, Counting, fails, gives_value, suspends, check, number_or_error, passing}
 use Rattle.icn_defs.specs.Reading.{the_value}
 use Rattle.icn_defs.specs.Arguments.{number, integer}
 
@@ -21,7 +21,7 @@ abbrev pub negate_row : Item → Row
 negate_row x = do
   v ← the_value x
   n ← number v
-  result ← computed (within_64_bits (neg_ℤ n))
+  result ← number_or_error (within_64_bits (neg_ℤ n))
   gives_value (Integer result)
 
 -- `x + y` and the like
@@ -31,7 +31,7 @@ arithmetic_row operation x y = do
   w ← the_value y
   m ← number v
   n ← number w
-  result ← computed (operation m n)
+  result ← number_or_error (operation m n)
   gives_value (Integer result)
 
 -- `m + n`

@@ -104,5 +104,5 @@ sorted_onto cmp placed [] = placed
 sorted_onto cmp placed (item ∷ items) = sorted_onto cmp (sorted_in cmp item placed) items
 
 -- ascending, and items that tie in the order that they had
-abbrev pub sorted : {A : Type 0} → (A → A → Ordering) → List A → List A
-sorted cmp items = sorted_onto cmp [] items
+abbrev pub sort_list : {A : Type 0} → (A → A → Ordering) → List A → List A
+sort_list cmp items = sorted_onto cmp [] items

@@ -1,11 +1,11 @@
 -- The elements of texts and structures: one after the other, and at random.
 use Rattle.std.specs.Prelude.{◌+◌, ◌-◌, ℕ, ℤ, pos, ◌+ℤ◌, nat_lt, List, [], ◌∷◌, length, slice_get, slice_range, Option, None, Some, option_map}
-use Rattle.icn_text.specs.RandomNumbers.{random_step, picked}
-use Rattle.icn_structs.specs.Numbered.{Numbered}
+use Rattle.icn_text.specs.RandomNumbers.{random_step, pick_place}
+use Rattle.icn_structs.specs.Numbered.{NumberedList}
 use Rattle.icn_value.specs.Values.{Value, Integer, Text, Element, Field, Key, Variable, Whole, Part, Item, Val, Var}
 use Rattle.icn_value.specs.Store.{list_at, set_at, table_at, record_at, having_random, value_at}
 use Rattle.icn_defs.specs.Conversions.{Group, Textual, Listed, Collected, Tabled, Recorded, Filed, Activated, Single, group_of, held_integer, held_text}
-use Rattle.icn_defs.specs.Rows.{Row, Finds, ◌>>=◌, ◌>>◌, TextBytes, VariableBytes, ListItems, SetMembers, TableValues, RecordFields, gives, gives_value, suspends, wrong, check, present, passing, found, here, changes, costs_text}
+use Rattle.icn_defs.specs.Rows.{Row, Finds, ◌>>=◌, ◌>>◌, TextBytes, VariableBytes, ListItems, SetMembers, TableValues, RecordFields, gives, gives_value, suspends, wrong, check, present, passing, thing_or_failure, here, changes, costs_text}
 use Rattle.icn_defs.specs.Reading.{the_value, reads}
 use Rattle.icn_defs.specs.Lines.{lines_row}
 
@@ -27,7 +27,7 @@ part_item None text place size = Val (Text (slice_range text (place - 1) (place 
 part_item (Some variable) text place size = Var (part_of variable place size)
 
 -- the element of a list, the value of a table and the field of a record at a place, from 0 on
-abbrev pub element_item : ℕ → Numbered Value → ℕ → Item
+abbrev pub element_item : ℕ → NumberedList Value → ℕ → Item
 element_item id list place = Var (Whole (Element id (list.number +ℤ pos place)))
 
 -- a field of a record
@@ -43,7 +43,7 @@ key_item id key = Var (Whole (Key id key))
 -- the byte at a place of a text
 abbrev pub text_bytes_from : List ℕ → ℕ → Row
 text_bytes_from text place = do
-  byte ← found (slice_get text place)
+  byte ← thing_or_failure (slice_get text place)
   suspends (Val (Text (byte ∷ []))) (TextBytes text (place + 1))
 
 -- the bytes of the text that the variable holds now: 103 where it holds none
@@ -66,14 +66,14 @@ list_items_from id place = do
 abbrev pub set_members_from : ℕ → ℕ → Row
 set_members_from id place = do
   setting ← here
-  member ← found (slice_get (set_at setting.world.heap id) place)
+  member ← thing_or_failure (slice_get (set_at setting.world.heap id) place)
   suspends (Val member) (SetMembers id (place + 1))
 
 -- the value at a place of a table
 abbrev pub table_values_from : ℕ → ℕ → Row
 table_values_from id place = do
   setting ← here
-  pair ← found (slice_get (table_at setting.world.heap id).pairs place)
+  pair ← thing_or_failure (slice_get (table_at setting.world.heap id).pairs place)
   suspends (key_item id pair.0) (TableValues id (place + 1))
 
 -- the field at a place of a record
@@ -115,7 +115,7 @@ picks size next = do
   setting ← here
   let state = random_step setting.world.random
   changes (having_random state)
-  next (picked state size)
+  next (pick_place state size)
 
 -- an integer from 1 to n: 205 where n is below 1
 abbrev pub random_number : Value → ℤ → Row
@@ -149,7 +149,7 @@ random_of x v (Tabled id) = do
   let pairs = (table_at setting.world.heap id).pairs
   passing (nat_lt 0 (length pairs))
   place ← picks (length pairs)
-  pair ← found (slice_get pairs place)
+  pair ← thing_or_failure (slice_get pairs place)
   gives (key_item id pair.0)
 random_of x v (Recorded id) = do
   setting ← here

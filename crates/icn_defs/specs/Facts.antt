@@ -4,7 +4,7 @@ use Rattle.std.specs.Prelude.{ℕ, pos, int_le, not, [], ◌∷◌, ◌+◌, ◌
 use Rattle.std.specs.List.{list_all}
 use Rattle.std.specs.Map.{keys_of}
 use Rattle.std.specs.Str.{bytes_eq}
-use Rattle.icn_structs.specs.Numbered.{Numbered}
+use Rattle.icn_structs.specs.Numbered.{NumberedList}
 use Rattle.icn_value.specs.Values.{Value, Null, Integer, Text, Chars, Std, Procedure, ARecord, AList, ASet, ATable, ACoexp, KeywordVariable, Subject, Position, Random, Root, Global, Static, Local, Element, Field, Key, Keyword, Variable, Whole, Part, Item, Val, Var}
 use Rattle.icn_value.specs.Store.{Table, Record, Heap, World, Setting, Names, record_at}
 use Rattle.icn_defs.specs.Conversions.{has_value, fits, contains, members, held_text, held_integer}
@@ -46,13 +46,13 @@ are_live names heap values = list_all (is_live names heap) values
 
 -- The numbers of the elements: each element that was ever pushed or put cost a cell, so that the first
 -- number is above 0 less the cells charged, and the one after the last at most 1 more than these.
-abbrev pub is_numbered : Heap → Numbered Value → Bool
+abbrev pub is_numbered : Heap → NumberedList Value → Bool
 is_numbered heap list =
     int_le (pos 1) (list.number +ℤ pos heap.cells)
     && int_le (list.number +ℤ pos (length list.items)) (pos (1 + heap.cells))
 
 -- a list is numbered, and its elements are live
-abbrev pub is_list : Names → Heap → Numbered Value → Bool
+abbrev pub is_list : Names → Heap → NumberedList Value → Bool
 is_list names heap list = is_numbered heap list && are_live names heap list.items
 
 -- no two values are the same

@@ -68,14 +68,14 @@ plain_or_hex byte =
     else 92 ∷ 120 ∷ digit_glyph false (byte / 16) ∷ digit_glyph false (byte % 16) ∷ []
 
 -- a byte between such quotes
-abbrev pub escaped : ℕ → ℕ → List ℕ
-escaped quote byte =
+abbrev pub escape_of : ℕ → ℕ → List ℕ
+escape_of quote byte =
     if byte == quote then 92 ∷ quote ∷ []
     else option_map_or (λ letter. 92 ∷ letter ∷ []) (letter_of byte) (plain_or_hex byte)
 
 -- a text in quotes
-abbrev pub quoted : ℕ → List ℕ → List ℕ
-quoted quote text = quote ∷ (flat_map (escaped quote) text ++ quote ∷ [])
+abbrev pub in_quotes : ℕ → List ℕ → List ℕ
+in_quotes quote text = quote ∷ (flat_map (escape_of quote) text ++ quote ∷ [])
 
 -- the csets that keywords give
 abbrev pub ucase : List ℕ
@@ -102,7 +102,7 @@ keyword_csets =
 
 -- the image of a cset
 abbrev pub cset_image : List ℕ → List ℕ
-cset_image bytes = unwrap_or (lookup (bytes_eq bytes) keyword_csets) (quoted 39 bytes)
+cset_image bytes = unwrap_or (lookup (bytes_eq bytes) keyword_csets) (in_quotes 39 bytes)
 
 -- Images
 
@@ -131,7 +131,7 @@ numbered_image name number size =
 abbrev pub image : Names → Heap → Value → List ℕ
 image names heap Null = codes "&null"
 image names heap (Integer n) = signed_decimal n
-image names heap (Text bytes) = quoted 34 bytes
+image names heap (Text bytes) = in_quotes 34 bytes
 image names heap (Chars bytes) = cset_image bytes
 image names heap (Std file) = file_name file
 image names heap (Procedure number) = procedure_image names number

@@ -3,7 +3,7 @@
 use Rattle.std.specs.Prelude.{◌≡◌, ◌==◌, ◌+◌, ◌-◌, ◌≤◌, ℕ, not, List, drop, length, slice_get, take, take_while, Option, Some}
 use Rattle.icn_host.specs.Sinks.{Gains, GainsPart}
 use Rattle.icn_value.specs.Store.{Request, ALine, SomeBytes, Reading, Outside, with_reading}
-use Rattle.icn_defs.specs.Running.{Observed}
+use Rattle.icn_defs.specs.Running.{Observation}
 
 -- what the input, the output and the error output tell of what they hold
 pub record Streams : Type 0 where
@@ -18,18 +18,18 @@ pub record LosesPart (input : List ℕ) (most : ℕ) (left : Option (List ℕ)) 
   pub is : left ≡ Some (drop count input)
 
 -- The run ended: all that it puts was put, and what it leaves of the input is left.
-pub record Ends (seen : Observed) (before after : Streams) : Type 0 where
+pub record Ends (seen : Observation) (before after : Streams) : Type 0 where
   pub left : after.left ≡ Some seen.outside.left
   pub output : Gains before.output after.output seen.outside.output
   pub errors : Gains before.errors after.errors seen.outside.errors
 
 -- how many bytes of this input a run takes
-abbrev pub taken_of : List ℕ → Observed → ℕ
+abbrev pub taken_of : List ℕ → Observation → ℕ
 taken_of input seen = length input - length seen.outside.left
 
 -- The run, which was begun with this input, was broken off at a put or for want of memory. Each output has
 -- gained some first part of what the run puts there, and the input has lost some first part of what it takes.
-pub record Breaks (input : List ℕ) (seen : Observed) (before after : Streams) : Type 0 where
+pub record Breaks (input : List ℕ) (seen : Observation) (before after : Streams) : Type 0 where
   pub left : LosesPart input (taken_of input seen) after.left
   pub output : GainsPart before.output after.output seen.outside.output
   pub errors : GainsPart before.errors after.errors seen.outside.errors
@@ -43,7 +43,7 @@ asked_of (SomeBytes count) left = count
 -- The run was broken off at a reading. It is one of those that the run makes: both outputs have gained what
 -- the run puts before it and no more, and the input is what is left before it, less perhaps some first part
 -- of what it reads.
-pub record BreaksReading (seen : Observed) (before after : Streams) : Type 0 where
+pub record BreaksReading (seen : Observation) (before after : Streams) : Type 0 where
   pub place : ℕ
   pub reading : Reading
   pub made : slice_get seen.outside.readings place ≡ Some reading

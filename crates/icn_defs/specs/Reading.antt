@@ -132,8 +132,8 @@ assigns_root refused (Key table key) value next = stores table key value next
 assigns_root refused (Keyword word) value next = assigns_keyword refused word value next
 
 -- A text with another text in the place of a part of it
-abbrev pub replaced : List ℕ → ℕ → ℕ → List ℕ → List ℕ
-replaced text place size new = take (place - 1) text ++ (new ++ drop (place - 1 + size) text)
+abbrev pub with_part : List ℕ → ℕ → ℕ → List ℕ → List ℕ
+with_part text place size new = take (place - 1) text ++ (new ++ drop (place - 1 + size) text)
 
 -- The variable afterwards is the same, but that a part covers the text that it got. A part wants a text,
 -- 103, and its variable one that is long enough; the whole text is built and assigned.
@@ -143,8 +143,8 @@ assigns_or refused (Part root place size) value next = do
   new ← present (text_of value) 103 (Some value)
   text ← reads_text root place size
   costs_text value
-  costs_bytes (length (replaced text place size new))
-  assigns_root refused root (Text (replaced text place size new))
+  costs_bytes (length (with_part text place size new))
+  assigns_root refused root (Text (with_part text place size new))
   next (Part root place (length new))
 
 -- a variable gets a value: `x := y`

@@ -104,9 +104,9 @@ arithmetic_error RemainderByZero = 202
 arithmetic_error Overflow = 203
 
 -- a number that is computed, else the error of its operation
-abbrev pub computed : Result ℤ Arith → Finds ℤ
-computed (Ok n) next setting = next n setting
-computed (Err why) next setting = Error (arithmetic_error why) None setting
+abbrev pub number_or_error : Result ℤ Arith → Finds ℤ
+number_or_error (Ok n) next setting = next n setting
+number_or_error (Err why) next setting = Error (arithmetic_error why) None setting
 
 -- a test that is met, else the row fails
 abbrev pub passing : Bool → Row → Row
@@ -114,9 +114,9 @@ passing true next setting = next setting
 passing false next setting = Fails setting
 
 -- a thing that is there, else the row fails
-abbrev pub found : {A : Type 0} → Option A → Finds A
-found (Some thing) next setting = next thing setting
-found None next setting = Fails setting
+abbrev pub thing_or_failure : {A : Type 0} → Option A → Finds A
+thing_or_failure (Some thing) next setting = next thing setting
+thing_or_failure None next setting = Fails setting
 
 -- a number at or above 0, else error 205 with the argument that it comes from
 abbrev pub natural : ℤ → Value → Finds ℕ

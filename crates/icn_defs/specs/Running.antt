@@ -21,7 +21,7 @@ pub data Ending : Type 0 where
   AtBound : Ending
 
 -- how a run ended, the input left, and what was put on both outputs, with the report of an error or of the bound
-pub record Observed : Type 0 where
+pub record Observation : Type 0 where
   pub ending : Ending
   pub outside : Outside
 
@@ -41,8 +41,8 @@ after_steps step zero state = state
 after_steps step (suc n) state = after_steps step n (step state)
 
 -- The run that takes these steps from this start on comes to an end, of which this is observed.
-pub record Observes {S : Type 0} (step : S → S) (observed : S → Option Observed) (start : S)
-    (seen : Observed) : Type 0 where
+pub record Observes {S : Type 0} (step : S → S) (observed : S → Option Observation) (start : S)
+    (seen : Observation) : Type 0 where
   pub count : ℕ
   pub is : observed (after_steps step count start) ≡ Some seen
 

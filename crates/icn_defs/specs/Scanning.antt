@@ -5,7 +5,7 @@ use Rattle.std.specs.Str.{bytes_eq}
 use Rattle.icn_value.specs.Values.{Value, Integer, Text, Chars, Item, Val}
 use Rattle.icn_value.specs.Store.{having_position}
 use Rattle.icn_defs.specs.Conversions.{contains, members, place_of, is_null}
-use Rattle.icn_defs.specs.Rows.{Row, Finds, ◌>>=◌, ◌>>◌, UndoPosition, Balanced, Found, Among, fails, gives_value, suspends, check, passing, found, here, changes, costs_text, costs_texts}
+use Rattle.icn_defs.specs.Rows.{Row, Finds, ◌>>=◌, ◌>>◌, UndoPosition, Balanced, Found, Among, fails, gives_value, suspends, check, passing, thing_or_failure, here, changes, costs_text, costs_texts}
 use Rattle.icn_defs.specs.Reading.{the_value}
 use Rattle.icn_defs.specs.Arguments.{arg, arg_or, integer, string, cset}
 use Rattle.icn_defs.specs.Variables.{places}
@@ -88,7 +88,7 @@ match_row args = do
 -- the next place from this one on at which the text stands
 abbrev pub found_from : List ℕ → List ℕ → ℕ → ℕ → Row
 found_from wanted text place last = do
-  place ← found (find (λ place. stands wanted text place last) (range_with_len place (last + 1 - place)))
+  place ← thing_or_failure (find (λ place. stands wanted text place last) (range_with_len place (last + 1 - place)))
   suspends (Val (Integer (pos place))) (Found wanted text place last)
 
 -- `find(s1, s, i, j)`
@@ -104,7 +104,7 @@ find_row args = do
 abbrev pub among_from : List ℕ → List ℕ → ℕ → ℕ → Row
 among_from bytes text place last = do
   let places = range_with_len place (last - place)
-  place ← found (find (λ place. contains bytes (byte_behind text place)) places)
+  place ← thing_or_failure (find (λ place. contains bytes (byte_behind text place)) places)
   suspends (Val (Integer (pos place))) (Among bytes text place last)
 
 -- `upto(c, s, i, j)`
@@ -117,15 +117,15 @@ upto_row args = do
   among_from bytes region.text ends.0 ends.1
 
 -- The count behind a byte: one that opens adds 1, else one that closes takes 1, and there is none below 0.
-abbrev pub closed : ℕ → Option ℕ
-closed zero = None
-closed (suc count) = Some count
+abbrev pub close_one : ℕ → Option ℕ
+close_one zero = None
+close_one (suc count) = Some count
 
 -- the count behind a byte
 abbrev pub count_behind : List ℕ → List ℕ → ℕ → ℕ → Option ℕ
 count_behind opening closing byte count =
     if contains opening byte then Some (count + 1)
-    else (if contains closing byte then closed count else Some count)
+    else (if contains closing byte then close_one count else Some count)
 
 -- the first place at which the count is 0 and a byte of the cset stands; these are the bytes behind the
 -- place that is said
@@ -139,13 +139,13 @@ balanced_place wanted opening closing (byte ∷ bytes) place count =
 -- the next place from this one on, with this count there
 abbrev pub balanced_from : List ℕ → List ℕ → List ℕ → List ℕ → ℕ → ℕ → ℕ → Row
 balanced_from wanted opening closing text place last count = do
-  place ← found (balanced_place wanted opening closing (between text place last) place count)
+  place ← thing_or_failure (balanced_place wanted opening closing (between text place last) place count)
   suspends (Val (Integer (pos place))) (Balanced wanted opening closing text place last)
 
 -- resumed, the search goes on behind the byte at its last place, where the count was 0
 abbrev pub balanced_again : List ℕ → List ℕ → List ℕ → List ℕ → ℕ → ℕ → Row
 balanced_again wanted opening closing text place last = do
-  count ← found (count_behind opening closing (byte_behind text place) 0)
+  count ← thing_or_failure (count_behind opening closing (byte_behind text place) 0)
   balanced_from wanted opening closing text (place + 1) last count
 
 -- `bal(c1, c2, c3, s, i, j)`
@@ -182,7 +182,7 @@ abbrev pub tab_row : List Value → Row
 tab_row args = do
   n ← integer (arg args 0)
   setting ← here
-  place ← found (place_of n (length setting.world.subject))
+  place ← thing_or_failure (place_of n (length setting.world.subject))
   tabs_to place
 
 -- a sum that is a place; it does not count from the end
@@ -195,7 +195,7 @@ abbrev pub move_row : List Value → Row
 move_row args = do
   n ← integer (arg args 0)
   setting ← here
-  place ← found (plain_place (pos setting.world.position +ℤ n) (length setting.world.subject))
+  place ← thing_or_failure (plain_place (pos setting.world.position +ℤ n) (length setting.world.subject))
   tabs_to place
 
 -- `pos(i)`
@@ -203,7 +203,7 @@ abbrev pub pos_row : List Value → Row
 pos_row args = do
   n ← integer (arg args 0)
   setting ← here
-  place ← found (place_of n (length setting.world.subject))
+  place ← thing_or_failure (place_of n (length setting.world.subject))
   passing (place == setting.world.position)
   gives_place place
 

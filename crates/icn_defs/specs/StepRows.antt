@@ -12,12 +12,12 @@ pub use Rattle.icn_defs.specs.Operations.{dereference_row as value_row}
 use Rattle.icn_defs.specs.Structures.{new_record_of}
 use Rattle.icn_defs.specs.Applying.{operation_row, function_row}
 
-pub data Applied : Type 0 where
-  Operation : Op → Applied
-  Function : Func → Applied
+pub data OperationOrFunction : Type 0 where
+  Operation : Op → OperationOrFunction
+  Function : Func → OperationOrFunction
 
 -- an operation, but for the refreshing of a co-expression, or a function
-abbrev pub apply : Names → Applied → List Item → Row
+abbrev pub apply : Names → OperationOrFunction → List Item → Row
 apply names (Operation o) xs = operation_row o xs
 apply names (Function f) xs = function_row names f xs
 

@@ -7,7 +7,7 @@ use Rattle.icn_text.specs.IntegerArithmetic.{sum, within_64_bits}
 use Rattle.icn_value.specs.Values.{Value, Integer, Text, Chars, Val}
 use Rattle.icn_value.specs.Store.{Names}
 use Rattle.icn_defs.specs.Conversions.{contains, integer_of, text_of, cset_of}
-use Rattle.icn_defs.specs.Rows.{Row, ◌>>=◌, ◌>>◌, Sequence, gives_value, suspends, check, computed, found, natural, here, costs_text, costs_texts, builds}
+use Rattle.icn_defs.specs.Rows.{Row, ◌>>=◌, ◌>>◌, Sequence, gives_value, suspends, check, number_or_error, thing_or_failure, natural, here, costs_text, costs_texts, builds}
 use Rattle.icn_defs.specs.Arguments.{arg, arg_or, number, integer, string, cset}
 use Rattle.icn_defs.specs.Images.{image, type_name, ucase, lcase}
 
@@ -25,7 +25,7 @@ one = Integer (pos 1)
 abbrev pub abs_row : List Value → Row
 abs_row args = do
   n ← number (arg args 0)
-  result ← computed (within_64_bits (pos (unsigned_abs n)))
+  result ← number_or_error (within_64_bits (pos (unsigned_abs n)))
   gives_integer result
 
 -- `iand(i, j)`, `ior(i, j)`, `ixor(i, j)`
@@ -54,9 +54,9 @@ icom_row args = do
   gives_integer (int_bit_not w64 n)
 
 -- to the left, or to the right with zeros; 0 from 64 on
-abbrev pub shifted : ℤ → ℤ → ℤ
-shifted m (pos k) = if nat_lt k 64 then cast_signed w64 (cast_unsigned w64 m * 2 ^ k % 2 ^ 64) else pos 0
-shifted m (negsuc k) =
+abbrev pub shift_by : ℤ → ℤ → ℤ
+shift_by m (pos k) = if nat_lt k 64 then cast_signed w64 (cast_unsigned w64 m * 2 ^ k % 2 ^ 64) else pos 0
+shift_by m (negsuc k) =
     if nat_lt (k + 1) 64 then cast_signed w64 (cast_unsigned w64 m / 2 ^ (k + 1)) else pos 0
 
 -- `ishift(i, j)`
@@ -64,7 +64,7 @@ abbrev pub ishift_row : List Value → Row
 ishift_row args = do
   m ← integer (arg args 0)
   n ← integer (arg args 1)
-  gives_integer (shifted m n)
+  gives_integer (shift_by m n)
 
 -- the next integer of a sequence, which has no end
 abbrev pub sequence_from : ℤ → ℤ → Row
@@ -81,7 +81,7 @@ seq_row args = do
 -- resumed, the sequence goes on: 203 past 64 bits
 abbrev pub sequence_again : ℤ → ℤ → Row
 sequence_again n step = do
-  later ← computed (sum n step)
+  later ← number_or_error (sum n step)
   sequence_from later step
 
 -- Conversions
@@ -89,20 +89,20 @@ sequence_again n step = do
 -- `integer(x)`, `numeric(x)`
 abbrev pub integer_row : List Value → Row
 integer_row args = do
-  n ← found (integer_of (arg args 0))
+  n ← thing_or_failure (integer_of (arg args 0))
   gives_integer n
 
 -- `string(x)`
 abbrev pub string_row : List Value → Row
 string_row args = do
-  text ← found (text_of (arg args 0))
+  text ← thing_or_failure (text_of (arg args 0))
   costs_text (arg args 0)
   gives_value (Text text)
 
 -- `cset(x)`
 abbrev pub cset_row : List Value → Row
 cset_row args = do
-  bytes ← found (cset_of (arg args 0))
+  bytes ← thing_or_failure (cset_of (arg args 0))
   gives_value (Chars bytes)
 
 -- `char(i)`
@@ -189,8 +189,8 @@ center_row args = field_row center_text args
 
 -- the byte that stands at the last place of a byte in the first text, in the second; itself where it is not
 -- there
-abbrev pub mapped : List ℕ → List ℕ → ℕ → ℕ
-mapped from to byte = fold (λ result pair. if pair.0 == byte then pair.1 else result) byte (zip from to)
+abbrev pub map_byte : List ℕ → List ℕ → ℕ → ℕ
+map_byte from to byte = fold (λ result pair. if pair.0 == byte then pair.1 else result) byte (zip from to)
 
 -- `map(s1, s2, s3)`
 abbrev pub map_row : List Value → Row
@@ -200,7 +200,7 @@ map_row args = do
   to ← string (arg_or (Text lcase) args 2)
   check (length from == length to) 208 None
   costs_texts (arg args 0 ∷ arg args 1 ∷ arg args 2 ∷ [])
-  builds (map (mapped from to) text)
+  builds (map (map_byte from to) text)
 
 -- `repl(s, i)`
 abbrev pub repl_row : List Value → Row

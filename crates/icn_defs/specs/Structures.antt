@@ -2,12 +2,12 @@
 use Rattle.std.specs.Prelude.{◌+◌, ℕ, zero, suc, ℤ, pos, Bool, not, List, [], ◌∷◌, ◌++◌, length, filter, drop, fold, replicate, slice_get, flat_map, Option, None, Some, is_some}
 use Rattle.std.specs.Ordering.{ordering_then}
 use Rattle.std.specs.declared.cmp.Ordering.{Ordering}
-use Rattle.icn_structs.specs.Numbered.{Numbered, leftmost, rightmost, without_left, without_right, with_left, with_right}
+use Rattle.icn_structs.specs.Numbered.{NumberedList, leftmost, rightmost, without_left, without_right, with_left, with_right}
 use Rattle.icn_structs.specs.PairLists.{value_of, without}
 use Rattle.icn_value.specs.Values.{Value, Null, Integer, AList, ATable, ARecord, Val}
 use Rattle.icn_value.specs.Store.{Heap, Table, Record, Names, list_at, set_at, table_at, record_at, with_list, with_set, with_table}
-use Rattle.icn_defs.specs.Conversions.{Group, Textual, Listed, Collected, Tabled, Recorded, Filed, Activated, Single, group_of, same, has_value, with_member, sorted, is_null}
-use Rattle.icn_defs.specs.Rows.{Row, Finds, ◌>>=◌, ◌>>◌, TableKeys, gives_value, suspends, wrong, check, passing, found, natural, here, changes_heap, costs_cells, new_list_of, gives_list}
+use Rattle.icn_defs.specs.Conversions.{Group, Textual, Listed, Collected, Tabled, Recorded, Filed, Activated, Single, group_of, same, has_value, with_member, sort_list, is_null}
+use Rattle.icn_defs.specs.Rows.{Row, Finds, ◌>>=◌, ◌>>◌, TableKeys, gives_value, suspends, wrong, check, passing, thing_or_failure, natural, here, changes_heap, costs_cells, new_list_of, gives_list}
 use Rattle.icn_defs.specs.Reading.{costs_unless, stores}
 use Rattle.icn_defs.specs.Operations.{new_set_of}
 use Rattle.icn_defs.specs.Arguments.{arg, arg_or, integer, list, list_of, table, Keeper, SetKeeper, TableKeeper, keeper}
@@ -62,12 +62,12 @@ copy_row args = copy_of (arg args 0) (group_of (arg args 0))
 -- Lists
 
 -- the element at an end, which is removed; it fails where there is none
-abbrev pub takes_from : (Numbered Value → Option Value) → (Numbered Value → Numbered Value) → List Value → Row
+abbrev pub takes_from : (NumberedList Value → Option Value) → (NumberedList Value → NumberedList Value) → List Value → Row
 takes_from taken rest args = do
   id ← list (arg args 0)
   setting ← here
   let elements = list_at setting.world.heap id
-  value ← found (taken elements)
+  value ← thing_or_failure (taken elements)
   changes_heap (with_list id (rest elements))
   gives_value value
 
@@ -85,7 +85,7 @@ or_null [] = Null ∷ []
 or_null (value ∷ values) = value ∷ values
 
 -- elements are added at an end, one after the other
-abbrev pub adds_to : (Numbered Value → Value → Numbered Value) → List Value → Row
+abbrev pub adds_to : (NumberedList Value → Value → NumberedList Value) → List Value → Row
 adds_to grown args = do
   id ← list (arg args 0)
   let added = or_null (drop 1 args)
@@ -181,7 +181,7 @@ member_row args = do
 abbrev pub table_keys_from : ℕ → ℕ → Row
 table_keys_from id place = do
   setting ← here
-  pair ← found (slice_get (table_at setting.world.heap id).pairs place)
+  pair ← thing_or_failure (slice_get (table_at setting.world.heap id).pairs place)
   suspends (Val pair.0) (TableKeys id (place + 1))
 
 -- `key(T)`
@@ -220,26 +220,26 @@ gives_pairs pairs = gives_list (flat_map (λ (pair : Value × Value). pair.0 ∷
 
 -- how a table is sorted: by key or by value, to lists of two or in turn
 abbrev pub table_sorted : Names → Heap → List (Value × Value) → ℤ → Value → Row
-table_sorted names heap pairs (pos (suc zero)) chosen = gives_pair_lists (sorted (key_cmp names heap) pairs)
+table_sorted names heap pairs (pos (suc zero)) chosen = gives_pair_lists (sort_list (key_cmp names heap) pairs)
 table_sorted names heap pairs (pos (suc (suc zero))) chosen =
-    gives_pair_lists (sorted (entry_cmp names heap) pairs)
+    gives_pair_lists (sort_list (entry_cmp names heap) pairs)
 table_sorted names heap pairs (pos (suc (suc (suc zero)))) chosen =
-    gives_pairs (sorted (key_cmp names heap) pairs)
+    gives_pairs (sort_list (key_cmp names heap) pairs)
 table_sorted names heap pairs (pos (suc (suc (suc (suc zero))))) chosen =
-    gives_pairs (sorted (entry_cmp names heap) pairs)
+    gives_pairs (sort_list (entry_cmp names heap) pairs)
 table_sorted names heap pairs n chosen = wrong 205 (Some chosen)
 
 -- a sorted list of what a structure holds: 115 for other values
 abbrev pub sorted_of : Names → Value → ℤ → Value → Group → Row
 sorted_of names v n chosen (Listed id) = do
   setting ← here
-  gives_list (sorted (value_cmp names setting.world.heap) (list_at setting.world.heap id).items)
+  gives_list (sort_list (value_cmp names setting.world.heap) (list_at setting.world.heap id).items)
 sorted_of names v n chosen (Collected id) = do
   setting ← here
-  gives_list (sorted (value_cmp names setting.world.heap) (set_at setting.world.heap id))
+  gives_list (sort_list (value_cmp names setting.world.heap) (set_at setting.world.heap id))
 sorted_of names v n chosen (Recorded id) = do
   setting ← here
-  gives_list (sorted (value_cmp names setting.world.heap) (record_at setting.world.heap id).fields)
+  gives_list (sort_list (value_cmp names setting.world.heap) (record_at setting.world.heap id).fields)
 sorted_of names v n chosen (Tabled id) = do
   setting ← here
   table_sorted names setting.world.heap (table_at setting.world.heap id).pairs n chosen

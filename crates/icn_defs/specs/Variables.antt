@@ -5,7 +5,7 @@ use Rattle.icn_text.specs.IntegerArithmetic.{sum, difference}
 use Rattle.icn_value.specs.Values.{Value, Variable, Item, Var}
 use Rattle.icn_value.specs.Store.{list_at, record_at}
 use Rattle.icn_defs.specs.Conversions.{Group, Textual, Listed, Collected, Tabled, Recorded, Filed, Activated, Single, group_of, place_of}
-use Rattle.icn_defs.specs.Rows.{Row, Finds, Mover, ◌>>=◌, ◌>>◌, UndoAssign, UndoExchange, fails, gives, suspends, wrong, computed, passing, found, here, costs_text, gives_list}
+use Rattle.icn_defs.specs.Rows.{Row, Finds, Mover, ◌>>=◌, ◌>>◌, UndoAssign, UndoExchange, fails, gives, suspends, wrong, number_or_error, passing, thing_or_failure, here, costs_text, gives_list}
 use Rattle.icn_defs.specs.Reading.{the_value, the_variable, assigns, undoes, exchanges, undoes_exchange, mover_of}
 use Rattle.icn_defs.specs.Arguments.{integer}
 use Rattle.icn_defs.specs.Elements.{part_item, text_variable, element_item, field_item, key_item}
@@ -66,7 +66,7 @@ undo_exchange_again mover x y old_x old_y = do
 -- the element that a position stands before, from 1 on; it fails where none does
 abbrev pub element_place : ℤ → ℕ → Finds ℕ
 element_place n size next = do
-  place ← found (place_of n size)
+  place ← thing_or_failure (place_of n size)
   passing (nat_le place size)
   next place
 
@@ -110,8 +110,8 @@ in_order a b = if nat_le a b then (a, b) else (b, a)
 -- the places that two positions mean, the smaller first; it fails where one is out of range
 abbrev pub places : ℤ → ℤ → ℕ → Finds (ℕ × ℕ)
 places m n size next = do
-  a ← found (place_of m size)
-  b ← found (place_of n size)
+  a ← thing_or_failure (place_of m size)
+  b ← thing_or_failure (place_of n size)
   next (in_order a b)
 
 -- two positions, of which the second is made of the two integers
@@ -119,7 +119,7 @@ abbrev pub positions : (ℤ → ℤ → Result ℤ Arith) → Value → Value �
 positions second u w next = do
   m ← integer u
   n ← integer w
-  end ← computed (second m n)
+  end ← number_or_error (second m n)
   next (m, end)
 
 -- the bytes or elements between two positions: 110 for other values

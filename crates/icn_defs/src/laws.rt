@@ -6,7 +6,7 @@ ghost use Rattle.icn_defs.specs.Interruptions.{Breaks, BreaksReading, Ends, IsOu
 ghost use Rattle.icn_defs.specs.Keeping.{KeepsIn};
 ghost use Rattle.icn_defs.specs.Numbers.{func_of, keyword_of, op_of};
 ghost use Rattle.icn_defs.specs.Rows.{Residual};
-ghost use Rattle.icn_defs.specs.Running.{Observed};
+ghost use Rattle.icn_defs.specs.Running.{Observation};
 ghost use Rattle.icn_text.specs.Funcs.{func_number};
 ghost use Rattle.icn_text.specs.Keywords.{keyword_number};
 ghost use Rattle.icn_text.specs.Ops.{op_number};
@@ -40,9 +40,9 @@ pub fn rows_keep()
 /// A run that ended, and one that a failed reading broke off, left first parts of what it puts and takes, as every run that was broken off. A
 /// program's outside begins as one that a run comes to, and each put and each reading keeps it so.
 pub fn broken_off()
-    ensures ended { (input : List ℕ) (seen : Observed) (before after : Streams)
+    ensures ended { (input : List ℕ) (seen : Observation) (before after : Streams)
         → IsOutsideOf input seen.outside → Ends seen before after → Breaks input seen before after }
-    ensures reading { (input : List ℕ) (seen : Observed) (before after : Streams)
+    ensures reading { (input : List ℕ) (seen : Observation) (before after : Streams)
         → IsOutsideOf input seen.outside → BreaksReading seen before after → Breaks input seen before after }
     ensures begun { (input : List ℕ) → IsOutsideOf input (outside_of input) }
     ensures put { (input : List ℕ) (outside : Outside) (file : File) (text : List ℕ)

@@ -3,7 +3,7 @@ use Rattle.std.proofs.Common.{◌≡◌, ℕ, zero, suc, ◌+◌, ◌<◌, ◌�
 use Rattle.std.proofs.lemmas.Bool.{leb-false, leb-true, lt-leb, le-leb}
 use Rattle.icn_tree.specs.Trees.{Tree, MaybeTree, Trees, Clause, Clauses, Empty, Constant, Identifier, Keyword, Parentheses, Listing, Compound, Call, CoCall, Subscript, Section, Field, Prefix, Not, Binary, To, If, Case, Loop, Repeat, Create, Next, Fail, Break, Return, Suspend, Absent, Present, NoTrees, More, Default, Guarded, NoClauses, MoreClauses}
 use Rattle.icn_expr.specs.Heights.{height, highest, highest_clause, clause_height}
-use Rattle.icn_expr.specs.Capped.{with_last, with_last_clause, Capped, capped_at, one, two, three, one_if, two_if, join_capped, joined_three, has_none, capped}
+use Rattle.icn_expr.specs.Capped.{with_last, with_last_clause, WithHeight, capped_at, one, two, three, one_if, two_if, join_capped, joined_three, has_none, builds_with_height}
 use Rattle.icn_expr.proofs.Showing.{Shows}
 
 kept : {A : Type 0} (x : A) (h : ℕ) → nat_le h 2000 ≡ true → capped_at x h ≡ Some (x, h)
@@ -82,7 +82,7 @@ highest_last_clause (MoreClauses clause clauses) last = omega (arith, highest_la
 has_some_at : (first : Tree) (others : Trees) (h : ℕ) → has_none (capped_at (More first others) h) ≡ false
 has_some_at first others h = by_height h (λ b. has_none (cond b (Some (More first others, h)) None) ≡ false) (λ e. refl) (λ e. refl)
 
-pub capped_shows : Shows (Capped Tree) (Capped Trees) (Capped Clauses) capped
+pub capped_shows : Shows (WithHeight Tree) (WithHeight Trees) (WithHeight Clauses) builds_with_height
 capped_shows = record {
   tree = λ tree. capped_at tree (height tree);
   trees = λ trees. capped_at trees (highest trees);

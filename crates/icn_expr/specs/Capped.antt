@@ -10,51 +10,51 @@ use Rattle.icn_tree.specs.Trees.{Tree, MaybeTree, Trees, Clause, Clauses, Empty,
 use Rattle.icn_expr.specs.Automata.{Builds}
 
 -- a tree with its height, or a tree that is higher than 2000; and so of the elements of a list and of clauses
-abbrev pub Capped : Type 0 → Type 0
-Capped A = Option (A × ℕ)
+abbrev pub WithHeight : Type 0 → Type 0
+WithHeight A = Option (A × ℕ)
 
 -- the tree, unless it is higher than 2000
-abbrev pub capped_at : {A : Type 0} → A → ℕ → Capped A
+abbrev pub capped_at : {A : Type 0} → A → ℕ → WithHeight A
 capped_at tree height = if nat_le height 2000 then Some (tree, height) else None
 
 -- the tree alone, where it is kept
-abbrev pub kept_tree : {A : Type 0} → Capped A → Option A
+abbrev pub kept_tree : {A : Type 0} → WithHeight A → Option A
 kept_tree None = None
 kept_tree (Some a) = Some a.0
 
 -- one higher than the highest part
-abbrev pub one : {A B : Type 0} → (A → B) → Capped A → Capped B
+abbrev pub one : {A B : Type 0} → (A → B) → WithHeight A → WithHeight B
 one make (Some a) = capped_at (make a.0) (a.1 + 1)
 one make None = None
 
 -- a form with two parts, one higher than the higher of them
-abbrev pub two : {A B D : Type 0} → (A → B → D) → Capped A → Capped B → Capped D
+abbrev pub two : {A B D : Type 0} → (A → B → D) → WithHeight A → WithHeight B → WithHeight D
 two make (Some a) (Some b) = capped_at (make a.0 b.0) (max a.1 b.1 + 1)
 two make _ _ = None
 
 -- a form with three parts, one higher than the highest of them
-abbrev pub three : {A B D F : Type 0} → (A → B → D → F) → Capped A → Capped B → Capped D → Capped F
+abbrev pub three : {A B D F : Type 0} → (A → B → D → F) → WithHeight A → WithHeight B → WithHeight D → WithHeight F
 three make (Some a) (Some b) (Some c) = capped_at (make a.0 b.0 c.0) (max a.1 (max b.1 c.1) + 1)
 three make _ _ _ = None
 
 -- a part that may be absent
-abbrev pub one_if : {A B : Type 0} → (A → MaybeTree → B) → Capped A → Option (Capped Tree) → Capped B
+abbrev pub one_if : {A B : Type 0} → (A → MaybeTree → B) → WithHeight A → Option (WithHeight Tree) → WithHeight B
 one_if make a None = one (λ x. make x Absent) a
 one_if make a (Some b) = two (λ x y. make x (Present y)) a b
 
 -- a form with two parts and a third one that may be missing
-abbrev pub two_if : {A B D : Type 0} → (A → B → MaybeTree → D) → Capped A → Capped B → Option (Capped Tree)
-    → Capped D
+abbrev pub two_if : {A B D : Type 0} → (A → B → MaybeTree → D) → WithHeight A → WithHeight B → Option (WithHeight Tree)
+    → WithHeight D
 two_if make a b None = two (λ x y. make x y Absent) a b
 two_if make a b (Some c) = three (λ x y z. make x y (Present z)) a b c
 
 -- no higher than the highest part
-abbrev pub join_capped : {A B D : Type 0} → (A → B → D) → Capped A → Capped B → Capped D
+abbrev pub join_capped : {A B D : Type 0} → (A → B → D) → WithHeight A → WithHeight B → WithHeight D
 join_capped make (Some a) (Some b) = Some (make a.0 b.0, max a.1 b.1)
 join_capped make _ _ = None
 
 -- parts put together, as high as the highest of them
-abbrev pub joined_three : {A B D F : Type 0} → (A → B → D → F) → Capped A → Capped B → Capped D → Capped F
+abbrev pub joined_three : {A B D F : Type 0} → (A → B → D → F) → WithHeight A → WithHeight B → WithHeight D → WithHeight F
 joined_three make (Some a) (Some b) (Some c) = Some (make a.0 b.0 c.0, max a.1 (max b.1 c.1))
 joined_three make _ _ _ = None
 
@@ -73,13 +73,13 @@ is_no_trees NoTrees = true
 is_no_trees (More tree trees) = false
 
 -- the list has no element, and none was too high
-abbrev pub has_none : Capped Trees → Bool
+abbrev pub has_none : WithHeight Trees → Bool
 has_none (Some trees) = is_no_trees trees.0
 has_none None = false
 
 -- how each form is built with its height, and left out where that is above the greatest
-abbrev pub capped : Builds (Capped Tree) (Capped Trees) (Capped Clauses)
-capped = record {
+abbrev pub builds_with_height : Builds (WithHeight Tree) (WithHeight Trees) (WithHeight Clauses)
+builds_with_height = record {
   empty = Some (Empty, 1);
   constant = λ place literal. Some (Constant place literal, 1);
   identifier = λ name. Some (Identifier name, 1);

@@ -18,23 +18,23 @@ use Rattle.icn_expr.specs.declared.state.State.TheVariants as S
 use Rattle.icn_expr.specs.declared.reader.Progress.{Progress}
 use Rattle.icn_expr.specs.declared.reader.Progress.TheVariants as P
 use Rattle.icn_expr.specs.Reading.{end_of}
-use Rattle.icn_expr.specs.Capped.{Capped, capped_at, capped}
+use Rattle.icn_expr.specs.Capped.{WithHeight, capped_at, builds_with_height}
 use Rattle.icn_expr.specs.Automata.{Bracket, Round, Square, Curly, Arguments, CoArguments, Subscripts, PartialForm, Elements, SectionEnd, PrefixOperand, NotOperand, RightOperand, ToOperand, ByOperand, Condition, Consequence, Alternative, CaseSubject, ClauseGuard, GuardedValue, DefaultValue, Control, LoopBody, RepeatBody, CreateBody, BreakValue, ReturnValue, SuspendValue, SuspendBody, Frame, State, Starting, Climbing, Closing, Finished, Broken}
 
 -- the tree of a value, unless it is too high
-abbrev pub capped_of : Value → Capped Tree
+abbrev pub capped_of : Value → WithHeight Tree
 capped_of value = capped_at (tree_of value.expr) value.height
 
 -- the elements of a list so far, unless one is too high
-abbrev pub elements_of : ElementsValue → Capped Trees
+abbrev pub elements_of : ElementsValue → WithHeight Trees
 elements_of elements = capped_at (all_of elements.exprs.items) elements.height
 
 -- the clauses of a `case` so far, unless one is too high
-abbrev pub branches_of : Branches → Capped Clauses
+abbrev pub branches_of : Branches → WithHeight Clauses
 branches_of branches = capped_at (all_clauses_of branches.clauses.items) branches.height
 
 -- an open bracket, with what stands before it
-abbrev pub bracket_of : BracketValue → Bracket (Capped Tree)
+abbrev pub bracket_of : BracketValue → Bracket (WithHeight Tree)
 bracket_of B.Round = Round
 bracket_of B.Square = Square
 bracket_of B.Curly = Curly
@@ -43,7 +43,7 @@ bracket_of (B.CoArguments callee) = CoArguments (capped_of callee)
 bracket_of (B.Subscripts subject) = Subscripts (capped_of subject)
 
 -- what was read of an open form, as definitions see it
-abbrev pub holding_of : HoldingValue → PartialForm (Capped Tree) (Capped Trees) (Capped Clauses)
+abbrev pub holding_of : HoldingValue → PartialForm (WithHeight Tree) (WithHeight Trees) (WithHeight Clauses)
 holding_of (H.Elements bracket done) = Elements (bracket_of bracket) (elements_of done)
 holding_of (H.SectionEnd kind subject from) = SectionEnd kind (capped_of subject) (capped_of from)
 holding_of (H.PrefixOperand operator) = PrefixOperand operator
@@ -70,7 +70,7 @@ holding_of (H.SuspendBody value) = SuspendBody (capped_of value)
 
 -- an open form, whose parts may be too high
 abbrev pub OpenFrame : Type 0
-OpenFrame = Frame (Capped Tree) (Capped Trees) (Capped Clauses)
+OpenFrame = Frame (WithHeight Tree) (WithHeight Trees) (WithHeight Clauses)
 
 -- an open form, as definitions see it
 abbrev pub frame_of : FrameValue → OpenFrame
@@ -87,7 +87,7 @@ stack_of stack = frames_onto stack.frames.items []
 
 -- where the reading stands, with trees that may be too high
 abbrev pub CappedState : Type 0
-CappedState = State (Capped Tree) (Capped Trees) (Capped Clauses)
+CappedState = State (WithHeight Tree) (WithHeight Trees) (WithHeight Clauses)
 
 -- where the reading stands, with the open forms and the tokens left
 abbrev pub state_of : StateValue → List OpenFrame → List Token → CappedState
@@ -100,10 +100,10 @@ state_of (S.Finished value) frames tokens = Finished (capped_of value) tokens
 state_of S.Broken frames tokens = Broken
 
 -- what a reading comes to
-abbrev pub progress_end : Progress → List OpenFrame → Option (Capped Tree × List Token)
+abbrev pub progress_end : Progress → List OpenFrame → Option (WithHeight Tree × List Token)
 progress_end (P.Found value tokens) frames = Some (capped_of value, tokens.now)
 progress_end P.Nothing frames = None
-progress_end (P.Going state tokens) frames = end_of capped (state_of state frames tokens.now)
+progress_end (P.Going state tokens) frames = end_of builds_with_height (state_of state frames tokens.now)
 
 -- where the reading goes on, this holds of its state and the tokens left
 abbrev pub IsGoing : Progress → (StateValue → List Token → Type 0) → Type 0

@@ -4,7 +4,7 @@ ghost use Rattle.icn_tree.specs.declared.token.Token.{Token};
 ghost use Rattle.icn_tree.specs.Phrases.{next};
 ghost use Rattle.icn_tree.specs.Grammar.{BySemicolon};
 ghost use Rattle.icn_expr.specs.Automata.{behind as behind_first, Elements as ElementsHolding, SectionEnd, ToOperand, Consequence, Condition as ConditionHolding, CaseSubject, ClauseGuard, GuardedValue, DefaultValue, Control, SuspendValue, element_by, section_by, section_subject, separator_of, is_closer, bracket_tree, is_separator, section_kind, clause_by, clause_step, clause_end, part_or, by_or, close_by, close_step, frame as frame_at};
-ghost use Rattle.icn_expr.specs.Capped.{capped};
+ghost use Rattle.icn_expr.specs.Capped.{builds_with_height};
 ghost use Rattle.icn_expr.specs.Views.{OpenFrame, capped_of, elements_of, branches_of, bracket_of, holding_of, stack_of, state_of};
 
 use crate::frame::{Bracket, Frame, Holding};
@@ -28,7 +28,7 @@ fn condition<'a>(
     value: Value,
     tokens: &'a [Token],
 ) -> Result<(State, &'a [Token]), AllocError>
-    ensures { IfOk result (λ r. state_of r.0 (stack_of stack.new) r.1.now ≡ close_by capped ConditionHolding
+    ensures { IfOk result (λ r. state_of r.0 (stack_of stack.new) r.1.now ≡ close_by builds_with_height ConditionHolding
         level place (capped_of value) true (stack_of stack.old) tokens.now) }
 {
     if !then_next(tokens) {
@@ -51,7 +51,7 @@ fn consequence<'a>(
     value: Value,
     tokens: &'a [Token],
 ) -> Result<(State, &'a [Token]), AllocError>
-    ensures { IfOk result (λ r. state_of r.0 (stack_of stack.new) r.1.now ≡ close_by capped
+    ensures { IfOk result (λ r. state_of r.0 (stack_of stack.new) r.1.now ≡ close_by builds_with_height
         (Consequence (capped_of before)) level place (capped_of value) true (stack_of stack.old) tokens.now) }
 {
     if else_next(tokens) {
@@ -76,7 +76,7 @@ fn to_operand<'a>(
     value: Value,
     tokens: &'a [Token],
 ) -> Result<(State, &'a [Token]), AllocError>
-    ensures { IfOk result (λ r. state_of r.0 (stack_of stack.new) r.1.now ≡ close_by capped
+    ensures { IfOk result (λ r. state_of r.0 (stack_of stack.new) r.1.now ≡ close_by builds_with_height
         (ToOperand (capped_of from)) level place (capped_of value) true (stack_of stack.old) tokens.now) }
 {
     if by_next(tokens) {
@@ -102,7 +102,7 @@ fn control<'a>(
     tokens: &'a [Token],
 ) -> Result<(State, &'a [Token]), AllocError>
     ensures { IfOk result (λ r. state_of r.0 (stack_of stack.new) r.1.now
-        ≡ close_by capped (Control kind) level place (capped_of value) true (stack_of stack.old) tokens.now) }
+        ≡ close_by builds_with_height (Control kind) level place (capped_of value) true (stack_of stack.old) tokens.now) }
 {
     if do_next(tokens) {
         return Ok((
@@ -126,7 +126,7 @@ fn suspended<'a>(
     tokens: &'a [Token],
 ) -> Result<(State, &'a [Token]), AllocError>
     ensures { IfOk result (λ r. state_of r.0 (stack_of stack.new) r.1.now
-        ≡ close_by capped SuspendValue level place (capped_of value) true (stack_of stack.old) tokens.now) }
+        ≡ close_by builds_with_height SuspendValue level place (capped_of value) true (stack_of stack.old) tokens.now) }
 {
     if do_next(tokens) {
         return Ok((
@@ -152,7 +152,7 @@ fn section_end<'a>(
     tokens: &'a [Token],
 ) -> Result<(State, &'a [Token]), AllocError>
     ensures { IfOk result (λ r. (frames : List OpenFrame) → state_of r.0 frames r.1.now
-        ≡ close_by capped (SectionEnd kind (capped_of subject) (capped_of from)) level place
+        ≡ close_by builds_with_height (SectionEnd kind (capped_of subject) (capped_of from)) level place
         (capped_of value) true frames tokens.now) }
 {
     if !close_bracket_next(tokens) {
@@ -180,7 +180,7 @@ fn clause<'a>(
     clauses: Branches,
     tokens: &'a [Token],
 ) -> Result<(State, &'a [Token]), AllocError>
-    ensures { IfOk result (λ r. state_of r.0 (stack_of stack.new) r.1.now ≡ clause_step capped level place
+    ensures { IfOk result (λ r. state_of r.0 (stack_of stack.new) r.1.now ≡ clause_step builds_with_height level place
         (capped_of subject) (branches_of clauses) (stack_of stack.old) tokens.now) }
 {
     let at = place_of(tokens);
@@ -224,7 +224,7 @@ fn case_subject<'a>(
     tokens: &'a [Token],
 ) -> Result<(State, &'a [Token]), AllocError>
     ensures { IfOk result (λ r. state_of r.0 (stack_of stack.new) r.1.now
-        ≡ close_by capped CaseSubject level place (capped_of value) true (stack_of stack.old) tokens.now) }
+        ≡ close_by builds_with_height CaseSubject level place (capped_of value) true (stack_of stack.old) tokens.now) }
 {
     if !of_next(tokens) || !open_brace_next(behind(tokens)) {
         discard(value);
@@ -252,7 +252,7 @@ fn clause_guard<'a>(
     tokens: &'a [Token],
 ) -> Result<(State, &'a [Token]), AllocError>
     ensures { IfOk result (λ r. state_of r.0 (stack_of stack.new) r.1.now
-        ≡ close_by capped (ClauseGuard (capped_of subject) (branches_of clauses) at) level place
+        ≡ close_by builds_with_height (ClauseGuard (capped_of subject) (branches_of clauses) at) level place
         (capped_of value) true (stack_of stack.old) tokens.now) }
 {
     if !colon_next(tokens) {
@@ -284,7 +284,7 @@ fn clause_ends<'a>(
     tokens: &'a [Token],
 ) -> Result<(State, &'a [Token]), AllocError>
     ensures { IfOk result (λ r. state_of r.0 (stack_of stack.new) r.1.now
-        ≡ clause_end capped (is_separator BySemicolon (next tokens.now)) level place (capped_of subject)
+        ≡ clause_end builds_with_height (is_separator BySemicolon (next tokens.now)) level place (capped_of subject)
         (branches_of clauses) (stack_of stack.old) tokens.now) }
 {
     if semicolon_next(tokens) {
@@ -314,7 +314,7 @@ fn guarded_value<'a>(
     value: Value,
     tokens: &'a [Token],
 ) -> Result<(State, &'a [Token]), AllocError>
-    ensures { IfOk result (λ r. state_of r.0 (stack_of stack.new) r.1.now ≡ close_by capped
+    ensures { IfOk result (λ r. state_of r.0 (stack_of stack.new) r.1.now ≡ close_by builds_with_height
         (GuardedValue (capped_of subject) (branches_of clauses) at (capped_of guard)) level place
         (capped_of value) true (stack_of stack.old) tokens.now) }
 {
@@ -335,7 +335,7 @@ fn default_value<'a>(
     tokens: &'a [Token],
 ) -> Result<(State, &'a [Token]), AllocError>
     ensures { IfOk result (λ r. state_of r.0 (stack_of stack.new) r.1.now
-        ≡ close_by capped (DefaultValue (capped_of subject) (branches_of clauses) at) level place
+        ≡ close_by builds_with_height (DefaultValue (capped_of subject) (branches_of clauses) at) level place
         (capped_of value) true (stack_of stack.old) tokens.now) }
 {
     let clauses = clauses.with_default(alloc, at, value)?;
@@ -355,7 +355,7 @@ fn element<'a>(
     tokens: &'a [Token],
 ) -> Result<(State, &'a [Token]), AllocError>
     ensures { IfOk result (λ r. state_of r.0 (stack_of stack.new) r.1.now
-        ≡ close_by capped (ElementsHolding (bracket_of bracket) (elements_of elements)) level place
+        ≡ close_by builds_with_height (ElementsHolding (bracket_of bracket) (elements_of elements)) level place
         (capped_of value) present (stack_of stack.old) tokens.now) }
 {
     if separated(&bracket, tokens) {
@@ -406,7 +406,7 @@ fn in_brackets(
     elements: Elements,
 ) -> Result<Value, AllocError>
     ensures { IfOk result
-        (λ value. capped_of value ≡ bracket_tree capped (bracket_of bracket) place (elements_of elements)) }
+        (λ value. capped_of value ≡ bracket_tree builds_with_height (bracket_of bracket) place (elements_of elements)) }
 {
     match bracket {
         Bracket::Round => Ok(Value::parentheses(place, elements)),
@@ -429,8 +429,8 @@ fn section<'a>(
     present: bool,
     tokens: &'a [Token],
 ) -> Result<(State, &'a [Token]), AllocError>
-    ensures { IfOk result (λ r. state_of r.0 (stack_of stack.new) r.1.now ≡ section_by capped
-        (section_subject capped (bracket_of bracket) (capped.has_none (elements_of elements)) present)
+    ensures { IfOk result (λ r. state_of r.0 (stack_of stack.new) r.1.now ≡ section_by builds_with_height
+        (section_subject builds_with_height (bracket_of bracket) (builds_with_height.has_none (elements_of elements)) present)
         (section_kind (next tokens.now)) level place (capped_of value) (stack_of stack.old)
         (behind_first tokens.now)) }
 {
@@ -470,7 +470,7 @@ fn close_frame<'a>(
     tokens: &'a [Token],
 ) -> Result<(State, &'a [Token]), AllocError>
     ensures { IfOk result
-        (λ r. state_of r.0 (stack_of stack.new) r.1.now ≡ close_by capped (holding_of frame.holds) frame.level
+        (λ r. state_of r.0 (stack_of stack.new) r.1.now ≡ close_by builds_with_height (holding_of frame.holds) frame.level
         frame.place (capped_of value) present (stack_of stack.old) tokens.now) }
 {
     let Frame {
@@ -530,7 +530,7 @@ pub fn close<'a>(
     tokens: &'a [Token],
 ) -> Result<(State, &'a [Token]), AllocError>
     ensures { IfOk result (λ r. state_of r.0 (stack_of stack.new) r.1.now
-        ≡ close_step capped (capped_of value) present (stack_of stack.old) tokens.now) }
+        ≡ close_step builds_with_height (capped_of value) present (stack_of stack.old) tokens.now) }
 {
     match stack.pop() {
         Some(frame) => close_frame(stack, alloc, frame, value, present, tokens),

@@ -5,7 +5,7 @@ ghost use Rattle.icn_tree.specs.Levels.{prefix_of};
 ghost use Rattle.icn_tree.specs.Grammar.{before};
 ghost use Rattle.icn_tree.specs.declared.token.Operator.TheVariants.{Dot};
 ghost use Rattle.icn_expr.specs.Automata.{Starting, Climbing, Closing, Elements as ElementsHolding, PrefixOperand, frame as frame_at, is_dot, word_step, mark_step, suffix_step, empty_step, operator_step, operand_step, start_step, climb_step, extend_step, plain_step, infix_step};
-ghost use Rattle.icn_expr.specs.Capped.{capped};
+ghost use Rattle.icn_expr.specs.Capped.{builds_with_height};
 ghost use Rattle.icn_expr.specs.Views.{OpenFrame, capped_of, bracket_of, holding_of, stack_of, state_of};
 
 use crate::frame::{Bracket, Frame, Holding};
@@ -47,7 +47,7 @@ fn word_operand(
     word: Word,
 ) -> Result<State, AllocError>
     ensures { IfOk result (λ state. (tokens : List Token) → state_of state (stack_of stack.new) tokens
-        ≡ word_step capped level place word (stack_of stack.old) tokens) }
+        ≡ word_step builds_with_height level place word (stack_of stack.old) tokens) }
 {
     match word {
         Word::Not => open(stack, level, place, Holding::NotOperand, 12),
@@ -87,7 +87,7 @@ fn mark_operand(
     mark: Punctuation,
 ) -> Result<State, AllocError>
     ensures { IfOk result (λ state. (tokens : List Token) → state_of state (stack_of stack.new) tokens
-        ≡ mark_step capped level place mark (stack_of stack.old) tokens) }
+        ≡ mark_step builds_with_height level place mark (stack_of stack.old) tokens) }
 {
     match mark {
         Punctuation::OpenParenthesis => open_list(stack, alloc, level, place, Bracket::Round),
@@ -106,7 +106,7 @@ fn open_list(
     bracket: Bracket,
 ) -> Result<State, AllocError>
     ensures { IfOk result (λ state. (tokens : List Token) → state_of state (stack_of stack.new) tokens
-        ≡ Starting 0 (frame_at level place (ElementsHolding (bracket_of bracket) capped.no_elements)
+        ≡ Starting 0 (frame_at level place (ElementsHolding (bracket_of bracket) builds_with_height.no_elements)
         ∷ stack_of stack.old) tokens) }
 {
     open(
@@ -128,7 +128,7 @@ fn suffix(
     mark: Punctuation,
 ) -> Result<State, AllocError>
     ensures { IfOk result (λ state. (tokens : List Token) → state_of state (stack_of stack.new) tokens
-        ≡ suffix_step capped level place (capped_of value) mark (stack_of stack.old) tokens) }
+        ≡ suffix_step builds_with_height level place (capped_of value) mark (stack_of stack.old) tokens) }
 {
     match mark {
         Punctuation::OpenParenthesis => open_list(
@@ -162,7 +162,7 @@ fn suffix(
 // Nothing stands where an expression may be empty.
 fn nothing(level: u32) -> State
     ensures { (frames : List OpenFrame) (tokens : List Token)
-        → state_of result frames tokens ≡ empty_step capped level frames tokens }
+        → state_of result frames tokens ≡ empty_step builds_with_height level frames tokens }
 {
     if level == 0 {
         State::Closing {
@@ -184,7 +184,7 @@ fn operator_operand<'a>(
     tokens: &'a [Token],
 ) -> Result<(State, &'a [Token]), AllocError>
     ensures { IfOk result (λ r. state_of r.0 (stack_of stack.new) r.1.now
-        ≡ operator_step capped level place (prefix_of operator) (stack_of stack.old) tokens.now) }
+        ≡ operator_step builds_with_height level place (prefix_of operator) (stack_of stack.old) tokens.now) }
 {
     match split(operator) {
         Some((first, others)) => Ok((prefixed(stack, level, place, first, others)?, tokens)),
@@ -223,7 +223,7 @@ fn keyword<'a>(
     tokens: &'a [Token],
 ) -> Result<(State, &'a [Token]), AllocError>
     ensures { IfOk result (λ r. (frames : List OpenFrame)
-        → state_of r.0 frames r.1.now ≡ operator_step capped level place None frames tokens.now) }
+        → state_of r.0 frames r.1.now ≡ operator_step builds_with_height level place None frames tokens.now) }
 {
     let Some((token, rest)) = tokens.split_first() else {
         return Ok((State::Broken, tokens));
@@ -253,7 +253,7 @@ fn operand<'a>(
     tokens: &'a [Token],
 ) -> Result<(State, &'a [Token]), AllocError>
     ensures { IfOk result (λ r. state_of r.0 (stack_of stack.new) r.1.now
-        ≡ operand_step capped level place kind.now (stack_of stack.old) tokens.now) }
+        ≡ operand_step builds_with_height level place kind.now (stack_of stack.old) tokens.now) }
 {
     match kind {
         Kind::Word(word) => Ok((word_operand(stack, level, place, *word)?, tokens)),
@@ -296,7 +296,7 @@ pub fn start<'a>(
     tokens: &'a [Token],
 ) -> Result<(State, &'a [Token]), AllocError>
     ensures { IfOk result (λ r. state_of r.0 (stack_of stack.new) r.1.now
-        ≡ start_step capped level (stack_of stack.old) tokens.now) }
+        ≡ start_step builds_with_height level (stack_of stack.old) tokens.now) }
 {
     let Some((token, rest)) = tokens.split_first() else {
         return Ok((nothing(level), tokens));
@@ -327,7 +327,7 @@ pub fn start_with<'a>(
     tokens: &'a [Token],
 ) -> Result<(State, &'a [Token]), AllocError>
     ensures { IfOk result (λ r. state_of r.0 (stack_of stack.new) r.1.now
-        ≡ start_step capped 12 (stack_of stack.old) (before place (Some operator) tokens.now)) }
+        ≡ start_step builds_with_height 12 (stack_of stack.old) (before place (Some operator) tokens.now)) }
 {
     if !operator_begins(operator) {
         return Ok((State::Broken, tokens));
@@ -355,7 +355,7 @@ pub fn climb<'a>(
     tokens: &'a [Token],
 ) -> Result<(State, &'a [Token]), AllocError>
     ensures { IfOk result (λ r. state_of r.0 (stack_of stack.new) r.1.now
-        ≡ climb_step capped level place (capped_of value) (stack_of stack.old) tokens.now) }
+        ≡ climb_step builds_with_height level place (capped_of value) (stack_of stack.old) tokens.now) }
 {
     let Some((token, rest)) = tokens.split_first() else {
         return Ok((closing(value), tokens));
@@ -377,7 +377,7 @@ fn extend<'a>(
     tokens: &'a [Token],
 ) -> Result<(State, &'a [Token]), AllocError>
     ensures { IfOk result (λ r. state_of r.0 (stack_of stack.new) r.1.now
-        ≡ extend_step capped level place (capped_of value) kind.now (stack_of stack.old) tokens.now) }
+        ≡ extend_step builds_with_height level place (capped_of value) kind.now (stack_of stack.old) tokens.now) }
 {
     match kind {
         Kind::Operator(operator) => plain(stack, alloc, level, place, value, *operator, tokens),
@@ -407,7 +407,7 @@ fn plain<'a>(
     operator: Operator,
     tokens: &'a [Token],
 ) -> Result<(State, &'a [Token]), AllocError>
-    ensures { IfOk result (λ r. state_of r.0 (stack_of stack.new) r.1.now ≡ plain_step capped
+    ensures { IfOk result (λ r. state_of r.0 (stack_of stack.new) r.1.now ≡ plain_step builds_with_height
         (is_dot operator) level place (capped_of value) operator (stack_of stack.old) tokens.now) }
 {
     match operator {
@@ -427,7 +427,7 @@ fn infix(
     operator: Infix,
 ) -> Result<State, AllocError>
     ensures { IfOk result (λ state. (tokens : List Token) → state_of state (stack_of stack.new) tokens
-        ≡ infix_step capped level place (capped_of value) operator (stack_of stack.old) tokens) }
+        ≡ infix_step builds_with_height level place (capped_of value) operator (stack_of stack.old) tokens) }
 {
     open(
         stack,
@@ -447,7 +447,7 @@ fn field<'a>(
     tokens: &'a [Token],
 ) -> Result<(State, &'a [Token]), AllocError>
     ensures { IfOk result (λ r. (frames : List OpenFrame) → state_of r.0 frames r.1.now
-        ≡ plain_step capped true level place (capped_of value) Dot frames tokens.now) }
+        ≡ plain_step builds_with_height true level place (capped_of value) Dot frames tokens.now) }
 {
     let Some((token, rest)) = tokens.split_first() else {
         discard(value);

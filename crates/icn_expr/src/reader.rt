@@ -1,7 +1,7 @@
 // How an expression is read.
 ghost use Rattle.std.specs.Prelude.{◌≡◌, ◌<◌, IfOk};
 ghost use Rattle.std.specs.Option.{option_map};
-ghost use Rattle.icn_expr.specs.Capped.{capped};
+ghost use Rattle.icn_expr.specs.Capped.{builds_with_height};
 ghost use Rattle.icn_expr.specs.Reading.{steps_left, end_of, expression_read};
 ghost use Rattle.icn_expr.specs.Views.{capped_of, stack_of, state_of, progress_end, IsGoing};
 
@@ -32,7 +32,7 @@ fn advance<'a>(
     tokens: &'a [Token],
 ) -> Result<Progress<'a>, AllocError>
     ensures same { IfOk result (λ p. progress_end p (stack_of stack.new)
-        ≡ end_of capped (state_of state (stack_of stack.old) tokens.now)) }
+        ≡ end_of builds_with_height (state_of state (stack_of stack.old) tokens.now)) }
     ensures less { IfOk result (λ p. IsGoing p (λ next rest. steps_left (state_of next
         (stack_of stack.new) rest) < steps_left (state_of state (stack_of stack.old) tokens.now))) }
 {
@@ -70,7 +70,7 @@ pub fn expression<'a>(
     tokens: &'a [Token],
 ) -> Result<Option<(Value, &'a [Token])>, AllocError>
     ensures { IfOk result (λ found. option_map (λ f. (capped_of f.0, f.1.now)) found
-        ≡ expression_read capped level tokens.now) }
+        ≡ expression_read builds_with_height level tokens.now) }
 {
     let mut stack = Stack::new(alloc);
     let mut state = State::Starting { level };

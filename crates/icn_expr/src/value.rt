@@ -3,7 +3,7 @@ ghost use Rattle.std.specs.Prelude.{◌≡◌, ◌<◌, Some, None, IfOk, box_va
 ghost use Rattle.icn_tree.specs.Trees.{Parentheses, Listing, Compound, Call, CoCall, Subscript, Case};
 ghost use Rattle.icn_tree.specs.TreeOf.{tree_of, all_of, all_clauses_of};
 ghost use Rattle.std.specs.Option.{option_map};
-ghost use Rattle.icn_expr.specs.Capped.{capped, kept_tree};
+ghost use Rattle.icn_expr.specs.Capped.{builds_with_height, kept_tree};
 ghost use Rattle.icn_expr.specs.Views.{capped_of, elements_of, branches_of};
 
 use icn_tree::{Clause, Expr, Infix, Literal, LoopKind, Name, Operator, Place, SectionKind};
@@ -127,7 +127,7 @@ impl Value {
 
     /// Nothing.
     pub fn empty() -> Value
-        ensures { capped_of result ≡ capped.empty }
+        ensures { capped_of result ≡ builds_with_height.empty }
     {
         Value {
             expr: Expr::Empty,
@@ -137,7 +137,7 @@ impl Value {
 
     /// A literal.
     pub fn constant(place: Place, value: Literal) -> Value
-        ensures { capped_of result ≡ capped.constant place value }
+        ensures { capped_of result ≡ builds_with_height.constant place value }
     {
         Value {
             expr: Expr::Literal { place, value },
@@ -147,7 +147,7 @@ impl Value {
 
     /// An identifier.
     pub fn identifier(name: Name) -> Value
-        ensures { capped_of result ≡ capped.identifier name }
+        ensures { capped_of result ≡ builds_with_height.identifier name }
     {
         Value {
             expr: Expr::Identifier { name },
@@ -157,7 +157,7 @@ impl Value {
 
     /// `&name`.
     pub fn keyword(place: Place, name: Name) -> Value
-        ensures { capped_of result ≡ capped.keyword place name }
+        ensures { capped_of result ≡ builds_with_height.keyword place name }
     {
         Value {
             expr: Expr::Keyword { place, name },
@@ -167,7 +167,7 @@ impl Value {
 
     /// `next`.
     pub fn next(place: Place) -> Value
-        ensures { capped_of result ≡ capped.next_form place }
+        ensures { capped_of result ≡ builds_with_height.next_form place }
     {
         Value {
             expr: Expr::Next { place },
@@ -177,7 +177,7 @@ impl Value {
 
     /// `fail`.
     pub fn fail(place: Place) -> Value
-        ensures { capped_of result ≡ capped.fail_form place }
+        ensures { capped_of result ≡ builds_with_height.fail_form place }
     {
         Value {
             expr: Expr::Fail { place },
@@ -187,7 +187,7 @@ impl Value {
 
     /// `(a, b)`.
     pub fn parentheses(place: Place, elements: Elements) -> Value
-        ensures { capped_of result ≡ capped.parentheses place (elements_of elements) }
+        ensures { capped_of result ≡ builds_with_height.parentheses place (elements_of elements) }
     {
         let height = elements.height;
         if height >= HIGHEST {
@@ -202,7 +202,7 @@ impl Value {
 
     /// `[a, b]`.
     pub fn list(place: Place, elements: Elements) -> Value
-        ensures { capped_of result ≡ capped.listing place (elements_of elements) }
+        ensures { capped_of result ≡ builds_with_height.listing place (elements_of elements) }
     {
         let height = elements.height;
         if height >= HIGHEST {
@@ -217,7 +217,7 @@ impl Value {
 
     /// `{a; b}`.
     pub fn compound(place: Place, exprs: Elements) -> Value
-        ensures { capped_of result ≡ capped.compound place (elements_of exprs) }
+        ensures { capped_of result ≡ builds_with_height.compound place (elements_of exprs) }
     {
         let height = exprs.height;
         if height >= HIGHEST {
@@ -238,7 +238,7 @@ impl Value {
         arguments: Elements,
     ) -> Result<Value, AllocError>
         ensures { IfOk result
-            (λ built. capped_of built ≡ capped.call place (capped_of callee) (elements_of arguments)) }
+            (λ built. capped_of built ≡ builds_with_height.call place (capped_of callee) (elements_of arguments)) }
     {
         let height = callee.height.max(arguments.height);
         if height >= HIGHEST {
@@ -260,7 +260,7 @@ impl Value {
         arguments: Elements,
     ) -> Result<Value, AllocError>
         ensures { IfOk result
-            (λ built. capped_of built ≡ capped.co_call place (capped_of callee) (elements_of arguments)) }
+            (λ built. capped_of built ≡ builds_with_height.co_call place (capped_of callee) (elements_of arguments)) }
     {
         let height = callee.height.max(arguments.height);
         if height >= HIGHEST {
@@ -282,7 +282,7 @@ impl Value {
         subscripts: Elements,
     ) -> Result<Value, AllocError>
         ensures { IfOk result
-            (λ built. capped_of built ≡ capped.subscript place (capped_of subject) (elements_of subscripts)) }
+            (λ built. capped_of built ≡ builds_with_height.subscript place (capped_of subject) (elements_of subscripts)) }
     {
         let height = subject.height.max(subscripts.height);
         if height >= HIGHEST {
@@ -306,7 +306,7 @@ impl Value {
         to: Value,
     ) -> Result<Value, AllocError>
         ensures { IfOk result (λ built. capped_of built
-            ≡ capped.section place kind (capped_of subject) (capped_of from) (capped_of to)) }
+            ≡ builds_with_height.section place kind (capped_of subject) (capped_of from) (capped_of to)) }
     {
         let height = subject.height.max(from.height.max(to.height));
         if height >= HIGHEST {
@@ -334,7 +334,7 @@ impl Value {
         subject: Value,
         name: Name,
     ) -> Result<Value, AllocError>
-        ensures { IfOk result (λ built. capped_of built ≡ capped.field place (capped_of subject) name) }
+        ensures { IfOk result (λ built. capped_of built ≡ builds_with_height.field place (capped_of subject) name) }
     {
         let height = subject.height;
         if height >= HIGHEST {
@@ -358,7 +358,7 @@ impl Value {
         operator: Operator,
         operand: Value,
     ) -> Result<Value, AllocError>
-        ensures { IfOk result (λ built. capped_of built ≡ capped.prefix place operator (capped_of operand)) }
+        ensures { IfOk result (λ built. capped_of built ≡ builds_with_height.prefix place operator (capped_of operand)) }
     {
         let height = operand.height;
         if height >= HIGHEST {
@@ -377,7 +377,7 @@ impl Value {
 
     /// `not a`. An error is want of memory.
     pub fn not(alloc: Global, place: Place, operand: Value) -> Result<Value, AllocError>
-        ensures { IfOk result (λ built. capped_of built ≡ capped.not_form place (capped_of operand)) }
+        ensures { IfOk result (λ built. capped_of built ≡ builds_with_height.not_form place (capped_of operand)) }
     {
         let height = operand.height;
         if height >= HIGHEST {
@@ -402,7 +402,7 @@ impl Value {
         right: Value,
     ) -> Result<Value, AllocError>
         ensures { IfOk result
-            (λ built. capped_of built ≡ capped.binary place operator (capped_of left) (capped_of right)) }
+            (λ built. capped_of built ≡ builds_with_height.binary place operator (capped_of left) (capped_of right)) }
     {
         let height = left.height.max(right.height);
         if height >= HIGHEST {
@@ -424,7 +424,7 @@ impl Value {
     /// `a to b`. An error is want of memory.
     pub fn to(alloc: Global, place: Place, from: Value, to: Value) -> Result<Value, AllocError>
         ensures { IfOk result
-            (λ built. capped_of built ≡ capped.to_form place (capped_of from) (capped_of to) None) }
+            (λ built. capped_of built ≡ builds_with_height.to_form place (capped_of from) (capped_of to) None) }
     {
         let height = from.height.max(to.height);
         if height >= HIGHEST {
@@ -452,7 +452,7 @@ impl Value {
         by: Value,
     ) -> Result<Value, AllocError>
         ensures { IfOk result (λ built. capped_of built
-            ≡ capped.to_form place (capped_of from) (capped_of to) (Some (capped_of by))) }
+            ≡ builds_with_height.to_form place (capped_of from) (capped_of to) (Some (capped_of by))) }
     {
         let height = from.height.max(to.height.max(by.height));
         if height >= HIGHEST {
@@ -480,7 +480,7 @@ impl Value {
         then: Value,
     ) -> Result<Value, AllocError>
         ensures { IfOk result
-            (λ built. capped_of built ≡ capped.if_form place (capped_of condition) (capped_of then) None) }
+            (λ built. capped_of built ≡ builds_with_height.if_form place (capped_of condition) (capped_of then) None) }
     {
         let height = condition.height.max(then.height);
         if height >= HIGHEST {
@@ -508,7 +508,7 @@ impl Value {
         otherwise: Value,
     ) -> Result<Value, AllocError>
         ensures { IfOk result (λ built. capped_of built
-            ≡ capped.if_form place (capped_of condition) (capped_of then) (Some (capped_of otherwise))) }
+            ≡ builds_with_height.if_form place (capped_of condition) (capped_of then) (Some (capped_of otherwise))) }
     {
         let height = condition.height.max(then.height.max(otherwise.height));
         if height >= HIGHEST {
@@ -536,7 +536,7 @@ impl Value {
         clauses: Branches,
     ) -> Result<Value, AllocError>
         ensures { IfOk result
-            (λ built. capped_of built ≡ capped.case_form place (capped_of subject) (branches_of clauses)) }
+            (λ built. capped_of built ≡ builds_with_height.case_form place (capped_of subject) (branches_of clauses)) }
     {
         let height = subject.height.max(clauses.height);
         if height >= HIGHEST {
@@ -558,7 +558,7 @@ impl Value {
         control: Value,
     ) -> Result<Value, AllocError>
         ensures { IfOk result
-            (λ built. capped_of built ≡ capped.loop_form place kind (capped_of control) None) }
+            (λ built. capped_of built ≡ builds_with_height.loop_form place kind (capped_of control) None) }
     {
         let height = control.height;
         if height >= HIGHEST {
@@ -585,7 +585,7 @@ impl Value {
         body: Value,
     ) -> Result<Value, AllocError>
         ensures { IfOk result (λ built. capped_of built
-            ≡ capped.loop_form place kind (capped_of control) (Some (capped_of body))) }
+            ≡ builds_with_height.loop_form place kind (capped_of control) (Some (capped_of body))) }
     {
         let height = control.height.max(body.height);
         if height >= HIGHEST {
@@ -606,7 +606,7 @@ impl Value {
 
     /// `repeat a`. An error is want of memory.
     pub fn repeat(alloc: Global, place: Place, body: Value) -> Result<Value, AllocError>
-        ensures { IfOk result (λ built. capped_of built ≡ capped.repeat_form place (capped_of body)) }
+        ensures { IfOk result (λ built. capped_of built ≡ builds_with_height.repeat_form place (capped_of body)) }
     {
         let height = body.height;
         if height >= HIGHEST {
@@ -624,7 +624,7 @@ impl Value {
 
     /// `create a`. An error is want of memory.
     pub fn create(alloc: Global, place: Place, body: Value) -> Result<Value, AllocError>
-        ensures { IfOk result (λ built. capped_of built ≡ capped.create_form place (capped_of body)) }
+        ensures { IfOk result (λ built. capped_of built ≡ builds_with_height.create_form place (capped_of body)) }
     {
         let height = body.height;
         if height >= HIGHEST {
@@ -642,7 +642,7 @@ impl Value {
 
     /// `break a`. An error is want of memory.
     pub fn break_with(alloc: Global, place: Place, value: Value) -> Result<Value, AllocError>
-        ensures { IfOk result (λ built. capped_of built ≡ capped.break_form place (capped_of value)) }
+        ensures { IfOk result (λ built. capped_of built ≡ builds_with_height.break_form place (capped_of value)) }
     {
         let height = value.height;
         if height >= HIGHEST {
@@ -660,7 +660,7 @@ impl Value {
 
     /// `return a`. An error is want of memory.
     pub fn return_with(alloc: Global, place: Place, value: Value) -> Result<Value, AllocError>
-        ensures { IfOk result (λ built. capped_of built ≡ capped.return_form place (capped_of value)) }
+        ensures { IfOk result (λ built. capped_of built ≡ builds_with_height.return_form place (capped_of value)) }
     {
         let height = value.height;
         if height >= HIGHEST {
@@ -678,7 +678,7 @@ impl Value {
 
     /// `suspend a`. An error is want of memory.
     pub fn suspend(alloc: Global, place: Place, value: Value) -> Result<Value, AllocError>
-        ensures { IfOk result (λ built. capped_of built ≡ capped.suspend_form place (capped_of value) None) }
+        ensures { IfOk result (λ built. capped_of built ≡ builds_with_height.suspend_form place (capped_of value) None) }
     {
         let height = value.height;
         if height >= HIGHEST {
@@ -703,7 +703,7 @@ impl Value {
         body: Value,
     ) -> Result<Value, AllocError>
         ensures { IfOk result
-            (λ built. capped_of built ≡ capped.suspend_form place (capped_of value) (Some (capped_of body))) }
+            (λ built. capped_of built ≡ builds_with_height.suspend_form place (capped_of value) (Some (capped_of body))) }
     {
         let height = value.height.max(body.height);
         if height >= HIGHEST {
@@ -736,7 +736,7 @@ impl Elements {
 
     /// No element.
     pub fn new(alloc: Global) -> Elements
-        ensures { elements_of result ≡ capped.no_elements }
+        ensures { elements_of result ≡ builds_with_height.no_elements }
     {
         Elements {
             exprs: Vec::new(alloc),
@@ -746,7 +746,7 @@ impl Elements {
 
     /// Whether there is none.
     pub fn is_empty(&self) -> bool
-        ensures { result ≡ capped.has_none (elements_of self.now) }
+        ensures { result ≡ builds_with_height.has_none (elements_of self.now) }
     {
         if self.height > HIGHEST {
             return false;
@@ -761,7 +761,7 @@ impl Elements {
     #[tactic(auto, using(crate::proofs::ViewFacts::all_of_last))]
     pub fn with(mut self, alloc: Global, value: Value) -> Result<Elements, AllocError>
         ensures { IfOk result
-            (λ all. elements_of all ≡ capped.with_element (elements_of self) (capped_of value)) }
+            (λ all. elements_of all ≡ builds_with_height.with_element (elements_of self) (capped_of value)) }
     {
         let height = self.height.max(value.height);
         if height > HIGHEST {
@@ -783,7 +783,7 @@ impl Elements {
 impl Branches {
     /// No clause.
     pub fn new(alloc: Global) -> Branches
-        ensures { branches_of result ≡ capped.no_clauses }
+        ensures { branches_of result ≡ builds_with_height.no_clauses }
     {
         Branches {
             clauses: Vec::new(alloc),
@@ -800,7 +800,7 @@ impl Branches {
         value: Value,
     ) -> Result<Branches, AllocError>
         ensures { IfOk result
-            (λ all. branches_of all ≡ capped.with_default (branches_of self) place (capped_of value)) }
+            (λ all. branches_of all ≡ builds_with_height.with_default (branches_of self) place (capped_of value)) }
     {
         let height = self.height.max(value.height);
         if height > HIGHEST {
@@ -831,7 +831,7 @@ impl Branches {
         value: Value,
     ) -> Result<Branches, AllocError>
         ensures { IfOk result (λ all. branches_of all
-            ≡ capped.with_guarded (branches_of self) place (capped_of guard) (capped_of value)) }
+            ≡ builds_with_height.with_guarded (branches_of self) place (capped_of guard) (capped_of value)) }
     {
         let height = self.height.max(guard.height.max(value.height));
         if height > HIGHEST {

@@ -5,7 +5,7 @@ use Rattle.std.specs.List.{All}
 use Rattle.std.specs.Option.{option_map}
 use Rattle.std.proofs.lemmas.List.Elements.{All-weaker, All-head, All-tail}
 use Rattle.icn_strings.specs.Regions.{Keeps as KeepsTexts, sum_of}
-use Rattle.icn_structs.specs.Numbered.{Numbered}
+use Rattle.icn_structs.specs.Numbered.{NumberedList}
 use Rattle.icn_value.specs.declared.val.Span.{Span}
 use Rattle.icn_value.specs.declared.val.Val.{Val}
 use Rattle.icn_value.specs.declared.val.Val.TheVariants.{Null as NullVal, Integer as IntegerVal, Text as TextVal, Chars as CharsVal, Std as StdVal, Proc as ProcVal, Rec as RecVal, List as ListVal, Set as SetVal, Table as TableVal, Coexp as CoexpVal}
@@ -98,8 +98,8 @@ module _ {a b : Extent} (keeps : Keeps a b) where
   optional_kept None is = refl
   optional_kept (Some val) is = ap Some (keeps.value val is)
 
-  list_kept : (cells : ℕ) (list : Numbered Val) → IsSoundList a cells list → list_in b list ≡ list_in a list
-  list_kept cells list is = ap (λ items. let it : Numbered Value = record { items = items; number = list.number } in it) (values_kept list.items is.live)
+  list_kept : (cells : ℕ) (list : NumberedList Val) → IsSoundList a cells list → list_in b list ≡ list_in a list
+  list_kept cells list is = ap (λ items. let it : NumberedList Value = record { items = items; number = list.number } in it) (values_kept list.items is.live)
 
   pair_kept : (pair : Key × Entry) → IsSoundPair a pair → pair_in b pair ≡ pair_in a pair
   pair_kept pair is = ap (λ (value : Value). let e : Value × Value = (key_value pair.0, value) in e) (keeps.value pair.1.value is.value)
@@ -119,7 +119,7 @@ module _ {a b : Extent} (keeps : Keeps a b) where
       heap_by (mapped _ _ _ (list_kept parts.cells) parts.lists are.lists) (mapped _ _ _ table_kept parts.tables are.tables)
       (mapped _ _ _ record_kept parts.records are.records)
     where
-      heap_by : {lists lists' : List (Numbered Value)} {tables tables' : List Table} {records records' : List Record}
+      heap_by : {lists lists' : List (NumberedList Value)} {tables tables' : List Table} {records records' : List Record}
           → lists' ≡ lists → tables' ≡ tables → records' ≡ records
           → (let s : Heap = record {
             lists = lists';
@@ -143,7 +143,7 @@ module _ {a b : Extent} (keeps : Keeps a b) where
           } in t)
       heap_by lists tables records = cc
 
-  sound_list_stays : (cells : ℕ) (list : Numbered Val) → IsSoundList a cells list → IsSoundList b cells list
+  sound_list_stays : (cells : ℕ) (list : NumberedList Val) → IsSoundList a cells list → IsSoundList b cells list
   sound_list_stays cells list is = record { live = live_kept list.items is.live; low = is.low; high = is.high }
 
   member_stays : (member : Key × Val) → IsSoundMember a member → IsSoundMember b member
@@ -173,7 +173,7 @@ module _ {a b : Extent} (keeps : Keeps a b) where
     coexps = are.coexps;
   }
 
-sound_list_later : (all : Extent) (cells sum : ℕ) → cells ≤ sum → (list : Numbered Val) → IsSoundList all cells list → IsSoundList all sum list
+sound_list_later : (all : Extent) (cells sum : ℕ) → cells ≤ sum → (list : NumberedList Val) → IsSoundList all cells list → IsSoundList all sum list
 sound_list_later all cells sum more list is = record {
   live = is.live;
   low = let low = is.low in omega (arith, ints);
@@ -181,7 +181,7 @@ sound_list_later all cells sum more list is = record {
 }
 
 -- lists are sound once more cells are charged
-pub lists_later : (all : Extent) (cells sum : ℕ) → cells ≤ sum → (lists : List (Numbered Val)) → All (IsSoundList all cells) lists
+pub lists_later : (all : Extent) (cells sum : ℕ) → cells ≤ sum → (lists : List (NumberedList Val)) → All (IsSoundList all cells) lists
     → All (IsSoundList all sum) lists
 lists_later all cells sum more lists are = All-weaker _ _ (sound_list_later all cells sum more) lists are
 

@@ -10,7 +10,7 @@ use Rattle.std.proofs.lemmas.List.Elements.{All-push, All-set, All-cons, All-hea
 use Rattle.std.proofs.Math.ListN.{get_or-map}
 use Rattle.icn_strings.specs.declared.region.Region.{Region}
 use Rattle.icn_strings.specs.Regions.{Keeps as KeepsTexts}
-use Rattle.icn_structs.specs.Numbered.{Numbered, number_after, with_right, with_left, without_left, without_right, with_numbered, items_with, item_at, item_numbered, leftmost, rightmost, after_first}
+use Rattle.icn_structs.specs.Numbered.{NumberedList, number_after, with_right, with_left, without_left, without_right, with_numbered, items_with, item_at, item_numbered, leftmost, rightmost, after_first}
 use Rattle.icn_value.specs.declared.val.Val.{Val}
 use Rattle.icn_value.specs.Values.{Value}
 use Rattle.icn_value.specs.Store.{Heap, new_list, list_at, with_list}
@@ -37,7 +37,7 @@ list_sound parts is id there = is.structures.lists id no_vals there
 
 -- Lists that stay sound
 
-module _ (all : Extent) (cells : ℕ) (list : Numbered Val) (is : IsSoundList all cells list) where
+module _ (all : Extent) (cells : ℕ) (list : NumberedList Val) (is : IsSoundList all cells list) where
   pub sound_right : (sum : ℕ) → sum ≡ cells + (1 + 0) → (val : Val) → IsLive all val → IsSoundList all sum (with_right list val)
   sound_right sum more val live = record {
     live = All-push (IsLive all) list.items val is.live live;
@@ -101,15 +101,15 @@ module _ (all : Extent) (cells : ℕ) (list : Numbered Val) (is : IsSoundList al
 
 -- What is done to a list is done to the values of its items
 
-pub right_in : (all : Extent) (list : Numbered Val) (val : Val) → list_in all (with_right list val) ≡ with_right (list_in all list) (value_in all val)
+pub right_in : (all : Extent) (list : NumberedList Val) (val : Val) → list_in all (with_right list val) ≡ with_right (list_in all list) (value_in all val)
 right_in all list val =
-    ap (λ items. let it : Numbered Value = record { items = items; number = list.number } in it) (map-append (value_in all) list.items (val ∷ []))
+    ap (λ items. let it : NumberedList Value = record { items = items; number = list.number } in it) (map-append (value_in all) list.items (val ∷ []))
 
 after_in : (all : Extent) (items : List Val) (number : ℤ) → list_in all (after_first items number) ≡ after_first (map (value_in all) items) number
 after_in all [] number = refl
 after_in all (val ∷ items) number = refl
 
-pub rest_in : (all : Extent) (list : Numbered Val) → list_in all (without_left list) ≡ without_left (list_in all list)
+pub rest_in : (all : Extent) (list : NumberedList Val) → list_in all (without_left list) ≡ without_left (list_in all list)
 rest_in all list = after_in all list.items list.number
 
 map-take : (all : Extent) (n : ℕ) (items : List Val) → map (value_in all) (take n items) ≡ take n (map (value_in all) items)
@@ -117,10 +117,10 @@ map-take all zero items = refl
 map-take all (suc n) [] = refl
 map-take all (suc n) (val ∷ items) = ap (λ rest. value_in all val ∷ rest) (map-take all n items)
 
-pub front_in : (all : Extent) (list : Numbered Val) → list_in all (without_right list) ≡ without_right (list_in all list)
+pub front_in : (all : Extent) (list : NumberedList Val) → list_in all (without_right list) ≡ without_right (list_in all list)
 front_in all list =
     let size : length list.items ≡ length (map (value_in all) list.items) = rw length-map refl in
-    ap (λ items. let it : Numbered Value = record { items = items; number = list.number } in it)
+    ap (λ items. let it : NumberedList Value = record { items = items; number = list.number } in it)
     (map-take all (length list.items - 1) list.items ∙ ap (λ n. take (n - 1) (map (value_in all) list.items)) size)
 
 items_with_in : (all : Extent) (items : List Val) (place : ℤ) (val : Val)
@@ -128,22 +128,22 @@ items_with_in : (all : Extent) (items : List Val) (place : ℤ) (val : Val)
 items_with_in all items (pos place) val = map-set (value_in all) items place val
 items_with_in all items (negsuc place) val = refl
 
-pub numbered_in : (all : Extent) (list : Numbered Val) (n : ℤ) (val : Val)
+pub numbered_in : (all : Extent) (list : NumberedList Val) (n : ℤ) (val : Val)
     → list_in all (with_numbered list n val) ≡ with_numbered (list_in all list) n (value_in all val)
 numbered_in all list n val =
-    ap (λ items. let it : Numbered Value = record { items = items; number = list.number } in it) (items_with_in all list.items (n -ℤ list.number) val)
+    ap (λ items. let it : NumberedList Value = record { items = items; number = list.number } in it) (items_with_in all list.items (n -ℤ list.number) val)
 
-pub item_in : (all : Extent) (list : Numbered Val) (n : ℤ) → item_numbered (list_in all list) n ≡ option_map (value_in all) (item_numbered list n)
+pub item_in : (all : Extent) (list : NumberedList Val) (n : ℤ) → item_numbered (list_in all list) n ≡ option_map (value_in all) (item_numbered list n)
 item_in all list n = at_place (n -ℤ list.number)
   where
     at_place : (place : ℤ) → item_at (map (value_in all) list.items) place ≡ option_map (value_in all) (item_at list.items place)
     at_place (pos place) = slice_get-map (value_in all) list.items place
     at_place (negsuc place) = refl
 
-pub first_in : (all : Extent) (list : Numbered Val) → leftmost (list_in all list) ≡ option_map (value_in all) (leftmost list)
+pub first_in : (all : Extent) (list : NumberedList Val) → leftmost (list_in all list) ≡ option_map (value_in all) (leftmost list)
 first_in all list = slice_get-map (value_in all) list.items 0
 
-pub last_in : (all : Extent) (list : Numbered Val) → rightmost (list_in all list) ≡ option_map (value_in all) (rightmost list)
+pub last_in : (all : Extent) (list : NumberedList Val) → rightmost (list_in all list) ≡ option_map (value_in all) (rightmost list)
 last_in all list = rw length-map (slice_get-map (value_in all) list.items (length list.items - 1))
 
 pub is_some_map : {X Y : Type 0} (f : X → Y) (found : Option X) → is_some (option_map f found) ≡ is_some found
@@ -162,7 +162,7 @@ module _ (parts : Parts) (is : IsSound parts) {sum : ℕ} (more : parts.cells �
   lists_more : All (IsSoundList (extent_in parts) sum) parts.lists
   lists_more = lists_later (extent_in parts) parts.cells sum more parts.lists is.structures.lists
 
-  pub list_changes : (id : ℕ) {list : Numbered Val} {value : Numbered Value} → IsSoundList (extent_in parts) sum list → list_in (extent_in parts) list ≡ value
+  pub list_changes : (id : ℕ) {list : NumberedList Val} {value : NumberedList Value} → IsSoundList (extent_in parts) sum list → list_in (extent_in parts) list ≡ value
       → Becomes parts (record parts { lists = slice_set parts.lists id list; cells = sum })
       (with_list id value (with_cells sum (heap_over (extent_in parts) parts)))
   list_changes id {list} {value} sound same =
@@ -181,7 +181,7 @@ module _ (parts : Parts) (is : IsSound parts) {sum : ℕ} (more : parts.cells �
       (ap (λ lists. let heap : Heap = record (with_cells sum (heap_over (extent_in parts) parts)) { lists = lists } in heap)
       (map-set (list_in (extent_in parts)) parts.lists id list ∙ ap (slice_set (map (list_in (extent_in parts)) parts.lists) id) same))
 
-  pub list_joins : {list : Numbered Val} {items : List Val} → sum ≡ parts.cells + (1 + length items) → list.items ≡ items → list.number ≡ pos 1
+  pub list_joins : {list : NumberedList Val} {items : List Val} → sum ≡ parts.cells + (1 + length items) → list.items ≡ items → list.number ≡ pos 1
       → All (IsLive (extent_in parts)) items
       → Becomes parts (record parts { lists = parts.lists ++ list ∷ []; cells = sum })
       (having_list (map (value_in (extent_in parts)) items) (with_cells sum (heap_over (extent_in parts) parts)))
@@ -203,10 +203,10 @@ module _ (parts : Parts) (is : IsSound parts) {sum : ℕ} (more : parts.cells �
       (record { limit = charged.limit; within = within; counted = (let few = charged.counted in omega arith); main = charged.main })
       (ap (λ lists. let heap : Heap = record (with_cells sum (heap_over (extent_in parts) parts)) { lists = lists } in heap)
       (map-append (list_in (extent_in parts)) parts.lists (list ∷ [])
-      ∙ ap (λ (it : Numbered Value). map (list_in (extent_in parts)) parts.lists ++ it ∷ []) made))
+      ∙ ap (λ (it : NumberedList Value). map (list_in (extent_in parts)) parts.lists ++ it ∷ []) made))
     where
       new_by : {a b : List Value} {n m : ℤ} → a ≡ b → n ≡ m
-          → (let x : Numbered Value = record { items = a; number = n } in x) ≡ (let y : Numbered Value = record { items = b; number = m } in y)
+          → (let x : NumberedList Value = record { items = a; number = n } in x) ≡ (let y : NumberedList Value = record { items = b; number = m } in y)
       new_by a b = cc
 
 -- The calls on one list
@@ -225,7 +225,7 @@ module _ (parts : Parts) (is : IsSound parts) (id : ℕ) (there : id < length pa
   list_puts {sum} paid within val live =
       list_changes parts is (omega arith) within id (sound_right _ _ _ found_sound sum paid val live)
       (right_in (extent_in parts) (slice_index_or parts.lists id no_vals) val
-      ∙ ap (λ (list : Numbered Value). with_right list (value_in (extent_in parts) val)) view)
+      ∙ ap (λ (list : NumberedList Value). with_right list (value_in (extent_in parts) val)) view)
 
   pub list_pushes : {sum : ℕ} → sum ≡ parts.cells + (1 + 0) → sum ≤ parts.limits.cells → (val : Val) → IsLive (extent_in parts) val
       → Becomes parts (record parts { lists = slice_set parts.lists id (with_left (slice_index_or parts.lists id no_vals) val); cells = sum })
@@ -233,7 +233,7 @@ module _ (parts : Parts) (is : IsSound parts) (id : ℕ) (there : id < length pa
       (with_cells sum (heap_over (extent_in parts) parts)))
   list_pushes {sum} paid within val live =
       list_changes parts is (omega arith) within id (sound_left _ _ _ found_sound sum paid val live)
-      (ap (λ (list : Numbered Value). with_left list (value_in (extent_in parts) val)) view)
+      (ap (λ (list : NumberedList Value). with_left list (value_in (extent_in parts) val)) view)
 
   pub list_gets : Becomes parts (record parts { lists = slice_set parts.lists id (without_left (slice_index_or parts.lists id no_vals)) })
       (with_list id (without_left (list_at (heap_over (extent_in parts) parts) id)) (heap_over (extent_in parts) parts))
@@ -253,7 +253,7 @@ module _ (parts : Parts) (is : IsSound parts) (id : ℕ) (there : id < length pa
   list_sets n val live =
       list_changes parts is (le_refl _) is.charged.within id (sound_numbered _ _ _ found_sound n val live)
       (numbered_in (extent_in parts) (slice_index_or parts.lists id no_vals) n val
-      ∙ ap (λ (list : Numbered Value). with_numbered list n (value_in (extent_in parts) val)) view)
+      ∙ ap (λ (list : NumberedList Value). with_numbered list n (value_in (extent_in parts) val)) view)
 
   -- what is found there
   pub first_live : IfSome (leftmost (slice_index_or parts.lists id no_vals)) (IsLive (extent_in parts))
@@ -275,7 +275,7 @@ module _ (parts : Parts) (is : IsSound parts) (id : ℕ) (there : id < length pa
   numbered_is n =
       sym (is_some_map (value_in (extent_in parts)) (item_numbered (slice_index_or parts.lists id no_vals) n))
       ∙ (ap is_some (sym (item_in (extent_in parts) (slice_index_or parts.lists id no_vals) n))
-      ∙ ap (λ (list : Numbered Value). is_some (item_numbered list n)) view)
+      ∙ ap (λ (list : NumberedList Value). is_some (item_numbered list n)) view)
 
 -- an item that was found, as the heap afterwards sees it
 pub item_kept : {a b : Extent} {item : Option Value} (found : Option Val) → Keeps a b → IfSome found (IsLive a) → option_map (value_in a) found ≡ item
@@ -291,7 +291,7 @@ map-replicate all zero fill = refl
 map-replicate all (suc n) fill = ap (λ rest. value_in all fill ∷ rest) (map-replicate all n fill)
 
 -- a list of one value so many times joins a heap
-pub list_repeats : (parts : Parts) → IsSound parts → {sum : ℕ} {list : Numbered Val} (n : ℕ) (fill : Val) → sum ≡ parts.cells + (1 + n)
+pub list_repeats : (parts : Parts) → IsSound parts → {sum : ℕ} {list : NumberedList Val} (n : ℕ) (fill : Val) → sum ≡ parts.cells + (1 + n)
     → sum ≤ parts.limits.cells
     → list.items ≡ replicate n fill → list.number ≡ pos 1 → IsLive (extent_in parts) fill
     → Becomes parts (record parts { lists = parts.lists ++ list ∷ []; cells = sum })

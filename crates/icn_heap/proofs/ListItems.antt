@@ -1,7 +1,7 @@
 -- The items of a list of a heap, by their numbers.
 use Rattle.std.proofs.Common.{◌≡◌, ◌∙◌, sym, ap, ℕ, ◌<◌, ℤ, pos, negsuc, ◌-ℤ◌, IfSome, slice_index_or, length}
 use Rattle.std.specs.Option.{option_map}
-use Rattle.icn_structs.specs.Numbered.{Numbered, item_at, item_numbered}
+use Rattle.icn_structs.specs.Numbered.{NumberedList, item_at, item_numbered}
 use Rattle.icn_value.specs.Values.{Value}
 use Rattle.icn_value.specs.Store.{list_at}
 use Rattle.icn_heap.specs.Extents.{IsLive, value_in}
@@ -13,7 +13,7 @@ module _ (parts : Parts) (is : IsSound parts) (id : ℕ) (there : id < length pa
       ≡ item_numbered (list_at (heap_over (extent_in parts) parts) id) n
   item_is =
       sym (item_in (extent_in parts) (slice_index_or parts.lists id no_vals) n)
-      ∙ ap (λ (list : Numbered Value). item_numbered list n) (sym (list_view (extent_in parts) parts id))
+      ∙ ap (λ (list : NumberedList Value). item_numbered list n) (sym (list_view (extent_in parts) parts id))
 
   pub item_live : IfSome (item_numbered (slice_index_or parts.lists id no_vals) n) (IsLive (extent_in parts))
   item_live = at_place (n -ℤ (slice_index_or parts.lists id no_vals).number)

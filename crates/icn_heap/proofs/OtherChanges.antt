@@ -8,7 +8,7 @@ use Rattle.std.proofs.lemmas.List.{map-set, map-append, length-map, length-set, 
 use Rattle.std.proofs.lemmas.List.Elements.{All-push, All-set}
 use Rattle.icn_strings.specs.declared.region.Region.{Region}
 use Rattle.icn_strings.specs.Regions.{Keeps as KeepsTexts, sum_of}
-use Rattle.icn_structs.specs.Numbered.{Numbered}
+use Rattle.icn_structs.specs.Numbered.{NumberedList}
 use Rattle.icn_structs.specs.PairLists.{value_of, stored, without, KeysDiffer}
 use Rattle.icn_value.specs.declared.full.Full.{Full}
 use Rattle.icn_value.specs.declared.val.Val.{Val}
@@ -423,8 +423,8 @@ texts_join parts is strings texts =
 
 -- How many elements there are
 
-pub items_count : (all : Extent) (list : Numbered Val) {values : Numbered Value} → list_in all list ≡ values → length list.items ≡ length values.items
-items_count all list same = sym (rw length-map refl) ∙ ap (λ (it : Numbered Value). length it.items) same
+pub items_count : (all : Extent) (list : NumberedList Val) {values : NumberedList Value} → list_in all list ≡ values → length list.items ≡ length values.items
+items_count all list same = sym (rw length-map refl) ∙ ap (λ (it : NumberedList Value). length it.items) same
 
 pub members_count : (parts : Parts) (id : ℕ) → length (slice_index_or parts.sets id []) ≡ length (set_at (heap_over (extent_in parts) parts) id)
 members_count parts id = sym (ap length (set_view (extent_in parts) parts id) ∙ (rw length-map refl))

@@ -1,6 +1,6 @@
 -- What a heap stands for, by the parts that it holds.
 use Rattle.std.proofs.Common.{◌≡◌, ◌∙◌, sym, ap, subst, ℕ, List, Ok, Result}
-use Rattle.icn_structs.specs.Numbered.{Numbered}
+use Rattle.icn_structs.specs.Numbered.{NumberedList}
 use Rattle.icn_value.specs.declared.full.Full.{Full}
 use Rattle.icn_value.specs.declared.val.Val.{Val}
 use Rattle.icn_value.specs.Store.{Heap}
@@ -16,7 +16,7 @@ use Rattle.icn_heap.proofs.Keeping.{Becomes}
 -- parts that differ in one list, and perhaps in the cells
 
 module _ (heap : HeldHeap) (sum : ℕ) where
-  pub with_lists : {a b : List (Numbered Val)} → a ≡ b
+  pub with_lists : {a b : List (NumberedList Val)} → a ≡ b
       → parts heap.strings a heap.sets.items heap.tables.items heap.records.items heap.coexps.items sum heap.limits
       ≡ parts heap.strings b heap.sets.items heap.tables.items heap.records.items heap.coexps.items sum heap.limits
   with_lists same = ap (λ x. parts heap.strings x heap.sets.items heap.tables.items heap.records.items heap.coexps.items sum heap.limits) same

@@ -4,7 +4,7 @@ use Rattle.std.specs.List.{All}
 use Rattle.std.proofs.Props.{props}
 use Rattle.icn_strings.specs.declared.region.Region.{Region}
 use Rattle.icn_strings.specs.Regions.{sum_of, limit_of}
-use Rattle.icn_structs.specs.Numbered.{Numbered, number_after}
+use Rattle.icn_structs.specs.Numbered.{NumberedList, number_after}
 use Rattle.icn_structs.specs.PairLists.{value_of, stored, without}
 use Rattle.icn_value.specs.declared.limits.Limits.{Limits}
 use Rattle.icn_value.specs.declared.val.Val.{Val}
@@ -24,7 +24,7 @@ use Rattle.icn_heap.specs.Records.{HeldRecord}
 -- the parts: the region of strings, the structures of each type, the counts of results, and what cells are charged
 pub record Parts : Type 0 where
   pub strings : Region
-  pub lists : List (Numbered Val)
+  pub lists : List (NumberedList Val)
   pub sets : List (List (Key × Val))
   pub tables : List Entries
   pub records : List HeldRecord
@@ -33,7 +33,7 @@ pub record Parts : Type 0 where
   pub limits : Limits
 
 -- the parts of a heap, by name
-abbrev pub parts : Region → List (Numbered Val) → List (List (Key × Val)) → List Entries → List HeldRecord
+abbrev pub parts : Region → List (NumberedList Val) → List (List (Key × Val)) → List Entries → List HeldRecord
     → List ℕ → ℕ → Limits → Parts
 parts strings lists sets tables records coexps cells limits = record {
   strings = strings;
@@ -49,7 +49,7 @@ parts strings lists sets tables records coexps cells limits = record {
 -- Each structure as values that hold their bytes
 
 -- the list that a held list stands for
-abbrev pub list_in : Extent → Numbered Val → Numbered Value
+abbrev pub list_in : Extent → NumberedList Val → NumberedList Value
 list_in all list = record { items = map (value_in all) list.items; number = list.number }
 
 abbrev pub member_in : Key × Val → Value
@@ -93,7 +93,7 @@ extent_in parts = record {
 -- Structures for numbers that none has
 
 -- an empty list, as it is held
-abbrev pub no_vals : Numbered Val
+abbrev pub no_vals : NumberedList Val
 no_vals = record { items = []; number = pos 1 }
 
 -- an empty table with null as its default, as it is held
@@ -136,7 +136,7 @@ table_without table key = record table { pairs = without key_eq table.pairs key 
 -- What holds of each structure
 
 -- the items are of the heap, and no more numbers were used up than cells were charged
-pub record IsSoundList (all : Extent) (cells : ℕ) (list : Numbered Val) : Type 0 where
+pub record IsSoundList (all : Extent) (cells : ℕ) (list : NumberedList Val) : Type 0 where
   pub live : All (IsLive all) list.items
   pub low : pos 1 ≤ℤ (list.number +ℤ pos cells)
   pub high : number_after list ≤ℤ pos (cells + 1)
@@ -184,7 +184,7 @@ pub record IsSound (parts : Parts) : Type 0 where
   pub structures : AreSound (extent_in parts) parts
   pub charged : IsCharged parts
 
-IsSoundList-prop : (all : Extent) (cells : ℕ) (list : Numbered Val) → IsProp (IsSoundList all cells list)
+IsSoundList-prop : (all : Extent) (cells : ℕ) (list : NumberedList Val) → IsProp (IsSoundList all cells list)
 IsSoundList-prop all cells list = hlevel (IsLive-prop, props)
 
 IsSoundMember-prop : (all : Extent) (member : Key × Val) → IsProp (IsSoundMember all member)

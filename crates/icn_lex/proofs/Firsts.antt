@@ -14,9 +14,9 @@ use Rattle.icn_tree.specs.declared.token.Kind.{Kind}
 use Rattle.icn_tree.specs.declared.token.Kind.TheVariants.{Integer, Operator}
 use Rattle.icn_tree.specs.declared.token.Operator.TheVariants.{Dot}
 use Rattle.icn_tree.specs.Characters.{begins_identifier, continues_identifier, is_digit, is_alphanumeric}
-use Rattle.icn_tree.specs.Numbers.{is_nothing, is_radix_mark, is_real_mark, number_in, number_by, number, sized, integer_kind, integer}
+use Rattle.icn_tree.specs.Numbers.{is_nothing, is_radix_mark, is_real_mark, number_in, number_by, number, within_size, integer_kind, integer}
 use Rattle.icn_tree.specs.Spellings.{lookup_text, name_of, marks_of}
-use Rattle.icn_tree.specs.Tokens.{name, dot_number, spelled, longest, front_token, first_of}
+use Rattle.icn_tree.specs.Tokens.{name, dot_number, one_token, longest, front_token, first_of}
 use Rattle.icn_lex.specs.Reading.{first_match, bounded_by, value_in, within_limit, with_count, with_length, number_read_by, number_read, dot_read, bare_read, name_read, first_read}
 use Rattle.icn_tree.proofs.Fronts.{longest_is, longest_none, longest_same, front_passes, front_fails, run_of_front, take_front, drop_front}
 
@@ -27,7 +27,7 @@ judged_at (Ok kind) count = refl
 judged_at (Err rule) count = refl
 
 judged_sized : (text : List ℕ) (sense : Result Kind Rule) (count : ℕ) → length text ≡ count
-    → front_token (Some (sized text sense, count)) ≡ with_length count sense
+    → front_token (Some (within_size text sense, count)) ≡ with_length count sense
 judged_sized text sense count same = ap (λ n. front_token (Some (cond (nat_le n 65535) sense (Err L7), count))) same ∙ by_test (nat_le count 65535) where
   by_test : (test : Bool) → front_token (Some (cond test sense (Err L7), count)) ≡ cond test (with_count count sense) (Err L7)
   by_test true = judged_at sense count
@@ -38,33 +38,33 @@ judged_found found other e = ap front_token e
 
 -- Names
 
-spelled_name : (b : ℕ) (rest : List ℕ) → begins_identifier b ≡ true → spelled (b ∷ rest) ≡ name b rest
-unfolding spelled
+spelled_name : (b : ℕ) (rest : List ℕ) → begins_identifier b ≡ true → one_token (b ∷ rest) ≡ name b rest
+unfolding one_token
 spelled_name b rest h = cond-true (begins_identifier b) _ _ h
 
 name_at : (b : ℕ) (rest : List ℕ) → begins_identifier b ≡ true → list_all continues_identifier rest ≡ true
-    → spelled (b ∷ rest) ≡ Some (sized (b ∷ rest) (Ok (name_of (b ∷ rest))))
+    → one_token (b ∷ rest) ≡ Some (within_size (b ∷ rest) (Ok (name_of (b ∷ rest))))
 name_at b rest h all = spelled_name b rest h ∙ cond-true (list_all continues_identifier rest) _ _ all
 
 no_name : (b : ℕ) (rest : List ℕ) → begins_identifier b ≡ true → (m : ℕ) → suc (prefix_len continues_identifier rest) < m → m ≤ suc (length rest)
-    → spelled (take m (b ∷ rest)) ≡ None
+    → one_token (take m (b ∷ rest)) ≡ None
 no_name b rest h zero l g = absurd (omega arith)
 no_name b rest h (suc m) l g = spelled_name b (take m rest) h
     ∙ cond-false (list_all continues_identifier (take m rest)) _ _ (front_fails continues_identifier rest m (omega arith) (omega arith))
 
-first_name : (b : ℕ) (rest : List ℕ) → begins_identifier b ≡ true → front_token (longest spelled (suc (length rest)) (b ∷ rest)) ≡ name_read b rest
+first_name : (b : ℕ) (rest : List ℕ) → begins_identifier b ≡ true → front_token (longest one_token (suc (length rest)) (b ∷ rest)) ≡ name_read b rest
 first_name b rest h =
     let n = prefix_len continues_identifier rest in
     let within : n ≤ length rest = prefix_len-le-length continues_identifier rest in
     let size : length (b ∷ take n rest) ≡ suc n = omega (arith, length-take-le n rest within) in
-    judged_found _ _ (longest_is spelled (suc (length rest)) (suc n) (b ∷ rest) _ (omega arith) (omega arith)
+    judged_found _ _ (longest_is one_token (suc (length rest)) (suc n) (b ∷ rest) _ (omega arith) (omega arith)
     (name_at b (take n rest) h (front_passes continues_identifier rest n (omega arith))) (no_name b rest h))
     ∙ (judged_sized (b ∷ take n rest) (Ok (name_of (b ∷ take n rest))) (suc n) size ∙ rw add-one refl)
 
 -- Numbers
 
-spelled_number : (b : ℕ) (rest : List ℕ) → begins_identifier b ≡ false → is_digit b ≡ true → spelled (b ∷ rest) ≡ number (b ∷ rest)
-unfolding spelled
+spelled_number : (b : ℕ) (rest : List ℕ) → begins_identifier b ≡ false → is_digit b ≡ true → one_token (b ∷ rest) ≡ number (b ∷ rest)
+unfolding one_token
 spelled_number b rest h d = cond-false (begins_identifier b) _ _ h ∙ cond-true (is_digit b) _ _ d
 
 -- a front with all digits at the front of the bytes
@@ -95,13 +95,13 @@ some_digit b rest d = by_test (is_digit b) d where
   by_test false h = absurd (false≢true h)
 
 spelled_front : (b : ℕ) (rest : List ℕ) (m : ℕ) → begins_identifier b ≡ false → is_digit b ≡ true → 0 < m
-    → spelled (take m (b ∷ rest)) ≡ number (take m (b ∷ rest))
+    → one_token (take m (b ∷ rest)) ≡ number (take m (b ∷ rest))
 spelled_front b rest zero h d p = absurd (omega arith)
 spelled_front b rest (suc m) h d p = spelled_number b (take m rest) h d
 
 -- fronts by how much they have behind the digits
 behind : (b : ℕ) (rest : List ℕ) (m : ℕ) → begins_identifier b ≡ false → is_digit b ≡ true → let n = prefix_len is_digit (b ∷ rest) in n ≤ m
-    → spelled (take m (b ∷ rest)) ≡ number_by (take n (b ∷ rest)) (take (m - n) (drop n (b ∷ rest)))
+    → one_token (take m (b ∷ rest)) ≡ number_by (take n (b ∷ rest)) (take (m - n) (drop n (b ∷ rest)))
 behind b rest m h d l =
     let n = prefix_len is_digit (b ∷ rest) in
     let p : 0 < n = some_digit b rest d in
@@ -132,14 +132,14 @@ number_of : (b : ℕ) (rest : List ℕ) (k : ℕ) (sense : Result Kind Rule) →
     → let n = prefix_len is_digit (b ∷ rest) in k ≤ length (drop n (b ∷ rest))
     → number_by (take n (b ∷ rest)) (take k (drop n (b ∷ rest))) ≡ Some sense
     → ((j : ℕ) → k < j → j ≤ length (drop n (b ∷ rest)) → number_by (take n (b ∷ rest)) (take j (drop n (b ∷ rest))) ≡ None)
-    → longest spelled (suc (length rest)) (b ∷ rest) ≡ Some (sense, n + k)
+    → longest one_token (suc (length rest)) (b ∷ rest) ≡ Some (sense, n + k)
 number_of b rest k sense h d within is none =
     let n = prefix_len is_digit (b ∷ rest) in
     let p : 0 < n = some_digit b rest d in
     let fits : n ≤ suc (length rest) = prefix_len-le-length is_digit (b ∷ rest) in
     let size : length (drop n (b ∷ rest)) ≡ suc (length rest) - n = length-drop n (b ∷ rest) in
     let here : n + k - n ≡ k = omega arith in
-    longest_is spelled (suc (length rest)) (n + k) (b ∷ rest) sense (omega arith) (omega arith)
+    longest_is one_token (suc (length rest)) (n + k) (b ∷ rest) sense (omega arith) (omega arith)
     (behind b rest (n + k) h d (omega arith) ∙ (ap (λ j. number_by (take n (b ∷ rest)) (take j (drop n (b ∷ rest)))) here ∙ is))
     (λ m l g. behind b rest m h d (omega arith) ∙ none (m - n) (omega arith) (omega arith))
 
@@ -147,13 +147,13 @@ digits_len : (b : ℕ) (rest : List ℕ) → let n = prefix_len is_digit (b ∷ 
 digits_len b rest = length-take-le (prefix_len is_digit (b ∷ rest)) (b ∷ rest) (prefix_len-le-length is_digit (b ∷ rest))
 
 decimal_read : (b : ℕ) (rest : List ℕ) → let n = prefix_len is_digit (b ∷ rest) in
-    front_token (Some (sized (take n (b ∷ rest)) (integer_kind (number_in 10 (take n (b ∷ rest)))), n + 0))
+    front_token (Some (within_size (take n (b ∷ rest)) (integer_kind (number_in 10 (take n (b ∷ rest)))), n + 0))
     ≡ with_length n (bounded_by (value_in 10 (take n (b ∷ rest))))
 decimal_read b rest =
     let n = prefix_len is_digit (b ∷ rest) in
     let digits = take n (b ∷ rest) in
     let none : n + 0 ≡ n = omega arith in
-    ap (λ k. front_token (Some (sized digits (integer_kind (number_in 10 digits)), k))) none
+    ap (λ k. front_token (Some (within_size digits (integer_kind (number_in 10 digits)), k))) none
     ∙ (judged_sized digits (integer_kind (number_in 10 digits)) n (digits_len b rest) ∙ ap (with_length n) (sym (decimal_value (number_in 10 digits))))
 
 take_none : (tail : List ℕ) → take 0 tail ≡ []
@@ -171,7 +171,7 @@ tail_size : (b : ℕ) (rest : List ℕ) (c : ℕ) (more : List ℕ) → Tail b r
 tail_size b rest c more is = ap length is
 
 radix_at : (digits : List ℕ) (c : ℕ) (more : List ℕ) → is_radix_mark c ≡ true → list_all is_alphanumeric more ≡ true
-    → number_by digits (c ∷ more) ≡ Some (sized (digits ++ c ∷ more) (integer (number_in 10 digits) more))
+    → number_by digits (c ∷ more) ≡ Some (within_size (digits ++ c ∷ more) (integer (number_in 10 digits) more))
 radix_at digits c more r all = cond-true (is_radix_mark c && list_all is_alphanumeric more) _ _ (rw (r, all) refl)
 
 not_longer_radix : (digits : List ℕ) (c : ℕ) (more : List ℕ) → is_radix_mark c ≡ true → (j : ℕ) → suc (prefix_len is_alphanumeric more) < j
@@ -187,7 +187,7 @@ radix_size digits n c w more size fits = omega (arith, length-append digits (c �
 
 radix_read : (b : ℕ) (rest : List ℕ) (c : ℕ) (more : List ℕ) → begins_identifier b ≡ false → is_digit b ≡ true → Tail b rest c more → is_radix_mark c ≡ true
     → let n = prefix_len is_digit (b ∷ rest) in let written = prefix_len is_alphanumeric more in
-    front_token (longest spelled (suc (length rest)) (b ∷ rest))
+    front_token (longest one_token (suc (length rest)) (b ∷ rest))
     ≡ with_length (n + 1 + written) (integer (number_in 10 (take n (b ∷ rest))) (take written more))
 radix_read b rest c more h d is r =
     let n = prefix_len is_digit (b ∷ rest) in
@@ -195,7 +195,7 @@ radix_read b rest c more h d is r =
     let w = prefix_len is_alphanumeric more in
     let fits : w ≤ length more = prefix_len-le-length is_alphanumeric more in
     let size = tail_size b rest c more is in
-    let sense = sized (digits ++ c ∷ take w more) (integer (number_in 10 digits) (take w more)) in
+    let sense = within_size (digits ++ c ∷ take w more) (integer (number_in 10 digits) (take w more)) in
     let total : n + suc w ≡ n + 1 + w = omega arith in
     judged_found _ _ (number_of b rest (suc w) sense h d (omega (arith, size, fits))
     (tail_at b rest c more (suc w) is ∙ radix_at digits c (take w more) r (front_passes is_alphanumeric more w (omega arith)))
@@ -217,7 +217,7 @@ not_longer_real digits c (x ∷ more) r (suc (suc j)) l g =
 
 real_read : (b : ℕ) (rest : List ℕ) (c : ℕ) (more : List ℕ) → begins_identifier b ≡ false → is_digit b ≡ true → Tail b rest c more → is_radix_mark c ≡ false
     → is_real_mark c ≡ true
-    → front_token (longest spelled (suc (length rest)) (b ∷ rest)) ≡ Err L6
+    → front_token (longest one_token (suc (length rest)) (b ∷ rest)) ≡ Err L6
 real_read b rest c more h d is r e =
     let digits = take (prefix_len is_digit (b ∷ rest)) (b ∷ rest) in
     let size = tail_size b rest c more is in
@@ -232,25 +232,25 @@ not_longer_decimal digits c more r e (suc j) l = no_radix digits c (take j more)
 plain_read : (b : ℕ) (rest : List ℕ) (c : ℕ) (more : List ℕ) → begins_identifier b ≡ false → is_digit b ≡ true → Tail b rest c more → is_radix_mark c ≡ false
     → is_real_mark c ≡ false
     → let n = prefix_len is_digit (b ∷ rest) in
-    front_token (longest spelled (suc (length rest)) (b ∷ rest)) ≡ with_length n (bounded_by (value_in 10 (take n (b ∷ rest))))
+    front_token (longest one_token (suc (length rest)) (b ∷ rest)) ≡ with_length n (bounded_by (value_in 10 (take n (b ∷ rest))))
 plain_read b rest c more h d is r e =
     let n = prefix_len is_digit (b ∷ rest) in
     let digits = take n (b ∷ rest) in
-    judged_found _ _ (number_of b rest 0 (sized digits (integer_kind (number_in 10 digits))) h d (omega arith) refl
+    judged_found _ _ (number_of b rest 0 (within_size digits (integer_kind (number_in 10 digits))) h d (omega arith) refl
     (λ j l g. tail_at b rest c more j is ∙ not_longer_decimal digits c more r e j l))
     ∙ decimal_read b rest
 
 by_real : (b : ℕ) (rest : List ℕ) (c : ℕ) (more : List ℕ) → begins_identifier b ≡ false → is_digit b ≡ true → Tail b rest c more → is_radix_mark c ≡ false
     → (real : Bool) → is_real_mark c ≡ real
     → let n = prefix_len is_digit (b ∷ rest) in
-    front_token (longest spelled (suc (length rest)) (b ∷ rest)) ≡ cond real (Err L6) (with_length n (bounded_by (value_in 10 (take n (b ∷ rest)))))
+    front_token (longest one_token (suc (length rest)) (b ∷ rest)) ≡ cond real (Err L6) (with_length n (bounded_by (value_in 10 (take n (b ∷ rest)))))
 by_real b rest c more h d is r true e = real_read b rest c more h d is r e
 by_real b rest c more h d is r false e = plain_read b rest c more h d is r e
 
 by_radix : (b : ℕ) (rest : List ℕ) (c : ℕ) (more : List ℕ) → begins_identifier b ≡ false → is_digit b ≡ true → Tail b rest c more → (radix : Bool)
     → is_radix_mark c ≡ radix
     → let n = prefix_len is_digit (b ∷ rest) in let written = prefix_len is_alphanumeric more in
-    front_token (longest spelled (suc (length rest)) (b ∷ rest))
+    front_token (longest one_token (suc (length rest)) (b ∷ rest))
     ≡ cond radix (with_length (n + 1 + written) (integer (number_in 10 (take n (b ∷ rest))) (take written more)))
     (cond (is_real_mark c) (Err L6) (with_length n (bounded_by (value_in 10 (take n (b ∷ rest))))))
 by_radix b rest c more h d is true r = radix_read b rest c more h d is r
@@ -258,26 +258,26 @@ by_radix b rest c more h d is false r = by_real b rest c more h d is r (is_real_
 
 first_number_by : (b : ℕ) (rest tail : List ℕ) → begins_identifier b ≡ false → is_digit b ≡ true → let n = prefix_len is_digit (b ∷ rest) in
     drop n (b ∷ rest) ≡ tail
-    → front_token (longest spelled (suc (length rest)) (b ∷ rest)) ≡ number_read_by (take n (b ∷ rest)) n tail
+    → front_token (longest one_token (suc (length rest)) (b ∷ rest)) ≡ number_read_by (take n (b ∷ rest)) n tail
 first_number_by b rest [] h d is =
     let n = prefix_len is_digit (b ∷ rest) in
     let size : length (drop n (b ∷ rest)) ≡ 0 = ap length is in
-    judged_found _ _ (number_of b rest 0 (sized (take n (b ∷ rest)) (integer_kind (number_in 10 (take n (b ∷ rest))))) h d (omega arith) refl
+    judged_found _ _ (number_of b rest 0 (within_size (take n (b ∷ rest)) (integer_kind (number_in 10 (take n (b ∷ rest))))) h d (omega arith) refl
     (λ j l g. absurd (omega arith)))
     ∙ decimal_read b rest
 first_number_by b rest (c ∷ more) h d is = by_radix b rest c more h d is (is_radix_mark c) refl
 
 pub first_number : (b : ℕ) (rest : List ℕ) → begins_identifier b ≡ false → is_digit b ≡ true
-    → front_token (longest spelled (suc (length rest)) (b ∷ rest)) ≡ number_read (b ∷ rest)
+    → front_token (longest one_token (suc (length rest)) (b ∷ rest)) ≡ number_read (b ∷ rest)
 first_number b rest h d = first_number_by b rest (drop (prefix_len is_digit (b ∷ rest)) (b ∷ rest)) h d refl
 
 -- The dot
 
-spelled_dot : (rest : List ℕ) → spelled (46 ∷ rest) ≡ dot_number rest
-unfolding spelled
+spelled_dot : (rest : List ℕ) → one_token (46 ∷ rest) ≡ dot_number rest
+unfolding one_token
 spelled_dot rest = refl
 
-longer_dot : (rest : List ℕ) (m : ℕ) → 2 < m → m ≤ suc (length rest) → spelled (take m (46 ∷ rest)) ≡ None
+longer_dot : (rest : List ℕ) (m : ℕ) → 2 < m → m ≤ suc (length rest) → one_token (take m (46 ∷ rest)) ≡ None
 longer_dot rest zero l g = absurd (omega arith)
 longer_dot rest (suc zero) l g = absurd (omega arith)
 longer_dot rest (suc (suc zero)) l g = absurd (omega arith)
@@ -285,24 +285,24 @@ longer_dot [] (suc (suc (suc m))) l g = absurd (omega arith)
 longer_dot (b ∷ []) (suc (suc (suc m))) l g = absurd (omega arith)
 longer_dot (b ∷ c ∷ rest) (suc (suc (suc m))) l g = spelled_dot (b ∷ c ∷ take m rest)
 
-after_dot : (b : ℕ) (rest : List ℕ) (m : ℕ) → is_digit b ≡ false → 1 < m → m ≤ suc (suc (length rest)) → spelled (take m (46 ∷ b ∷ rest)) ≡ None
+after_dot : (b : ℕ) (rest : List ℕ) (m : ℕ) → is_digit b ≡ false → 1 < m → m ≤ suc (suc (length rest)) → one_token (take m (46 ∷ b ∷ rest)) ≡ None
 after_dot b rest zero d l g = absurd (omega arith)
 after_dot b rest (suc zero) d l g = absurd (omega arith)
 after_dot b rest (suc (suc zero)) d l g = spelled_dot (b ∷ []) ∙ cond-false (is_digit b) _ _ d
 after_dot b rest (suc (suc (suc m))) d l g = longer_dot (b ∷ rest) (suc (suc (suc m))) (omega arith) g
 
 dot_by : (b : ℕ) (rest : List ℕ) (digit : Bool) → is_digit b ≡ digit
-    → front_token (longest spelled (suc (suc (length rest))) (46 ∷ b ∷ rest)) ≡ cond digit (Err L6) (Ok (Operator Dot, 1))
+    → front_token (longest one_token (suc (suc (length rest))) (46 ∷ b ∷ rest)) ≡ cond digit (Err L6) (Ok (Operator Dot, 1))
 dot_by b rest true d =
-    judged_found _ _ (longest_is spelled (suc (suc (length rest))) 2 (46 ∷ b ∷ rest) (Err L6) (omega arith) (omega arith)
+    judged_found _ _ (longest_is one_token (suc (suc (length rest))) 2 (46 ∷ b ∷ rest) (Err L6) (omega arith) (omega arith)
     (spelled_dot (b ∷ []) ∙ cond-true (is_digit b) _ _ d) (longer_dot (b ∷ rest)))
 dot_by b rest false d =
-    judged_found _ _ (longest_is spelled (suc (suc (length rest))) 1 (46 ∷ b ∷ rest) (Ok (Operator Dot)) (omega arith) (omega arith) (spelled_dot [])
+    judged_found _ _ (longest_is one_token (suc (suc (length rest))) 1 (46 ∷ b ∷ rest) (Ok (Operator Dot)) (omega arith) (omega arith) (spelled_dot [])
     (λ m l g. after_dot b rest m d l g))
 
-first_dot : (rest : List ℕ) → front_token (longest spelled (suc (length rest)) (46 ∷ rest)) ≡ dot_read rest
+first_dot : (rest : List ℕ) → front_token (longest one_token (suc (length rest)) (46 ∷ rest)) ≡ dot_read rest
 first_dot [] =
-    judged_found _ _ (longest_is spelled 1 1 (46 ∷ []) (Ok (Operator Dot)) (omega arith) (omega arith) (spelled_dot []) (λ m l g. absurd (omega arith)))
+    judged_found _ _ (longest_is one_token 1 1 (46 ∷ []) (Ok (Operator Dot)) (omega arith) (omega arith) (spelled_dot []) (λ m l g. absurd (omega arith)))
 first_dot (b ∷ rest) = dot_by b rest (is_digit b) refl
 
 -- Operators and punctuation marks
@@ -421,12 +421,12 @@ marks_in_order b =
     (order_of_choice (b == 126) _ _ refl refl)))))))))))))))))))))))))
 
 spelled_mark : (b : ℕ) (rest : List ℕ) → begins_identifier b ≡ false → is_digit b ≡ false → (b == 46) ≡ false
-    → spelled (b ∷ rest) ≡ sense_in (marks_of b) (b ∷ rest)
-unfolding spelled
+    → one_token (b ∷ rest) ≡ sense_in (marks_of b) (b ∷ rest)
+unfolding one_token
 spelled_mark b rest h d dot = cond-false (begins_identifier b) _ _ h ∙ (cond-false (is_digit b) _ _ d ∙ cond-false (b == 46) _ _ dot)
 
 marks_same : (b : ℕ) (rest : List ℕ) → begins_identifier b ≡ false → is_digit b ≡ false → (b == 46) ≡ false → (m : ℕ) → 0 < m
-    → spelled (take m (b ∷ rest)) ≡ sense_in (marks_of b) (take m (b ∷ rest))
+    → one_token (take m (b ∷ rest)) ≡ sense_in (marks_of b) (take m (b ∷ rest))
 marks_same b rest h d dot zero p = absurd (omega arith)
 marks_same b rest h d dot (suc m) p = spelled_mark b (take m rest) h d dot
 
@@ -435,27 +435,27 @@ judged_match None = refl
 judged_match (Some match) = refl
 
 first_mark : (b : ℕ) (rest : List ℕ) → begins_identifier b ≡ false → is_digit b ≡ false → (b == 46) ≡ false
-    → front_token (longest spelled (suc (length rest)) (b ∷ rest)) ≡ ok_or (first_match (marks_of b) (b ∷ rest)) L1
+    → front_token (longest one_token (suc (length rest)) (b ∷ rest)) ≡ ok_or (first_match (marks_of b) (b ∷ rest)) L1
 first_mark b rest h d dot =
-    judged_found _ _ (longest_same spelled (sense_in (marks_of b)) (suc (length rest)) (b ∷ rest) (λ m p g. marks_same b rest h d dot m p)
+    judged_found _ _ (longest_same one_token (sense_in (marks_of b)) (suc (length rest)) (b ∷ rest) (λ m p g. marks_same b rest h d dot m p)
     ∙ first_in_order (marks_of b) (b ∷ rest) (marks_in_order b))
     ∙ judged_match (first_match (marks_of b) (b ∷ rest))
 
 -- All together
 
 by_dot : (b : ℕ) (rest : List ℕ) → begins_identifier b ≡ false → is_digit b ≡ false → (dot : Bool) → (b == 46) ≡ dot
-    → front_token (longest spelled (suc (length rest)) (b ∷ rest)) ≡ cond dot (dot_read rest) (ok_or (first_match (marks_of b) (b ∷ rest)) L1)
-by_dot b rest h d true dot = let is : b ≡ 46 = eqb-true b 46 dot in ap (λ c. front_token (longest spelled (suc (length rest)) (c ∷ rest))) is ∙ first_dot rest
+    → front_token (longest one_token (suc (length rest)) (b ∷ rest)) ≡ cond dot (dot_read rest) (ok_or (first_match (marks_of b) (b ∷ rest)) L1)
+by_dot b rest h d true dot = let is : b ≡ 46 = eqb-true b 46 dot in ap (λ c. front_token (longest one_token (suc (length rest)) (c ∷ rest))) is ∙ first_dot rest
 by_dot b rest h d false dot = first_mark b rest h d dot
 
 by_digit : (b : ℕ) (rest : List ℕ) → begins_identifier b ≡ false → (digit : Bool) → is_digit b ≡ digit
-    → front_token (longest spelled (suc (length rest)) (b ∷ rest))
+    → front_token (longest one_token (suc (length rest)) (b ∷ rest))
     ≡ cond digit (number_read (b ∷ rest)) (cond (b == 46) (dot_read rest) (ok_or (first_match (marks_of b) (b ∷ rest)) L1))
 by_digit b rest h true d = first_number b rest h d
 by_digit b rest h false d = by_dot b rest h d (b == 46) refl
 
 by_letter : (b : ℕ) (rest : List ℕ) → (letter : Bool) → begins_identifier b ≡ letter
-    → front_token (longest spelled (suc (length rest)) (b ∷ rest)) ≡ cond letter (name_read b rest) (bare_read b (b ∷ rest) rest)
+    → front_token (longest one_token (suc (length rest)) (b ∷ rest)) ≡ cond letter (name_read b rest) (bare_read b (b ∷ rest) rest)
 by_letter b rest true h = first_name b rest h
 by_letter b rest false h = by_digit b rest h (is_digit b) refl
 

@@ -8,7 +8,7 @@ use Rattle.icn_tree.specs.declared.token.Token.{Token}
 use Rattle.icn_tree.specs.Characters.{is_space, begins_comment, is_quote}
 use Rattle.icn_tree.specs.Literals.{Literal}
 use Rattle.icn_tree.specs.Semicolons.{Piece}
-use Rattle.icn_tree.specs.Tokens.{Scan, Broken, Between, bytes_from, before, piece_on, token_then, open_literal, first_of, spelled, closed_then}
+use Rattle.icn_tree.specs.Tokens.{Scan, Broken, Between, bytes_from, before, piece_on, token_then, open_literal, first_of, one_token, closed_then}
 use Rattle.icn_lex.specs.declared.fault.LexFault.{LexFault}
 use Rattle.icn_lex.specs.declared.fault.LexFault.TheVariants.{Broken as BrokenFault, NoMemory}
 use Rattle.icn_lex.specs.Literals.{Later, scan_inside, scan_text}
@@ -75,7 +75,7 @@ drop_first (suc n) b rest h = let e : suc n - 1 ≡ n = omega arith in ap (λ k.
 
 pub token_within : (bytes : List ℕ) (kind : Kind) (count : ℕ) → first_read bytes ≡ Ok (kind, count) → (0 < count) × (count ≤ length bytes)
 unfolding first_of
-token_within bytes kind count is = first_within spelled (length bytes) bytes kind count (sym (first_is_longest bytes) ∙ is)
+token_within bytes kind count is = first_within one_token (length bytes) bytes kind count (sym (first_is_longest bytes) ∙ is)
 
 pub at_token : (line : SourceLine) (is_first : Bool) (bytes : List ℕ) (later : Later) (kind : Kind) (count : ℕ) → begins_bare bytes ≡ true
     → first_read bytes ≡ Ok (kind, count)

@@ -5,7 +5,7 @@ use Rattle.icn_host.proofs.SinkSteps.{gains_nothing}
 use Rattle.icn_host.specs.declared.fault.Fault.TheVariants.{Failed, NoMemory as Wants}
 use Rattle.icn_host.proofs.Putting.{leads_of, puts_nothing}
 use Rattle.icn_host.specs.Puts.{Puts, all}
-use Rattle.icn_defs.specs.Running.{Observed}
+use Rattle.icn_defs.specs.Running.{Observation}
 use Rattle.icn_streams.specs.Handed.{CallStreams, WantsMemory, uncounted, output_wants, errors_want}
 use Rattle.icn_machine.specs.Stepping.{OutputFails, output_fails, errors_fail}
 use Rattle.icn_run.specs.declared.ending.Ending.{Ending}
@@ -90,7 +90,7 @@ pub own_reports : {usage name : List ℕ} {left : Option (List ℕ)} {before aft
 own_reports {before = before} fault is puts = put_own is Wrote wrote_no_fault before (inl refl) (puts_own _ _ fault puts)
 
 -- what a run put that was broken off
-pub broken_puts : (fault : RunFault) (input : List ℕ) (seen : Observed) (before after : CallStreams) → LeavesBy fault input seen before after
+pub broken_puts : (fault : RunFault) (input : List ℕ) (seen : Observation) (before after : CallStreams) → LeavesBy fault input seen before after
     → PutsSome before.errors after.errors
 broken_puts Runs.ReadFault input seen before after leaves = record { own = take leaves.reading.errors seen.outside.errors; gains = leaves.errors }
 broken_puts Runs.WriteFault input seen before after leaves =

@@ -8,7 +8,7 @@ use Rattle.icn_image.specs.Spelling.{image_of}
 use Rattle.icn_unit.specs.PlainUnits.{Proc, Decl, UnitRead}
 use Rattle.icn_unit.specs.UnitRules.{keeps_rules as keeps_unit_rules}
 use Rattle.icn_link.specs.declared.fault.LinkFault.{LinkFault}
-use Rattle.icn_link.specs.Joined.{joined, joined_of}
+use Rattle.icn_link.specs.Joined.{joined_code, joined_of}
 use Rattle.icn_link.specs.JoinableUnits.{is_joinable, is_joinable_decl, is_joinable_proc}
 use Rattle.icn_link.specs.LinkFaults.{first_fault, local_counts, missing, over, record_sizes, repeated_name, size_of, static_counts, table_sizes, too_large, too_large_of}
 use Rattle.icn_link.specs.Mentions.{globals, all_mentions, mentioned_by, operands_in}
@@ -55,7 +55,7 @@ joinable D P d p h =
     }
 
 pub units_keep : (units : List UnitRead) → list_all is_joinable units ≡ true → first_fault units ≡ None
-    → keeps_rules (joined units) ≡ true
+    → keeps_rules (joined_code units) ≡ true
 units_keep units all none =
     let behind = neither (missing units) (option_or (repeated_name units) (too_large units)) none in
     let small = neither (repeated_name units) (too_large units) behind.1 in
@@ -63,6 +63,6 @@ units_keep units all none =
     (joinable (all_decls units) (all_procs units) (units_decls units all) (units_procs units all) small.1)
 
 pub kept_units_keep : (units : List UnitRead) → list_all (λ unit. keeps_unit_rules unit.procs unit.decls) units ≡ true
-    → first_fault units ≡ None → keeps_rules (joined units) ≡ true
+    → first_fault units ≡ None → keeps_rules (joined_code units) ≡ true
 kept_units_keep units kept none =
     units_keep units (all_then (λ (unit : UnitRead). keeps_unit_rules unit.procs unit.decls) is_joinable unit_joinable units kept) none

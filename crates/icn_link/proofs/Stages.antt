@@ -9,7 +9,7 @@ use Rattle.icn_image.specs.Spelling.{image_of}
 use Rattle.icn_unit.specs.PlainUnits.{Proc, Decl, UnitRead}
 use Rattle.icn_link.specs.JoinableUnits.{is_joinable_decl, is_joinable_proc}
 use Rattle.icn_link.specs.declared.fault.LinkFault.{LinkFault}
-use Rattle.icn_link.specs.Joined.{joined, joined_of}
+use Rattle.icn_link.specs.Joined.{joined_code, joined_of}
 use Rattle.icn_link.specs.LinkFaults.{IsFault, first_fault, local_counts, missing, over, record_sizes, repeated_name, size_of, static_counts, table_sizes, too_large, too_large_of}
 use Rattle.icn_link.specs.Mentions.{AllMentions, globals, all_mentions, mentioned_by, operands_in}
 use Rattle.icn_link.specs.Units.{all_decls, all_procs}
@@ -159,7 +159,7 @@ units_fault result units D P d p m r h =
     (later_fault result (repeated_name units) (too_large units) r (list_fault result (too_large_of D P) (too_large units) (sizes_same units D P d p) h))
 
 pub units_joined : (result : Result Code LinkFault) (units : List UnitRead) (D : List Decl) (P : List Proc) → D ≡ all_decls units → P ≡ all_procs units
-    → IfOk result (λ code. tables_of code ≡ joined_of D P) → IfOk result (λ code. tables_of code ≡ joined units)
+    → IfOk result (λ code. tables_of code ≡ joined_of D P) → IfOk result (λ code. tables_of code ≡ joined_code units)
 units_joined result units D P d p h =
     subst (λ (T : Tables). IfOk result (λ code. tables_of code ≡ T)) (ap (λ (E : List Decl). joined_of E P) d ∙ ap (joined_of (all_decls units)) p) h
 

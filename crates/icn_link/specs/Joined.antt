@@ -204,5 +204,5 @@ abbrev pub joined_of : List Decl → List Proc → Tables
 joined_of decls procs = tables_with (all_mentions decls procs) decls procs
 
 -- the joined code of units
-abbrev pub joined : List UnitRead → Tables
-joined units = joined_of (all_decls units) (all_procs units)
+abbrev pub joined_code : List UnitRead → Tables
+joined_code units = joined_of (all_decls units) (all_procs units)

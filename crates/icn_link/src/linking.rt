@@ -9,7 +9,7 @@ ghost use Rattle.icn_image.specs.Spelling.{image_of};
 ghost use Rattle.icn_unit.specs.PlainUnits.{params_in, proc_names};
 ghost use Rattle.icn_unit.specs.UnitViews.{decl_seen, proc_seen};
 ghost use Rattle.icn_link.specs.Gathering.{text_place};
-ghost use Rattle.icn_link.specs.Joined.{cset_of, entry_of, global_entry, global_with, is_among, joined, joined_of, locals_in, place_of, proc_entry, record_entry, records_in, start_by, statics_in, tables_with, with_bit, with_bits};
+ghost use Rattle.icn_link.specs.Joined.{cset_of, entry_of, global_entry, global_with, is_among, joined_code, joined_of, locals_in, place_of, proc_entry, record_entry, records_in, start_by, statics_in, tables_with, with_bit, with_bits};
 ghost use Rattle.icn_link.specs.JoinableUnits.{is_joinable_decl, is_joinable_proc};
 ghost use Rattle.icn_link.specs.LinkFaults.{first_fault, is_instruction, over, size_of, too_large_of, IsFault};
 ghost use Rattle.icn_link.specs.Mentions.{function_named, all_mentions, record_name_in, record_names};
@@ -49,7 +49,7 @@ const MOST_BYTES: u64 = 1073741824;
 /// fields of a record, the parameters and other locals of a procedure together, its statics, and the bytes of the image
 /// (1073741824); a number past 64 bits is told as the greatest number of 64 bits. `NoMemory` where memory ran out.
 pub fn link(alloc: Global, units: &[Unit]) -> Result<Code, LinkFault>
-    ensures joined { IfOk result (λ code. tables_of code ≡ joined (units_seen units.now)) }
+    ensures joined { IfOk result (λ code. tables_of code ≡ joined_code (units_seen units.now)) }
     ensures fits { OnOk result (first_fault (units_seen units.now) ≡ None) }
     ensures fault { IfErr result (IsFault (first_fault (units_seen units.now))) }
 {

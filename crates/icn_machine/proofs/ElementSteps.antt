@@ -5,7 +5,7 @@ use Rattle.std.specs.List.{All}
 use Rattle.std.specs.Option.{option_and_then}
 use Rattle.std.proofs.lemmas.List.{length-map}
 use Rattle.std.proofs.lemmas.List.Elements.{All-head, All-nil, All-cons, All-tail}
-use Rattle.icn_structs.specs.Numbered.{Numbered}
+use Rattle.icn_structs.specs.Numbered.{NumberedList}
 use Rattle.icn_value.specs.declared.val.Val.{Val}
 use Rattle.icn_value.specs.declared.val.Val.TheVariants as Vals
 use Rattle.icn_value.specs.declared.item.Item.{Item}
@@ -64,7 +64,7 @@ plain_named names (value ∷ values) are =
     All-cons (ItemNamed names) (plain value) (map plain values) (record { named = All-head (ValueNamed names) value values are })
     (plain_named names values (All-tail (ValueNamed names) value values are))
 
-list_named : (names : Names) (o : Option (Numbered Value)) → Maybe (ListNamed names) o → All (ValueNamed names) (unwrap_or o (new_list [])).items
+list_named : (names : Names) (o : Option (NumberedList Value)) → Maybe (ListNamed names) o → All (ValueNamed names) (unwrap_or o (new_list [])).items
 list_named names None h = All-nil (ValueNamed names)
 list_named names (Some list) h = h
 

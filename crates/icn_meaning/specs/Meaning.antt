@@ -1,7 +1,7 @@
 -- The meaning of a program: the steps of its evaluation from the start on, and what is observed where it ends.
 use Rattle.std.specs.Prelude.{ℕ, zero, false, List, [], ◌∷◌, length, replicate, Option, Some, None, codes, slice_get}
 use Rattle.icn_tree.specs.Trees.{Empty}
-pub use Rattle.icn_defs.specs.Running.{Observed}
+pub use Rattle.icn_defs.specs.Running.{Observation}
 use Rattle.icn_defs.specs.Running.{Launch, first_world, words_row, after_steps, Observes}
 use Rattle.icn_meaning.specs.Program.{Program, Routine, routine_names, place_of, names_of}
 use Rattle.icn_meaning.specs.Contexts.{Nothing, NoChoice, Active, Store, State, eval, succeed, fail, hop, over, lost, Ending}
@@ -63,10 +63,10 @@ start program launch = main_at program (place_of (codes "main") (routine_names p
     (first_store program launch)
 
 -- what is seen of an evaluation that is over
-abbrev pub observation : State → Option Observed
+abbrev pub observation : State → Option Observation
 observation (over ending st) = Some (record { ending = ending; outside = st.outside })
 observation state = None
 
 -- the meaning of a program that is begun so: the steps of its evaluation come to an end of which this is observed
-abbrev pub Means : Program → Launch → Observed → Type 0
+abbrev pub Means : Program → Launch → Observation → Type 0
 Means program launch seen = Observes (step program) observation (start program launch) seen

@@ -3,11 +3,11 @@ use Rattle.std.proofs.Common.{◌≡◌, ℕ, zero, suc, ◌<◌, arith, Bool, t
 use Rattle.std.specs.Prelude.{ℤ, pos, negsuc, slice_get, slice_set, unwrap_or, take, drop, filter, fold, replicate, flat_map, cond}
 use Rattle.std.specs.declared.cmp.Ordering.{Ordering}
 use Rattle.std.specs.Ordering.{is_lt}
-use Rattle.icn_structs.specs.Numbered.{Numbered, item_at, items_with, after_first, with_left, with_right}
+use Rattle.icn_structs.specs.Numbered.{NumberedList, item_at, items_with, after_first, with_left, with_right}
 use Rattle.icn_structs.specs.PairLists.{stored}
 use Rattle.icn_value.specs.Values.{Value, Null, Integer, Text, Chars, Std, ARecord, AList, ASet, ATable, File, Element, Field, Key, Variable, Whole, Part, Item, Val, Var}
 use Rattle.icn_value.specs.Store.{Names, Table, Record, Setting, new_list, value_at}
-use Rattle.icn_defs.specs.Conversions.{same, has_value, with_member, sorted_in, sorted_onto, sorted}
+use Rattle.icn_defs.specs.Conversions.{same, has_value, with_member, sorted_in, sorted_onto, sort_list}
 use Rattle.icn_defs.specs.Rows.{Outcome, Residual}
 use Rattle.icn_defs.specs.Elements.{part_of}
 use Rattle.icn_defs.specs.Structures.{or_null}
@@ -17,7 +17,7 @@ use Rattle.icn_named.proofs.Entries.{Each, all_of, each_of, no_some, each_map, e
 
 -- Structures by recursion on their lists
 
-abbrev pub ListE : Names → Numbered Value → Type 0
+abbrev pub ListE : Names → NumberedList Value → Type 0
 ListE ns list = Each (ValueNamed ns) list.items
 
 abbrev pub SetE : Names → List Value → Type 0
@@ -51,7 +51,7 @@ pub record Vs (ns : Names) (vs : List Value) : Type 0 where
 pub record Ps (ns : Names) (ps : List (Value × Value)) : Type 0 where
   pub is : Each (PairNamed ns) ps
 
-pub record Lists (ns : Names) (xs : List (Numbered Value)) : Type 0 where
+pub record Lists (ns : Names) (xs : List (NumberedList Value)) : Type 0 where
   pub is : Each (ListE ns) xs
 
 pub record Sets (ns : Names) (xs : List (List Value)) : Type 0 where
@@ -195,11 +195,11 @@ module _ (ns : Names) where
   vs_members vs [] h g = h
   vs_members vs (v ∷ added) h g = vs_members (with_member vs v) added (vs_member vs v h (record { is = g.is.0 })) (record { is = g.is.1 })
 
-  pub vs_left : (list : Numbered Value) (added : List Value) → Vs ns list.items → Vs ns added → Vs ns (fold with_left list added).items
+  pub vs_left : (list : NumberedList Value) (added : List Value) → Vs ns list.items → Vs ns added → Vs ns (fold with_left list added).items
   vs_left list [] h g = h
   vs_left list (v ∷ added) h g = vs_left (with_left list v) added (record { is = (g.is.0, h.is) }) (record { is = g.is.1 })
 
-  pub vs_right : (list : Numbered Value) (added : List Value) → Vs ns list.items → Vs ns added → Vs ns (fold with_right list added).items
+  pub vs_right : (list : NumberedList Value) (added : List Value) → Vs ns list.items → Vs ns added → Vs ns (fold with_right list added).items
   vs_right list [] h g = h
   vs_right list (v ∷ added) h g = vs_right (with_right list v) added (vs_append list.items (v ∷ []) h (record { is = (g.is.0, tt) })) (record { is = g.is.1 })
 
@@ -215,10 +215,10 @@ module _ (ns : Names) where
   each_onto P cmp xs [] h g = h
   each_onto P cmp xs (y ∷ ys) h g = each_onto P cmp (sorted_in cmp y xs) ys (each_in P cmp y xs g.0 h) g.1
 
-  pub vs_sorted : (cmp : Value → Value → Ordering) (vs : List Value) → Vs ns vs → Vs ns (sorted cmp vs)
+  pub vs_sorted : (cmp : Value → Value → Ordering) (vs : List Value) → Vs ns vs → Vs ns (sort_list cmp vs)
   vs_sorted cmp vs h = record { is = each_onto (ValueNamed ns) cmp [] vs tt h.is }
 
-  pub ps_sorted : (cmp : Value × Value → Value × Value → Ordering) (ps : List (Value × Value)) → Ps ns ps → Ps ns (sorted cmp ps)
+  pub ps_sorted : (cmp : Value × Value → Value × Value → Ordering) (ps : List (Value × Value)) → Ps ns ps → Ps ns (sort_list cmp ps)
   ps_sorted cmp ps h = record { is = each_onto (PairNamed ns) cmp [] ps tt h.is }
 
   each_pairs : (ps : List (Value × Value)) → Each (PairNamed ns) ps → Each (ValueNamed ns) (flat_map (λ (pair : Value × Value). pair.0 ∷ pair.1 ∷ []) ps)
@@ -264,12 +264,12 @@ module _ (ns : Names) where
 
   -- Structures by their numbers
 
-  each_lists : (xs : List (Numbered Value)) (k : ℕ) → Each (ListE ns) xs → Each (ValueNamed ns) (unwrap_or (slice_get xs k) (new_list [])).items
+  each_lists : (xs : List (NumberedList Value)) (k : ℕ) → Each (ListE ns) xs → Each (ValueNamed ns) (unwrap_or (slice_get xs k) (new_list [])).items
   each_lists [] k h = tt
   each_lists (x ∷ xs) zero h = h.0
   each_lists (x ∷ xs) (suc k) h = each_lists xs k h.1
 
-  pub items_at : (xs : List (Numbered Value)) (k : ℕ) → Lists ns xs → Vs ns (unwrap_or (slice_get xs k) (new_list [])).items
+  pub items_at : (xs : List (NumberedList Value)) (k : ℕ) → Lists ns xs → Vs ns (unwrap_or (slice_get xs k) (new_list [])).items
   items_at xs k h = record { is = each_lists xs k h.is }
 
   each_sets : (xs : List (List Value)) (k : ℕ) → Each (SetE ns) xs → Each (ValueNamed ns) (unwrap_or (slice_get xs k) [])
@@ -301,10 +301,10 @@ module _ (ns : Names) where
 
   -- Structures changed and added
 
-  pub lists_set : (xs : List (Numbered Value)) (k : ℕ) (x : Numbered Value) → Lists ns xs → Vs ns x.items → Lists ns (slice_set xs k x)
+  pub lists_set : (xs : List (NumberedList Value)) (k : ℕ) (x : NumberedList Value) → Lists ns xs → Vs ns x.items → Lists ns (slice_set xs k x)
   lists_set xs k x h g = record { is = each_set (ListE ns) xs k x h.is g.is }
 
-  pub lists_more : (xs : List (Numbered Value)) (x : Numbered Value) → Lists ns xs → Vs ns x.items → Lists ns (xs ++ x ∷ [])
+  pub lists_more : (xs : List (NumberedList Value)) (x : NumberedList Value) → Lists ns xs → Vs ns x.items → Lists ns (xs ++ x ∷ [])
   lists_more xs x h g = record { is = each_append (ListE ns) xs (x ∷ []) h.is (g.is, tt) }
 
   pub sets_set : (xs : List (List Value)) (k : ℕ) (x : List Value) → Sets ns xs → Vs ns x → Sets ns (slice_set xs k x)

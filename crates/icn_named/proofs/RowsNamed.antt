@@ -11,7 +11,7 @@ use Rattle.icn_text.specs.declared.func.Func.TheVariants as Funcs
 use Rattle.icn_value.specs.Values.{Value, Null, Integer, Text, Chars, Std, Procedure, ARecord, AList, ASet, ATable, ACoexp, Root, Global, Static, Local, Element, Field, Key, Keyword, KeywordVariable, Subject, Position, Random, Variable, Whole, Part, Item, Val, Var}
 use Rattle.icn_value.specs.Store.{Setting, Heap, Names, having_position, having_heap, list_at, table_at, record_at, value_at}
 use Rattle.icn_defs.specs.Conversions.{same, group_of, integer_of, place_of, held_text, Group, Textual, Listed, Collected, Tabled, Recorded, Filed, Activated, Single}
-use Rattle.icn_defs.specs.Rows.{Row, Fails, Gives, Suspends, Error, Ends, Residual, TextBytes, VariableBytes, ListItems, SetMembers, TableValues, TableKeys, RecordFields, InputLines, UndoAssign, UndoExchange, UndoPosition, Counting, Sequence, Balanced, Found, Among, Mover, Neither, Left, Right, check, present, computed, passing, found, natural, costs_made, arithmetic_error, gives_value}
+use Rattle.icn_defs.specs.Rows.{Row, Fails, Gives, Suspends, Error, Ends, Residual, TextBytes, VariableBytes, ListItems, SetMembers, TableValues, TableKeys, RecordFields, InputLines, UndoAssign, UndoExchange, UndoPosition, Counting, Sequence, Balanced, Found, Among, Mover, Neither, Left, Right, check, present, number_or_error, passing, thing_or_failure, natural, costs_made, arithmetic_error, gives_value}
 use Rattle.icn_defs.specs.Reading.{the_value, the_values, the_variable, assigns_keyword, assigns_root, assigns_or, assigns_both, move_part, moved_by_left, moved_by_right, costs_unless, stores, reads, reads_root, root_value}
 use Rattle.icn_defs.specs.Arguments.{Keeper, SetKeeper, TableKeeper}
 use Rattle.icn_defs.specs.Arithmetic.{count_from}
@@ -110,7 +110,7 @@ module _ (ns : Names) where
   w_present (Some x) k v next a h g f = f x refl
   w_present None k v next a h g f = o_error k v a g h
 
-  w_computed : (o : Result ℤ Arith) (next : ℤ → Row) (a : Setting) → S ns a → ((x : ℤ) → O ns (next x a)) → O ns (computed o next a)
+  w_computed : (o : Result ℤ Arith) (next : ℤ → Row) (a : Setting) → S ns a → ((x : ℤ) → O ns (next x a)) → O ns (number_or_error o next a)
   w_computed (Ok x) next a h f = f x
   w_computed (Err k) next a h f = o_error (arithmetic_error k) None a (ov_none ns) h
 
@@ -118,7 +118,7 @@ module _ (ns : Names) where
   w_passing true next a h f = f
   w_passing false next a h f = o_fails a h
 
-  w_found : {A : Type 0} (o : Option A) (next : A → Row) (a : Setting) → S ns a → ((x : A) → o ≡ Some x → O ns (next x a)) → O ns (found o next a)
+  w_found : {A : Type 0} (o : Option A) (next : A → Row) (a : Setting) → S ns a → ((x : A) → o ≡ Some x → O ns (next x a)) → O ns (thing_or_failure o next a)
   w_found (Some x) next a h f = f x refl
   w_found None next a h f = o_fails a h
 

@@ -1,7 +1,7 @@
 -- Settings whose values name only what has a name: each procedure value, and the kind of each record.
 use Rattle.std.specs.Prelude.{◌<◌, List, length, Option, None, Some}
 use Rattle.std.specs.List.{All}
-use Rattle.icn_structs.specs.Numbered.{Numbered}
+use Rattle.icn_structs.specs.Numbered.{NumberedList}
 use Rattle.icn_value.specs.Values.{Value, Null, Integer, Text, Chars, Std, Procedure, ARecord, AList, ASet, ATable, ACoexp, Root, Global, Static, Local, Element, Field, Key, Keyword, Variable, Whole, Part, Item, Val, Var}
 use Rattle.icn_value.specs.Store.{Table, Record, Heap, World, Setting, Names}
 use Rattle.icn_defs.specs.Rows.{Residual, TextBytes, VariableBytes, ListItems, SetMembers, TableValues, TableKeys, RecordFields, InputLines, UndoAssign, UndoExchange, UndoPosition, Counting, Sequence, Balanced, Found, Among}
@@ -51,7 +51,7 @@ pub record ItemNamed (names : Names) (item : Item) : Type 0 where
 abbrev pub PairNamed : Names → Value × Value → Type 0
 PairNamed names pair = ValueNamed names pair.0 × ValueNamed names pair.1
 
-abbrev pub ListNamed : Names → Numbered Value → Type 0
+abbrev pub ListNamed : Names → NumberedList Value → Type 0
 ListNamed names list = All (ValueNamed names) list.items
 
 abbrev pub SetNamed : Names → List Value → Type 0

@@ -8,7 +8,7 @@ use Rattle.icn_defs.specs.Calls.{GoesOn}
 use Rattle.icn_defs.specs.Conversions.{held_text}
 use Rattle.icn_defs.specs.Elements.{element_item, field_item, key_item, list_items_from, part_of, record_fields_from, set_members_from, table_values_from, text_bytes_from, variable_bytes_from}
 use Rattle.icn_defs.specs.Reading.{reads}
-use Rattle.icn_defs.specs.Rows.{Row, Fails, Suspends, Error, TextBytes, VariableBytes, ListItems, SetMembers, TableValues, RecordFields, found, passing, present, suspends}
+use Rattle.icn_defs.specs.Rows.{Row, Fails, Suspends, Error, TextBytes, VariableBytes, ListItems, SetMembers, TableValues, RecordFields, thing_or_failure, passing, present, suspends}
 
 pub get_past : {A : Type 0} (xs : List A) (place : ℕ) → length xs ≤ place → slice_get xs place ≡ None
 get_past [] place past = refl
@@ -26,12 +26,12 @@ pub text_byte : (text bytes : List ℕ) (place : ℕ) (s : Setting) → place < 
     → text_bytes_from text place s ≡ Suspends (Val (Text bytes)) (TextBytes text (place + 1)) s
 text_byte text bytes place s there is =
     let one = byte_at text place there in
-    ap (λ found_byte. found found_byte (λ byte. suspends (Val (Text (byte ∷ []))) (TextBytes text (place + 1))) s) one.1
+    ap (λ found_byte. thing_or_failure found_byte (λ byte. suspends (Val (Text (byte ∷ []))) (TextBytes text (place + 1))) s) one.1
     ∙ ap (λ bytes. Suspends (Val (Text bytes)) (TextBytes text (place + 1)) s) (sym (is ∙ one.2))
 
 pub text_end : (text : List ℕ) (place : ℕ) (s : Setting) → length text ≤ place → text_bytes_from text place s ≡ Fails s
 text_end text place s past =
-    ap (λ found_byte. found found_byte (λ byte. suspends (Val (Text (byte ∷ []))) (TextBytes text (place + 1))) s) (get_past text place past)
+    ap (λ found_byte. thing_or_failure found_byte (λ byte. suspends (Val (Text (byte ∷ []))) (TextBytes text (place + 1))) s) (get_past text place past)
 
 -- Variables
 
@@ -77,17 +77,17 @@ list_end id place s past = ap (λ t. passing t (suspends (element_item id (list_
 
 pub set_member : (id place : ℕ) (value : Value) (s : Setting) → slice_get (set_at s.world.heap id) place ≡ Some value
     → set_members_from id place s ≡ Suspends (Val value) (SetMembers id (place + 1)) s
-set_member id place value s is = ap (λ member. found member (λ member. suspends (Val member) (SetMembers id (place + 1))) s) is
+set_member id place value s is = ap (λ member. thing_or_failure member (λ member. suspends (Val member) (SetMembers id (place + 1))) s) is
 
 pub set_end : (id place : ℕ) (s : Setting) → slice_get (set_at s.world.heap id) place ≡ None → set_members_from id place s ≡ Fails s
-set_end id place s is = ap (λ member. found member (λ member. suspends (Val member) (SetMembers id (place + 1))) s) is
+set_end id place s is = ap (λ member. thing_or_failure member (λ member. suspends (Val member) (SetMembers id (place + 1))) s) is
 
 pub table_value : (id place : ℕ) (pair : Value × Value) (s : Setting) → slice_get (table_at s.world.heap id).pairs place ≡ Some pair
     → table_values_from id place s ≡ Suspends (key_item id pair.0) (TableValues id (place + 1)) s
-table_value id place pair s is = ap (λ one. found one (λ (pair : Value × Value). suspends (key_item id pair.0) (TableValues id (place + 1))) s) is
+table_value id place pair s is = ap (λ one. thing_or_failure one (λ (pair : Value × Value). suspends (key_item id pair.0) (TableValues id (place + 1))) s) is
 
 pub table_end : (id place : ℕ) (s : Setting) → slice_get (table_at s.world.heap id).pairs place ≡ None → table_values_from id place s ≡ Fails s
-table_end id place s is = ap (λ one. found one (λ (pair : Value × Value). suspends (key_item id pair.0) (TableValues id (place + 1))) s) is
+table_end id place s is = ap (λ one. thing_or_failure one (λ (pair : Value × Value). suspends (key_item id pair.0) (TableValues id (place + 1))) s) is
 
 pub record_field : (id place : ℕ) (s : Setting) → place < length (record_at s.world.heap id).fields
     → record_fields_from id place s ≡ Suspends (field_item id place) (RecordFields id (place + 1)) s

@@ -5,7 +5,7 @@ use Rattle.icn_value.specs.Values.{Value, Variable, Item}
 use Rattle.icn_value.specs.Store.{Setting}
 use Rattle.icn_defs.specs.Conversions.{place_of}
 use Rattle.icn_defs.specs.Elements.{part_item, text_variable}
-use Rattle.icn_defs.specs.Rows.{Row, Outcome, Gives, found, gives, passing}
+use Rattle.icn_defs.specs.Rows.{Row, Outcome, Gives, thing_or_failure, gives, passing}
 use Rattle.icn_defs.specs.Variables.{element_place, places}
 
 -- Elements
@@ -13,7 +13,7 @@ use Rattle.icn_defs.specs.Variables.{element_place, places}
 pub element_found : (n : ℤ) (size place : ℕ) (next : ℕ → Row) (s : Setting) → Some place ≡ place_of n size → place ≤ size
     → element_place n size next s ≡ next place s
 element_found n size place next s is within =
-    ap (λ one. found one (λ p. passing (nat_le p size) (next p)) s) (sym is) ∙ ap (λ t. passing t (next place) s) (le-leb place size within)
+    ap (λ one. thing_or_failure one (λ p. passing (nat_le p size) (next p)) s) (sym is) ∙ ap (λ t. passing t (next place) s) (le-leb place size within)
 
 -- Integers and sizes as they are held
 

@@ -12,7 +12,7 @@ use Rattle.icn_value.specs.Values.{Value, Integer, Item}
 use Rattle.icn_defs.specs.Arguments.{integer, list, number, string}
 use Rattle.icn_defs.specs.Conversions.{cset_of}
 use Rattle.icn_defs.specs.Reading.{the_value}
-use Rattle.icn_defs.specs.Rows.{Row, Finds, ◌>>=◌, ◌>>◌, computed, costs_text, costs_texts, gives_value, here, passing, present}
+use Rattle.icn_defs.specs.Rows.{Row, Finds, ◌>>=◌, ◌>>◌, number_or_error, costs_text, costs_texts, gives_value, here, passing, present}
 use Rattle.icn_defs.specs.Scanning.{stands, tabs_to}
 use Rattle.icn_heap.specs.Extents.{Extent, text_in, value_in}
 
@@ -61,7 +61,7 @@ ordered_text_in all two = (two.0, text_in all two.1)
 -- an integer that is computed is given
 abbrev pub gives_computed : Result ℤ Arith → Row
 gives_computed found = do
-  n ← computed found
+  n ← number_or_error found
   gives_value (Integer n)
 
 -- the text of an operand, which is charged where it is made

@@ -1,7 +1,7 @@
 // Positions in texts and lists, and the places that they mean.
 ghost use Rattle.std.specs.Prelude.{◌≡◌, ◌+◌, ◌<◌, ◌≤◌, ◌^◌, ℕ, IfSome};
 ghost use Rattle.icn_value.specs.Store.{Setting};
-ghost use Rattle.icn_defs.specs.Rows.{Row, found};
+ghost use Rattle.icn_defs.specs.Rows.{Row, thing_or_failure};
 ghost use Rattle.icn_defs.specs.Variables.{element_place, in_order, places};
 
 use icn_vars::place_of;
@@ -10,7 +10,7 @@ use icn_vars::place_of;
 pub fn element_place(n: i64, size: u64) -> Option<u64>
     requires { size < 2 ^ 63 }
     ensures place { (next : ℕ → Row) (setting : Setting)
-        → element_place n size next setting ≡ found result next setting }
+        → element_place n size next setting ≡ thing_or_failure result next setting }
     ensures low { IfSome result (λ place. 1 ≤ place) }
     ensures high { IfSome result (λ place. place ≤ size) }
 {
@@ -24,7 +24,7 @@ pub fn element_place(n: i64, size: u64) -> Option<u64>
 pub fn places(m: i64, n: i64, size: u64) -> Option<(u64, u64)>
     requires { size < 2 ^ 63 }
     ensures places { (next : ℕ × ℕ → Row) (setting : Setting)
-        → places m n size next setting ≡ found result next setting }
+        → places m n size next setting ≡ thing_or_failure result next setting }
     ensures low { IfSome result (λ ends. 1 ≤ ends.0) }
     ensures order { IfSome result (λ ends. ends.0 ≤ ends.1) }
     ensures high { IfSome result (λ ends. ends.1 ≤ size + 1) }

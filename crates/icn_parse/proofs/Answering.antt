@@ -9,7 +9,7 @@ use Rattle.icn_tree.specs.declared.tree.Name.{Name}
 use Rattle.icn_tree.specs.Trees.{Tree, Trees, Clauses, Initial, NoInitial, Initially, Procedure, Declaration, Global, Link, Invocable, Record, ProcedureOf}
 use Rattle.icn_tree.specs.Declarations.{IsTreeOf, HasTree}
 use Rattle.icn_tree.proofs.Files.{one_file}
-use Rattle.icn_expr.specs.Capped.{Capped, capped_at, capped, kept_tree}
+use Rattle.icn_expr.specs.Capped.{WithHeight, capped_at, builds_with_height, kept_tree}
 use Rattle.icn_expr.specs.Heights.{height, highest, initial_height, procedure_height}
 use Rattle.icn_expr.proofs.Capping.{capped_shows, shown_tree, shown_trees}
 use Rattle.icn_parse.specs.FileReading.{file_read}
@@ -27,7 +27,7 @@ use Rattle.icn_parse.proofs.DeclarationsExact as Exact
 
 -- what the code keeps of a declaration
 abbrev shown : Declaration → CappedDeclaration
-shown = Exact.shown_declaration (Capped Tree) (Capped Trees) (Capped Clauses) capped capped_shows
+shown = Exact.shown_declaration (WithHeight Tree) (WithHeight Trees) (WithHeight Clauses) builds_with_height capped_shows
 
 kept_by : {A : Type 0} (x : A) (h : ℕ) (b : Bool) → nat_le h 2000 ≡ b → kept_tree (capped_at x h) ≡ cond b (Some x) None
 kept_by x h true e = ap (λ b. kept_tree (cond b (Some (x, h)) None)) e
@@ -36,7 +36,7 @@ kept_by x h false e = ap (λ b. kept_tree (cond b (Some (x, h)) None)) e
 kept_at : {A : Type 0} (x : A) (h : ℕ) → kept_tree (capped_at x h) ≡ cond (nat_le h 2000) (Some x) None
 kept_at x h = kept_by x h (nat_le h 2000) refl
 
-finish_first : (initial : Initial) → finish_initial (Exact.shown_initial (Capped Tree) (Capped Trees) (Capped Clauses) capped capped_shows initial)
+finish_first : (initial : Initial) → finish_initial (Exact.shown_initial (WithHeight Tree) (WithHeight Trees) (WithHeight Clauses) builds_with_height capped_shows initial)
     ≡ cond (nat_le (initial_height initial) 2000) (Some initial) None
 finish_first NoInitial = refl
 finish_first (Initially place value) = ap (λ v. option_map (Initially place) (kept_tree v)) (shown_tree value)
@@ -77,7 +77,7 @@ finish_shown p =
       parameters = p.parameters;
       is_variadic = p.is_variadic;
       locals = p.locals;
-      initial = Exact.shown_initial (Capped Tree) (Capped Trees) (Capped Clauses) capped capped_shows p.initial;
+      initial = Exact.shown_initial (WithHeight Tree) (WithHeight Trees) (WithHeight Clauses) builds_with_height capped_shows p.initial;
       body = capped_shows.trees p.body;
     } in
     ap (λ i. finish_procedure over i (kept_tree (capped_shows.trees p.body))) (finish_first p.initial)
@@ -139,25 +139,25 @@ pub record IsRead (tokens : List Token) (all : Option Place × List Declaration)
   pub gathers : Gathers [] file all
 
 pub read_sound : (tokens : List Token) (n : ℕ) (all : Option Place × List Declaration)
-    → option_map (kept_declarations None []) (file_read capped n tokens) ≡ Some all → IsRead tokens all
-read_sound tokens n all e = by_read (file_read capped n tokens) refl e
+    → option_map (kept_declarations None []) (file_read builds_with_height n tokens) ≡ Some all → IsRead tokens all
+read_sound tokens n all e = by_read (file_read builds_with_height n tokens) refl e
   where
-    by_read : (read : Option (List CappedDeclaration)) → file_read capped n tokens ≡ read → option_map (kept_declarations None []) read ≡ Some all
+    by_read : (read : Option (List CappedDeclaration)) → file_read builds_with_height n tokens ≡ read → option_map (kept_declarations None []) read ≡ Some all
         → IsRead tokens all
     by_read None r e = absurd (none-some all e)
     by_read (Some found) r e =
-        let s = Exact.file_sound (Capped Tree) (Capped Trees) (Capped Clauses) capped capped_shows tokens n found r in
+        let s = Exact.file_sound (WithHeight Tree) (WithHeight Trees) (WithHeight Clauses) builds_with_height capped_shows tokens n found r in
         let same : kept_declarations None [] (map shown s.0) ≡ all = ap (kept_declarations None []) (sym s.2)
         ∙ same_Some (kept_declarations None [] found) all e in
         record { file = s.0; is = s.1; gathers = subst (Gathers [] s.0) same (gathers [] s.0) }
 
-pub nothing_read : (tokens : List Token) → file_read capped (length tokens) tokens ≡ None → HasTree tokens → ⊥
+pub nothing_read : (tokens : List Token) → file_read builds_with_height (length tokens) tokens ≡ None → HasTree tokens → ⊥
 nothing_read tokens e h =
-    none-some _ (sym e ∙ Exact.file_found (Capped Tree) (Capped Trees) (Capped Clauses) capped capped_shows h.0 tokens (length tokens) (omega arith) h.1)
+    none-some _ (sym e ∙ Exact.file_found (WithHeight Tree) (WithHeight Trees) (WithHeight Clauses) builds_with_height capped_shows h.0 tokens (length tokens) (omega arith) h.1)
 
 -- no tree is too high
 pub low_tree : (tokens : List Token) (n : ℕ) (decls : List Declaration)
-    → option_map (kept_declarations None []) (file_read capped n tokens) ≡ Some (None, decls) → IsLowTree tokens decls
+    → option_map (kept_declarations None []) (file_read builds_with_height n tokens) ≡ Some (None, decls) → IsLowTree tokens decls
 low_tree tokens n decls e =
     let r = read_sound tokens n (None, decls) e in
     let none : first_too_high r.file ≡ None = sym r.gathers.high in
@@ -165,7 +165,7 @@ low_tree tokens n decls e =
     subst (IsLowTree tokens) (sym same) (r.is, none)
 
 pub high_tree : (tokens : List Token) (n : ℕ) (place : Place) (decls : List Declaration)
-    → option_map (kept_declarations None []) (file_read capped n tokens) ≡ Some (Some place, decls) → IsOutcome tokens (TooHigh place)
+    → option_map (kept_declarations None []) (file_read builds_with_height n tokens) ≡ Some (Some place, decls) → IsOutcome tokens (TooHigh place)
 high_tree tokens n place decls e =
     let r = read_sound tokens n (Some place, decls) e in
     too_high r.file place r.is (sym r.gathers.high)
@@ -204,12 +204,12 @@ is_outcome tokens file s = by_place (first_too_high file) (first_fault file) ref
     by_place None None h f = is_tree file s h f
 
 pub some_outcome : (tokens : List Token) → (outcome : Outcome) × IsOutcome tokens outcome
-some_outcome tokens = by_read (file_read capped (length tokens) tokens) refl
+some_outcome tokens = by_read (file_read builds_with_height (length tokens) tokens) refl
   where
-    by_read : (read : Option (List CappedDeclaration)) → file_read capped (length tokens) tokens ≡ read → (outcome : Outcome) × IsOutcome tokens outcome
+    by_read : (read : Option (List CappedDeclaration)) → file_read builds_with_height (length tokens) tokens ≡ read → (outcome : Outcome) × IsOutcome tokens outcome
     by_read None r = (NoProgram, no_program (nothing_read tokens r))
     by_read (Some found) r =
-        let s = Exact.file_sound (Capped Tree) (Capped Trees) (Capped Clauses) capped capped_shows tokens (length tokens) found r in
+        let s = Exact.file_sound (WithHeight Tree) (WithHeight Trees) (WithHeight Clauses) builds_with_height capped_shows tokens (length tokens) found r in
         (outcome_of s.0, is_outcome tokens s.0 s.1)
 
 pub one_outcome : (tokens : List Token) (a b : Outcome) → IsOutcome tokens a → IsOutcome tokens b → a ≡ b
@@ -239,7 +239,7 @@ pub broken_as : (IsIt : Outcome → Type 0) (outcome : Outcome) (rule : Rule) (p
     → broken_by outcome ≡ Some (rule, place) → IsIt outcome → Breaks IsIt fault
 broken_as IsIt outcome rule place fault e b o = subst (Breaks IsIt) (sym e) (outcome, o, b)
 
-pub stop_breaks : (tokens : List Token) (stop : Stop) → ReadsNothing (file_read capped (length tokens) tokens) stop
+pub stop_breaks : (tokens : List Token) (stop : Stop) → ReadsNothing (file_read builds_with_height (length tokens) tokens) stop
     → Breaks (IsOutcome tokens) (fault_of_stop stop)
 stop_breaks tokens NotHere (inl e) = absurd (not_here_differs e)
 stop_breaks tokens NotHere (inr e) = (NoProgram, no_program (nothing_read tokens e), refl)

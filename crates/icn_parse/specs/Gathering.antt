@@ -3,21 +3,21 @@ use Rattle.std.specs.Prelude.{List, [], ◌∷◌, ◌++◌, Option, Some, None}
 use Rattle.std.specs.Option.{option_map}
 use Rattle.icn_tree.specs.declared.tree.Place.{Place}
 use Rattle.icn_tree.specs.Trees.{Tree, Trees, Initial, NoInitial, Initially, Declaration, Global, Link, Invocable, Record, ProcedureOf}
-use Rattle.icn_expr.specs.Capped.{Capped, kept_tree}
+use Rattle.icn_expr.specs.Capped.{WithHeight, kept_tree}
 use Rattle.icn_parse.specs.FileReading.{ProcedureOver, DeclarationOver, GlobalOver, LinkOver, InvocableOver, RecordOver, ProcedureIs}
 
 abbrev pub CappedProcedure : Type 0
-CappedProcedure = ProcedureOver (Capped Tree) (Capped Trees)
+CappedProcedure = ProcedureOver (WithHeight Tree) (WithHeight Trees)
 
 abbrev pub CappedDeclaration : Type 0
-CappedDeclaration = DeclarationOver (Capped Tree) (Capped Trees)
+CappedDeclaration = DeclarationOver (WithHeight Tree) (WithHeight Trees)
 
 -- a declaration without a tree that is too high, or the name of the procedure that has one
 pub data Finish : Type 0 where
   IsKept : Declaration → Finish
   IsTooHigh : Place → Finish
 
-abbrev pub finish_initial : Option (Place × Capped Tree) → Option Initial
+abbrev pub finish_initial : Option (Place × WithHeight Tree) → Option Initial
 finish_initial None = Some NoInitial
 finish_initial (Some initial) = option_map (Initially initial.0) (kept_tree initial.1)
 

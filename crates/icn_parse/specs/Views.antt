@@ -9,7 +9,7 @@ use Rattle.icn_tree.specs.declared.rule.Rule.TheVariants.{S1, S2, S3, S4}
 use Rattle.icn_tree.specs.TreeOf.{declaration_of, declarations_of, locals_of}
 use Rattle.icn_tree.specs.Trees.{Tree, Declaration}
 use Rattle.icn_tree.specs.Declarations.{IsTreeOf}
-use Rattle.icn_expr.specs.Capped.{Capped}
+use Rattle.icn_expr.specs.Capped.{WithHeight}
 use Rattle.icn_expr.specs.Views.{capped_of, elements_of}
 use Rattle.icn_parse.specs.declared.stop.Stop.{Stop}
 use Rattle.icn_parse.specs.declared.stop.Stop.TheVariants.{NotHere, NoMemory}
@@ -29,7 +29,7 @@ use Rattle.icn_parse.specs.Outcomes.{Fault, UnknownKeyword, NotInProfile, Outcom
 abbrev pub ReadsNothing : {A : Type 0} → Option A → Stop → Type 0
 ReadsNothing read stop = (stop ≡ NoMemory) ⊎ (read ≡ None)
 
-abbrev pub first_value : First → Place × Capped Tree
+abbrev pub first_value : First → Place × WithHeight Tree
 first_value first = (first.place, capped_of first.value)
 
 -- a procedure as it was read, whose parts may be too high

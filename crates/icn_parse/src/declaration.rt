@@ -3,7 +3,7 @@ ghost use Rattle.std.specs.Prelude.{◌≡◌, Some, MatchResult};
 ghost use Rattle.std.specs.Option.{option_map};
 ghost use Rattle.icn_tree.specs.Phrases.{next};
 ghost use Rattle.icn_tree.specs.TreeOf.{initial_of};
-ghost use Rattle.icn_expr.specs.Capped.{capped};
+ghost use Rattle.icn_expr.specs.Capped.{builds_with_height};
 ghost use Rattle.icn_parse.specs.FileReading.{record_read, declaration_by, declaration_read};
 ghost use Rattle.icn_parse.specs.Gathering.{finish, finish_initial};
 ghost use Rattle.icn_parse.specs.Views.{ReadsNothing, first_value, finish_of, finished_read, outline_of};
@@ -108,7 +108,7 @@ fn read_behind<'a>(
     place: Place,
     tokens: &'a [Token],
 ) -> Result<(Finished, &'a [Token]), Stop>
-    ensures { let read = finished_read (declaration_by capped (Some kind.now) place tokens.now) in
+    ensures { let read = finished_read (declaration_by builds_with_height (Some kind.now) place tokens.now) in
         MatchResult result (λ found. read ≡ Some (finish_of found.0, found.1.now)) (ReadsNothing read) }
 {
     match kind {
@@ -138,7 +138,7 @@ pub fn read_declaration<'a>(
     alloc: Global,
     tokens: &'a [Token],
 ) -> Result<(Finished, &'a [Token]), Stop>
-    ensures { let read = finished_read (declaration_read capped tokens.now) in
+    ensures { let read = finished_read (declaration_read builds_with_height tokens.now) in
         MatchResult result (λ found. read ≡ Some (finish_of found.0, found.1.now)) (ReadsNothing read) }
 {
     let Some((token, rest)) = tokens.split_first() else {

@@ -2,7 +2,7 @@
 ghost use Rattle.std.specs.Prelude.{◌≡◌, Some, None, [], length, map, IfOk, MatchResult};
 ghost use Rattle.std.specs.Option.{option_map};
 ghost use Rattle.icn_tree.specs.TreeOf.{declaration_of};
-ghost use Rattle.icn_expr.specs.Capped.{capped};
+ghost use Rattle.icn_expr.specs.Capped.{builds_with_height};
 ghost use Rattle.icn_parse.specs.FileReading.{file_read};
 ghost use Rattle.icn_parse.specs.Gathering.{kept_declarations, high_with, done_with};
 ghost use Rattle.icn_parse.specs.Views.{ReadsNothing, finish_of};
@@ -42,7 +42,7 @@ impl Gathered {
 
 /// The declarations of a program text.
 pub fn read_file(alloc: Global, tokens: &[Token]) -> Result<Gathered, Stop>
-    ensures { let read = file_read capped (length tokens.now) tokens.now in
+    ensures { let read = file_read builds_with_height (length tokens.now) tokens.now in
         MatchResult result (λ all. option_map (kept_declarations None []) read
         ≡ Some (all.high, map declaration_of all.decls.items)) (ReadsNothing read) }
 {

@@ -2,7 +2,7 @@
 ghost use Rattle.std.specs.Prelude.{◌≡◌, ◌<◌, Some, suc, length, map, MatchResult};
 ghost use Rattle.std.specs.Option.{option_map};
 ghost use Rattle.icn_tree.specs.TreeOf.{locals_of};
-ghost use Rattle.icn_expr.specs.Capped.{capped};
+ghost use Rattle.icn_expr.specs.Capped.{builds_with_height};
 ghost use Rattle.icn_expr.specs.Reading.{expression_read};
 ghost use Rattle.icn_expr.specs.Views.{capped_of, elements_of};
 ghost use Rattle.icn_parse.specs.FileReading.{parameters_read, head_read, locals_read, initial_read, body_read, procedure_read};
@@ -50,8 +50,8 @@ fn read_value<'a>(
     level: u32,
     tokens: &'a [Token],
 ) -> Result<(Value, &'a [Token]), Stop>
-    ensures { MatchResult result (λ found. expression_read capped level tokens.now
-        ≡ Some (capped_of found.0, found.1.now)) (ReadsNothing (expression_read capped level tokens.now)) }
+    ensures { MatchResult result (λ found. expression_read builds_with_height level tokens.now
+        ≡ Some (capped_of found.0, found.1.now)) (ReadsNothing (expression_read builds_with_height level tokens.now)) }
 {
     match expression(alloc, level, tokens)? {
         Some(found) => Ok(found),
@@ -135,8 +135,8 @@ fn read_initial<'a>(
     tokens: &'a [Token],
 ) -> Result<(Option<First>, &'a [Token]), Stop>
     ensures { MatchResult result
-        (λ found. initial_read capped tokens.now ≡ Some (option_map first_value found.0, found.1.now))
-        (ReadsNothing (initial_read capped tokens.now)) }
+        (λ found. initial_read builds_with_height tokens.now ≡ Some (option_map first_value found.0, found.1.now))
+        (ReadsNothing (initial_read builds_with_height tokens.now)) }
 {
     if !initial_next(tokens) {
         return Ok((None, tokens));
@@ -149,9 +149,9 @@ fn read_initial<'a>(
 
 // The expressions up to the end of a procedure.
 fn read_body<'a>(alloc: Global, tokens: &'a [Token]) -> Result<(Elements, &'a [Token]), Stop>
-    ensures { MatchResult result (λ found. body_read capped
-        (suc (length tokens.now)) capped.no_elements tokens.now ≡ Some (elements_of found.0, found.1.now))
-        (ReadsNothing (body_read capped (suc (length tokens.now)) capped.no_elements tokens.now)) }
+    ensures { MatchResult result (λ found. body_read builds_with_height
+        (suc (length tokens.now)) builds_with_height.no_elements tokens.now ≡ Some (elements_of found.0, found.1.now))
+        (ReadsNothing (body_read builds_with_height (suc (length tokens.now)) builds_with_height.no_elements tokens.now)) }
 {
     let mut done = Elements::new(alloc);
     let mut rest = tokens;
@@ -169,8 +169,8 @@ pub fn read_procedure<'a>(
     place: Place,
     tokens: &'a [Token],
 ) -> Result<(Outline, &'a [Token]), Stop>
-    ensures { MatchResult result (λ found. procedure_read capped place tokens.now
-        ≡ Some (outline_of found.0, found.1.now)) (ReadsNothing (procedure_read capped place tokens.now)) }
+    ensures { MatchResult result (λ found. procedure_read builds_with_height place tokens.now
+        ≡ Some (outline_of found.0, found.1.now)) (ReadsNothing (procedure_read builds_with_height place tokens.now)) }
 {
     let (head, rest) = read_head(alloc, tokens)?;
     let (locals, rest) = read_all_locals(alloc, rest)?;

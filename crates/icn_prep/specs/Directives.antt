@@ -6,7 +6,7 @@ use Rattle.icn_prep.specs.declared.keyword.Keyword.TheVariants.{Define, Undef, I
 use Rattle.icn_prep.specs.declared.literal.LiteralState.{LiteralState}
 use Rattle.icn_prep.specs.declared.literal.LiteralState.TheVariants.{Outside, Inside, Joining, Escape, Control, Comment}
 use Rattle.icn_prep.specs.LiteralStates.{after_in}
-use Rattle.icn_prep.specs.Words.{first_word, behind_word, trimmed, trimmed_start}
+use Rattle.icn_prep.specs.Words.{first_word, behind_word, trim, trimmed_start}
 
 -- `(`, `)`, `<` or `>`: with a `$` before it, it spells a brace or a bracket
 abbrev pub is_pair_end : ℕ → Bool
@@ -38,11 +38,11 @@ is_comment (Escape quote) = false
 is_comment (Control quote) = false
 
 -- the bytes up to a comment; what has names has no escapes
-abbrev pub uncommented : Bool → LiteralState → List ℕ → List ℕ
-uncommented is_name state [] = []
-uncommented is_name state (b ∷ rest) =
+abbrev pub without_comment : Bool → LiteralState → List ℕ → List ℕ
+without_comment is_name state [] = []
+without_comment is_name state (b ∷ rest) =
     if is_comment (after_in is_name state b) then []
-    else b ∷ uncommented is_name (after_in is_name state b) rest
+    else b ∷ without_comment is_name (after_in is_name state b) rest
 
 -- what stands behind the `$` of a directive, without the blanks before its name
 abbrev pub directive_text : List ℕ → List ℕ
@@ -59,7 +59,7 @@ names_file name = bytes_eq name (codes "include") || bytes_eq name (codes "line"
 -- what stands behind a directive's name, without a comment and the blanks round it
 abbrev pub operand : List ℕ → List ℕ
 operand line =
-    trimmed (uncommented (names_file (directive_name line)) Outside (behind_word (directive_text line)))
+    trim (without_comment (names_file (directive_name line)) Outside (behind_word (directive_text line)))
 
 -- the directive of this name, if there is one
 abbrev pub keyword_of : List ℕ → Option Keyword

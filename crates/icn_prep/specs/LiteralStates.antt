@@ -19,17 +19,17 @@ after (Control quote) b = Inside quote
 after Comment b = Comment
 
 -- the same where a backslash is a byte like another
-abbrev pub unescaped : LiteralState → LiteralState
-unescaped (Escape quote) = Inside quote
-unescaped Outside = Outside
-unescaped (Inside quote) = Inside quote
-unescaped (Joining quote) = Joining quote
-unescaped (Control quote) = Control quote
-unescaped Comment = Comment
+abbrev pub without_escape : LiteralState → LiteralState
+without_escape (Escape quote) = Inside quote
+without_escape Outside = Outside
+without_escape (Inside quote) = Inside quote
+without_escape (Joining quote) = Joining quote
+without_escape (Control quote) = Control quote
+without_escape Comment = Comment
 
 -- behind a byte of a directive's operand, where a name has no escapes
 abbrev pub after_in : Bool → LiteralState → ℕ → LiteralState
-after_in is_name state b = if is_name then unescaped (after state b) else after state b
+after_in is_name state b = if is_name then without_escape (after state b) else after state b
 
 -- where the next line begins: inside a literal where this one ended with an underscore that joins them, else outside
 abbrev pub next_line_state : LiteralState → LiteralState

@@ -5,7 +5,7 @@ use Rattle.std.specs.List.{prefix_len, list_any}
 use Rattle.icn_prep.specs.FileLines.{begins_with}
 use Rattle.icn_tree.specs.Characters.{is_digit, is_blank}
 use Rattle.icn_tree.specs.TokenBounds.{is_name}
-use Rattle.icn_prep.specs.Words.{first_word, behind_word, trimmed, trimmed_start}
+use Rattle.icn_prep.specs.Words.{first_word, behind_word, trim, trimmed_start}
 
 abbrev pub is_empty : List ℕ → Bool
 is_empty [] = true
@@ -19,7 +19,7 @@ name_operand operand = if is_name operand then Some operand else None
 abbrev pub define_operand : List ℕ → Option (List ℕ × List ℕ)
 define_operand operand =
     if is_name (first_word operand) && not (begins_with 40 (behind_word operand))
-    then Some (first_word operand, trimmed (behind_word operand))
+    then Some (first_word operand, trim (behind_word operand))
     else None
 
 -- a byte that may stand inside a quoted name: any but the quote

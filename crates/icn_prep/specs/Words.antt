@@ -18,5 +18,5 @@ abbrev pub trimmed_end : List ℕ → List ℕ
 trimmed_end bytes = reverse (trimmed_start (reverse bytes))
 
 -- without blanks at its start and its end
-abbrev pub trimmed : List ℕ → List ℕ
-trimmed bytes = trimmed_end (trimmed_start bytes)
+abbrev pub trim : List ℕ → List ℕ
+trim bytes = trimmed_end (trimmed_start bytes)

@@ -3,7 +3,7 @@ ghost use Rattle.std.specs.Prelude.{◌≡◌, ◌≤◌, length};
 ghost use Rattle.std.specs.List.{prefix_len, list_all, list_any};
 ghost use Rattle.icn_tree.specs.Characters.{begins_identifier, continues_identifier, is_blank};
 ghost use Rattle.icn_tree.specs.TokenBounds.{is_name};
-ghost use Rattle.icn_prep.specs.Words.{trimmed_start, trimmed_end, trimmed};
+ghost use Rattle.icn_prep.specs.Words.{trimmed_start, trimmed_end, trim};
 ghost use Rattle.icn_prep.specs.Operands.{is_unquoted};
 
 use icn_tree::characters::{begins_identifier, blanks_len, continues_identifier, is_blank};
@@ -62,7 +62,7 @@ fn trimmed_end(bytes: &[u8]) -> &[u8]
 
 // The bytes without the blanks at both ends.
 pub fn trimmed(bytes: &[u8]) -> &[u8]
-    ensures { result.now ≡ trimmed bytes.now }
+    ensures { result.now ≡ trim bytes.now }
 {
     trimmed_end(trimmed_start(bytes))
 }

@@ -1,6 +1,6 @@
 // Lines that are directives.
 ghost use Rattle.std.specs.Prelude.{◌≡◌, drop};
-ghost use Rattle.icn_prep.specs.Directives.{is_pair_end, begins_pair_end, begins_directive, is_directive, uncommented, directive_text, directive_name, names_file, operand};
+ghost use Rattle.icn_prep.specs.Directives.{is_pair_end, begins_pair_end, begins_directive, is_directive, without_comment, directive_text, directive_name, names_file, operand};
 ghost use Rattle.icn_prep.specs.declared.literal.LiteralState.TheVariants.{Outside};
 ghost use Rattle.icn_prep.specs.Words.{first_word, behind_word};
 
@@ -73,7 +73,7 @@ fn names_file(name: &[u8]) -> bool
 
 // The bytes up to a comment.
 fn uncommented(is_name: bool, text: &[u8]) -> &[u8]
-    ensures { result.now ≡ uncommented is_name Outside text.now }
+    ensures { result.now ≡ without_comment is_name Outside text.now }
 {
     let mut literal = LiteralState::Outside;
     for (at, byte) in text.iter().enumerate() {

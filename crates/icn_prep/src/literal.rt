@@ -1,6 +1,6 @@
 // How the bytes of a line stand to literals and comments.
 ghost use Rattle.std.specs.Prelude.{◌≡◌};
-ghost use Rattle.icn_prep.specs.LiteralStates.{after_in_literal, after, after_in, next_line_state, unescaped};
+ghost use Rattle.icn_prep.specs.LiteralStates.{after_in_literal, after, after_in, next_line_state, without_escape};
 
 /// How a byte stands to literals and comments. A literal goes by its quote.
 #[derive(Clone, Copy, Debug, PartialEq, Eq)]
@@ -49,7 +49,7 @@ impl LiteralState {
 
     // The same where a backslash is a byte like another.
     fn unescaped(self) -> Self
-        ensures { result ≡ unescaped self }
+        ensures { result ≡ without_escape self }
     {
         match self {
             LiteralState::Escape(quote) => LiteralState::Inside(quote),

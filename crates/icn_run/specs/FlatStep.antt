@@ -4,7 +4,7 @@ use Rattle.icn_defs.specs.Running.{Observes}
 use Rattle.icn_code.specs.Codes.{Tables}
 use Rattle.icn_run.specs.Stacks.{Frames, flat, empty}
 use Rattle.icn_run.specs.Step as Step
-use Rattle.icn_run.specs.Step.{Program, Observed, Launch}
+use Rattle.icn_run.specs.Step.{Program, Observation, Launch}
 
 -- a state of a run on flat stacks
 abbrev pub State : Type 0
@@ -23,5 +23,5 @@ abbrev pub start : Program → Launch → State
 start P launch = Step.start flat empty P launch
 
 -- the run of a code that is begun so comes to an end of which this is observed
-abbrev pub Runs : Tables → Launch → Observed → Type 0
+abbrev pub Runs : Tables → Launch → Observation → Type 0
 Runs tables launch seen = Observes (step tables) Step.observation (start tables launch) seen

@@ -7,7 +7,7 @@ use Rattle.icn_code.specs.Codes.{Tables}
 use Rattle.icn_defs.specs.Running.{Observes}
 use Rattle.icn_run.specs.Chains.{WaitingChain, LinkedStack, linked_calls, empty}
 use Rattle.icn_run.specs.Step as Step
-use Rattle.icn_run.specs.Step.{Program, Observed, Launch, instrs_of}
+use Rattle.icn_run.specs.Step.{Program, Observation, Launch, instrs_of}
 
 -- a state of a run on linked marks
 abbrev pub State : Type 0
@@ -26,7 +26,7 @@ abbrev pub start : (ℕ → ℕ → Bool) → Program → Launch → State
 start repeats P launch = Step.start (linked_calls repeats) empty P launch
 
 -- the same of the run on linked marks
-abbrev pub Runs : (ℕ → ℕ → Bool) → Tables → Launch → Observed → Type 0
+abbrev pub Runs : (ℕ → ℕ → Bool) → Tables → Launch → Observation → Type 0
 Runs repeats tables launch seen =
     Observes (step repeats tables) Step.observation (start repeats tables launch) seen
 

@@ -7,4 +7,4 @@ pub use Rattle.icn_defs.specs.Conversions.{integer_of, place_of}
 pub use Rattle.icn_defs.specs.Applying.{again}
 pub use Rattle.icn_defs.specs.Keywords.{Standing, keyword_item}
 pub use Rattle.icn_defs.specs.StepRows.{Operation, Function, apply, value_row, list_row, text_row, record_row, coexpression_row}
-pub use Rattle.icn_defs.specs.Running.{Pair, Ending, Done, Exit, Errored, AtBound, Observed, first_world, words_row, number_of}
+pub use Rattle.icn_defs.specs.Running.{Pair, Ending, Done, Exit, Errored, AtBound, Observation, first_world, words_row, number_of}

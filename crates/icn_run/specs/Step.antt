@@ -19,7 +19,7 @@ use Rattle.icn_code.specs.declared.code.Start.TheVariants as Starts
 use Rattle.icn_code.specs.Codes.{Tables, Proc as Procedure, RecordType}
 use Rattle.icn_code.specs.Rules.{name_of}
 use Rattle.icn_run.specs.Rows.{Value, Null, Integer, Text, Chars, Procedure as ProcedureValue, ARecord, AList, ACoexp, Global, Static, Local, Field, Whole, Part, Item, Val, Var, World, Outside, Setting, Names, list_at, record_at, Outcome, Fails, Gives, Suspends, Error, Ends, error_report, integer_of, place_of, again, Standing, keyword_item, Operation, Function, apply, value_row, list_row, text_row, record_row, coexpression_row, first_world, words_row, Ending, Done, Exit, Errored, AtBound, number_of}
-pub use Rattle.icn_defs.specs.Running.{Observed, Launch}
+pub use Rattle.icn_defs.specs.Running.{Observation, Launch}
 use Rattle.icn_defs.specs.Running.{after_steps, bound_report, with_errors}
 use Rattle.icn_run.specs.Calls.{Pair, Why, Alt, Op as Operation, Scan, Escan, Proc, MarkDrop, NoMark, Goes, Repeats, Outside as WithoutLabel, Calls}
 
@@ -672,7 +672,7 @@ abbrev pub steps : {K M : Type 0} → Calls K M → Program → ℕ → State K 
 steps C P n state = after_steps (step C P) n state
 
 -- what is observed of a run that is over
-abbrev pub observation : {K M : Type 0} → State K M → Option Observed
+abbrev pub observation : {K M : Type 0} → State K M → Option Observation
 observation (over ending outside) = Some (record { ending = ending; outside = outside })
 observation state = None
 

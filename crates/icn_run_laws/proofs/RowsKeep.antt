@@ -6,13 +6,13 @@ use Rattle.icn_defs.specs.Rows.{Row, Outcome, Gives, check}
 use Rattle.icn_defs.specs.Keeping.{Keeps, KeepsIn}
 use Rattle.icn_defs.proofs.KeptSizes.{KI, words, operation_keeps, function_keeps, again_keeps, list_keeps}
 use Rattle.icn_run.specs.Rows.{Operation, Function, apply, list_row, record_row, coexpression_row, text_row, words_row}
-use Rattle.icn_defs.specs.StepRows.{Applied}
+use Rattle.icn_defs.specs.StepRows.{OperationOrFunction}
 use Rattle.icn_run_laws.specs.SameStates.{RowsKeep, IsMade}
 
 self : (at : Setting) → Keeps at at
 self at = record { locals = refl; globals = refl; statics = refl; bounds = refl }
 
-applied : (names : Names) (what : Applied) (items : List Item) (at : Setting) → KeepsIn at (apply names what items at)
+applied : (names : Names) (what : OperationOrFunction) (items : List Item) (at : Setting) → KeepsIn at (apply names what items at)
 applied names (Operation op) items at = operation_keeps op items at
 applied names (Function func) items at = function_keeps names func items at
 

@@ -5,7 +5,7 @@ use Rattle.icn_run.specs.Stacks.{Frames, flat, empty, locals as flat_locals, set
 use Rattle.icn_run.specs.Chains.{fixed, flagged, Outer, base, call, mark, limit, outer_of, WaitingChain, LinkedStack, linked_calls, locals, set_locals, empty as no_chain}
 use Rattle.icn_run.specs.Rows.{Value}
 use Rattle.icn_run.specs.Calls.{Calls}
-use Rattle.icn_run.specs.Step.{Program, Launch, Observed, observation, State, running, failing, hopping, over, stuck, step, steps}
+use Rattle.icn_run.specs.Step.{Program, Launch, Observation, observation, State, running, failing, hopping, over, stuck, step, steps}
 use Rattle.icn_run.proofs.Observing.{over_seen, flat_once}
 use Rattle.icn_run.specs.FlatStep as F
 use Rattle.icn_run.specs.LinkedStep as L
@@ -71,7 +71,7 @@ module _ (keep : RowsKeep) (repeats : ℕ → ℕ → Bool) (tables : Tables) (l
   missing_cell : (k : ℕ) → IsLacking (linked_calls repeats) P May (steps (linked_calls repeats) P k (L.start repeats P launch)) → Missing
   missing_cell k x = missing_at k (L.steps repeats P k (L.start repeats P launch)) refl x
 
-  pub to_flat : (seen : Observed) → L.Runs repeats tables launch seen → F.Runs tables launch seen
+  pub to_flat : (seen : Observation) → L.Runs repeats tables launch seen → F.Runs tables launch seen
   to_flat seen run =
       let a = forward (linked_calls repeats) flat P May Missing (linked_agrees repeats (Opens P)) keep run.count (L.start repeats P launch)
       (F.start P launch) missing_cell starts in
@@ -81,7 +81,7 @@ module _ (keep : RowsKeep) (repeats : ℕ → ℕ → Bool) (tables : Tables) (l
             (F.steps P a.0 (F.start P launch)) (subst (λ s. Sames s (F.steps P a.0 (F.start P launch))) (over_seen _ seen run.is) a.1));
       }
 
-  to_linked_or : (seen : Observed) → F.Runs tables launch seen → L.Runs repeats tables launch seen ⊎ (LinkedStuck repeats tables launch × Missing)
+  to_linked_or : (seen : Observation) → F.Runs tables launch seen → L.Runs repeats tables launch seen ⊎ (LinkedStuck repeats tables launch × Missing)
   to_linked_or seen run = by_end (is_over (linked_calls repeats) flat P May Missing (linked_agrees repeats (Opens P)) keep seen.ending seen.outside
       (L.steps repeats P a.0 (L.start repeats P launch)) a.1)
     where
@@ -128,7 +128,7 @@ module _ (keep : RowsKeep) (repeats : ℕ → ℕ → Bool) (tables : Tables) (l
     stuck_flat = λ run. only_stuck (stuck_flat_or run);
   }
     where
-      only : (seen : Observed) → L.Runs repeats tables launch seen ⊎ (LinkedStuck repeats tables launch × Missing) → L.Runs repeats tables launch seen
+      only : (seen : Observation) → L.Runs repeats tables launch seen ⊎ (LinkedStuck repeats tables launch × Missing) → L.Runs repeats tables launch seen
       only seen (inl x) = x
       only seen (inr x) = absurd (none_missing x.1)
 
@@ -159,14 +159,14 @@ pub told : (repeats : ℕ → ℕ → Bool) (tables : Tables) (launch : Launch) 
 told repeats tables launch = runs_agree_at rows_keep repeats tables launch
 
 -- what a run on linked marks is seen as is all that the run on flat stacks is seen as
-pub told_once : (repeats : ℕ → ℕ → Bool) (tables : Tables) (launch : Launch) (seen other : Observed) → L.Runs repeats tables launch seen
+pub told_once : (repeats : ℕ → ℕ → Bool) (tables : Tables) (launch : Launch) (seen other : Observation) → L.Runs repeats tables launch seen
     → F.Runs tables launch other → seen ≡ other
 told_once repeats tables launch seen other run flat_run = flat_once tables launch seen other (to_flat rows_keep repeats tables launch seen run) flat_run
 
 -- where each end that is meant is the end of the run on linked marks, and one is meant, the run on flat stacks ends as is meant
-pub as_meant : (repeats : ℕ → ℕ → Bool) (tables : Tables) (launch : Launch) (Means : Observed → Type 0)
-    → ((seen : Observed) → Means seen → L.Runs repeats tables launch seen)
-    → (one : Observed) → Means one → ((seen : Observed) → Means seen → F.Runs tables launch seen) × ((seen : Observed) → F.Runs tables launch seen → Means seen)
+pub as_meant : (repeats : ℕ → ℕ → Bool) (tables : Tables) (launch : Launch) (Means : Observation → Type 0)
+    → ((seen : Observation) → Means seen → L.Runs repeats tables launch seen)
+    → (one : Observation) → Means one → ((seen : Observation) → Means seen → F.Runs tables launch seen) × ((seen : Observation) → F.Runs tables launch seen → Means seen)
 as_meant repeats tables launch Means law one means = (
   (λ seen m. to_flat rows_keep repeats tables launch seen (law seen m)),
   (λ seen run. subst Means (told_once repeats tables launch one seen (law one means) run) means),

@@ -4,7 +4,7 @@ use Rattle.icn_code.specs.declared.instr.Instr.{Instr}
 use Rattle.icn_code.specs.declared.instr.Instr.TheVariants as Instrs
 use Rattle.std.specs.Prelude.{slice_get}
 use Rattle.icn_run.specs.Rows.{Value, Item, Val, Setting, Names, Outside, Residual, Outcome, Gives, Error, apply, again, list_row, record_row, coexpression_row, text_row, words_row, Ending}
-use Rattle.icn_defs.specs.StepRows.{Applied}
+use Rattle.icn_defs.specs.StepRows.{OperationOrFunction}
 use Rattle.icn_defs.specs.Keeping.{KeepsIn}
 use Rattle.icn_run.specs.Calls.{Calls}
 use Rattle.icn_run.specs.Step.{Program, Status, Fresh, Active, Waiting, Exhausted, Coexp, Store, State, running, failing, hopping, over, stuck, instrs_of, instruction_at}
@@ -32,7 +32,7 @@ IsMade outcome = ⊥
 
 -- Rows keep the number of locals and the limits, and a list is made or an error.
 pub record RowsKeep : Type 0 where
-  pub applied : (names : Names) (what : Applied) (items : List Item) (at : Setting)
+  pub applied : (names : Names) (what : OperationOrFunction) (items : List Item) (at : Setting)
       → KeepsIn at (apply names what items at)
   pub resumed : (residual : Residual) (at : Setting) → KeepsIn at (again residual at)
   pub listed : (values : List Value) (at : Setting) → KeepsIn at (list_row values at)

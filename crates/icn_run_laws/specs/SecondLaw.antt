@@ -2,7 +2,7 @@
 use Rattle.std.specs.Prelude.{◌≡◌, ℕ, Bool, false, ◌⊎◌, Option, Some}
 use Rattle.icn_code.specs.Codes.{Tables}
 use Rattle.icn_run.specs.Chains.{fixed, Outer, mark, LinkedStack, WaitingChain, linked_calls, outer_of}
-use Rattle.icn_run.specs.Step.{Observed, Launch, Store, instruction_at, running, stuck}
+use Rattle.icn_run.specs.Step.{Observation, Launch, Store, instruction_at, running, stuck}
 use Rattle.icn_run.specs.FlatStep as Flat
 use Rattle.icn_run.specs.LinkedStep as Linked
 use Rattle.icn_code.specs.declared.instr.Instr.TheVariants as Instrs
@@ -36,19 +36,19 @@ pub record MissingCell (repeats : ℕ → ℕ → Bool) (tables : Tables) (launc
 
 -- Both end alike, or lack something, or neither.
 pub record RunsAgree (repeats : ℕ → ℕ → Bool) (tables : Tables) (launch : Launch) : Type 0 where
-  pub to_linked : (observed : Observed) → Flat.Runs tables launch observed
+  pub to_linked : (observed : Observation) → Flat.Runs tables launch observed
       → Linked.Runs repeats tables launch observed
-  pub to_flat : (observed : Observed) → Linked.Runs repeats tables launch observed
+  pub to_flat : (observed : Observation) → Linked.Runs repeats tables launch observed
       → Flat.Runs tables launch observed
   pub stuck_linked : FlatStuck tables launch → LinkedStuck repeats tables launch
   pub stuck_flat : LinkedStuck repeats tables launch → FlatStuck tables launch
 
 -- The run on linked marks may lack more only where it comes to a missing cell.
 pub record RunsAgreeAt (repeats : ℕ → ℕ → Bool) (tables : Tables) (launch : Launch) : Type 0 where
-  pub to_linked : (observed : Observed) → Flat.Runs tables launch observed
+  pub to_linked : (observed : Observation) → Flat.Runs tables launch observed
       → Linked.Runs repeats tables launch observed
       ⊎ (LinkedStuck repeats tables launch × MissingCell repeats tables launch)
-  pub to_flat : (observed : Observed) → Linked.Runs repeats tables launch observed
+  pub to_flat : (observed : Observation) → Linked.Runs repeats tables launch observed
       → Flat.Runs tables launch observed
   pub stuck_linked : FlatStuck tables launch → LinkedStuck repeats tables launch
   pub stuck_flat : LinkedStuck repeats tables launch

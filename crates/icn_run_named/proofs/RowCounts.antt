@@ -10,7 +10,7 @@ use Rattle.icn_value.specs.Values.{Value, Root, Global, Static, Local, Element, 
 use Rattle.icn_value.specs.Limited.{Bounds}
 use Rattle.icn_value.specs.Store.{Setting, Heap, Names, having_position, having_heap, value_at}
 use Rattle.icn_defs.specs.Conversions.{group_of, integer_of, place_of, Group, Textual, Listed, Collected, Tabled, Recorded, Filed, Activated, Single}
-use Rattle.icn_defs.specs.Rows.{Row, Outcome, Fails, Gives, Suspends, Error, Ends, Residual, TextBytes, VariableBytes, ListItems, SetMembers, TableValues, TableKeys, RecordFields, InputLines, UndoAssign, UndoExchange, UndoPosition, Counting, Sequence, Balanced, Found, Among, Mover, Neither, Left, Right, check, present, computed, passing, found, natural, costs_made}
+use Rattle.icn_defs.specs.Rows.{Row, Outcome, Fails, Gives, Suspends, Error, Ends, Residual, TextBytes, VariableBytes, ListItems, SetMembers, TableValues, TableKeys, RecordFields, InputLines, UndoAssign, UndoExchange, UndoPosition, Counting, Sequence, Balanced, Found, Among, Mover, Neither, Left, Right, check, present, number_or_error, passing, thing_or_failure, natural, costs_made}
 use Rattle.icn_defs.specs.Reading.{the_value, the_values, the_variable, assigns_keyword, assigns_root, assigns_or, assigns_both, move_part, moved_by_left, moved_by_right, costs_unless, reads}
 use Rattle.icn_defs.specs.Arguments.{Keeper, SetKeeper, TableKeeper}
 use Rattle.icn_defs.specs.Arithmetic.{count_from}
@@ -79,7 +79,7 @@ module _ (b : Heap) where
   w_present (Some x) k v next a h f = f x
   w_present None k v next a h f = o_error k v a h
 
-  w_computed : (o : Result ℤ Arith) (next : ℤ → Row) (a : Setting) → S b a → ((x : ℤ) → O b (next x a)) → O b (computed o next a)
+  w_computed : (o : Result ℤ Arith) (next : ℤ → Row) (a : Setting) → S b a → ((x : ℤ) → O b (next x a)) → O b (number_or_error o next a)
   w_computed (Ok x) next a h f = f x
   w_computed (Err why) next a h f = record { bounds = h.bounds; coexps = h.coexps }
 
@@ -87,7 +87,7 @@ module _ (b : Heap) where
   w_passing true next a h f = f
   w_passing false next a h f = o_fails a h
 
-  w_found : {A : Type 0} (o : Option A) (next : A → Row) (a : Setting) → S b a → ((x : A) → O b (next x a)) → O b (found o next a)
+  w_found : {A : Type 0} (o : Option A) (next : A → Row) (a : Setting) → S b a → ((x : A) → O b (next x a)) → O b (thing_or_failure o next a)
   w_found (Some x) next a h f = f x
   w_found None next a h f = o_fails a h
 

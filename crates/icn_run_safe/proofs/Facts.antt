@@ -24,7 +24,7 @@ use Rattle.icn_run_laws.proofs.OnMarks.{Lacks}
 use Rattle.icn_run_laws.proofs.OnSteps.{Sm, IsAtMark, Reaches, made_turns, one_step}
 use Rattle.icn_run_laws.proofs.SecondLaw.{starts_so}
 use Rattle.icn_run_safe.specs.Within.{RowsStayWithin}
-use Rattle.icn_run_safe.specs.Shaped.{Known, local_count, ChainOk, OuterOk, Safe, KeepsShapes}
+use Rattle.icn_run_safe.specs.Shaped.{Knowledge, local_count, ChainOk, OuterOk, Safe, KeepsShapes}
 use Rattle.icn_run_safe.specs.NoStuck.{TablesOk}
 use Rattle.icn_run_safe.specs.Facts.{operands_of, mark_count, marks, IsShapedAt, IsFlatShapedAt, IsMarkDue, GoesOn, Stands, AreShaped, shapes_of}
 use Rattle.icn_run_safe.proofs.Keeping.{here_proc, here_create, locals_ok, take_ok}
@@ -49,20 +49,20 @@ module _ (tables : Tables) (have : HaveShapes tables) (ok : TablesOk tables) (ke
   pub given : KeepsShapes tables (shapes_of tables have)
   given = shaped tables have ok
 
-  operand_count : (w : Known) (s p : ℕ) (S : PlainShape) (c : Chain) → ChainOk tables sh w s p S c → length (operands_of c) ≡ S.inner.operands
+  operand_count : (w : Knowledge) (s p : ℕ) (S : PlainShape) (c : Chain) → ChainOk tables sh w s p S c → length (operands_of c) ≡ S.inner.operands
   operand_count w s p S (chain items q scans o) h = h.0
 
-  scan_count : (w : Known) (s p : ℕ) (S : PlainShape) (c : Chain) → ChainOk tables sh w s p S c → S.inner.scans ≤ length (scans_of c)
+  scan_count : (w : Knowledge) (s p : ℕ) (S : PlainShape) (c : Chain) → ChainOk tables sh w s p S c → S.inner.scans ≤ length (scans_of c)
   scan_count w s p S (chain items q scans o) h = h.2
 
-  outer_count : (w : Known) (s p : ℕ) (cr : Bool) (kind : LevelKind) (ls : List Level) (o : Outer) → OuterOk tables sh w s p cr kind ls o
+  outer_count : (w : Knowledge) (s p : ℕ) (cr : Bool) (kind : LevelKind) (ls : List Level) (o : Outer) → OuterOk tables sh w s p cr kind ls o
       → mark_count o ≡ length ls
   outer_count w s p cr kind ls (base proc a) h = sym (ap length h.3)
   outer_count w s p cr kind ls (call proc a level place caller) h = sym (ap length h.3)
   outer_count w s p cr kind ls (mark label (chain items q scans o)) h = ap suc (outer_count w s p cr h.0.kind h.1 o h.5.4) ∙ sym (ap length h.2)
   outer_count w s p cr kind ls (limit n (chain items q scans o)) h = ap suc (outer_count w s p cr h.0.kind h.1 o h.4.4) ∙ sym (ap length h.2)
 
-  all_marks : (w : Known) (s p : ℕ) (S : PlainShape) (c : Chain) → ChainOk tables sh w s p S c → mark_count (outer_of c) ≡ length S.outer
+  all_marks : (w : Knowledge) (s p : ℕ) (S : PlainShape) (c : Chain) → ChainOk tables sh w s p S c → mark_count (outer_of c) ≡ length S.outer
   all_marks w s p S (chain items q scans o) h = outer_count w s p S.in_create S.inner.kind S.outer o h.4
 
   abbrev facts_at : (m : LinkedStack) (st : Store WaitingChain) → Safe tables sh (running m st) → IsShapedAt tables sh m st

@@ -1,6 +1,6 @@
 -- What is known grows, and all that has its shape keeps it.
 use Rattle.std.proofs.Common.{ℕ, ◌≤◌, Bool, List, Option, arith}
-use Rattle.icn_structs.specs.Numbered.{Numbered}
+use Rattle.icn_structs.specs.Numbered.{NumberedList}
 use Rattle.icn_code.specs.Codes.{Tables}
 use Rattle.icn_verify.specs.declared.shape.Level.{Level}
 use Rattle.icn_verify.specs.declared.shape.LevelKind.{LevelKind}
@@ -11,10 +11,10 @@ use Rattle.icn_defs.specs.Rows.{Residual, TextBytes, VariableBytes, ListItems, S
 use Rattle.icn_run.specs.Calls.{Alt, Op, Scan, Escan, Proc}
 use Rattle.icn_run.specs.Chains.{Label, fixed, flagged, Reason, because, scanning, Chain, chain, Suspensions, none, suspension, Outer, base, call, mark, limit, frame_of}
 use Rattle.icn_run_safe.specs.Within.{Each, ValueWithin, RootWithin, VariableWithin, ItemWithin, PairWithin, ListWithin, TableWithin, RecordWithin, ResidualWithin}
-use Rattle.icn_run_safe.specs.Shaped.{Known, IsOf, IsBefore, LabelOk, ReasonOk, level_shape, ChainOk, SuspsOk, OuterOk, FrameOk, LocalsOk, RelabelOk}
+use Rattle.icn_run_safe.specs.Shaped.{Knowledge, IsOf, IsBefore, LabelOk, ReasonOk, level_shape, ChainOk, SuspsOk, OuterOk, FrameOk, LocalsOk, RelabelOk}
 use Rattle.icn_run_safe.proofs.Entries.{each_map}
 
-pub record Grow (w w' : Known) : Type 0 where
+pub record Grow (w w' : Knowledge) : Type 0 where
   pub coexps : w.coexps ≤ w'.coexps
   pub activations : (a p : ℕ) → IsOf w a p → IsOf w' a p
   pub flags : (f p : ℕ) (S : PlainShape) → IsBefore w f p S → IsBefore w' f p S
@@ -55,7 +55,7 @@ items_more n n' l xs h = each_map (ItemWithin n) (ItemWithin n') (item_more n n'
 pub values_more : (n n' : ℕ) → n ≤ n' → (xs : List Value) → Each (ValueWithin n) xs → Each (ValueWithin n') xs
 values_more n n' l xs h = each_map (ValueWithin n) (ValueWithin n') (value_more n n' l) xs h
 
-pub list_more : (n n' : ℕ) → n ≤ n' → (x : Numbered Value) → ListWithin n x → ListWithin n' x
+pub list_more : (n n' : ℕ) → n ≤ n' → (x : NumberedList Value) → ListWithin n x → ListWithin n' x
 list_more n n' l x h = values_more n n' l x.items h
 
 pub table_more : (n n' : ℕ) → n ≤ n' → (x : Table) → TableWithin n x → TableWithin n' x
@@ -86,11 +86,11 @@ residual_more n n' l (Found a b c d) h = tt
 residual_more n n' l (Among a b c d) h = tt
 
 module _ (tables : Tables) (sh : ℕ → ℕ → Option PlainShape) where
-  grow_label : (w w' : Known) → Grow w w' → (p : ℕ) (S : PlainShape) (label : Label) → LabelOk tables sh w p S label → LabelOk tables sh w' p S label
+  grow_label : (w w' : Knowledge) → Grow w w' → (p : ℕ) (S : PlainShape) (label : Label) → LabelOk tables sh w p S label → LabelOk tables sh w' p S label
   grow_label w w' g p S (fixed l) h = h
   grow_label w w' g p S (flagged l f q) h = (g.flags f p S h.0, h.1, h.2)
 
-  grow_reason : (w w' : Known) → Grow w w' → (p : ℕ) (S : PlainShape) (q : ℕ) (r : Reason) → ReasonOk tables sh w p S q r → ReasonOk tables sh w' p S q r
+  grow_reason : (w w' : Knowledge) → Grow w w' → (p : ℕ) (S : PlainShape) (q : ℕ) (r : Reason) → ReasonOk tables sh w p S q r → ReasonOk tables sh w' p S q r
   grow_reason w w' g p S q (because Alt) h = tt
   grow_reason w w' g p S q (because (Op r)) h = (residual_more w.coexps w'.coexps g.coexps r h.0, h.1)
   grow_reason w w' g p S q (because (Scan x)) h = tt
@@ -99,15 +99,15 @@ module _ (tables : Tables) (sh : ℕ → ℕ → Option PlainShape) where
   grow_reason w w' g p S q (scanning n) h = tt
 
   mutual
-    pub grow_chain : (w w' : Known) → Grow w w' → (s p : ℕ) (S : PlainShape) (c : Chain) → ChainOk tables sh w s p S c → ChainOk tables sh w' s p S c
+    pub grow_chain : (w w' : Knowledge) → Grow w w' → (s p : ℕ) (S : PlainShape) (c : Chain) → ChainOk tables sh w s p S c → ChainOk tables sh w' s p S c
     grow_chain w w' g s p S (chain items q scans o) h =
         (h.0, items_more w.coexps w'.coexps g.coexps items h.1, h.2, grow_susps w w' g s q h.3, grow_outer w w' g s p S.in_create S.inner.kind S.outer o h.4)
 
-    pub grow_susps : (w w' : Known) → Grow w w' → (s : ℕ) (q : Suspensions) → SuspsOk tables sh w s q → SuspsOk tables sh w' s q
+    pub grow_susps : (w w' : Knowledge) → Grow w w' → (s : ℕ) (q : Suspensions) → SuspsOk tables sh w s q → SuspsOk tables sh w' s q
     grow_susps w w' g s none h = tt
     grow_susps w w' g s (suspension reason place inside) h = (h.0, h.1, grow_reason w w' g h.0 h.1 place reason h.2, grow_chain w w' g s h.0 h.1 inside h.3)
 
-    pub grow_outer : (w w' : Known) → Grow w w' → (s p : ℕ) (cr : Bool) (kind : LevelKind) (ls : List Level) (o : Outer) → OuterOk tables sh w s p cr kind ls o
+    pub grow_outer : (w w' : Knowledge) → Grow w w' → (s p : ℕ) (cr : Bool) (kind : LevelKind) (ls : List Level) (o : Outer) → OuterOk tables sh w s p cr kind ls o
         → OuterOk tables sh w' s p cr kind ls o
     grow_outer w w' g s p cr kind ls (base proc a) h = (h.0, h.1, h.2, h.3, g.activations a p h.4)
     grow_outer w w' g s p cr kind ls (call proc a level place caller) h =
@@ -124,15 +124,15 @@ module _ (tables : Tables) (sh : ℕ → ℕ → Option PlainShape) where
         (h.0, h.1, h.2, h.3, grow_chain w w' g s p (level_shape tables sh cr h.0 h.1) outside h.4)
 
   -- the frame of the procedure
-  pub frame_ok : (w : Known) (s p : ℕ) (cr : Bool) (kind : LevelKind) (ls : List Level) (o : Outer) → OuterOk tables sh w s p cr kind ls o
+  pub frame_ok : (w : Knowledge) (s p : ℕ) (cr : Bool) (kind : LevelKind) (ls : List Level) (o : Outer) → OuterOk tables sh w s p cr kind ls o
       → FrameOk tables sh w s p cr (frame_of o)
   frame_ok w s p cr kind ls (base proc a) h = (h.0, h.1, h.4)
   frame_ok w s p cr kind ls (call proc a level place caller) h = (h.0, h.1, h.4, h.5)
   frame_ok w s p cr kind ls (mark label (chain items q scans o)) h = frame_ok w s p cr h.0.kind h.1 o h.5.4
   frame_ok w s p cr kind ls (limit n (chain items q scans o)) h = frame_ok w s p cr h.0.kind h.1 o h.4.4
 
-  pub grow_locals : (w w' : Known) → Grow w w' → (p : ℕ) (values : List Value) → LocalsOk tables sh w p values → LocalsOk tables sh w' p values
+  pub grow_locals : (w w' : Knowledge) → Grow w w' → (p : ℕ) (values : List Value) → LocalsOk tables sh w p values → LocalsOk tables sh w' p values
   grow_locals w w' g p values h = record { within = values_more w.coexps w'.coexps g.coexps values h.within; count = h.count }
 
-  pub grow_relabels : (w w' : Known) → Grow w w' → (xs : List (ℕ × ℕ)) → Each (RelabelOk tables sh w) xs → Each (RelabelOk tables sh w') xs
+  pub grow_relabels : (w w' : Knowledge) → Grow w w' → (xs : List (ℕ × ℕ)) → Each (RelabelOk tables sh w) xs → Each (RelabelOk tables sh w') xs
   grow_relabels w w' g xs h = each_map (RelabelOk tables sh w) (RelabelOk tables sh w') (λ x z. (z.0, z.1, g.flags x.0 z.0 z.1 z.2, z.3)) xs h

@@ -10,7 +10,7 @@ use Rattle.icn_run.specs.Chains.{Chain, LinkedStack, WaitingChain}
 use Rattle.icn_run.specs.Step.{Program, Status, Fresh, Active, Waiting, Exhausted, Coexp, Store, running, failing, hopping, here, with_at, with_made, outcome, push_item, pair_now, with_pair, with_exchange, maybe_exchanged, swapped_back, all_left, coexp_at, status_of, activator_of, with_coexp, with_status, with_activator, make_active, fail_by, passed_failure, give_by, passed_value, hop, exhaust_active, counted_result, result_given, is_main, is_create_body, with_new, coexp_made, refreshed_from, refresh, entered_by, entered_if, activation, return_to, proc_fails, without_mark, mark_dropped, resume_by, resumed_or_dropped, fails}
 use Rattle.icn_run_laws.proofs.RowsKeep.{rows_keep}
 use Rattle.icn_run_safe.specs.Within.{ValueWithin, CreatedWithin, RowsStayWithin}
-use Rattle.icn_run_safe.specs.Shaped.{Known, MemoryOf, LocalsOk, ParkedOk, StatusOk, IsFresh, Entered, StoreOk, KeepsShapes}
+use Rattle.icn_run_safe.specs.Shaped.{Knowledge, MemoryOf, LocalsOk, ParkedOk, StatusOk, IsFresh, Entered, StoreOk, KeepsShapes}
 use Rattle.icn_run_safe.proofs.Entries.{stands, index_there, set_length}
 use Rattle.icn_run_safe.proofs.Growing.{grow_chain}
 use Rattle.icn_run_safe.proofs.Keeping.{with_activation, grow_activation, here_create, set_locals_ok, locals_ok}
@@ -30,18 +30,18 @@ module _ (P : Program) (sh : ℕ → ℕ → Option PlainShape) (given : KeepsSh
   abbrev Good : St P sh given keep → Type 0
   Good state = Ok P sh given keep state
 
-  abbrev Set : Known → ℕ → PlainShape → LinkedStack → Store WaitingChain → Type 0
+  abbrev Set : Knowledge → ℕ → PlainShape → LinkedStack → Store WaitingChain → Type 0
   Set w p S m st = Ready P sh given keep w p S m st
 
   abbrev pub HasBegun : Store WaitingChain → ℕ → Type 0
   HasBegun st n = Entered P sh st.coexps n
 
   -- no co-expression is active
-  pub record Idle (w : Known) (m : LinkedStack) (st : Store WaitingChain) : Type 0 where
+  pub record Idle (w : Knowledge) (m : LinkedStack) (st : Store WaitingChain) : Type 0 where
     pub memory : MemoryOf P sh w m
     pub store : StoreOk P sh w (λ i. ⊥) st
 
-  hop_ready : (w : Known) (m : LinkedStack) (st : Store WaitingChain) (n : ℕ) → Idle w m st → HasBegun st n → Good (hopping m (record st { active = n }))
+  hop_ready : (w : Knowledge) (m : LinkedStack) (st : Store WaitingChain) (n : ℕ) → Idle w m st → HasBegun st n → Good (hopping m (record st { active = n }))
   hop_ready w m st n h e = (
     w,
     h.memory,
@@ -55,18 +55,18 @@ module _ (P : Program) (sh : ℕ → ℕ → Option PlainShape) (given : KeepsSh
   read_coexp : (st : Store WaitingChain) (n : ℕ) (c : Coexp WaitingChain) → slice_get st.coexps n ≡ Some c → coexp_at n st ≡ c
   read_coexp st n c e = index_there st.coexps n c _ e
 
-  store_active : (w : Known) (st : Store WaitingChain) (n : ℕ) (c : Coexp WaitingChain) → StoreOk P sh w (λ i. ⊥) st → slice_get st.coexps n ≡ Some c
+  store_active : (w : Knowledge) (st : Store WaitingChain) (n : ℕ) (c : Coexp WaitingChain) → StoreOk P sh w (λ i. ⊥) st → slice_get st.coexps n ≡ Some c
       → StoreOk P sh w (λ i. i ≡ n) (make_active n st)
   store_active w st n c h e =
       subst (λ (x : Coexp WaitingChain). StoreOk P sh w (λ i. i ≡ n) (with_coexp n (record x { status = Active }) (record st { active = n })))
       (sym (read_coexp st n c e)) (set_active P sh w st n c h e (h.coexps.each n c e).activator)
 
-  taken_ready : (w : Known) (m : LinkedStack) (st : Store WaitingChain) (n : ℕ) (c : Coexp WaitingChain) (k : WaitingChain) → Idle w m st
+  taken_ready : (w : Knowledge) (m : LinkedStack) (st : Store WaitingChain) (n : ℕ) (c : Coexp WaitingChain) (k : WaitingChain) → Idle w m st
       → slice_get st.coexps n ≡ Some c
       → (h : ParkedOk P sh w n k) → Set w h.proc h.shape (M.taken_up k m) (make_active n st)
   taken_ready w m st n c k i e h = record { now = record { has = h.has; memory = i.memory }; store = store_active w st n c i.store e }
 
-  fail_ok : (n : ℕ) (w : Known) (m : LinkedStack) (st : Store WaitingChain) (c : Coexp WaitingChain) → Idle w m st → slice_get st.coexps n ≡ Some c
+  fail_ok : (n : ℕ) (w : Knowledge) (m : LinkedStack) (st : Store WaitingChain) (c : Coexp WaitingChain) → Idle w m st → slice_get st.coexps n ≡ Some c
       → HasBegun st n
       → (s : Status WaitingChain) → StatusOk P sh w n s → (IsFresh P sh s → ⊥) → Good (fail_by M s n m st)
   fail_ok n w m st c i e ent Fresh h f = absurd (f tt)
@@ -75,20 +75,20 @@ module _ (P : Program) (sh : ℕ → ℕ → Option PlainShape) (given : KeepsSh
   fail_ok n w m st c i e ent Exhausted h f = hop_ready w m st n i ent
 
   -- what is done by the status of one is done by what is read of it
-  passed_failure_ok : (n : ℕ) (w : Known) (m : LinkedStack) (st : Store WaitingChain) → Idle w m st → HasBegun st n → Good (passed_failure M n m st)
+  passed_failure_ok : (n : ℕ) (w : Knowledge) (m : LinkedStack) (st : Store WaitingChain) → Idle w m st → HasBegun st n → Good (passed_failure M n m st)
   passed_failure_ok n w m st i ent =
       subst (λ (x : Coexp WaitingChain). Good (fail_by M x.status n m st)) (sym (read_coexp st n ent.coexp ent.stands))
       (fail_ok n w m st ent.coexp i ent.stands ent ent.coexp.status (i.store.coexps.waits n ent.coexp ent.stands (λ z. z)) ent.begun)
 
   -- the activator of one that is there has begun
-  activator_begun : (w : Known) (May : ℕ → Type 0) (st : Store WaitingChain) (n : ℕ) → StoreOk P sh w May st → HasBegun st n → HasBegun st (activator_of n st)
+  activator_begun : (w : Knowledge) (May : ℕ → Type 0) (st : Store WaitingChain) (n : ℕ) → StoreOk P sh w May st → HasBegun st n → HasBegun st (activator_of n st)
   activator_begun w May st n h ent =
       subst (λ (x : Coexp WaitingChain). HasBegun st x.activator) (sym (read_coexp st n ent.coexp ent.stands)) (h.coexps.each n ent.coexp ent.stands).activator
 
-  to_activator_ok : (w : Known) (m : LinkedStack) (st : Store WaitingChain) → Idle w m st → Good (passed_failure M (activator_of st.active st) m st)
+  to_activator_ok : (w : Knowledge) (m : LinkedStack) (st : Store WaitingChain) → Idle w m st → Good (passed_failure M (activator_of st.active st) m st)
   to_activator_ok w m st i = passed_failure_ok (activator_of st.active st) w m st i (activator_begun w (λ i. ⊥) st st.active i.store i.store.coexps.there)
 
-  give_ok : (n : ℕ) (value : Value) (w : Known) (m : LinkedStack) (st : Store WaitingChain) (c : Coexp WaitingChain) → Idle w m st
+  give_ok : (n : ℕ) (value : Value) (w : Knowledge) (m : LinkedStack) (st : Store WaitingChain) (c : Coexp WaitingChain) → Idle w m st
       → slice_get st.coexps n ≡ Some c
       → ValueWithin w.coexps value → (s : Status WaitingChain) → s ≡ c.status → StatusOk P sh w n s → Good (give_by M s n value m st)
   give_ok n value w m st c i e g Fresh q h =
@@ -104,7 +104,7 @@ module _ (P : Program) (sh : ℕ → ℕ → Option PlainShape) (given : KeepsSh
       ok_push P sh given keep (Val value) w h.proc h.shape (M.taken_up k m) (make_active n st) (taken_ready w m st n c k i e h) g h.goes
   give_ok n value w m st c i e g Exhausted q h = hop_ready w m st n i (record { coexp = c; stands = e; begun = subst (λ x. IsFresh P sh x → ⊥) q (λ z. z) })
 
-  passed_value_ok : (n : ℕ) (value : Value) (w : Known) (m : LinkedStack) (st : Store WaitingChain) (c : Coexp WaitingChain) → Idle w m st
+  passed_value_ok : (n : ℕ) (value : Value) (w : Knowledge) (m : LinkedStack) (st : Store WaitingChain) (c : Coexp WaitingChain) → Idle w m st
       → slice_get st.coexps n ≡ Some c
       → ValueWithin w.coexps value → Good (passed_value M n value m st)
   passed_value_ok n value w m st c i e g =
@@ -112,7 +112,7 @@ module _ (P : Program) (sh : ℕ → ℕ → Option PlainShape) (given : KeepsSh
       (give_ok n value w m st c i e g c.status refl (i.store.coexps.waits n c e (λ z. z)))
 
   -- the active one gets a status
-  status_ok : (s : Status WaitingChain) (w : Known) (p : ℕ) (S : PlainShape) (m : LinkedStack) (st : Store WaitingChain) → Set w p S m st → (IsFresh P sh s → ⊥)
+  status_ok : (s : Status WaitingChain) (w : Knowledge) (p : ℕ) (S : PlainShape) (m : LinkedStack) (st : Store WaitingChain) → Set w p S m st → (IsFresh P sh s → ⊥)
       → StatusOk P sh w st.active s → Idle w m (with_status st.active s st)
   status_ok s w p S m st h f ok = let a = h.store.coexps.there in record {
     memory = h.now.memory;
@@ -120,7 +120,7 @@ module _ (P : Program) (sh : ℕ → ℕ → Option PlainShape) (given : KeepsSh
         (sym (read_coexp st st.active a.coexp a.stands)) (set_status P sh w st a.coexp s h.store a.stands f ok);
   }
 
-  begun_then : (s : Status WaitingChain) (w : Known) (p : ℕ) (S : PlainShape) (m : LinkedStack) (st : Store WaitingChain) → Set w p S m st
+  begun_then : (s : Status WaitingChain) (w : Knowledge) (p : ℕ) (S : PlainShape) (m : LinkedStack) (st : Store WaitingChain) → Set w p S m st
       → (IsFresh P sh s → ⊥) → (n : ℕ)
       → HasBegun st n → HasBegun (with_status st.active s st) n
   begun_then s w p S m st h f n ent = let a = h.store.coexps.there in
@@ -128,7 +128,7 @@ module _ (P : Program) (sh : ℕ → ℕ → Option PlainShape) (given : KeepsSh
       (sym (read_coexp st st.active a.coexp a.stands))
       (entered_set P sh st.coexps st.active a.coexp (record a.coexp { status = s }) n a.stands (λ q. absurd (f q)) ent)
 
-  pub exhausted_ok : (w : Known) (p : ℕ) (S : PlainShape) (m : LinkedStack) (st : Store WaitingChain) → Set w p S m st → Good (exhaust_active M P m st)
+  pub exhausted_ok : (w : Knowledge) (p : ℕ) (S : PlainShape) (m : LinkedStack) (st : Store WaitingChain) → Set w p S m st → Good (exhaust_active M P m st)
   exhausted_ok w p S m st h =
       ok_turn P sh given keep w p S m st (λ st. passed_failure M (activator_of st.active st) m (with_status st.active Exhausted st)) h (λ st' r.
       let i = status_ok Exhausted w p S m st' r (λ z. z) tt in
@@ -136,11 +136,11 @@ module _ (P : Program) (sh : ℕ → ℕ → Option PlainShape) (given : KeepsSh
       passed_failure_ok (activator_of a st') w m (with_status a Exhausted st') i
       (begun_then Exhausted w p S m st' r (λ z. z) (activator_of a st') (activator_begun w (λ i. i ≡ a) st' a r.store r.store.coexps.there)))
 
-  parked_ok : (w : Known) (p : ℕ) (S : PlainShape) (m : LinkedStack) (st : Store WaitingChain) → Set w p S m st → sh p m.place ≡ Some (with_more 1 S)
+  parked_ok : (w : Knowledge) (p : ℕ) (S : PlainShape) (m : LinkedStack) (st : Store WaitingChain) → Set w p S m st → sh p m.place ≡ Some (with_more 1 S)
       → ParkedOk P sh w st.active (M.kept m)
   parked_ok w p S m st h e = record { proc = p; shape = S; has = h.now.has; goes = e }
 
-  counted_idle : (n : ℕ) (w : Known) (m : LinkedStack) (st : Store WaitingChain) → Idle w m st → Idle w m (counted_result n st)
+  counted_idle : (n : ℕ) (w : Knowledge) (m : LinkedStack) (st : Store WaitingChain) → Idle w m st → Idle w m (counted_result n st)
   counted_idle n w m st i = let heap = i.store.world.heap in record {
     memory = i.memory;
     store = record {
@@ -159,7 +159,7 @@ module _ (P : Program) (sh : ℕ → ℕ → Option PlainShape) (given : KeepsSh
     };
   }
 
-  pub result_ok : (value : Value) (w : Known) (p : ℕ) (S : PlainShape) (m : LinkedStack) (st : Store WaitingChain) → Set w p S m st → ValueWithin w.coexps value
+  pub result_ok : (value : Value) (w : Knowledge) (p : ℕ) (S : PlainShape) (m : LinkedStack) (st : Store WaitingChain) → Set w p S m st → ValueWithin w.coexps value
       → sh p m.place ≡ Some (with_more 1 S) → Good (result_given M value m st)
   result_ok value w p S m st h g e =
       let n = activator_of st.active st in
@@ -169,7 +169,7 @@ module _ (P : Program) (sh : ℕ → ℕ → Option PlainShape) (given : KeepsSh
       (counted_idle st.active w m (with_status st.active s st) (status_ok s w p S m st h (λ z. z) (parked_ok w p S m st h e))) ent.stands g
 
   -- another one is entered
-  activator_set : (w : Known) (m : LinkedStack) (st : Store WaitingChain) (n a : ℕ) (c : Coexp WaitingChain) → Idle w m st → slice_get st.coexps n ≡ Some c
+  activator_set : (w : Knowledge) (m : LinkedStack) (st : Store WaitingChain) (n a : ℕ) (c : Coexp WaitingChain) → Idle w m st → slice_get st.coexps n ≡ Some c
       → HasBegun st a
       → Idle w m (with_activator n a st)
   activator_set w m st n a c i e act = record {
@@ -178,7 +178,7 @@ module _ (P : Program) (sh : ℕ → ℕ → Option PlainShape) (given : KeepsSh
         (set_activator P sh w st n a c i.store e act);
   }
 
-  entered_ok : (value : Value) (n : ℕ) (w : Known) (p : ℕ) (S : PlainShape) (m : LinkedStack) (st : Store WaitingChain) → Set w p S m st
+  entered_ok : (value : Value) (n : ℕ) (w : Knowledge) (p : ℕ) (S : PlainShape) (m : LinkedStack) (st : Store WaitingChain) → Set w p S m st
       → ValueWithin w.coexps value
       → n < w.coexps → sh p m.place ≡ Some (with_more 1 S) → Good (entered_by M n value m st)
   entered_ok value n w p S m st h g l e =
@@ -193,7 +193,7 @@ module _ (P : Program) (sh : ℕ → ℕ → Option PlainShape) (given : KeepsSh
       passed_value_ok n value w m (with_activator n st.active st1) o'.0 i2 o'.1 g
 
   -- a value is passed by the status of what is entered
-  if_entered : (b : Bool) (s : Status WaitingChain) (n : ℕ) (value : Value) (w : Known) (p : ℕ) (S : PlainShape) (m : LinkedStack) (st : Store WaitingChain)
+  if_entered : (b : Bool) (s : Status WaitingChain) (n : ℕ) (value : Value) (w : Knowledge) (p : ℕ) (S : PlainShape) (m : LinkedStack) (st : Store WaitingChain)
       → Set w p S m st
       → ValueWithin w.coexps value → n < w.coexps → sh p m.place ≡ Some (with_more 1 S) → Good (entered_if M b s n value m st)
   if_entered b Exhausted n value w p S m st h g l e = ok_fails P sh given keep w p S m st h
@@ -204,7 +204,7 @@ module _ (P : Program) (sh : ℕ → ℕ → Option PlainShape) (given : KeepsSh
   if_entered false Active n value w p S m st h g l e = entered_ok value n w p S m st h g l e
   if_entered false (Waiting k) n value w p S m st h g l e = entered_ok value n w p S m st h g l e
 
-  pub activation_ok : (value other : Value) (w : Known) (p : ℕ) (S : PlainShape) (m : LinkedStack) (st : Store WaitingChain) → Set w p S m st
+  pub activation_ok : (value other : Value) (w : Knowledge) (p : ℕ) (S : PlainShape) (m : LinkedStack) (st : Store WaitingChain) → Set w p S m st
       → ValueWithin w.coexps value
       → ValueWithin w.coexps other → sh p m.place ≡ Some (with_more 1 S) → Good (activation M value other m st)
   activation_ok value (ACoexp n) w p S m st h g l e = if_entered (n == st.active) (status_of n st) n value w p S m st h g l e
@@ -220,7 +220,7 @@ module _ (P : Program) (sh : ℕ → ℕ → Option PlainShape) (given : KeepsSh
   activation_ok value (ATable x) w p S m st h g l e = tt
 
   -- a new one is made
-  created_ok : (o : Outcome) (values : List Value) (proc place : ℕ) (w : Known) (p : ℕ) (S : PlainShape) (m : LinkedStack) (st : Store WaitingChain)
+  created_ok : (o : Outcome) (values : List Value) (proc place : ℕ) (w : Knowledge) (p : ℕ) (S : PlainShape) (m : LinkedStack) (st : Store WaitingChain)
       → Set w p S m st
       → CreatedWithin w.coexps (here M m st) o → LocalsOk P sh w proc values → sh proc place ≡ Some (start_shape true) → sh p m.place ≡ Some (with_more 1 S)
       → Good (with_made M o m st (λ value m st. push_item M (Val value) m (with_new values proc place st)))
@@ -242,14 +242,14 @@ module _ (P : Program) (sh : ℕ → ℕ → Option PlainShape) (given : KeepsSh
   created_ok (Suspends item r seen) values proc place w p S m st h c g origin e = absurd c
   created_ok (Ends j seen) values proc place w p S m st h c g origin e = absurd c
 
-  pub coexp_made_ok : (values : List Value) (proc place : ℕ) (w : Known) (p : ℕ) (S : PlainShape) (m : LinkedStack) (st : Store WaitingChain) → Set w p S m st
+  pub coexp_made_ok : (values : List Value) (proc place : ℕ) (w : Knowledge) (p : ℕ) (S : PlainShape) (m : LinkedStack) (st : Store WaitingChain) → Set w p S m st
       → LocalsOk P sh w proc values → sh proc place ≡ Some (start_shape true) → sh p m.place ≡ Some (with_more 1 S)
       → Good (coexp_made M values proc place m st)
   coexp_made_ok values proc place w p S m st h g origin e =
       created_ok (coexpression_row (length values) (here M m st)) values proc place w p S m st h
       (keep.created w.coexps (length values) (here M m st) (here_within P sh given keep w p S m st h)) g origin e
 
-  pub refreshed_ok : (v : Value) (w : Known) (p : ℕ) (S : PlainShape) (m : LinkedStack) (st : Store WaitingChain) → Set w p S m st → ValueWithin w.coexps v
+  pub refreshed_ok : (v : Value) (w : Knowledge) (p : ℕ) (S : PlainShape) (m : LinkedStack) (st : Store WaitingChain) → Set w p S m st → ValueWithin w.coexps v
       → sh p m.place ≡ Some (with_more 1 S) → Good (refresh M v m st)
   refreshed_ok (ACoexp zero) w p S m st h g e = tt
   refreshed_ok (ACoexp (suc n)) w p S m st h g e =
@@ -269,21 +269,21 @@ module _ (P : Program) (sh : ℕ → ℕ → Option PlainShape) (given : KeepsSh
   refreshed_ok (ASet x) w p S m st h g e = tt
   refreshed_ok (ATable x) w p S m st h g e = tt
 
-  pub hop_ok : (w : Known) (m : LinkedStack) (st : Store WaitingChain) → Idle w m st → Good (hop M P m st)
+  pub hop_ok : (w : Knowledge) (m : LinkedStack) (st : Store WaitingChain) → Idle w m st → Good (hop M P m st)
   hop_ok w m st i = ok_turned P sh given keep st (λ st. passed_failure M (activator_of st.active st) m st)
       (to_activator_ok w m (record st { turns = suc st.turns })
       (record { memory = i.memory; store = record { world = i.store.world; coexps = i.store.coexps } }))
 
   -- Scans exchanged
 
-  pub ok_maybe : (o : Option (Pair × LinkedStack)) (w : Known) (p : ℕ) (S : PlainShape) (m : LinkedStack) (st : Store WaitingChain)
+  pub ok_maybe : (o : Option (Pair × LinkedStack)) (w : Knowledge) (p : ℕ) (S : PlainShape) (m : LinkedStack) (st : Store WaitingChain)
       (next : LinkedStack → Store WaitingChain → St P sh given keep) → Set w p S m st → IfThere (Swapped P sh w st.active p S m) o
       → ((m' : LinkedStack) (st' : Store WaitingChain) → Set w p S m' st' → m'.place ≡ m.place → Good (next m' st')) → Good (maybe_exchanged o m st next)
   ok_maybe None w p S m st next h g f = f m st h refl
   ok_maybe (Some swap) w p S m st next h g f =
       f swap.1 (with_pair swap.0 st) (ready_pair P sh given keep w p S swap.1 st swap.0 (record { now = g.now; store = h.store })) g.place
 
-  pub ok_exchanged : (w : Known) (p : ℕ) (S : PlainShape) (m : LinkedStack) (st : Store WaitingChain)
+  pub ok_exchanged : (w : Knowledge) (p : ℕ) (S : PlainShape) (m : LinkedStack) (st : Store WaitingChain)
       (next : LinkedStack → Store WaitingChain → St P sh given keep) → Set w p S m st
       → 0 < S.inner.scans
       → ((m' : LinkedStack) (st' : Store WaitingChain) → Set w p S m' st' → m'.place ≡ m.place → Good (next m' st'))
@@ -294,7 +294,7 @@ module _ (P : Program) (sh : ℕ → ℕ → Option PlainShape) (given : KeepsSh
 
   -- Back to the caller
 
-  pub ok_returned : (o : Option LinkedStack) (w : Known) (cr : Bool) (st : Store WaitingChain) (next : LinkedStack → Store WaitingChain → St P sh given keep)
+  pub ok_returned : (o : Option LinkedStack) (w : Knowledge) (cr : Bool) (st : Store WaitingChain) (next : LinkedStack → Store WaitingChain → St P sh given keep)
       → StoreOk P sh w (λ i. i ≡ st.active) st → Left P sh w st.active cr o → cr ≡ false
       → ((m : LinkedStack) (p : ℕ) (S : PlainShape) → Set w p S m st → sh p m.place ≡ Some (with_more 1 S) → Good (next m st)) → Good (return_to o next st)
   ok_returned None w cr st next h g e f =
@@ -302,7 +302,7 @@ module _ (P : Program) (sh : ℕ → ℕ → Option PlainShape) (given : KeepsSh
   ok_returned (Some m) w cr st next h g e f = f m g.proc g.shape (record { now = g.now; store = h }) g.goes
 
   -- all scans are left
-  pub ok_all : (w : Known) (p : ℕ) (S : PlainShape) (m : LinkedStack) (st : Store WaitingChain) (next : Store WaitingChain → St P sh given keep)
+  pub ok_all : (w : Knowledge) (p : ℕ) (S : PlainShape) (m : LinkedStack) (st : Store WaitingChain) (next : Store WaitingChain → St P sh given keep)
       → Set w p S m st
       → ((st' : Store WaitingChain) → Set w p S m st' → Good (next st')) → Good (next (all_left M m st))
   ok_all w p S m st next h f = by (C.swap_oldest (pair_now st) m)
@@ -311,7 +311,7 @@ module _ (P : Program) (sh : ℕ → ℕ → Option PlainShape) (given : KeepsSh
       by None = f st h
       by (Some swap) = f (with_pair swap.0 st) (ready_pair P sh given keep w p S m st swap.0 h)
 
-  pub proc_fails_ok : (w : Known) (p : ℕ) (S : PlainShape) (m : LinkedStack) (st : Store WaitingChain) → Set w p S m st → S.in_create ≡ false
+  pub proc_fails_ok : (w : Knowledge) (p : ℕ) (S : PlainShape) (m : LinkedStack) (st : Store WaitingChain) → Set w p S m st → S.in_create ≡ false
       → Good (proc_fails M m st)
   proc_fails_ok w p S m st h e = ok_all w p S m st (λ st. return_to (C.leave m) failing st) h
       (λ st' r. ok_returned (C.leave m) w S.in_create st' failing r.store (leave_ok P sh w st'.active p S m r.now) e
@@ -319,11 +319,11 @@ module _ (P : Program) (sh : ℕ → ℕ → Option PlainShape) (given : KeepsSh
 
   -- Failing
 
-  without_mark_ok : (w : Known) (p : ℕ) (S : PlainShape) (m : LinkedStack) (st : Store WaitingChain) → Set w p S m st → Good (without_mark M P m st)
+  without_mark_ok : (w : Knowledge) (p : ℕ) (S : PlainShape) (m : LinkedStack) (st : Store WaitingChain) → Set w p S m st → Good (without_mark M P m st)
   without_mark_ok w p S m st h = ok_if P sh given keep (is_create_body M m st) _ _ (λ e. exhausted_ok w p S m st h)
       (λ e. proc_fails_ok w p S m st h (sym (here_create P sh w st.active p S m h.now) ∙ e))
 
-  dropped_ok : (w : Known) (p : ℕ) (S : PlainShape) (m : LinkedStack) (st : Store WaitingChain) (d : MarkDrop LinkedStack) → Set w p S m st
+  dropped_ok : (w : Knowledge) (p : ℕ) (S : PlainShape) (m : LinkedStack) (st : Store WaitingChain) (d : MarkDrop LinkedStack) → Set w p S m st
       → DroppedOk P sh w st.active d
       → Good (mark_dropped M P m st d)
   dropped_ok w p S m st NoMark h g = without_mark_ok w p S m st h
@@ -332,7 +332,7 @@ module _ (P : Program) (sh : ℕ → ℕ → Option PlainShape) (given : KeepsSh
       (λ st' r. ok_runs P sh given keep w g.proc g.shape after st' r g.goes)
   dropped_ok w p S m st (WithoutLabel after) h g = ok_fails P sh given keep w g.0 g.1 after st (record { now = g.2; store = h.store })
 
-  resumed_ok : (why : Why) (w : Known) (p : ℕ) (S : PlainShape) (m : LinkedStack) (st : Store WaitingChain) → Set w p S m st → WhyOk P sh w p S m.place why
+  resumed_ok : (why : Why) (w : Knowledge) (p : ℕ) (S : PlainShape) (m : LinkedStack) (st : Store WaitingChain) → Set w p S m st → WhyOk P sh w p S m.place why
       → Good (resume_by M P why m st)
   resumed_ok Alt w p S m st h g = ok_fails P sh given keep w p S m st h
   resumed_ok (Operation r) w p S m st h g = ok_turn P sh given keep w p S m st (λ st. outcome M (again r (here M m st)) m st) h (λ st' q.
@@ -344,10 +344,10 @@ module _ (P : Program) (sh : ℕ → ℕ → Option PlainShape) (given : KeepsSh
       ok_maybe (C.swap_oldest (pair_now st') m) w p S m st' running q (swap_oldest_ok P sh (pair_now st') w st'.active p S m q.now)
       (λ m' st'' r e. ok_runs P sh given keep w p S m' st'' r (ap (sh p) e ∙ g)))
 
-  back_ok : (o : Option (Why × LinkedStack)) (w : Known) (p : ℕ) (S : PlainShape) (m : LinkedStack) (st : Store WaitingChain) → Set w p S m st
+  back_ok : (o : Option (Why × LinkedStack)) (w : Knowledge) (p : ℕ) (S : PlainShape) (m : LinkedStack) (st : Store WaitingChain) → Set w p S m st
       → IfThere (Back P sh w st.active) o → Good (resumed_or_dropped M P m st o)
   back_ok None w p S m st h g = dropped_ok w p S m st (C.drop_mark m) h (drop_ok P sh w st.active p S m h.now)
   back_ok (Some back) w p S m st h g = resumed_ok back.0 w g.proc g.shape back.1 st (record { now = g.now; store = h.store }) g.why
 
-  pub fails_ok : (w : Known) (p : ℕ) (S : PlainShape) (m : LinkedStack) (st : Store WaitingChain) → Set w p S m st → Good (fails M P m st)
+  pub fails_ok : (w : Knowledge) (p : ℕ) (S : PlainShape) (m : LinkedStack) (st : Store WaitingChain) → Set w p S m st → Good (fails M P m st)
   fails_ok w p S m st h = back_ok (C.resume m) w p S m st h (resume_ok P sh w st.active p S m h.now)

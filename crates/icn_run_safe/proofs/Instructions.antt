@@ -22,7 +22,7 @@ use Rattle.icn_run.specs.Chains.{Chain, LinkedStack, WaitingChain, with_chain}
 use Rattle.icn_run.specs.Step.{Program, Store, running, on_pair, with_found, turn, here, with_value, with_values, push_item, list_made, with_made, pair_now, with_pair, with_exchange, maybe_exchanged, return_to, all_left, coexp_made, refresh, field_applied, field_of, invoked_with, applied_to_elements, activation_of, activation, with_result, standing_of, pushed_or_fails, activator_of, unmark_then, limit_results, limited_result, scan_opened, result_given, is_create_body, members_of, operate, initial_if, instruction, statics_before}
 use Rattle.icn_run_laws.proofs.RowsKeep.{rows_keep}
 use Rattle.icn_run_safe.specs.Within.{Each, ItemWithin, RowsStayWithin}
-use Rattle.icn_run_safe.specs.Shaped.{Known, LabelTo, LocalsOk, StoreOk, KeepsShapes, InRange}
+use Rattle.icn_run_safe.specs.Shaped.{Knowledge, LabelTo, LocalsOk, StoreOk, KeepsShapes, InRange}
 use Rattle.icn_run_safe.proofs.Entries.{stands, within, index_there}
 use Rattle.icn_run_safe.proofs.Keeping.{with_flag, grow_flag, locals_ok, here_proc, here_create, mark_ok, limit_ok}
 use Rattle.icn_run_safe.proofs.Marks.{not_true, IfThere, outside_ok, below_ok, relabel_ok, suspend_alt, suspend_scan, suspend_escan, swap_oldest_ok, suspend_proc_ok, leave_ok, count_ok}
@@ -64,15 +64,15 @@ module _ (P : Program) (sh : ℕ → ℕ → Option PlainShape) (given : KeepsSh
   abbrev Good : St P sh given keep → Type 0
   Good state = Ok P sh given keep state
 
-  abbrev Set : Known → ℕ → PlainShape → LinkedStack → Store WaitingChain → Type 0
+  abbrev Set : Knowledge → ℕ → PlainShape → LinkedStack → Store WaitingChain → Type 0
   Set w p S m st = Ready P sh given keep w p S m st
 
-  flag_store : (w : Known) (p : ℕ) (S : PlainShape) (st : Store WaitingChain) → StoreOk P sh w (λ i. i ≡ st.active) st
+  flag_store : (w : Knowledge) (p : ℕ) (S : PlainShape) (st : Store WaitingChain) → StoreOk P sh w (λ i. i ≡ st.active) st
       → StoreOk P sh (with_flag w p S) (λ i. i ≡ st.active) st
   flag_store w p S st h = grow_store P sh w (with_flag w p S) (λ i. i ≡ st.active) st refl (grow_flag w p S) h
 
   -- the active co-expression, its activator and `&main` are there
-  keyword_ok : (k : Keyword) (w : Known) (p : ℕ) (S : PlainShape) (m : LinkedStack) (st : Store WaitingChain) → Set w p S m st
+  keyword_ok : (k : Keyword) (w : Knowledge) (p : ℕ) (S : PlainShape) (m : LinkedStack) (st : Store WaitingChain) → Set w p S m st
       → sh p m.place ≡ Some (with_more 1 S)
       → Good (pushed_or_fails M (keyword_item (standing_of M m st) k) m st)
   keyword_ok k w p S m st h e =
@@ -88,7 +88,7 @@ module _ (P : Program) (sh : ℕ → ℕ → Option PlainShape) (given : KeepsSh
       (keyword_within w.coexps (standing_of M m st) k (omega (arith, first, count)) (omega (arith, one, count)) (omega (arith, other, count, same))) e
 
   -- operations
-  operated_ok : (op : Op) (items : List Item) (w : Known) (p : ℕ) (S : PlainShape) (m : LinkedStack) (st : Store WaitingChain) → Set w p S m st
+  operated_ok : (op : Op) (items : List Item) (w : Knowledge) (p : ℕ) (S : PlainShape) (m : LinkedStack) (st : Store WaitingChain) → Set w p S m st
       → Each (ItemWithin w.coexps) items → sh p m.place ≡ Some (with_more 1 S) → Good (operate M op items m st)
   operated_ok Ops.Refresh (item ∷ items) w p S m st h g e =
       ok_value P sh given keep item w p S m st (λ value. refresh M value m st) h g.0 (λ v gv. refreshed_ok P sh given keep v w p S m st h gv e)
@@ -96,14 +96,14 @@ module _ (P : Program) (sh : ℕ → ℕ → Option PlainShape) (given : KeepsSh
       ok_outcome P sh given keep (apply st.names (Operation op) items (here M m st)) w p S m st h (keep.applied w.coexps st.names (Operation op) items
       (here M m st) (here_within P sh given keep w p S m st h) g) (rows_keep.applied st.names (Operation op) items (here M m st)) e
 
-  field_applied_ok : (k : ℕ) (items : List Item) (w : Known) (p : ℕ) (S : PlainShape) (m : LinkedStack) (st : Store WaitingChain) → Set w p S m st
+  field_applied_ok : (k : ℕ) (items : List Item) (w : Knowledge) (p : ℕ) (S : PlainShape) (m : LinkedStack) (st : Store WaitingChain) → Set w p S m st
       → length items ≡ 1
       → Each (ItemWithin w.coexps) items → sh p m.place ≡ Some (with_more 1 S) → Good (field_applied M P k items m st)
   field_applied_ok k [] w p S m st h l g e = absurd (omega (arith, l))
   field_applied_ok k (item ∷ items) w p S m st h l g e =
       ok_value P sh given keep item w p S m st (λ value. field_of M P k value m st) h g.0 (λ v gv. ok_field P sh given keep k v w p S m st h e)
 
-  activation_of_ok : (items : List Item) (w : Known) (p : ℕ) (S : PlainShape) (m : LinkedStack) (st : Store WaitingChain) → Set w p S m st → length items ≡ 2
+  activation_of_ok : (items : List Item) (w : Knowledge) (p : ℕ) (S : PlainShape) (m : LinkedStack) (st : Store WaitingChain) → Set w p S m st → length items ≡ 2
       → Each (ItemWithin w.coexps) items → sh p m.place ≡ Some (with_more 1 S) → Good (activation_of M items m st)
   activation_of_ok [] w p S m st h l g e = absurd (omega (arith, l))
   activation_of_ok (x ∷ []) w p S m st h l g e = absurd (omega (arith, l))
@@ -113,7 +113,7 @@ module _ (P : Program) (sh : ℕ → ℕ → Option PlainShape) (given : KeepsSh
   activation_of_ok (x ∷ y ∷ z ∷ items) w p S m st h l g e = absurd (omega (arith, l))
 
   -- limits
-  limited_ok : (v : Value) (o : Option ℤ) (w : Known) (p : ℕ) (S : PlainShape) (m : LinkedStack) (st : Store WaitingChain) → Set w p S m st
+  limited_ok : (v : Value) (o : Option ℤ) (w : Knowledge) (p : ℕ) (S : PlainShape) (m : LinkedStack) (st : Store WaitingChain) → Set w p S m st
       → sh p m.place ≡ Some (with_mark Levels.Limit S) → Good (limit_results M v o m st)
   limited_ok v None w p S m st h e = tt
   limited_ok v (Some (negsuc n)) w p S m st h e = tt
@@ -122,7 +122,7 @@ module _ (P : Program) (sh : ℕ → ℕ → Option PlainShape) (given : KeepsSh
       (record { now = limit_ok P sh n w st.active p S m h.now; store = h.store }) e
 
   -- the innermost mark is suspended with its level, and the result stands on what is outside
-  suspended_ok : (item : Item) (w : Known) (p : ℕ) (S : PlainShape) (m : LinkedStack) (st : Store WaitingChain) → Set w p S m st → ItemWithin w.coexps item
+  suspended_ok : (item : Item) (w : Knowledge) (p : ℕ) (S : PlainShape) (m : LinkedStack) (st : Store WaitingChain) → Set w p S m st → ItemWithin w.coexps item
       → is_some (slice_get S.outer 0) ≡ true → ((S' : PlainShape) → before_mark S ≡ Some S' → sh p m.place ≡ Some (with_more 1 S'))
       → Good (with_found (M.suspend_mark m) (λ m. push_item M item m st))
   suspended_ok item w p S m st h g l e = let o = outside_ok P sh w st.active p S m h.now l in
@@ -130,7 +130,7 @@ module _ (P : Program) (sh : ℕ → ℕ → Option PlainShape) (given : KeepsSh
       ok_found P sh given keep (C.suspend_mark m) (λ m. push_item M item m st) m' o.suspend (ok_push P sh given keep item w p o.shape m' st
       (ready_at P sh given keep w p S m st o.shape m' h (suspend_alt P sh w st.active p S m h.now o)) g (e o.shape o.before))
 
-  limited_result_ok : (item : Item) (n : ℕ) (w : Known) (p : ℕ) (S : PlainShape) (m : LinkedStack) (st : Store WaitingChain) → Set w p S m st
+  limited_result_ok : (item : Item) (n : ℕ) (w : Knowledge) (p : ℕ) (S : PlainShape) (m : LinkedStack) (st : Store WaitingChain) → Set w p S m st
       → ItemWithin w.coexps item
       → is_some (slice_get S.outer 0) ≡ true → ((S' : PlainShape) → before_mark S ≡ Some S' → sh p m.place ≡ Some (with_more 1 S'))
       → Good (limited_result M item n m st)
@@ -139,7 +139,7 @@ module _ (P : Program) (sh : ℕ → ℕ → Option PlainShape) (given : KeepsSh
   limited_result_ok item (suc n) w p S m st h g l e = suspended_ok item w p S m st h g l e
 
   -- scans
-  scan_ok : (v : Value) (w : Known) (p : ℕ) (S : PlainShape) (m : LinkedStack) (st : Store WaitingChain) → Set w p S m st → sh p m.place ≡ Some (with_scan S)
+  scan_ok : (v : Value) (w : Knowledge) (p : ℕ) (S : PlainShape) (m : LinkedStack) (st : Store WaitingChain) → Set w p S m st → sh p m.place ≡ Some (with_scan S)
       → Good (scan_opened M v m st)
   scan_ok (Text text) w p S m st h e =
       let pair : Pair = record { subject = text; position = 1 } in
@@ -158,7 +158,7 @@ module _ (P : Program) (sh : ℕ → ℕ → Option PlainShape) (given : KeepsSh
   scan_ok (ACoexp x) w p S m st h e = ok_fails P sh given keep w p S m st h
 
   -- results of procedures
-  result_of : (item : Item) (w : Known) (p : ℕ) (S : PlainShape) (m : LinkedStack) (st : Store WaitingChain) (next : Item → St P sh given keep) → Set w p S m st
+  result_of : (item : Item) (w : Knowledge) (p : ℕ) (S : PlainShape) (m : LinkedStack) (st : Store WaitingChain) (next : Item → St P sh given keep) → Set w p S m st
       → ItemWithin w.coexps item → ((result : Item) → ItemWithin w.coexps result → Good (next result)) → Good (with_result M item m st next)
   result_of (Var (Whole (Local n))) w p S m st next h g f =
       ok_value P sh given keep (Var (Whole (Local n))) w p S m st (λ value. next (Val value)) h g (λ v z. f (Val v) z)
@@ -179,7 +179,7 @@ module _ (P : Program) (sh : ℕ → ℕ → Option PlainShape) (given : KeepsSh
   result_of (Var (Part (KeywordRoot k) a b)) w p S m st next h g f = f (Var (Part (KeywordRoot k) a b)) g
 
   -- An instruction stands at a place q of the procedure, and the next one is due.
-  module _ (w : Known) (p : ℕ) (S : PlainShape) (m : LinkedStack) (q : ℕ) (st : Store WaitingChain) (h : Set w p S m st) (here_at : m.place ≡ suc q) where
+  module _ (w : Knowledge) (p : ℕ) (S : PlainShape) (m : LinkedStack) (q : ℕ) (st : Store WaitingChain) (h : Set w p S m st) (here_at : m.place ≡ suc q) where
     -- the shape at the next place
     on_next : (S' : PlainShape) → sh p (q + 1) ≡ Some S' → sh p m.place ≡ Some S'
     on_next S' e = let z : m.place ≡ q + 1 = here_at ∙ omega arith in ap (sh p) z ∙ e

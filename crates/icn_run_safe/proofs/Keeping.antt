@@ -12,26 +12,26 @@ use Rattle.icn_run.specs.LinkedStep.{repeats_anywhere}
 use Rattle.icn_run.specs.Step.{is_main}
 use Rattle.icn_run_laws.proofs.Lists.{some_inj, get_more, get_seam, get_set_same, get_set_other}
 use Rattle.icn_run_safe.specs.Within.{Each, ItemWithin}
-use Rattle.icn_run_safe.specs.Shaped.{Known, IsOf, IsBefore, LabelTo, ChainOk, OuterOk, FrameOk, LocalsOk, RelabelOk, MemoryOk, Now}
+use Rattle.icn_run_safe.specs.Shaped.{Knowledge, IsOf, IsBefore, LabelTo, ChainOk, OuterOk, FrameOk, LocalsOk, RelabelOk, MemoryOk, Now}
 use Rattle.icn_run_safe.proofs.Entries.{got_more, more_length, set_length, is_same, index_there}
 use Rattle.icn_run_safe.proofs.Growing.{Grow, grow_chain, grow_locals, grow_relabels, frame_ok}
 
 -- with one more activation, and with one more flag
 
-abbrev pub with_activation : Known → ℕ → Known
+abbrev pub with_activation : Knowledge → ℕ → Knowledge
 with_activation w p = record w { activations = w.activations ++ p ∷ [] }
 
-abbrev pub with_flag : Known → ℕ → PlainShape → Known
+abbrev pub with_flag : Knowledge → ℕ → PlainShape → Knowledge
 with_flag w p S = record w { flags = w.flags ++ (p, S) ∷ [] }
 
-pub grow_activation : (w : Known) (p : ℕ) → Grow w (with_activation w p)
+pub grow_activation : (w : Knowledge) (p : ℕ) → Grow w (with_activation w p)
 grow_activation w p = record { coexps = omega arith; activations = λ a q h. get_more w.activations p a q h; flags = λ f q S h. h }
 
-pub grow_flag : (w : Known) (p : ℕ) (S : PlainShape) → Grow w (with_flag w p S)
+pub grow_flag : (w : Knowledge) (p : ℕ) (S : PlainShape) → Grow w (with_flag w p S)
 grow_flag w p S = record { coexps = omega arith; activations = λ a q h. h; flags = λ f q S' h. get_more w.flags (p, S) f (q, S') h }
 
 module _ (tables : Tables) (sh : ℕ → ℕ → Option PlainShape) where
-  pub memory_activation : (w : Known) (p : ℕ) (values : List Value) (acts : List (List Value)) (flags : List Bool) (relabels : List (ℕ × ℕ))
+  pub memory_activation : (w : Knowledge) (p : ℕ) (values : List Value) (acts : List (List Value)) (flags : List Bool) (relabels : List (ℕ × ℕ))
       → MemoryOk tables sh w acts flags relabels → LocalsOk tables sh w p values
       → MemoryOk tables sh (with_activation w p) (acts ++ values ∷ []) flags relabels
   memory_activation w p values acts flags relabels h l = record {
@@ -51,11 +51,11 @@ module _ (tables : Tables) (sh : ℕ → ℕ → Option PlainShape) where
       by a q (inr z) =
           let o = h.locals a q z in (o.0, get_more acts values a o.0 o.1, grow_locals tables sh w (with_activation w p) (grow_activation w p) q o.0 o.2)
 
-  pub last_activation : (w : Known) (p : ℕ) (acts : List (List Value)) (flags : List Bool) (relabels : List (ℕ × ℕ)) → MemoryOk tables sh w acts flags relabels
+  pub last_activation : (w : Knowledge) (p : ℕ) (acts : List (List Value)) (flags : List Bool) (relabels : List (ℕ × ℕ)) → MemoryOk tables sh w acts flags relabels
       → IsOf (with_activation w p) (length acts) p
   last_activation w p acts flags relabels h = ap (slice_get (w.activations ++ p ∷ [])) (sym h.same_activations) ∙ get_seam w.activations p []
 
-  pub memory_flag : (w : Known) (p : ℕ) (S : PlainShape) (acts : List (List Value)) (flags : List Bool) (relabels : List (ℕ × ℕ))
+  pub memory_flag : (w : Knowledge) (p : ℕ) (S : PlainShape) (acts : List (List Value)) (flags : List Bool) (relabels : List (ℕ × ℕ))
       → MemoryOk tables sh w acts flags relabels
       → MemoryOk tables sh (with_flag w p S) acts (flags ++ false ∷ []) relabels
   memory_flag w p S acts flags relabels h = record {
@@ -65,17 +65,17 @@ module _ (tables : Tables) (sh : ℕ → ℕ → Option PlainShape) where
     labels = grow_relabels tables sh w (with_flag w p S) (grow_flag w p S) relabels h.labels;
   }
 
-  pub last_flag : (w : Known) (p : ℕ) (S : PlainShape) (acts : List (List Value)) (flags : List Bool) (relabels : List (ℕ × ℕ))
+  pub last_flag : (w : Knowledge) (p : ℕ) (S : PlainShape) (acts : List (List Value)) (flags : List Bool) (relabels : List (ℕ × ℕ))
       → MemoryOk tables sh w acts flags relabels → IsBefore (with_flag w p S) (length flags) p S
   last_flag w p S acts flags relabels h = ap (slice_get (w.flags ++ (p, S) ∷ [])) (sym h.same_flags) ∙ get_seam w.flags (p, S) []
 
   -- other labels, and flags up or down
-  pub memory_labels : (w : Known) (acts : List (List Value)) (flags : List Bool) (relabels new : List (ℕ × ℕ)) (n : ℕ) (up : Bool)
+  pub memory_labels : (w : Knowledge) (acts : List (List Value)) (flags : List Bool) (relabels new : List (ℕ × ℕ)) (n : ℕ) (up : Bool)
       → MemoryOk tables sh w acts flags relabels → Each (RelabelOk tables sh w) new → MemoryOk tables sh w acts (slice_set flags n up) new
   memory_labels w acts flags relabels new n up h g =
       record { same_activations = h.same_activations; same_flags = h.same_flags ∙ sym (set_length flags n up); locals = h.locals; labels = g }
 
-  memory_locals : (w : Known) (acts : List (List Value)) (flags : List Bool) (relabels : List (ℕ × ℕ)) (n p : ℕ) (values : List Value)
+  memory_locals : (w : Knowledge) (acts : List (List Value)) (flags : List Bool) (relabels : List (ℕ × ℕ)) (n p : ℕ) (values : List Value)
       → MemoryOk tables sh w acts flags relabels → IsOf w n p → LocalsOk tables sh w p values → MemoryOk tables sh w (slice_set acts n values) flags relabels
   memory_locals w acts flags relabels n p values h i l = record {
     same_activations = h.same_activations ∙ sym (set_length acts n values);
@@ -92,38 +92,38 @@ module _ (tables : Tables) (sh : ℕ → ℕ → Option PlainShape) where
 
   -- The frame
 
-  pub outer_ok : (w : Known) (s p : ℕ) (S : PlainShape) (c : Chain) → ChainOk tables sh w s p S c
+  pub outer_ok : (w : Knowledge) (s p : ℕ) (S : PlainShape) (c : Chain) → ChainOk tables sh w s p S c
       → OuterOk tables sh w s p S.in_create S.inner.kind S.outer (outer_of c)
   outer_ok w s p S (chain items q scans o) h = h.4
 
-  pub the_frame : (w : Known) (s p : ℕ) (S : PlainShape) (m : LinkedStack) → Now tables sh w s p S m → FrameOk tables sh w s p S.in_create (frame m)
+  pub the_frame : (w : Knowledge) (s p : ℕ) (S : PlainShape) (m : LinkedStack) → Now tables sh w s p S m → FrameOk tables sh w s p S.in_create (frame m)
   the_frame w s p S m h = frame_ok tables sh w s p S.in_create S.inner.kind S.outer (outer_of m.chain) (outer_ok w s p S m.chain h.has)
 
-  frame_proc : (w : Known) (s p : ℕ) (cr : Bool) (f : Frame) → FrameOk tables sh w s p cr f → proc_of f ≡ p
+  frame_proc : (w : Knowledge) (s p : ℕ) (cr : Bool) (f : Frame) → FrameOk tables sh w s p cr f → proc_of f ≡ p
   frame_proc w s p cr (at_base proc a) h = h.0
   frame_proc w s p cr (in_call proc a level place caller) h = h.0
 
-  frame_create : (w : Known) (s p : ℕ) (cr : Bool) (f : Frame) → FrameOk tables sh w s p cr f → (is_base_frame f && not (is_main s)) ≡ cr
+  frame_create : (w : Knowledge) (s p : ℕ) (cr : Bool) (f : Frame) → FrameOk tables sh w s p cr f → (is_base_frame f && not (is_main s)) ≡ cr
   frame_create w s p cr (at_base proc a) h = sym h.1
   frame_create w s p cr (in_call proc a level place caller) h = sym h.1
 
-  frame_activation : (w : Known) (s p : ℕ) (cr : Bool) (f : Frame) → FrameOk tables sh w s p cr f → IsOf w (activation_of f) p
+  frame_activation : (w : Knowledge) (s p : ℕ) (cr : Bool) (f : Frame) → FrameOk tables sh w s p cr f → IsOf w (activation_of f) p
   frame_activation w s p cr (at_base proc a) h = h.2
   frame_activation w s p cr (in_call proc a level place caller) h = h.2
 
-  pub here_proc : (w : Known) (s p : ℕ) (S : PlainShape) (m : LinkedStack) → Now tables sh w s p S m → proc_of (frame m) ≡ p
+  pub here_proc : (w : Knowledge) (s p : ℕ) (S : PlainShape) (m : LinkedStack) → Now tables sh w s p S m → proc_of (frame m) ≡ p
   here_proc w s p S m h = frame_proc w s p S.in_create (frame m) (the_frame w s p S m h)
 
-  pub here_create : (w : Known) (s p : ℕ) (S : PlainShape) (m : LinkedStack) → Now tables sh w s p S m
+  pub here_create : (w : Knowledge) (s p : ℕ) (S : PlainShape) (m : LinkedStack) → Now tables sh w s p S m
       → (is_base_frame (frame m) && not (is_main s)) ≡ S.in_create
   here_create w s p S m h = frame_create w s p S.in_create (frame m) (the_frame w s p S m h)
 
-  pub locals_ok : (w : Known) (s p : ℕ) (S : PlainShape) (m : LinkedStack) → Now tables sh w s p S m → LocalsOk tables sh w p (locals m)
+  pub locals_ok : (w : Knowledge) (s p : ℕ) (S : PlainShape) (m : LinkedStack) → Now tables sh w s p S m → LocalsOk tables sh w p (locals m)
   locals_ok w s p S m h =
       let o = h.memory.locals (activation_of (frame m)) p (frame_activation w s p S.in_create (frame m) (the_frame w s p S m h)) in
       subst (LocalsOk tables sh w p) (sym (index_there m.activations (activation_of (frame m)) o.0 [] o.1)) o.2
 
-  pub set_locals_ok : (values : List Value) (w : Known) (s p : ℕ) (S : PlainShape) (m : LinkedStack) → Now tables sh w s p S m → LocalsOk tables sh w p values
+  pub set_locals_ok : (values : List Value) (w : Knowledge) (s p : ℕ) (S : PlainShape) (m : LinkedStack) → Now tables sh w s p S m → LocalsOk tables sh w p values
       → Now tables sh w s p S (C.set_locals values m)
   set_locals_ok values w s p S m h g =
       record {
@@ -134,21 +134,21 @@ module _ (tables : Tables) (sh : ℕ → ℕ → Option PlainShape) where
 
   -- Operands
 
-  pushed_ok : (w : Known) (s p : ℕ) (S : PlainShape) (item : Item) (c : Chain) → ChainOk tables sh w s p S c → ItemWithin w.coexps item
+  pushed_ok : (w : Knowledge) (s p : ℕ) (S : PlainShape) (item : Item) (c : Chain) → ChainOk tables sh w s p S c → ItemWithin w.coexps item
       → ChainOk tables sh w s p (with_more 1 S) (C.push_on item c)
   pushed_ok w s p S item (chain items q scans o) h g = let e = h.0 in (omega (arith, e), (g, h.1), h.2, h.3, h.4)
 
-  pub push_ok : (item : Item) (w : Known) (s p : ℕ) (S : PlainShape) (m : LinkedStack) → Now tables sh w s p S m → ItemWithin w.coexps item
+  pub push_ok : (item : Item) (w : Knowledge) (s p : ℕ) (S : PlainShape) (m : LinkedStack) → Now tables sh w s p S m → ItemWithin w.coexps item
       → Now tables sh w s p (with_more 1 S) (C.push item m)
   push_ok item w s p S m h g = record { has = pushed_ok w s p S item m.chain h.has g; memory = h.memory }
 
-  popped_ok : (w : Known) (s p : ℕ) (S : PlainShape) (m : LinkedStack) (c : Chain) → ChainOk tables sh w s p S c → 0 < S.inner.operands
+  popped_ok : (w : Knowledge) (s p : ℕ) (S : PlainShape) (m : LinkedStack) (c : Chain) → ChainOk tables sh w s p S c → 0 < S.inner.operands
       → (item : Item) × (c' : Chain) × (C.pop_from m c ≡ Some (item, with_chain c' m)) × ItemWithin w.coexps item × ChainOk tables sh w s p (with_fewer 1 S) c'
   popped_ok w s p S m (chain [] q scans o) h l = let e = h.0 in absurd (omega (arith, e, l))
   popped_ok w s p S m (chain (item ∷ items) q scans o) h l =
       let e = h.0 in (item, chain items q scans o, refl, h.1.0, (omega (arith, e, l), h.1.1, h.2, h.3, h.4))
 
-  pub pop_ok : (w : Known) (s p : ℕ) (S : PlainShape) (m : LinkedStack) → Now tables sh w s p S m → 0 < S.inner.operands
+  pub pop_ok : (w : Knowledge) (s p : ℕ) (S : PlainShape) (m : LinkedStack) → Now tables sh w s p S m → 0 < S.inner.operands
       → (item : Item) × (c' : Chain) × (C.pop m ≡ Some (item, with_chain c' m)) × ItemWithin w.coexps item
       × Now tables sh w s p (with_fewer 1 S) (with_chain c' m)
   pop_ok w s p S m h l = let o = popped_ok w s p S m m.chain h.has l in (o.0, o.1, o.2, o.3, record { has = o.4; memory = h.memory })
@@ -161,7 +161,7 @@ module _ (tables : Tables) (sh : ℕ → ℕ → Option PlainShape) where
   taken_ok Q (suc n) (item ∷ items) found l h g = let o = taken_ok Q n items (item ∷ found) (omega (arith, l)) h.1 (h.0, g) in
       let a = o.3 in let b = o.4 in (o.0, o.1, o.2, omega (arith, a), omega (arith, b), o.5, o.6)
 
-  take_from_ok : (n : ℕ) (w : Known) (s p : ℕ) (S : PlainShape) (m : LinkedStack) (c : Chain) → ChainOk tables sh w s p S c → n ≤ S.inner.operands
+  take_from_ok : (n : ℕ) (w : Knowledge) (s p : ℕ) (S : PlainShape) (m : LinkedStack) (c : Chain) → ChainOk tables sh w s p S c → n ≤ S.inner.operands
       → (items : List Item) × (c' : Chain) × (C.take_from n m c ≡ Some (items, with_chain c' m)) × (length items ≡ n) × Each (ItemWithin w.coexps) items
       × ChainOk tables sh w s p (with_fewer n S) c'
   take_from_ok n w s p S m (chain items q scans o) h l =
@@ -176,17 +176,17 @@ module _ (tables : Tables) (sh : ℕ → ℕ → Option PlainShape) where
         (omega (arith, a, e), t.6, h.2, h.3, h.4),
       )
 
-  pub take_ok : (n : ℕ) (w : Known) (s p : ℕ) (S : PlainShape) (m : LinkedStack) → Now tables sh w s p S m → n ≤ S.inner.operands
+  pub take_ok : (n : ℕ) (w : Knowledge) (s p : ℕ) (S : PlainShape) (m : LinkedStack) → Now tables sh w s p S m → n ≤ S.inner.operands
       → (items : List Item) × (c' : Chain) × (C.take_items n m ≡ Some (items, with_chain c' m)) × (length items ≡ n) × Each (ItemWithin w.coexps) items
       × Now tables sh w s p (with_fewer n S) (with_chain c' m)
   take_ok n w s p S m h l = let o = take_from_ok n w s p S m m.chain h.has l in (o.0, o.1, o.2, o.3, o.4, record { has = o.5; memory = h.memory })
 
   -- Marks
 
-  scans_count : (w : Known) (s p : ℕ) (S : PlainShape) (c : Chain) → ChainOk tables sh w s p S c → S.inner.scans ≤ length (scans_of c)
+  scans_count : (w : Knowledge) (s p : ℕ) (S : PlainShape) (c : Chain) → ChainOk tables sh w s p S c → S.inner.scans ≤ length (scans_of c)
   scans_count w s p S (chain items q scans o) h = h.2
 
-  pub mark_ok : (label : Option ℕ) (w : Known) (s p : ℕ) (S : PlainShape) (m : LinkedStack) (q : ℕ) → Now tables sh w s p S m → m.place ≡ suc q
+  pub mark_ok : (label : Option ℕ) (w : Knowledge) (s p : ℕ) (S : PlainShape) (m : LinkedStack) (q : ℕ) → Now tables sh w s p S m → m.place ≡ suc q
       → LabelTo tables sh p S label → sh p (suc q) ≡ Some (with_mark Levels.Plain S)
       → Now tables sh (with_flag w p S) s p (with_mark Levels.Plain S) (C.open_mark repeats_anywhere label m)
   mark_ok label w s p S m q h at to e = record {
@@ -207,6 +207,6 @@ module _ (tables : Tables) (sh : ℕ → ℕ → Option PlainShape) where
     memory = memory_flag w p S m.activations m.flags m.relabels h.memory;
   }
 
-  pub limit_ok : (count : ℕ) (w : Known) (s p : ℕ) (S : PlainShape) (m : LinkedStack) → Now tables sh w s p S m
+  pub limit_ok : (count : ℕ) (w : Knowledge) (s p : ℕ) (S : PlainShape) (m : LinkedStack) → Now tables sh w s p S m
       → Now tables sh w s p (with_mark Levels.Limit S) (C.open_limit (suc count) m)
   limit_ok count w s p S m h = record { has = (refl, tt, omega arith, tt, (S.inner, S.outer, refl, refl, h.has)); memory = h.memory }

@@ -16,7 +16,7 @@ use Rattle.icn_run.specs.Chains.{Label, fixed, flagged, Reason, because, scannin
 use Rattle.icn_run.specs.Step.{is_main}
 use Rattle.icn_run_laws.proofs.Lists.{some_inj}
 use Rattle.icn_run_safe.specs.Within.{Each, ItemWithin, ResidualWithin}
-use Rattle.icn_run_safe.specs.Shaped.{Known, IsBefore, LabelTo, LabelOk, ReasonOk, level_shape, ChainOk, SuspsOk, OuterOk, FrameOk, LocalsOk, RelabelOk, MemoryOf, Now}
+use Rattle.icn_run_safe.specs.Shaped.{Knowledge, IsBefore, LabelTo, LabelOk, ReasonOk, level_shape, ChainOk, SuspsOk, OuterOk, FrameOk, LocalsOk, RelabelOk, MemoryOf, Now}
 use Rattle.icn_run_safe.proofs.Growing.{grow_chain}
 use Rattle.icn_run_safe.proofs.Keeping.{with_activation, grow_activation, memory_activation, last_activation, memory_labels, outer_ok, the_frame}
 
@@ -30,7 +30,7 @@ IfThere Q (Some x) = Q x
 
 module _ (tables : Tables) (sh : ℕ → ℕ → Option PlainShape) where
   -- the innermost mark, with what is outside
-  pub record Outside (w : Known) (s p : ℕ) (S : PlainShape) (m : LinkedStack) (o : Outer) : Type 0 where
+  pub record Outside (w : Knowledge) (s p : ℕ) (S : PlainShape) (m : LinkedStack) (o : Outer) : Type 0 where
     pub chain : Chain
     pub shape : PlainShape
     pub before : before_mark S ≡ Some shape
@@ -38,7 +38,7 @@ module _ (tables : Tables) (sh : ℕ → ℕ → Option PlainShape) where
     pub unmark : C.unmark_from m o ≡ C.unmark_in m chain
     pub suspend : C.suspend_outer m o ≡ Some (with_chain (C.suspend_in (suspension (because Alt) m.place m.chain) chain) m)
 
-  outside_by : (w : Known) (s p : ℕ) (cr : Bool) (inner : Level) (ls : List Level) (m : LinkedStack) (o : Outer) → OuterOk tables sh w s p cr inner.kind ls o
+  outside_by : (w : Knowledge) (s p : ℕ) (cr : Bool) (inner : Level) (ls : List Level) (m : LinkedStack) (o : Outer) → OuterOk tables sh w s p cr inner.kind ls o
       → is_some (slice_get ls 0) ≡ true → Outside w s p (record { in_create = cr; inner = inner; outer = ls }) m o
   outside_by w s p cr inner ls m (base proc a) h e = not_true (subst (λ (x : List Level). is_some (slice_get x 0) ≡ true) h.3 e)
   outside_by w s p cr inner ls m (call proc a level place caller) h e = not_true (subst (λ (x : List Level). is_some (slice_get x 0) ≡ true) h.3 e)
@@ -47,22 +47,22 @@ module _ (tables : Tables) (sh : ℕ → ℕ → Option PlainShape) where
   outside_by w s p cr inner ls m (limit n c) h e =
       record { chain = c; shape = level_shape tables sh cr h.0 h.1; before = ap (λ x. shape_outside cr x) h.2; has = h.4; unmark = refl; suspend = refl }
 
-  pub outside_ok : (w : Known) (s p : ℕ) (S : PlainShape) (m : LinkedStack) → Now tables sh w s p S m → is_some (slice_get S.outer 0) ≡ true
+  pub outside_ok : (w : Knowledge) (s p : ℕ) (S : PlainShape) (m : LinkedStack) → Now tables sh w s p S m → is_some (slice_get S.outer 0) ≡ true
       → Outside w s p S m (outer_of m.chain)
   outside_ok w s p S m h e = outside_by w s p S.in_create S.inner S.outer m (outer_of m.chain) (outer_ok tables sh w s p S m.chain h.has) e
 
   -- the mark is suspended with its level
-  suspended_ok : (w : Known) (s p : ℕ) (S : PlainShape) (q : Suspensions) (c : Chain) → SuspsOk tables sh w s q → ChainOk tables sh w s p S c
+  suspended_ok : (w : Knowledge) (s p : ℕ) (S : PlainShape) (q : Suspensions) (c : Chain) → SuspsOk tables sh w s q → ChainOk tables sh w s p S c
       → ChainOk tables sh w s p S (C.suspend_in q c)
   suspended_ok w s p S q (chain items old scans o) g h = (h.0, h.1, h.2, g, h.4)
 
   -- the operand below the innermost mark
-  first_ok : (w : Known) (s p : ℕ) (S : PlainShape) (c : Chain) → ChainOk tables sh w s p S c → 0 < S.inner.operands
+  first_ok : (w : Knowledge) (s p : ℕ) (S : PlainShape) (c : Chain) → ChainOk tables sh w s p S c → 0 < S.inner.operands
       → (item : Item) × (C.first_of_chain c ≡ Some item) × ItemWithin w.coexps item
   first_ok w s p S (chain [] q scans o) h l = let e = h.0 in absurd (omega (arith, e, l))
   first_ok w s p S (chain (item ∷ items) q scans o) h l = (item, refl, h.1.0)
 
-  below_by : (w : Known) (s p : ℕ) (cr : Bool) (kind : LevelKind) (ls : List Level) (o : Outer) → OuterOk tables sh w s p cr kind ls o
+  below_by : (w : Knowledge) (s p : ℕ) (cr : Bool) (kind : LevelKind) (ls : List Level) (o : Outer) → OuterOk tables sh w s p cr kind ls o
       → option_map_or has_operand (slice_get ls 0) false ≡ true → (item : Item) × (C.below_outer o ≡ Some item) × ItemWithin w.coexps item
   below_by w s p cr kind ls (base proc a) h e = not_true (subst (λ (x : List Level). option_map_or has_operand (slice_get x 0) false ≡ true) h.3 e)
   below_by w s p cr kind ls (call proc a level place caller) h e =
@@ -72,14 +72,14 @@ module _ (tables : Tables) (sh : ℕ → ℕ → Option PlainShape) where
   below_by w s p cr kind ls (limit n c) h e = first_ok w s p (level_shape tables sh cr h.0 h.1) c h.4
       (ltb-true 0 h.0.operands (subst (λ (x : List Level). option_map_or has_operand (slice_get x 0) false ≡ true) h.2 e))
 
-  pub below_ok : (w : Known) (s p : ℕ) (S : PlainShape) (m : LinkedStack) → Now tables sh w s p S m
+  pub below_ok : (w : Knowledge) (s p : ℕ) (S : PlainShape) (m : LinkedStack) → Now tables sh w s p S m
       → option_map_or has_operand (slice_get S.outer 0) false ≡ true
       → (item : Item) × (C.below m ≡ Some item) × ItemWithin w.coexps item
   below_ok w s p S m h e = below_by w s p S.in_create S.inner.kind S.outer (outer_of m.chain) (outer_ok tables sh w s p S m.chain h.has) e
 
   -- another label
 
-  forgotten_ok : (w : Known) (flag : ℕ) (xs : List (ℕ × ℕ)) → Each (RelabelOk tables sh w) xs → Each (RelabelOk tables sh w) (C.forget_label flag xs)
+  forgotten_ok : (w : Knowledge) (flag : ℕ) (xs : List (ℕ × ℕ)) → Each (RelabelOk tables sh w) xs → Each (RelabelOk tables sh w) (C.forget_label flag xs)
   forgotten_ok w flag [] h = tt
   forgotten_ok w flag (x ∷ xs) h = by (x.0 == flag) (forgotten_ok w flag xs h.1)
     where
@@ -89,11 +89,11 @@ module _ (tables : Tables) (sh : ℕ → ℕ → Option PlainShape) where
       by false g = (h.0, g)
 
   -- the same stack, but for flags and labels
-  pub record Relabelled (w : Known) (s p : ℕ) (S : PlainShape) (m m' : LinkedStack) : Type 0 where
+  pub record Relabelled (w : Knowledge) (s p : ℕ) (S : PlainShape) (m m' : LinkedStack) : Type 0 where
     pub now : Now tables sh w s p S m'
     pub place : m'.place ≡ m.place
 
-  relabel_if : (b : Bool) (label flag : ℕ) (w : Known) (s p : ℕ) (S : PlainShape) (m : LinkedStack) (S' : PlainShape) → Now tables sh w s p S m
+  relabel_if : (b : Bool) (label flag : ℕ) (w : Knowledge) (s p : ℕ) (S : PlainShape) (m : LinkedStack) (S' : PlainShape) → Now tables sh w s p S m
       → IsBefore w flag p S' → sh p label ≡ Some S' → Relabelled w s p S m (C.relabelled_if b label flag m)
   relabel_if true label flag w s p S m S' h i e =
       record {
@@ -113,7 +113,7 @@ module _ (tables : Tables) (sh : ℕ → ℕ → Option PlainShape) where
     place = refl;
   }
 
-  relabel_by : (label : ℕ) (w : Known) (s p : ℕ) (S : PlainShape) (cr : Bool) (kind : LevelKind) (ls : List Level) (m : LinkedStack) (o : Outer)
+  relabel_by : (label : ℕ) (w : Knowledge) (s p : ℕ) (S : PlainShape) (cr : Bool) (kind : LevelKind) (ls : List Level) (m : LinkedStack) (o : Outer)
       → Now tables sh w s p S m → OuterOk tables sh w s p cr kind ls o → is_some (slice_get ls 0) ≡ true → same_kind kind Levels.Plain ≡ true
       → ((S' : PlainShape) → shape_outside cr ls ≡ Some S' → sh p label ≡ Some S')
       → (m' : LinkedStack) × (C.relabel_in label m o ≡ Some m') × Relabelled w s p S m m'
@@ -128,7 +128,7 @@ module _ (tables : Tables) (sh : ℕ → ℕ → Option PlainShape) where
       )
   relabel_by label w s p S cr kind ls m (limit n out) g h e k f = not_true (subst (λ x. same_kind x Levels.Plain ≡ true) h.3 k)
 
-  pub relabel_ok : (label : ℕ) (w : Known) (s p : ℕ) (S : PlainShape) (m : LinkedStack) → Now tables sh w s p S m → is_some (slice_get S.outer 0) ≡ true
+  pub relabel_ok : (label : ℕ) (w : Knowledge) (s p : ℕ) (S : PlainShape) (m : LinkedStack) → Now tables sh w s p S m → is_some (slice_get S.outer 0) ≡ true
       → same_kind S.inner.kind Levels.Plain ≡ true → ((S' : PlainShape) → before_mark S ≡ Some S' → sh p label ≡ Some S')
       → (m' : LinkedStack) × (C.relabel label m ≡ Some m') × Relabelled w s p S m m'
   relabel_ok label w s p S m h e k f =
@@ -136,25 +136,25 @@ module _ (tables : Tables) (sh : ℕ → ℕ → Option PlainShape) where
 
   -- Suspending
 
-  pub suspend_op : (residual : Residual) (w : Known) (s p : ℕ) (S : PlainShape) (m : LinkedStack) → Now tables sh w s p S m → ResidualWithin w.coexps residual
+  pub suspend_op : (residual : Residual) (w : Knowledge) (s p : ℕ) (S : PlainShape) (m : LinkedStack) → Now tables sh w s p S m → ResidualWithin w.coexps residual
       → sh p m.place ≡ Some (with_more 1 S) → Now tables sh w s p S (C.suspend (Op residual) m)
   suspend_op r w s p S m h g e =
       record { has = suspended_ok w s p S (suspension (because (Op r)) m.place m.chain) m.chain (p, S, (g, e), h.has) h.has; memory = h.memory }
 
-  pub suspend_alt : (w : Known) (s p : ℕ) (S : PlainShape) (m : LinkedStack) → (h : Now tables sh w s p S m) → (o : Outside w s p S m (outer_of m.chain))
+  pub suspend_alt : (w : Knowledge) (s p : ℕ) (S : PlainShape) (m : LinkedStack) → (h : Now tables sh w s p S m) → (o : Outside w s p S m (outer_of m.chain))
       → Now tables sh w s p o.shape (with_chain (C.suspend_in (suspension (because Alt) m.place m.chain) o.chain) m)
   suspend_alt w s p S m h o =
       record { has = suspended_ok w s p o.shape (suspension (because Alt) m.place m.chain) o.chain (p, S, tt, h.has) o.has; memory = h.memory }
 
-  with_scan_ok : (w : Known) (s p n : ℕ) (S : PlainShape) (c : Chain) → ChainOk tables sh w s p S c → ChainOk tables sh w s p (with_scan S) (C.with_scan n c)
+  with_scan_ok : (w : Knowledge) (s p n : ℕ) (S : PlainShape) (c : Chain) → ChainOk tables sh w s p S c → ChainOk tables sh w s p (with_scan S) (C.with_scan n c)
   with_scan_ok w s p n S (chain items q scans o) h = let e = h.2 in (h.0, h.1, omega (arith, e), h.3, h.4)
 
-  without_scan_ok : (w : Known) (s p : ℕ) (S : PlainShape) (c : Chain) → ChainOk tables sh w s p S c
+  without_scan_ok : (w : Knowledge) (s p : ℕ) (S : PlainShape) (c : Chain) → ChainOk tables sh w s p S c
       → ChainOk tables sh w s p (without_scan S) (C.without_scan c)
   without_scan_ok w s p S (chain items q [] o) h = let e = h.2 in (h.0, h.1, omega (arith, e), h.3, h.4)
   without_scan_ok w s p S (chain items q (n ∷ scans) o) h = let e = h.2 in (h.0, h.1, omega (arith, e), h.3, h.4)
 
-  pub suspend_scan : (pair : Pair) (w : Known) (s p : ℕ) (S : PlainShape) (m : LinkedStack) → Now tables sh w s p S m
+  pub suspend_scan : (pair : Pair) (w : Knowledge) (s p : ℕ) (S : PlainShape) (m : LinkedStack) → Now tables sh w s p S m
       → Now tables sh w s p (with_scan S) (C.suspend (Scan pair) m)
   suspend_scan pair w s p S m h = record {
     has = with_scan_ok w s p (length m.saved) S (C.suspend_in (suspension (scanning (length m.saved)) m.place m.chain) m.chain)
@@ -162,7 +162,7 @@ module _ (tables : Tables) (sh : ℕ → ℕ → Option PlainShape) where
     memory = h.memory;
   }
 
-  pub suspend_escan : (w : Known) (s p : ℕ) (S : PlainShape) (m : LinkedStack) → Now tables sh w s p S m → 0 < S.inner.scans
+  pub suspend_escan : (w : Knowledge) (s p : ℕ) (S : PlainShape) (m : LinkedStack) → Now tables sh w s p S m → 0 < S.inner.scans
       → Now tables sh w s p (without_scan S) (C.suspend Escan m)
   suspend_escan w s p S m h l = record {
     has = without_scan_ok w s p S (C.suspend_in (suspension (because Escan) m.place m.chain) m.chain)
@@ -172,32 +172,32 @@ module _ (tables : Tables) (sh : ℕ → ℕ → Option PlainShape) where
 
   -- Scans: what they saved is exchanged
 
-  pub record Swapped (w : Known) (s p : ℕ) (S : PlainShape) (m : LinkedStack) (swap : Pair × LinkedStack) : Type 0 where
+  pub record Swapped (w : Knowledge) (s p : ℕ) (S : PlainShape) (m : LinkedStack) (swap : Pair × LinkedStack) : Type 0 where
     pub now : Now tables sh w s p S swap.1
     pub place : swap.1.place ≡ m.place
 
-  swap_maybe : (pair : Pair) (w : Known) (s p : ℕ) (S : PlainShape) (m : LinkedStack) (o : Option ℕ) → Now tables sh w s p S m
+  swap_maybe : (pair : Pair) (w : Knowledge) (s p : ℕ) (S : PlainShape) (m : LinkedStack) (o : Option ℕ) → Now tables sh w s p S m
       → IfThere (Swapped w s p S m) (C.swap_at pair m o)
   swap_maybe pair w s p S m None h = tt
   swap_maybe pair w s p S m (Some n) h = record { now = record { has = h.has; memory = h.memory }; place = refl }
 
-  pub swap_oldest_ok : (pair : Pair) (w : Known) (s p : ℕ) (S : PlainShape) (m : LinkedStack) → Now tables sh w s p S m
+  pub swap_oldest_ok : (pair : Pair) (w : Knowledge) (s p : ℕ) (S : PlainShape) (m : LinkedStack) → Now tables sh w s p S m
       → IfThere (Swapped w s p S m) (C.swap_oldest pair m)
   swap_oldest_ok pair w s p S m h = swap_maybe pair w s p S m (C.oldest None (scans_of m.chain)) h
 
-  newest_of : (w : Known) (s p : ℕ) (S : PlainShape) (c : Chain) → ChainOk tables sh w s p S c → 0 < S.inner.scans
+  newest_of : (w : Knowledge) (s p : ℕ) (S : PlainShape) (c : Chain) → ChainOk tables sh w s p S c → 0 < S.inner.scans
       → (n : ℕ) × (slice_get (scans_of c) 0 ≡ Some n)
   newest_of w s p S (chain items q [] o) h l = let e = h.2 in absurd (omega (arith, e, l))
   newest_of w s p S (chain items q (n ∷ scans) o) h l = (n, refl)
 
-  pub swap_newest_ok : (pair : Pair) (w : Known) (s p : ℕ) (S : PlainShape) (m : LinkedStack) → Now tables sh w s p S m → 0 < S.inner.scans
+  pub swap_newest_ok : (pair : Pair) (w : Knowledge) (s p : ℕ) (S : PlainShape) (m : LinkedStack) → Now tables sh w s p S m → 0 < S.inner.scans
       → (swap : Pair × LinkedStack) × (C.swap_newest pair m ≡ Some swap) × Swapped w s p S m swap
   swap_newest_ok pair w s p S m h l = let z = newest_of w s p S m.chain h.has l in
       ((C.saved_at m z.0, C.with_saved z.0 pair m), ap (C.swap_at pair m) z.1, record { now = record { has = h.has; memory = h.memory }; place = refl })
 
   -- Calls
 
-  pub enter_ok : (proc : ℕ) (values : List Value) (w : Known) (s p : ℕ) (S : PlainShape) (m : LinkedStack) → Now tables sh w s p S m
+  pub enter_ok : (proc : ℕ) (values : List Value) (w : Knowledge) (s p : ℕ) (S : PlainShape) (m : LinkedStack) → Now tables sh w s p S m
       → LocalsOk tables sh w proc values → sh p m.place ≡ Some (with_more 1 S)
       → Now tables sh (with_activation w proc) s proc (start_shape false) (C.enter proc values m)
   enter_ok proc values w s p S m h g e = record {
@@ -218,7 +218,7 @@ module _ (tables : Tables) (sh : ℕ → ℕ → Option PlainShape) where
     memory = memory_activation tables sh w proc values m.activations m.flags m.relabels h.memory g;
   }
 
-  pub begin_ok : (proc : ℕ) (values : List Value) (place : ℕ) (cr : Bool) (w : Known) (s : ℕ) (m : LinkedStack) → MemoryOf tables sh w m
+  pub begin_ok : (proc : ℕ) (values : List Value) (place : ℕ) (cr : Bool) (w : Knowledge) (s : ℕ) (m : LinkedStack) → MemoryOf tables sh w m
       → LocalsOk tables sh w proc values → cr ≡ not (is_main s)
       → Now tables sh (with_activation w proc) s proc (start_shape cr) (C.begin proc values place m)
   begin_ok proc values place cr w s m h g e = record {
@@ -227,25 +227,25 @@ module _ (tables : Tables) (sh : ℕ → ℕ → Option PlainShape) where
   }
 
   -- back to the caller, or from the starting call
-  pub record Caller (w : Known) (s : ℕ) (m : LinkedStack) : Type 0 where
+  pub record Caller (w : Knowledge) (s : ℕ) (m : LinkedStack) : Type 0 where
     pub proc : ℕ
     pub shape : PlainShape
     pub now : Now tables sh w s proc shape m
     pub goes : sh proc m.place ≡ Some (with_more 1 shape)
 
-  abbrev pub Left : Known → ℕ → Bool → Option LinkedStack → Type 0
+  abbrev pub Left : Knowledge → ℕ → Bool → Option LinkedStack → Type 0
   Left w s cr None = cr ≡ not (is_main s)
   Left w s cr (Some m) = Caller w s m
 
-  leave_by : (w : Known) (s p : ℕ) (cr : Bool) (m : LinkedStack) (f : Frame) → MemoryOf tables sh w m → FrameOk tables sh w s p cr f
+  leave_by : (w : Knowledge) (s p : ℕ) (cr : Bool) (m : LinkedStack) (f : Frame) → MemoryOf tables sh w m → FrameOk tables sh w s p cr f
       → Left w s cr (C.leave_frame m f)
   leave_by w s p cr m (at_base proc a) c h = h.1
   leave_by w s p cr m (in_call proc a level place caller) c h = record { proc = h.3.0; shape = h.3.1; now = record { has = h.3.3; memory = c }; goes = h.3.2 }
 
-  pub leave_ok : (w : Known) (s p : ℕ) (S : PlainShape) (m : LinkedStack) → Now tables sh w s p S m → Left w s S.in_create (C.leave m)
+  pub leave_ok : (w : Knowledge) (s p : ℕ) (S : PlainShape) (m : LinkedStack) → Now tables sh w s p S m → Left w s S.in_create (C.leave m)
   leave_ok w s p S m h = leave_by w s p S.in_create m (frame m) h.memory (the_frame tables sh w s p S m h)
 
-  suspend_proc_by : (w : Known) (s p : ℕ) (S : PlainShape) (m : LinkedStack) (f : Frame) → Now tables sh w s p S m → sh p m.place ≡ Some S
+  suspend_proc_by : (w : Knowledge) (s p : ℕ) (S : PlainShape) (m : LinkedStack) (f : Frame) → Now tables sh w s p S m → sh p m.place ≡ Some S
       → FrameOk tables sh w s p S.in_create f → Left w s S.in_create (C.suspend_frame m f)
   suspend_proc_by w s p S m (at_base proc a) c e h = h.1
   suspend_proc_by w s p S m (in_call proc a level place caller) c e h =
@@ -256,25 +256,25 @@ module _ (tables : Tables) (sh : ℕ → ℕ → Option PlainShape) where
         goes = h.3.2;
       }
 
-  pub suspend_proc_ok : (w : Known) (s p : ℕ) (S : PlainShape) (m : LinkedStack) → Now tables sh w s p S m → sh p m.place ≡ Some S
+  pub suspend_proc_ok : (w : Knowledge) (s p : ℕ) (S : PlainShape) (m : LinkedStack) → Now tables sh w s p S m → sh p m.place ≡ Some S
       → Left w s S.in_create (C.suspend_proc m)
   suspend_proc_ok w s p S m h e = suspend_proc_by w s p S m (frame m) h e (the_frame tables sh w s p S m h)
 
   -- what was suspended comes back
-  abbrev pub WhyOk : Known → ℕ → PlainShape → ℕ → Why → Type 0
+  abbrev pub WhyOk : Knowledge → ℕ → PlainShape → ℕ → Why → Type 0
   WhyOk w p S place Alt = Unit {0}
   WhyOk w p S place (Op residual) = ResidualWithin w.coexps residual × (sh p place ≡ Some (with_more 1 S))
   WhyOk w p S place (Scan pair) = Unit {0}
   WhyOk w p S place Escan = 0 < S.inner.scans
   WhyOk w p S place Proc = sh p place ≡ Some S
 
-  pub record Back (w : Known) (s : ℕ) (back : Why × LinkedStack) : Type 0 where
+  pub record Back (w : Knowledge) (s : ℕ) (back : Why × LinkedStack) : Type 0 where
     pub proc : ℕ
     pub shape : PlainShape
     pub now : Now tables sh w s proc shape back.1
     pub why : WhyOk w proc shape back.1.place back.0
 
-  why_same : (w : Known) (p : ℕ) (S : PlainShape) (place : ℕ) (m : LinkedStack) (reason : Reason) → ReasonOk tables sh w p S place reason
+  why_same : (w : Knowledge) (p : ℕ) (S : PlainShape) (place : ℕ) (m : LinkedStack) (reason : Reason) → ReasonOk tables sh w p S place reason
       → WhyOk w p S place (C.why_of reason m)
   why_same w p S place m (because Alt) h = h
   why_same w p S place m (because (Op r)) h = h
@@ -283,35 +283,35 @@ module _ (tables : Tables) (sh : ℕ → ℕ → Option PlainShape) where
   why_same w p S place m (because Proc) h = h
   why_same w p S place m (scanning n) h = h
 
-  resume_by : (w : Known) (s p : ℕ) (S : PlainShape) (m : LinkedStack) (c : Chain) → MemoryOf tables sh w m → ChainOk tables sh w s p S c
+  resume_by : (w : Knowledge) (s p : ℕ) (S : PlainShape) (m : LinkedStack) (c : Chain) → MemoryOf tables sh w m → ChainOk tables sh w s p S c
       → IfThere (Back w s) (C.resume_from m c)
   resume_by w s p S m (chain items none scans o) g h = tt
   resume_by w s p S m (chain items (suspension reason place inside) scans o) g h = let x = h.3 in
       record { proc = x.0; shape = x.1; now = record { has = x.3; memory = g }; why = why_same w x.0 x.1 place m reason x.2 }
 
-  pub resume_ok : (w : Known) (s p : ℕ) (S : PlainShape) (m : LinkedStack) → Now tables sh w s p S m → IfThere (Back w s) (C.resume m)
+  pub resume_ok : (w : Knowledge) (s p : ℕ) (S : PlainShape) (m : LinkedStack) → Now tables sh w s p S m → IfThere (Back w s) (C.resume m)
   resume_ok w s p S m h = resume_by w s p S m m.chain h.memory h.has
 
   -- the mark is dropped
-  pub record GoesOn (w : Known) (s : ℕ) (m : LinkedStack) : Type 0 where
+  pub record GoesOn (w : Knowledge) (s : ℕ) (m : LinkedStack) : Type 0 where
     pub proc : ℕ
     pub shape : PlainShape
     pub now : Now tables sh w s proc shape m
     pub goes : sh proc m.place ≡ Some shape
 
-  abbrev pub DroppedOk : Known → ℕ → MarkDrop LinkedStack → Type 0
+  abbrev pub DroppedOk : Knowledge → ℕ → MarkDrop LinkedStack → Type 0
   DroppedOk w s NoMark = Unit {0}
   DroppedOk w s (Goes m) = GoesOn w s m
   DroppedOk w s (Repeats m) = GoesOn w s m
   DroppedOk w s (WithoutLabel m) = (p : ℕ) × (S : PlainShape) × Now tables sh w s p S m
 
-  dropped_to_ok : (w : Known) (s p : ℕ) (S : PlainShape) (m : LinkedStack) (c : Chain) (label : Option ℕ) → MemoryOf tables sh w m → ChainOk tables sh w s p S c
+  dropped_to_ok : (w : Knowledge) (s p : ℕ) (S : PlainShape) (m : LinkedStack) (c : Chain) (label : Option ℕ) → MemoryOf tables sh w m → ChainOk tables sh w s p S c
       → LabelTo tables sh p S label → DroppedOk w s (C.dropped_to m c label)
   dropped_to_ok w s p S m c None g h l = (p, S, record { has = h; memory = g })
   dropped_to_ok w s p S m c (Some label) g h l = record { proc = p; shape = S; now = record { has = h; memory = g }; goes = l }
 
   -- another label leads to the shape before its mark
-  label_ok : (w : Known) (p : ℕ) (S : PlainShape) (flag : ℕ) (xs : List (ℕ × ℕ)) → Each (RelabelOk tables sh w) xs → IsBefore w flag p S
+  label_ok : (w : Knowledge) (p : ℕ) (S : PlainShape) (flag : ℕ) (xs : List (ℕ × ℕ)) → Each (RelabelOk tables sh w) xs → IsBefore w flag p S
       → IfThere (λ label. sh p label ≡ Some S) (C.label_of flag xs)
   label_ok w p S flag [] h i = tt
   label_ok w p S flag (x ∷ xs) h i = by (x.0 == flag) refl (label_ok w p S flag xs h.1 i)
@@ -326,12 +326,12 @@ module _ (tables : Tables) (sh : ℕ → ℕ → Option PlainShape) where
       by true e g = at_same (eqb-true x.0 flag e)
       by false e g = g
 
-  dropped_by_ok : (w : Known) (s p : ℕ) (S : PlainShape) (m : LinkedStack) (c : Chain) (label other : Option ℕ) → MemoryOf tables sh w m
+  dropped_by_ok : (w : Knowledge) (s p : ℕ) (S : PlainShape) (m : LinkedStack) (c : Chain) (label other : Option ℕ) → MemoryOf tables sh w m
       → ChainOk tables sh w s p S c → LabelTo tables sh p S label → IfThere (λ l. sh p l ≡ Some S) other → DroppedOk w s (C.dropped_by m c label other)
   dropped_by_ok w s p S m c label None g h l o = dropped_to_ok w s p S m c label g h l
   dropped_by_ok w s p S m c label (Some other) g h l o = record { proc = p; shape = S; now = record { has = h; memory = g }; goes = o }
 
-  repeated_ok : (b : Bool) (w : Known) (s p : ℕ) (S : PlainShape) (m : LinkedStack) (c : Chain) (label : Option ℕ) (flag place : ℕ) → MemoryOf tables sh w m
+  repeated_ok : (b : Bool) (w : Knowledge) (s p : ℕ) (S : PlainShape) (m : LinkedStack) (c : Chain) (label : Option ℕ) (flag place : ℕ) → MemoryOf tables sh w m
       → ChainOk tables sh w s p S c → LabelOk tables sh w p S (flagged label flag place) → DroppedOk w s (C.repeat_mark label flag place c m b)
   repeated_ok true w s p S m c label flag place g h l = record {
     proc = p;
@@ -345,7 +345,7 @@ module _ (tables : Tables) (sh : ℕ → ℕ → Option PlainShape) where
   repeated_ok false w s p S m c label flag place g h l =
       dropped_by_ok w s p S m c label (C.label_of flag m.relabels) g h l.1 (label_ok w p S flag m.relabels g.labels l.0)
 
-  drop_by : (w : Known) (s p : ℕ) (cr : Bool) (kind : LevelKind) (ls : List Level) (m : LinkedStack) (o : Outer) → MemoryOf tables sh w m
+  drop_by : (w : Knowledge) (s p : ℕ) (cr : Bool) (kind : LevelKind) (ls : List Level) (m : LinkedStack) (o : Outer) → MemoryOf tables sh w m
       → OuterOk tables sh w s p cr kind ls o → DroppedOk w s (C.drop_from m o)
   drop_by w s p cr kind ls m (base proc a) g h = tt
   drop_by w s p cr kind ls m (call proc a level place caller) g h = tt
@@ -354,15 +354,15 @@ module _ (tables : Tables) (sh : ℕ → ℕ → Option PlainShape) where
       repeated_ok (slice_index_or m.flags flag false) w s p (level_shape tables sh cr h.0 h.1) m c l flag place g h.5 h.4
   drop_by w s p cr kind ls m (limit n c) g h = (p, level_shape tables sh cr h.0 h.1, record { has = h.4; memory = g })
 
-  pub drop_ok : (w : Known) (s p : ℕ) (S : PlainShape) (m : LinkedStack) → Now tables sh w s p S m → DroppedOk w s (C.drop_mark m)
+  pub drop_ok : (w : Knowledge) (s p : ℕ) (S : PlainShape) (m : LinkedStack) → Now tables sh w s p S m → DroppedOk w s (C.drop_mark m)
   drop_ok w s p S m h = drop_by w s p S.in_create S.inner.kind S.outer m (outer_of m.chain) h.memory (outer_ok tables sh w s p S m.chain h.has)
 
   -- a result of a limit is counted
-  pub record Counted (w : Known) (s p : ℕ) (S : PlainShape) (m : LinkedStack) (counted : ℕ × LinkedStack) : Type 0 where
+  pub record Counted (w : Knowledge) (s p : ℕ) (S : PlainShape) (m : LinkedStack) (counted : ℕ × LinkedStack) : Type 0 where
     pub now : Now tables sh w s p S counted.1
     pub place : counted.1.place ≡ m.place
 
-  count_by : (w : Known) (s p : ℕ) (S : PlainShape) (cr : Bool) (kind : LevelKind) (ls : List Level) (m : LinkedStack) (o : Outer) → Now tables sh w s p S m
+  count_by : (w : Knowledge) (s p : ℕ) (S : PlainShape) (cr : Bool) (kind : LevelKind) (ls : List Level) (m : LinkedStack) (o : Outer) → Now tables sh w s p S m
       → OuterOk tables sh w s p cr kind ls o → is_some (slice_get ls 0) ≡ true → same_kind kind Levels.Limit ≡ true
       → (counted : ℕ × LinkedStack) × (C.count_in m o ≡ Some counted) × Counted w s p S m counted
   count_by w s p S cr kind ls m (base proc a) g h e k = not_true (subst (λ (x : List Level). is_some (slice_get x 0) ≡ true) h.3 e)
@@ -374,6 +374,6 @@ module _ (tables : Tables) (sh : ℕ → ℕ → Option PlainShape) where
     record { now = record { has = g.has; memory = g.memory }; place = refl },
   )
 
-  pub count_ok : (w : Known) (s p : ℕ) (S : PlainShape) (m : LinkedStack) → Now tables sh w s p S m → is_some (slice_get S.outer 0) ≡ true
+  pub count_ok : (w : Knowledge) (s p : ℕ) (S : PlainShape) (m : LinkedStack) → Now tables sh w s p S m → is_some (slice_get S.outer 0) ≡ true
       → same_kind S.inner.kind Levels.Limit ≡ true → (counted : ℕ × LinkedStack) × (C.count_down m ≡ Some counted) × Counted w s p S m counted
   count_ok w s p S m h e k = count_by w s p S S.in_create S.inner.kind S.outer m (outer_of m.chain) h (outer_ok tables sh w s p S m.chain h.has) e k

@@ -16,7 +16,7 @@ use Rattle.icn_run_laws.proofs.Lists.{some_inj, no_some}
 use Rattle.icn_run_laws.proofs.RowsKeep.{rows_keep}
 use Rattle.icn_run_laws.proofs.SecondLaw.{everywhere, covered}
 use Rattle.icn_run_safe.specs.Within.{Each, ValueWithin, SettingWithin, OutcomeWithin, RowsStayWithin}
-use Rattle.icn_run_safe.specs.Shaped.{Known, MemoryOk, MemoryOf, StatusOk, Entered, CoexpOk, StoreOk, Safe, KeepsShapes}
+use Rattle.icn_run_safe.specs.Shaped.{Knowledge, MemoryOk, MemoryOf, StatusOk, Entered, CoexpOk, StoreOk, Safe, KeepsShapes}
 use Rattle.icn_run_safe.specs.NoStuck.{TablesOk, IsNeverStuck}
 use Rattle.icn_run_safe.specs.Facts.{shapes_by, shapes_of}
 use Rattle.icn_run_safe.proofs.Entries.{each_append, each_replicate, each_drop, stands, set_length}
@@ -75,7 +75,7 @@ module _ (P : Program) (sh : ℕ → ℕ → Option PlainShape) (given : KeepsSh
 
   -- The start
 
-  abbrev none_known : Known
+  abbrev none_known : Knowledge
   none_known = record { activations = []; flags = []; coexps = 1 }
 
   -- no stack runs yet

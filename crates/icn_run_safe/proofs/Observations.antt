@@ -9,7 +9,7 @@ use Rattle.icn_verify.specs.Shapes.{PlainShape}
 use Rattle.icn_verify.specs.Rows.{forward}
 use Rattle.icn_verify.specs.Given.{HaveShapes, IsFine}
 use Rattle.icn_run.specs.Chains.{WaitingChain, LinkedStack, linked_calls, empty}
-use Rattle.icn_run.specs.Step.{Observed, Launch, Store, State, running, failing, hopping, over, stuck, instruction_at, instrs_of, observation}
+use Rattle.icn_run.specs.Step.{Observation, Launch, Store, State, running, failing, hopping, over, stuck, instruction_at, instrs_of, observation}
 use Rattle.icn_run.specs.FlatStep as Flat
 use Rattle.icn_run.specs.LinkedStep as Marks
 use Rattle.icn_run.specs.LinkedStep.{repeats_anywhere}
@@ -50,7 +50,7 @@ goes_forward (Instrs.Init label) S place Q h = h.0
 goes_forward _ S place Q h = tt
 
 -- a run that is over, and not stuck, was observed
-seen_of : (s : State WaitingChain LinkedStack) → IsEnd s → (s ≡ stuck → ⊥) → (seen : Observed) × (observation s ≡ Some seen)
+seen_of : (s : State WaitingChain LinkedStack) → IsEnd s → (s ≡ stuck → ⊥) → (seen : Observation) × (observation s ≡ Some seen)
 seen_of (over ending outside) h d = (record { ending = ending; outside = outside }, refl)
 seen_of stuck h d = absurd (d refl)
 seen_of (running m st) h d = absurd h
@@ -84,16 +84,16 @@ module _ (tables : Tables) (have : HaveShapes tables) (ok : TablesOk tables) (ke
   never : (launch : Launch) (n : ℕ) → Marks.steps repeats_anywhere tables n (Marks.start repeats_anywhere tables launch) ≡ stuck → ⊥
   never launch n e = subst (λ s. Safe tables sh s) e (runs_ok tables sh given keep ok launch n)
 
-  marks_seen : (launch : Launch) → (seen : Observed) × Marks.Runs repeats_anywhere tables launch seen
+  marks_seen : (launch : Launch) → (seen : Observation) × Marks.Runs repeats_anywhere tables launch seen
   marks_seen launch =
       let e = marks_end launch in
       let o = seen_of (Marks.steps repeats_anywhere tables e.count (Marks.start repeats_anywhere tables launch)) e.is_end (never launch e.count) in
       (o.0, record { count = e.count; is = o.1 })
 
-  stacks_seen : (launch : Launch) → (seen : Observed) × Flat.Runs tables launch seen
+  stacks_seen : (launch : Launch) → (seen : Observation) × Flat.Runs tables launch seen
   stacks_seen launch = let o = marks_seen launch in (o.0, (everywhere tables launch).to_flat o.0 o.1)
 
-  told_ends : (repeats : ℕ → ℕ → Bool) (launch : Launch) (seen : Observed)
+  told_ends : (repeats : ℕ → ℕ → Bool) (launch : Launch) (seen : Observation)
       → Marks.Runs repeats tables launch seen ⊎ (LinkedStuck repeats tables launch × MissingCell repeats tables launch)
       → EndsFrom (linked_calls repeats) tables (Marks.start repeats tables launch)
   told_ends repeats launch seen (inl run) = record { count = run.count; is_end = subst IsEnd (sym (over_seen _ seen run.is)) tt }

@@ -3,11 +3,11 @@ use Rattle.std.proofs.Common.{◌≡◌, ℕ, zero, suc, Bool, true, false, List
 use Rattle.std.specs.Prelude.{ℤ, pos, negsuc, slice_get, slice_set, unwrap_or, take, drop, filter, fold, replicate, flat_map, cond}
 use Rattle.std.specs.declared.cmp.Ordering.{Ordering}
 use Rattle.std.specs.Ordering.{is_lt}
-use Rattle.icn_structs.specs.Numbered.{Numbered, item_at, items_with, after_first, with_left, with_right}
+use Rattle.icn_structs.specs.Numbered.{NumberedList, item_at, items_with, after_first, with_left, with_right}
 use Rattle.icn_structs.specs.PairLists.{stored}
 use Rattle.icn_value.specs.Values.{Value, Null, Integer, Text, Chars, Std, ARecord, AList, ASet, ATable, File, Element, Field, Key, Variable, Whole, Part, Item, Val, Var}
 use Rattle.icn_value.specs.Store.{Table, Record, Setting, new_list, value_at}
-use Rattle.icn_defs.specs.Conversions.{same, has_value, with_member, sorted_in, sorted_onto, sorted}
+use Rattle.icn_defs.specs.Conversions.{same, has_value, with_member, sorted_in, sorted_onto, sort_list}
 use Rattle.icn_defs.specs.Rows.{Outcome, Residual}
 use Rattle.icn_defs.specs.Elements.{part_of}
 use Rattle.icn_defs.specs.Structures.{or_null}
@@ -32,7 +32,7 @@ pub record Vs (n : ℕ) (vs : List Value) : Type 0 where
 pub record Ps (n : ℕ) (ps : List (Value × Value)) : Type 0 where
   pub is : Each (PairWithin n) ps
 
-pub record Lists (n : ℕ) (xs : List (Numbered Value)) : Type 0 where
+pub record Lists (n : ℕ) (xs : List (NumberedList Value)) : Type 0 where
   pub is : Each (ListWithin n) xs
 
 pub record Sets (n : ℕ) (xs : List (List Value)) : Type 0 where
@@ -162,11 +162,11 @@ module _ (n : ℕ) where
   vs_members vs [] h g = h
   vs_members vs (v ∷ added) h g = vs_members (with_member vs v) added (vs_member vs v h (record { is = g.is.0 })) (record { is = g.is.1 })
 
-  pub vs_left : (list : Numbered Value) (added : List Value) → Vs n list.items → Vs n added → Vs n (fold with_left list added).items
+  pub vs_left : (list : NumberedList Value) (added : List Value) → Vs n list.items → Vs n added → Vs n (fold with_left list added).items
   vs_left list [] h g = h
   vs_left list (v ∷ added) h g = vs_left (with_left list v) added (record { is = (g.is.0, h.is) }) (record { is = g.is.1 })
 
-  pub vs_right : (list : Numbered Value) (added : List Value) → Vs n list.items → Vs n added → Vs n (fold with_right list added).items
+  pub vs_right : (list : NumberedList Value) (added : List Value) → Vs n list.items → Vs n added → Vs n (fold with_right list added).items
   vs_right list [] h g = h
   vs_right list (v ∷ added) h g = vs_right (with_right list v) added (vs_append list.items (v ∷ []) h (record { is = (g.is.0, tt) })) (record { is = g.is.1 })
 
@@ -182,10 +182,10 @@ module _ (n : ℕ) where
   each_onto P cmp xs [] h g = h
   each_onto P cmp xs (y ∷ ys) h g = each_onto P cmp (sorted_in cmp y xs) ys (each_in P cmp y xs g.0 h) g.1
 
-  pub vs_sorted : (cmp : Value → Value → Ordering) (vs : List Value) → Vs n vs → Vs n (sorted cmp vs)
+  pub vs_sorted : (cmp : Value → Value → Ordering) (vs : List Value) → Vs n vs → Vs n (sort_list cmp vs)
   vs_sorted cmp vs h = record { is = each_onto (ValueWithin n) cmp [] vs tt h.is }
 
-  pub ps_sorted : (cmp : Value × Value → Value × Value → Ordering) (ps : List (Value × Value)) → Ps n ps → Ps n (sorted cmp ps)
+  pub ps_sorted : (cmp : Value × Value → Value × Value → Ordering) (ps : List (Value × Value)) → Ps n ps → Ps n (sort_list cmp ps)
   ps_sorted cmp ps h = record { is = each_onto (PairWithin n) cmp [] ps tt h.is }
 
   each_pairs : (ps : List (Value × Value)) → Each (PairWithin n) ps → Each (ValueWithin n) (flat_map (λ (pair : Value × Value). pair.0 ∷ pair.1 ∷ []) ps)
@@ -231,12 +231,12 @@ module _ (n : ℕ) where
 
   -- Structures by their numbers
 
-  each_lists : (xs : List (Numbered Value)) (k : ℕ) → Each (ListWithin n) xs → Each (ValueWithin n) (unwrap_or (slice_get xs k) (new_list [])).items
+  each_lists : (xs : List (NumberedList Value)) (k : ℕ) → Each (ListWithin n) xs → Each (ValueWithin n) (unwrap_or (slice_get xs k) (new_list [])).items
   each_lists [] k h = tt
   each_lists (x ∷ xs) zero h = h.0
   each_lists (x ∷ xs) (suc k) h = each_lists xs k h.1
 
-  pub items_at : (xs : List (Numbered Value)) (k : ℕ) → Lists n xs → Vs n (unwrap_or (slice_get xs k) (new_list [])).items
+  pub items_at : (xs : List (NumberedList Value)) (k : ℕ) → Lists n xs → Vs n (unwrap_or (slice_get xs k) (new_list [])).items
   items_at xs k h = record { is = each_lists xs k h.is }
 
   each_sets : (xs : List (List Value)) (k : ℕ) → Each (SetWithin n) xs → Each (ValueWithin n) (unwrap_or (slice_get xs k) [])
@@ -269,10 +269,10 @@ module _ (n : ℕ) where
 
   -- Structures changed and added
 
-  pub lists_set : (xs : List (Numbered Value)) (k : ℕ) (x : Numbered Value) → Lists n xs → Vs n x.items → Lists n (slice_set xs k x)
+  pub lists_set : (xs : List (NumberedList Value)) (k : ℕ) (x : NumberedList Value) → Lists n xs → Vs n x.items → Lists n (slice_set xs k x)
   lists_set xs k x h g = record { is = each_set (ListWithin n) xs k x h.is g.is }
 
-  pub lists_more : (xs : List (Numbered Value)) (x : Numbered Value) → Lists n xs → Vs n x.items → Lists n (xs ++ x ∷ [])
+  pub lists_more : (xs : List (NumberedList Value)) (x : NumberedList Value) → Lists n xs → Vs n x.items → Lists n (xs ++ x ∷ [])
   lists_more xs x h g = record { is = each_append (ListWithin n) xs (x ∷ []) h.is (g.is, tt) }
 
   pub sets_set : (xs : List (List Value)) (k : ℕ) (x : List Value) → Sets n xs → Vs n x → Sets n (slice_set xs k x)

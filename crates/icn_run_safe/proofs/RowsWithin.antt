@@ -10,7 +10,7 @@ use Rattle.icn_text.specs.declared.func.Func.TheVariants as Funcs
 use Rattle.icn_value.specs.Values.{Value, ACoexp, Root, Global, Static, Local, Element, Field, Key, Keyword, KeywordVariable, Subject, Position, Random, Variable, Whole, Part, Item, Val, Var}
 use Rattle.icn_value.specs.Store.{Setting, Heap, Names, having_position, having_heap, list_at, table_at, record_at}
 use Rattle.icn_defs.specs.Conversions.{same, integer_of, place_of, held_text, Group, Textual, Listed, Collected, Tabled, Recorded, Filed, Activated, Single}
-use Rattle.icn_defs.specs.Rows.{Row, Outcome, Fails, Gives, Suspends, Error, Ends, Residual, TextBytes, VariableBytes, ListItems, SetMembers, TableValues, TableKeys, RecordFields, InputLines, UndoAssign, UndoExchange, UndoPosition, Counting, Sequence, Balanced, Found, Among, Mover, Neither, Left, Right, check, present, computed, passing, found, natural, costs_made}
+use Rattle.icn_defs.specs.Rows.{Row, Outcome, Fails, Gives, Suspends, Error, Ends, Residual, TextBytes, VariableBytes, ListItems, SetMembers, TableValues, TableKeys, RecordFields, InputLines, UndoAssign, UndoExchange, UndoPosition, Counting, Sequence, Balanced, Found, Among, Mover, Neither, Left, Right, check, present, number_or_error, passing, thing_or_failure, natural, costs_made}
 use Rattle.icn_defs.specs.Reading.{the_value, the_values, the_variable, assigns_keyword, assigns_root, assigns_or, assigns_both, move_part, moved_by_left, moved_by_right, costs_unless, stores, reads, reads_root, root_value}
 use Rattle.icn_defs.specs.Arguments.{Keeper, SetKeeper, TableKeeper}
 use Rattle.icn_defs.specs.Arithmetic.{count_from}
@@ -21,7 +21,7 @@ use Rattle.icn_defs.specs.Structures.{copy_of, new_set_by, inserts, without_key,
 use Rattle.icn_defs.specs.InputOutput.{Piece, pieces}
 use Rattle.icn_defs.specs.Applying.{operation_on, operand, function_of, again}
 use Rattle.icn_run.specs.Rows.{Operation, Function, apply, list_row, record_row, coexpression_row, text_row, words_row}
-use Rattle.icn_defs.specs.StepRows.{Applied}
+use Rattle.icn_defs.specs.StepRows.{OperationOrFunction}
 use Rattle.icn_defs.specs.Running.{text_values}
 use Rattle.icn_run_laws.proofs.Lists.{some_inj}
 use Rattle.icn_run_safe.specs.Within.{Each, ValueWithin, ItemWithin, PairWithin, ListWithin, SetWithin, TableWithin, RecordWithin, SettingWithin, WorldWithin, OutcomeWithin, CreatedWithin, RowsStayWithin}
@@ -108,7 +108,7 @@ module _ (n : ℕ) where
   w_present (Some x) k v next a f = f x refl
   w_present None k v next a f = record { is = tt }
 
-  w_computed : (o : Result ℤ Arith) (next : ℤ → Row) (a : Setting) → ((x : ℤ) → O n (next x a)) → O n (computed o next a)
+  w_computed : (o : Result ℤ Arith) (next : ℤ → Row) (a : Setting) → ((x : ℤ) → O n (next x a)) → O n (number_or_error o next a)
   w_computed (Ok x) next a f = f x
   w_computed (Err k) next a f = record { is = tt }
 
@@ -116,7 +116,7 @@ module _ (n : ℕ) where
   w_passing true next a h f = f
   w_passing false next a h f = record { is = h.is }
 
-  w_found : {A : Type 0} (o : Option A) (next : A → Row) (a : Setting) → S n a → ((x : A) → o ≡ Some x → O n (next x a)) → O n (found o next a)
+  w_found : {A : Type 0} (o : Option A) (next : A → Row) (a : Setting) → S n a → ((x : A) → o ≡ Some x → O n (next x a)) → O n (thing_or_failure o next a)
   w_found (Some x) next a h f = f x refl
   w_found None next a h f = record { is = h.is }
 
@@ -673,7 +673,7 @@ module _ (n : ℕ) where
       made : CreatedWithin n a (Gives (Val (ACoexp (length a.world.heap.coexps))) after)
       made = (ap ACoexp h.is.world.heap.count, world, refl)
 
-applied_within : (n : ℕ) (names : Names) (what : Applied) (items : List Item) (at : Setting) → SettingWithin n at → Each (ItemWithin n) items
+applied_within : (n : ℕ) (names : Names) (what : OperationOrFunction) (items : List Item) (at : Setting) → SettingWithin n at → Each (ItemWithin n) items
     → OutcomeWithin n (apply names what items at)
 applied_within n names (Operation op) items at h g = (w_operation n op (operand items 0) (operand items 1) (operand items 2) at (record { is = h })
     (i_operand n items 0 g) (i_operand n items 1 g) (i_operand n items 2 g)).is

@@ -4,7 +4,7 @@ use Rattle.std.specs.Prelude.{slice_get, take, drop, replicate, ℤ, is_some, un
 use Rattle.std.specs.Option.{option_map_or}
 use Rattle.icn_text.specs.declared.func.Func.{Func}
 use Rattle.icn_text.specs.declared.op.Op.TheVariants as Ops
-use Rattle.icn_structs.specs.Numbered.{Numbered}
+use Rattle.icn_structs.specs.Numbered.{NumberedList}
 use Rattle.icn_value.specs.Values.{Std, ASet, ATable}
 use Rattle.icn_value.specs.Store.{Record, new_list}
 use Rattle.icn_defs.specs.Keeping.{KeepsIn, Keeps}
@@ -21,7 +21,7 @@ use Rattle.icn_run.specs.Step.{Program, Store, State, running, failing, with_fou
 use Rattle.icn_defs.specs.Numbers.{func_of}
 use Rattle.icn_run_laws.proofs.RowsKeep.{rows_keep}
 use Rattle.icn_run_safe.specs.Within.{Each, ValueWithin, ItemWithin, ListWithin, RecordWithin, WorldWithin, SettingWithin, OutcomeWithin, RowsStayWithin}
-use Rattle.icn_run_safe.specs.Shaped.{Known, local_count, locals_in, LocalsOk, StoreOk, Now, Safe, KeepsShapes}
+use Rattle.icn_run_safe.specs.Shaped.{Knowledge, local_count, locals_in, LocalsOk, StoreOk, Now, Safe, KeepsShapes}
 use Rattle.icn_run_safe.proofs.Entries.{each_append, each_replicate, each_take, each_drop, within, replicate_length}
 use Rattle.icn_run_safe.proofs.Keeping.{with_activation, grow_activation, locals_ok, set_locals_ok, push_ok, pop_ok, take_ok}
 use Rattle.icn_run_safe.proofs.Marks.{IfThere, outside_ok, suspend_op, enter_ok}
@@ -74,7 +74,7 @@ filled_within k n vs h =
 pub joined_length : (n : ℕ) (vs : List Value) (v : Value) → 0 < n → length (fill_nulls (n - 1) vs ++ v ∷ []) ≡ n
 joined_length n vs v l = omega (arith, length-append (fill_nulls (n - 1) vs) (v ∷ []), filled_length (n - 1) vs, l)
 
-items_at : (n : ℕ) (xs : List (Numbered Value)) (k : ℕ) → Each (ListWithin n) xs → Each (ValueWithin n) (unwrap_or (slice_get xs k) (new_list [])).items
+items_at : (n : ℕ) (xs : List (NumberedList Value)) (k : ℕ) → Each (ListWithin n) xs → Each (ValueWithin n) (unwrap_or (slice_get xs k) (new_list [])).items
 items_at n [] k h = tt
 items_at n (x ∷ xs) zero h = h.0
 items_at n (x ∷ xs) (suc k) h = items_at n xs k h.1
@@ -109,11 +109,11 @@ module _ (P : Program) (sh : ℕ → ℕ → Option PlainShape) (given : KeepsSh
   abbrev pub Ok : St → Type 0
   Ok state = Safe P sh state
 
-  abbrev pub Locals : Known → ℕ → List Value → Type 0
+  abbrev pub Locals : Knowledge → ℕ → List Value → Type 0
   Locals w p values = LocalsOk P sh w p values
 
   -- a stack with a store
-  pub record Ready (w : Known) (p : ℕ) (S : PlainShape) (m : LinkedStack) (st : Store WaitingChain) : Type 0 where
+  pub record Ready (w : Knowledge) (p : ℕ) (S : PlainShape) (m : LinkedStack) (st : Store WaitingChain) : Type 0 where
     pub now : Now P sh w st.active p S m
     pub store : StoreOk P sh w (λ i. i ≡ st.active) st
 
@@ -124,27 +124,27 @@ module _ (P : Program) (sh : ℕ → ℕ → Option PlainShape) (given : KeepsSh
   pub ok_found : {A : Type 0} (o : Option A) (next : A → St) (x : A) → o ≡ Some x → Ok (next x) → Ok (with_found o next)
   ok_found o next x e h = subst (λ z. Ok (with_found z next)) (sym e) h
 
-  pub ok_fails : (w : Known) (p : ℕ) (S : PlainShape) (m : LinkedStack) (st : Store WaitingChain) → Ready w p S m st → Ok (failing m st)
+  pub ok_fails : (w : Knowledge) (p : ℕ) (S : PlainShape) (m : LinkedStack) (st : Store WaitingChain) → Ready w p S m st → Ok (failing m st)
   ok_fails w p S m st h = (w, p, S, h.now, h.store)
 
-  pub ok_runs : (w : Known) (p : ℕ) (S : PlainShape) (m : LinkedStack) (st : Store WaitingChain) → Ready w p S m st → sh p m.place ≡ Some S → Ok (running m st)
+  pub ok_runs : (w : Knowledge) (p : ℕ) (S : PlainShape) (m : LinkedStack) (st : Store WaitingChain) → Ready w p S m st → sh p m.place ≡ Some S → Ok (running m st)
   ok_runs w p S m st h e = (w, p, S, h.now, e, h.store)
 
-  pub ok_push : (item : Item) (w : Known) (p : ℕ) (S : PlainShape) (m : LinkedStack) (st : Store WaitingChain) → Ready w p S m st → ItemWithin w.coexps item
+  pub ok_push : (item : Item) (w : Knowledge) (p : ℕ) (S : PlainShape) (m : LinkedStack) (st : Store WaitingChain) → Ready w p S m st → ItemWithin w.coexps item
       → sh p m.place ≡ Some (with_more 1 S) → Ok (push_item M item m st)
   ok_push item w p S m st h g e = (w, p, with_more 1 S, push_ok P sh item w st.active p S m h.now g, e, h.store)
 
-  pub ready_world : (w : Known) (p : ℕ) (S : PlainShape) (m : LinkedStack) (st : Store WaitingChain) (world : World) → Ready w p S m st
+  pub ready_world : (w : Knowledge) (p : ℕ) (S : PlainShape) (m : LinkedStack) (st : Store WaitingChain) (world : World) → Ready w p S m st
       → WorldWithin w.coexps world
       → Ready w p S m (with_world world st)
   ready_world w p S m st world h g = record { now = h.now; store = record { world = g; coexps = h.store.coexps } }
 
-  pub here_within : (w : Known) (p : ℕ) (S : PlainShape) (m : LinkedStack) (st : Store WaitingChain) → Ready w p S m st → SettingWithin w.coexps (here M m st)
+  pub here_within : (w : Knowledge) (p : ℕ) (S : PlainShape) (m : LinkedStack) (st : Store WaitingChain) → Ready w p S m st → SettingWithin w.coexps (here M m st)
   here_within w p S m st h = record { world = h.store.world; locals = (locals_ok P sh w st.active p S m h.now).within }
 
   -- Rows
 
-  valued_ok : (n : ℕ) (o : Outcome) (w : Known) (p : ℕ) (S : PlainShape) (m : LinkedStack) (st : Store WaitingChain) (next : Value → St) → Ready w p S m st
+  valued_ok : (n : ℕ) (o : Outcome) (w : Knowledge) (p : ℕ) (S : PlainShape) (m : LinkedStack) (st : Store WaitingChain) (next : Value → St) → Ready w p S m st
       → OutcomeWithin n o → ((v : Value) → ValueWithin n v → Ok (next v)) → Ok (with_given o m st next)
   valued_ok n (Gives (Val v) seen) w p S m st next h g f = f v g.0
   valued_ok n (Gives (Var v) seen) w p S m st next h g f = ok_fails w p S m st h
@@ -153,13 +153,13 @@ module _ (P : Program) (sh : ℕ → ℕ → Option PlainShape) (given : KeepsSh
   valued_ok n (Suspends item r seen) w p S m st next h g f = ok_fails w p S m st h
   valued_ok n (Ends k seen) w p S m st next h g f = ok_fails w p S m st h
 
-  pub ok_value : (item : Item) (w : Known) (p : ℕ) (S : PlainShape) (m : LinkedStack) (st : Store WaitingChain) (next : Value → St) → Ready w p S m st
+  pub ok_value : (item : Item) (w : Knowledge) (p : ℕ) (S : PlainShape) (m : LinkedStack) (st : Store WaitingChain) (next : Value → St) → Ready w p S m st
       → ItemWithin w.coexps item → ((v : Value) → ValueWithin w.coexps v → Ok (next v)) → Ok (with_value M item m st next)
   ok_value item w p S m st next h g f =
       valued_ok w.coexps (value_row item (here M m st)) w p S m st next h
       (keep.applied w.coexps st.names (Operation Ops.Dereference) (item ∷ []) (here M m st) (here_within w p S m st h) (g, tt)) f
 
-  pub ok_values : (items : List Item) (w : Known) (p : ℕ) (S : PlainShape) (m : LinkedStack) (st : Store WaitingChain) (next : List Value → St)
+  pub ok_values : (items : List Item) (w : Knowledge) (p : ℕ) (S : PlainShape) (m : LinkedStack) (st : Store WaitingChain) (next : List Value → St)
       → Ready w p S m st
       → Each (ItemWithin w.coexps) items
       → ((vs : List Value) → Each (ValueWithin w.coexps) vs → Ok (next vs)) → Ok (with_values M items m st next)
@@ -167,7 +167,7 @@ module _ (P : Program) (sh : ℕ → ℕ → Option PlainShape) (given : KeepsSh
   ok_values (item ∷ items) w p S m st next h g f = ok_value item w p S m st (λ value. with_values M items m st (λ values. next (value ∷ values))) h g.0
       (λ v gv. ok_values items w p S m st (λ values. next (v ∷ values)) h g.1 (λ vs gvs. f (v ∷ vs) (gv, gvs)))
 
-  ready_seen : (w : Known) (p : ℕ) (S : PlainShape) (m : LinkedStack) (st : Store WaitingChain) (seen : Setting) → Ready w p S m st
+  ready_seen : (w : Knowledge) (p : ℕ) (S : PlainShape) (m : LinkedStack) (st : Store WaitingChain) (seen : Setting) → Ready w p S m st
       → SettingWithin w.coexps seen
       → Keeps (here M m st) seen → Ready w p S (C.set_locals seen.locals m) (with_at seen st)
   ready_seen w p S m st seen h g k = record {
@@ -176,7 +176,7 @@ module _ (P : Program) (sh : ℕ → ℕ → Option PlainShape) (given : KeepsSh
     store = record { world = g.world; coexps = h.store.coexps };
   }
 
-  pub ok_outcome : (o : Outcome) (w : Known) (p : ℕ) (S : PlainShape) (m : LinkedStack) (st : Store WaitingChain) → Ready w p S m st → OutcomeWithin w.coexps o
+  pub ok_outcome : (o : Outcome) (w : Knowledge) (p : ℕ) (S : PlainShape) (m : LinkedStack) (st : Store WaitingChain) → Ready w p S m st → OutcomeWithin w.coexps o
       → KeepsIn (here M m st) o → sh p m.place ≡ Some (with_more 1 S) → Ok (outcome M o m st)
   ok_outcome (Fails seen) w p S m st h g k e = ok_fails w p S (C.set_locals seen.locals m) (with_at seen st) (ready_seen w p S m st seen h g k)
   ok_outcome (Gives item seen) w p S m st h g k e = ok_push item w p S (C.set_locals seen.locals m) (with_at seen st) (ready_seen w p S m st seen h g.1 k) g.0 e
@@ -188,7 +188,7 @@ module _ (P : Program) (sh : ℕ → ℕ → Option PlainShape) (given : KeepsSh
   ok_outcome (Ends j seen) w p S m st h g k e = tt
 
   -- what a row makes, after which the same shape stands
-  pub ok_made : (o : Outcome) (w : Known) (p : ℕ) (S : PlainShape) (m : LinkedStack) (st : Store WaitingChain)
+  pub ok_made : (o : Outcome) (w : Knowledge) (p : ℕ) (S : PlainShape) (m : LinkedStack) (st : Store WaitingChain)
       (next : Value → LinkedStack → Store WaitingChain → St)
       → Ready w p S m st → OutcomeWithin w.coexps o → KeepsIn (here M m st) o
       → ((v : Value) (a : LinkedStack) (st' : Store WaitingChain) → ValueWithin w.coexps v → Ready w p S a st' → a.place ≡ m.place → Ok (next v a st'))
@@ -207,12 +207,12 @@ module _ (P : Program) (sh : ℕ → ℕ → Option PlainShape) (given : KeepsSh
   pub ok_turned : (st : Store WaitingChain) (event : Store WaitingChain → St) → Ok (event (record st { turns = suc st.turns })) → Ok (turn P st event)
   ok_turned st event h = turn_ok (nat_lt st.turns st.world.heap.bounds.turns) st event h
 
-  pub ok_turn : (w : Known) (p : ℕ) (S : PlainShape) (m : LinkedStack) (st : Store WaitingChain) (event : Store WaitingChain → St) → Ready w p S m st
+  pub ok_turn : (w : Knowledge) (p : ℕ) (S : PlainShape) (m : LinkedStack) (st : Store WaitingChain) (event : Store WaitingChain → St) → Ready w p S m st
       → ((st' : Store WaitingChain) → Ready w p S m st' → Ok (event st')) → Ok (turn P st event)
   ok_turn w p S m st event h f =
       ok_turned st event (f (record st { turns = suc st.turns }) (record { now = h.now; store = record { world = h.store.world; coexps = h.store.coexps } }))
 
-  pub ok_list : (values : List Value) (w : Known) (p : ℕ) (S : PlainShape) (m : LinkedStack) (st : Store WaitingChain)
+  pub ok_list : (values : List Value) (w : Knowledge) (p : ℕ) (S : PlainShape) (m : LinkedStack) (st : Store WaitingChain)
       (next : Value → LinkedStack → Store WaitingChain → St)
       → Ready w p S m st → Each (ValueWithin w.coexps) values
       → ((v : Value) (a : LinkedStack) (st' : Store WaitingChain) → ValueWithin w.coexps v → Ready w p S a st' → a.place ≡ m.place → Ok (next v a st'))
@@ -224,12 +224,12 @@ module _ (P : Program) (sh : ℕ → ℕ → Option PlainShape) (given : KeepsSh
   -- Calls
 
   -- the parameters of a procedure
-  pub record Parameters (w : Known) (entry : Procedure) (values : List Value) : Type 0 where
+  pub record Parameters (w : Knowledge) (entry : Procedure) (values : List Value) : Type 0 where
     pub within : Each (ValueWithin w.coexps) values
     pub count : length values ≡ entry.parameters
 
   collected_ok : (b : Bool) (entry : Procedure) → (b ≡ true → 0 < entry.parameters)
-      → (vs : List Value) (w : Known) (p : ℕ) (S : PlainShape) (m : LinkedStack) (st : Store WaitingChain)
+      → (vs : List Value) (w : Knowledge) (p : ℕ) (S : PlainShape) (m : LinkedStack) (st : Store WaitingChain)
       (next : List Value → LinkedStack → Store WaitingChain → St)
       → Ready w p S m st → Each (ValueWithin w.coexps) vs
       → ((ps : List Value) (a : LinkedStack) (st' : Store WaitingChain) → Parameters w entry ps → Ready w p S a st' → a.place ≡ m.place → Ok (next ps a st'))
@@ -246,7 +246,7 @@ module _ (P : Program) (sh : ℕ → ℕ → Option PlainShape) (given : KeepsSh
       }) h' e)
 
   pub ok_parameters : (n : ℕ) (entry : Procedure) → slice_get P.procs n ≡ Some entry
-      → (vs : List Value) (w : Known) (p : ℕ) (S : PlainShape) (m : LinkedStack) (st : Store WaitingChain)
+      → (vs : List Value) (w : Knowledge) (p : ℕ) (S : PlainShape) (m : LinkedStack) (st : Store WaitingChain)
       (next : List Value → LinkedStack → Store WaitingChain → St)
       → Ready w p S m st → Each (ValueWithin w.coexps) vs
       → ((ps : List Value) (a : LinkedStack) (st' : Store WaitingChain) → Parameters w entry ps → Ready w p S a st' → a.place ≡ m.place → Ok (next ps a st'))
@@ -254,7 +254,7 @@ module _ (P : Program) (sh : ℕ → ℕ → Option PlainShape) (given : KeepsSh
   ok_parameters n entry e vs w p S m st next h g f = collected_ok entry.collects entry (given.collects n entry e) vs w p S m st next h g f
 
   -- with nulls behind them they are the locals
-  pub parameters_locals : (n : ℕ) (entry : Procedure) → slice_get P.procs n ≡ Some entry → (w : Known) (ps : List Value) → Parameters w entry ps
+  pub parameters_locals : (n : ℕ) (entry : Procedure) → slice_get P.procs n ≡ Some entry → (w : Knowledge) (ps : List Value) → Parameters w entry ps
       → Locals w n (ps ++ replicate entry.locals Null)
   parameters_locals n entry e w ps h =
       let count = h.count in
@@ -263,7 +263,7 @@ module _ (P : Program) (sh : ℕ → ℕ → Option PlainShape) (given : KeepsSh
         count = omega (arith, length-append ps (replicate entry.locals Null), replicate_length entry.locals Null, count, count_of P n entry e);
       }
 
-  ready_enter : (n : ℕ) (values : List Value) (w : Known) (p : ℕ) (S : PlainShape) (m : LinkedStack) (st : Store WaitingChain) → Ready w p S m st
+  ready_enter : (n : ℕ) (values : List Value) (w : Knowledge) (p : ℕ) (S : PlainShape) (m : LinkedStack) (st : Store WaitingChain) → Ready w p S m st
       → Locals w n values
       → sh p m.place ≡ Some (with_more 1 S) → Ready (with_activation w n) n (start_shape false) (C.enter n values m) st
   ready_enter n values w p S m st h g e =
@@ -273,7 +273,7 @@ module _ (P : Program) (sh : ℕ → ℕ → Option PlainShape) (given : KeepsSh
       }
 
   called_ok : (b : Bool) (n : ℕ) (entry : Procedure) → slice_get P.procs n ≡ Some entry
-      → (vs : List Value) (w : Known) (p : ℕ) (S : PlainShape) (m : LinkedStack) (st : Store WaitingChain) → Ready w p S m st → Each (ValueWithin w.coexps) vs
+      → (vs : List Value) (w : Knowledge) (p : ℕ) (S : PlainShape) (m : LinkedStack) (st : Store WaitingChain) → Ready w p S m st → Each (ValueWithin w.coexps) vs
       → sh p m.place ≡ Some (with_more 1 S)
       → Ok (called_if M b n entry vs m st)
   called_ok false n entry e vs w p S m st h g o = tt
@@ -283,7 +283,7 @@ module _ (P : Program) (sh : ℕ → ℕ → Option PlainShape) (given : KeepsSh
       (ready_enter n (ps ++ replicate entry.locals Null) w p S a st' h' (parameters_locals n entry e w ps gp) (ap (sh p) q ∙ o))
       (given.starts n (within P.procs n entry e)))
 
-  constructed_ok : (kind : ℕ) (entry : RecordType) (vs : List Value) (w : Known) (p : ℕ) (S : PlainShape) (m : LinkedStack) (st : Store WaitingChain)
+  constructed_ok : (kind : ℕ) (entry : RecordType) (vs : List Value) (w : Knowledge) (p : ℕ) (S : PlainShape) (m : LinkedStack) (st : Store WaitingChain)
       → Ready w p S m st
       → Each (ValueWithin w.coexps) vs → sh p m.place ≡ Some (with_more 1 S) → Ok (construct_record M kind entry vs m st)
   constructed_ok kind entry vs w p S m st h g e =
@@ -293,7 +293,7 @@ module _ (P : Program) (sh : ℕ → ℕ → Option PlainShape) (given : KeepsSh
       (rows_keep.recorded kind fields (here M m st))
       (λ v a st' gv h' q. ok_push (Val v) w p S a st' h' gv (ap (sh p) q ∙ e))
 
-  callee_ok : (c : Callee) (n : ℕ) → CalleeIn P.procs n c → (items : List Item) (w : Known) (p : ℕ) (S : PlainShape) (m : LinkedStack) (st : Store WaitingChain)
+  callee_ok : (c : Callee) (n : ℕ) → CalleeIn P.procs n c → (items : List Item) (w : Knowledge) (p : ℕ) (S : PlainShape) (m : LinkedStack) (st : Store WaitingChain)
       → Ready w p S m st → Each (ItemWithin w.coexps) items → sh p m.place ≡ Some (with_more 1 S) → Ok (callee_called M c n items m st)
   callee_ok (IsProc entry) n i items w p S m st h g e = ok_values items w p S m st (λ arguments. call_procedure M n entry arguments m st) h g
       (λ vs gv. called_ok (nat_le (suc (M.level m)) st.world.heap.bounds.levels) n entry i vs w p S m st h gv e)
@@ -303,19 +303,19 @@ module _ (P : Program) (sh : ℕ → ℕ → Option PlainShape) (given : KeepsSh
       st.names (Function func) items (here M m st) (here_within w p S m st h) g) (rows_keep.applied st.names (Function func) items (here M m st)) e
   callee_ok IsNothing n i items w p S m st h g e = tt
 
-  pub ok_one : (o : Option Item) (w : Known) (p : ℕ) (S : PlainShape) (m : LinkedStack) (st : Store WaitingChain) → Ready w p S m st
+  pub ok_one : (o : Option Item) (w : Knowledge) (p : ℕ) (S : PlainShape) (m : LinkedStack) (st : Store WaitingChain) → Ready w p S m st
       → IfThere (ItemWithin w.coexps) o
       → sh p m.place ≡ Some (with_more 1 S) → Ok (pushed_or_fails M o m st)
   ok_one (Some item) w p S m st h g e = ok_push item w p S m st h g e
   ok_one None w p S m st h g e = ok_fails w p S m st h
 
-  integer_ok : (callee : Value) (o : Option ℤ) (items : List Item) (w : Known) (p : ℕ) (S : PlainShape) (m : LinkedStack) (st : Store WaitingChain)
+  integer_ok : (callee : Value) (o : Option ℤ) (items : List Item) (w : Knowledge) (p : ℕ) (S : PlainShape) (m : LinkedStack) (st : Store WaitingChain)
       → Ready w p S m st
       → Each (ItemWithin w.coexps) items → sh p m.place ≡ Some (with_more 1 S) → Ok (integer_called M callee o items m st)
   integer_ok callee (Some n) items w p S m st h g e = ok_one (choose_item n items) w p S m st h (argument_within w.coexps (place_of n (length items)) items g) e
   integer_ok callee None items w p S m st h g e = tt
 
-  pub ok_invoked : (callee : Value) (items : List Item) (w : Known) (p : ℕ) (S : PlainShape) (m : LinkedStack) (st : Store WaitingChain) → Ready w p S m st
+  pub ok_invoked : (callee : Value) (items : List Item) (w : Knowledge) (p : ℕ) (S : PlainShape) (m : LinkedStack) (st : Store WaitingChain) → Ready w p S m st
       → Each (ItemWithin w.coexps) items → sh p m.place ≡ Some (with_more 1 S) → Ok (invoke_value M P callee items m st)
   ok_invoked (ProcedureValue n) items w p S m st h g e = callee_ok (callee_of P n) n (callee_in P.procs P.records n) items w p S m st h g e
   ok_invoked Null items w p S m st h g e = tt
@@ -329,7 +329,7 @@ module _ (P : Program) (sh : ℕ → ℕ → Option PlainShape) (given : KeepsSh
   ok_invoked (ATable x) items w p S m st h g e = tt
   ok_invoked (ACoexp x) items w p S m st h g e = tt
 
-  pub ok_elements : (callee from : Value) (w : Known) (p : ℕ) (S : PlainShape) (m : LinkedStack) (st : Store WaitingChain) → Ready w p S m st
+  pub ok_elements : (callee from : Value) (w : Knowledge) (p : ℕ) (S : PlainShape) (m : LinkedStack) (st : Store WaitingChain) → Ready w p S m st
       → sh p m.place ≡ Some (with_more 1 S) → Ok (elements_called M P callee from m st)
   ok_elements callee (AList n) w p S m st h e =
       let vs = (list_at st.world.heap n).items in
@@ -347,7 +347,7 @@ module _ (P : Program) (sh : ℕ → ℕ → Option PlainShape) (given : KeepsSh
   ok_elements callee (ATable x) w p S m st h e = tt
   ok_elements callee (ACoexp x) w p S m st h e = tt
 
-  pub ok_applied : (items : List Item) (w : Known) (p : ℕ) (S : PlainShape) (m : LinkedStack) (st : Store WaitingChain) → Ready w p S m st → length items ≡ 2
+  pub ok_applied : (items : List Item) (w : Knowledge) (p : ℕ) (S : PlainShape) (m : LinkedStack) (st : Store WaitingChain) → Ready w p S m st → length items ≡ 2
       → Each (ItemWithin w.coexps) items → sh p m.place ≡ Some (with_more 1 S) → Ok (applied_to_elements M P items m st)
   ok_applied [] w p S m st h l g e = absurd (omega (arith, l))
   ok_applied (x ∷ []) w p S m st h l g e = absurd (omega (arith, l))
@@ -356,18 +356,18 @@ module _ (P : Program) (sh : ℕ → ℕ → Option PlainShape) (given : KeepsSh
       ok_value from w p S m st (λ from. elements_called M P v from m st) h g.1.0 (λ u gu. ok_elements v u w p S m st h e))
   ok_applied (x ∷ y ∷ z ∷ items) w p S m st h l g e = absurd (omega (arith, l))
 
-  pub ok_invoked_with : (items : List Item) (k : ℕ) (w : Known) (p : ℕ) (S : PlainShape) (m : LinkedStack) (st : Store WaitingChain) → Ready w p S m st
+  pub ok_invoked_with : (items : List Item) (k : ℕ) (w : Knowledge) (p : ℕ) (S : PlainShape) (m : LinkedStack) (st : Store WaitingChain) → Ready w p S m st
       → length items ≡ suc k → Each (ItemWithin w.coexps) items → sh p m.place ≡ Some (with_more 1 S) → Ok (invoked_with M P items m st)
   ok_invoked_with [] k w p S m st h l g e = absurd (omega (arith, l))
   ok_invoked_with (callee ∷ items) k w p S m st h l g e =
       ok_value callee w p S m st (λ value. invoke_value M P value items m st) h g.0 (λ v z. ok_invoked v items w p S m st h g.1 e)
 
-  field_ok : (n : ℕ) (o : Option ℕ) (w : Known) (p : ℕ) (S : PlainShape) (m : LinkedStack) (st : Store WaitingChain) → Ready w p S m st
+  field_ok : (n : ℕ) (o : Option ℕ) (w : Knowledge) (p : ℕ) (S : PlainShape) (m : LinkedStack) (st : Store WaitingChain) → Ready w p S m st
       → sh p m.place ≡ Some (with_more 1 S) → Ok (field_taken M o n m st)
   field_ok n None w p S m st h e = tt
   field_ok n (Some place) w p S m st h e = ok_push (Var (Whole (R.Field n place))) w p S m st h tt e
 
-  pub ok_field : (k : ℕ) (v : Value) (w : Known) (p : ℕ) (S : PlainShape) (m : LinkedStack) (st : Store WaitingChain) → Ready w p S m st
+  pub ok_field : (k : ℕ) (v : Value) (w : Knowledge) (p : ℕ) (S : PlainShape) (m : LinkedStack) (st : Store WaitingChain) → Ready w p S m st
       → sh p m.place ≡ Some (with_more 1 S) → Ok (field_of M P k v m st)
   ok_field k (ARecord x) w p S m st h e = field_ok x (field_place P k (record_at st.world.heap x).kind) w p S m st h e
   ok_field k Null w p S m st h e = tt
@@ -383,18 +383,18 @@ module _ (P : Program) (sh : ℕ → ℕ → Option PlainShape) (given : KeepsSh
 
   -- Operands and marks
 
-  pub ready_at : (w : Known) (p : ℕ) (S : PlainShape) (m : LinkedStack) (st : Store WaitingChain) (S' : PlainShape) (m' : LinkedStack) → Ready w p S m st
+  pub ready_at : (w : Knowledge) (p : ℕ) (S : PlainShape) (m : LinkedStack) (st : Store WaitingChain) (S' : PlainShape) (m' : LinkedStack) → Ready w p S m st
       → Now P sh w st.active p S' m' → Ready w p S' m' st
   ready_at w p S m st S' m' h n = record { now = n; store = h.store }
 
-  pub ok_popped : (w : Known) (p : ℕ) (S : PlainShape) (m : LinkedStack) (st : Store WaitingChain) (next : Item → LinkedStack → St) → Ready w p S m st
+  pub ok_popped : (w : Knowledge) (p : ℕ) (S : PlainShape) (m : LinkedStack) (st : Store WaitingChain) (next : Item → LinkedStack → St) → Ready w p S m st
       → 0 < S.inner.operands
       → ((item : Item) (c : Chain) → ItemWithin w.coexps item → Ready w p (with_fewer 1 S) (with_chain c m) st → Ok (next item (with_chain c m)))
       → Ok (with_popped M m next)
   ok_popped w p S m st next h l f = let o = pop_ok P sh w st.active p S m h.now l in
       ok_found (C.pop m) (on_pair next) (o.0, with_chain o.1 m) o.2 (f o.0 o.1 o.3 (ready_at w p S m st (with_fewer 1 S) (with_chain o.1 m) h o.4))
 
-  pub ok_taken : (n : ℕ) (w : Known) (p : ℕ) (S : PlainShape) (m : LinkedStack) (st : Store WaitingChain) (next : List Item → LinkedStack → St)
+  pub ok_taken : (n : ℕ) (w : Knowledge) (p : ℕ) (S : PlainShape) (m : LinkedStack) (st : Store WaitingChain) (next : List Item → LinkedStack → St)
       → Ready w p S m st
       → n ≤ S.inner.operands
       → ((items : List Item) (c : Chain) → length items ≡ n → Each (ItemWithin w.coexps) items → Ready w p (with_fewer n S) (with_chain c m) st
@@ -402,18 +402,18 @@ module _ (P : Program) (sh : ℕ → ℕ → Option PlainShape) (given : KeepsSh
   ok_taken n w p S m st next h l f = let o = take_ok P sh n w st.active p S m h.now l in
       ok_found (C.take_items n m) (on_pair next) (o.0, with_chain o.1 m) o.2 (f o.0 o.1 o.3 o.4 (ready_at w p S m st (with_fewer n S) (with_chain o.1 m) h o.5))
 
-  pub ready_pair : (w : Known) (p : ℕ) (S : PlainShape) (m : LinkedStack) (st : Store WaitingChain) (pair : Pair) → Ready w p S m st
+  pub ready_pair : (w : Knowledge) (p : ℕ) (S : PlainShape) (m : LinkedStack) (st : Store WaitingChain) (pair : Pair) → Ready w p S m st
       → Ready w p S m (with_pair pair st)
   ready_pair w p S m st pair h = ready_world w p S m st (record st.world { subject = pair.subject; position = pair.position }) h
       (record { heap = h.store.world.heap; globals = h.store.world.globals; statics = h.store.world.statics })
 
-  left_ok : (w : Known) (p : ℕ) (S : PlainShape) (m : LinkedStack) (st : Store WaitingChain) (o : Option Pair) (next : Store WaitingChain → St)
+  left_ok : (w : Knowledge) (p : ℕ) (S : PlainShape) (m : LinkedStack) (st : Store WaitingChain) (o : Option Pair) (next : Store WaitingChain → St)
       → Ready w p S m st
       → ((st' : Store WaitingChain) → Ready w p S m st' → Ok (next st')) → Ok (next (scans_left o st))
   left_ok w p S m st None next h f = f st h
   left_ok w p S m st (Some pair) next h f = f (with_pair pair st) (ready_pair w p S m st pair h)
 
-  pub ok_unmarked : (w : Known) (p : ℕ) (S : PlainShape) (m : LinkedStack) (st : Store WaitingChain) (next : LinkedStack → Store WaitingChain → St)
+  pub ok_unmarked : (w : Knowledge) (p : ℕ) (S : PlainShape) (m : LinkedStack) (st : Store WaitingChain) (next : LinkedStack → Store WaitingChain → St)
       → Ready w p S m st
       → is_some (slice_get S.outer 0) ≡ true
       → ((c : Chain) (S' : PlainShape) (st' : Store WaitingChain) → before_mark S ≡ Some S' → Ready w p S' (with_chain c m) st'

@@ -8,33 +8,33 @@ use Rattle.icn_run.specs.Chains.{WaitingChain}
 use Rattle.icn_run.specs.Step.{Status, Fresh, Active, Waiting, Exhausted, Coexp, Store, with_coexp}
 use Rattle.icn_run_laws.proofs.Lists.{some_inj, get_more, get_set_same, get_set_other}
 use Rattle.icn_run_safe.specs.Within.{WorldWithin}
-use Rattle.icn_run_safe.specs.Shaped.{Known, LocalsOk, MemoryOk, ParkedOk, StatusOk, IsFresh, Entered, CoexpOk, CoexpsOk, StoreOk}
+use Rattle.icn_run_safe.specs.Shaped.{Knowledge, LocalsOk, MemoryOk, ParkedOk, StatusOk, IsFresh, Entered, CoexpOk, CoexpsOk, StoreOk}
 use Rattle.icn_run_safe.proofs.Entries.{got_more, got_set, more_length, set_length, is_same, within}
 use Rattle.icn_run_safe.proofs.Growing.{Grow, grow_chain, grow_locals, grow_relabels}
 
-abbrev pub one_more : Known → Known
+abbrev pub one_more : Knowledge → Knowledge
 one_more w = record w { coexps = suc w.coexps }
 
-pub grow_one : (w : Known) → Grow w (one_more w)
+pub grow_one : (w : Knowledge) → Grow w (one_more w)
 grow_one w = record { coexps = omega arith; activations = λ a p h. h; flags = λ f p S h. h }
 
 module _ (tables : Tables) (sh : ℕ → ℕ → Option PlainShape) where
   -- what is known grows
 
-  grow_parked : (w w' : Known) → Grow w w' → (i : ℕ) (k : WaitingChain) → ParkedOk tables sh w i k → ParkedOk tables sh w' i k
+  grow_parked : (w w' : Knowledge) → Grow w w' → (i : ℕ) (k : WaitingChain) → ParkedOk tables sh w i k → ParkedOk tables sh w' i k
   grow_parked w w' g i k h = record { proc = h.proc; shape = h.shape; has = grow_chain tables sh w w' g i h.proc h.shape k.chain h.has; goes = h.goes }
 
-  grow_status : (w w' : Known) → Grow w w' → (i : ℕ) (s : Status WaitingChain) → StatusOk tables sh w i s → StatusOk tables sh w' i s
+  grow_status : (w w' : Knowledge) → Grow w w' → (i : ℕ) (s : Status WaitingChain) → StatusOk tables sh w i s → StatusOk tables sh w' i s
   grow_status w w' g i Fresh h = h
   grow_status w w' g i Active h = h
   grow_status w w' g i (Waiting k) h = grow_parked w w' g i k h
   grow_status w w' g i Exhausted h = tt
 
-  grow_coexp : (w w' : Known) → Grow w w' → (ks : List (Coexp WaitingChain)) (i : ℕ) (c : Coexp WaitingChain) → CoexpOk tables sh w ks i c
+  grow_coexp : (w w' : Knowledge) → Grow w w' → (ks : List (Coexp WaitingChain)) (i : ℕ) (c : Coexp WaitingChain) → CoexpOk tables sh w ks i c
       → CoexpOk tables sh w' ks i c
   grow_coexp w w' g ks i c h = record { values = λ d. grow_locals tables sh w w' g c.proc c.values (h.values d); origin = h.origin; activator = h.activator }
 
-  pub grow_store : (w w' : Known) (May : ℕ → Type 0) (st : Store WaitingChain) → w'.coexps ≡ w.coexps → Grow w w' → StoreOk tables sh w May st
+  pub grow_store : (w w' : Knowledge) (May : ℕ → Type 0) (st : Store WaitingChain) → w'.coexps ≡ w.coexps → Grow w w' → StoreOk tables sh w May st
       → StoreOk tables sh w' May st
   grow_store w w' May st e g h = record {
     world = subst (λ n. WorldWithin n st.world) (sym e) h.world;
@@ -67,7 +67,7 @@ module _ (tables : Tables) (sh : ℕ → ℕ → Option PlainShape) where
       → Entered tables sh (slice_set ks n c') n
   entered_at ks n c c' e f = record { coexp = c'; stands = get_set_same ks n c c' e; begun = f }
 
-  pub set_coexps : (w : Known) (May May' : ℕ → Type 0) (a a' : ℕ) (ks : List (Coexp WaitingChain)) (n : ℕ) (c c' : Coexp WaitingChain)
+  pub set_coexps : (w : Knowledge) (May May' : ℕ → Type 0) (a a' : ℕ) (ks : List (Coexp WaitingChain)) (n : ℕ) (c c' : Coexp WaitingChain)
       → CoexpsOk tables sh w May a ks
       → slice_get ks n ≡ Some c → (IsFresh tables sh c'.status → IsFresh tables sh c.status) → (n ≢ 0 → LocalsOk tables sh w c'.proc c'.values)
       → (n ≢ 0 → sh c'.proc c'.place ≡ Some (start_shape true)) → Entered tables sh ks c'.activator → ((May' n → ⊥) → StatusOk tables sh w n c'.status)
@@ -93,7 +93,7 @@ module _ (tables : Tables) (sh : ℕ → ℕ → Option PlainShape) where
       by_wait i d q (inr z) = h.waits i d z.1 (may i z.0 q)
 
   -- the active one gets a status, and waits
-  pub set_status : (w : Known) (st : Store WaitingChain) (c : Coexp WaitingChain) (s : Status WaitingChain) → StoreOk tables sh w (λ i. i ≡ st.active) st
+  pub set_status : (w : Knowledge) (st : Store WaitingChain) (c : Coexp WaitingChain) (s : Status WaitingChain) → StoreOk tables sh w (λ i. i ≡ st.active) st
       → slice_get st.coexps st.active ≡ Some c → (IsFresh tables sh s → ⊥) → StatusOk tables sh w st.active s
       → StoreOk tables sh w (λ i. ⊥) (with_coexp st.active (record c { status = s }) st)
   set_status w st c s h e f ok = let o = h.coexps.each st.active c e in record {
@@ -103,7 +103,7 @@ module _ (tables : Tables) (sh : ℕ → ℕ → Option PlainShape) where
   }
 
   -- another activator, where none is active
-  pub set_activator : (w : Known) (st : Store WaitingChain) (n a : ℕ) (c : Coexp WaitingChain) → StoreOk tables sh w (λ i. ⊥) st
+  pub set_activator : (w : Knowledge) (st : Store WaitingChain) (n a : ℕ) (c : Coexp WaitingChain) → StoreOk tables sh w (λ i. ⊥) st
       → slice_get st.coexps n ≡ Some c
       → Entered tables sh st.coexps a
       → StoreOk tables sh w (λ i. ⊥) (with_coexp n (record c { activator = a }) st)
@@ -114,7 +114,7 @@ module _ (tables : Tables) (sh : ℕ → ℕ → Option PlainShape) where
   }
 
   -- none is active, and one becomes so
-  pub set_active : (w : Known) (st : Store WaitingChain) (n : ℕ) (c : Coexp WaitingChain) → StoreOk tables sh w (λ i. ⊥) st → slice_get st.coexps n ≡ Some c
+  pub set_active : (w : Knowledge) (st : Store WaitingChain) (n : ℕ) (c : Coexp WaitingChain) → StoreOk tables sh w (λ i. ⊥) st → slice_get st.coexps n ≡ Some c
       → Entered tables sh st.coexps c.activator
       → StoreOk tables sh w (λ i. i ≡ n) (with_coexp n (record c { status = Active }) (record st { active = n }))
   set_active w st n c h e act = let o = h.coexps.each n c e in record {
@@ -128,7 +128,7 @@ module _ (tables : Tables) (sh : ℕ → ℕ → Option PlainShape) where
   entered_more : (ks : List (Coexp WaitingChain)) (c : Coexp WaitingChain) (x : ℕ) → Entered tables sh ks x → Entered tables sh (ks ++ c ∷ []) x
   entered_more ks c x h = record { coexp = h.coexp; stands = get_more ks c x h.coexp h.stands; begun = h.begun }
 
-  pub memory_one : (w : Known) (acts : List (List Value)) (flags : List Bool) (relabels : List (ℕ × ℕ)) → MemoryOk tables sh w acts flags relabels
+  pub memory_one : (w : Knowledge) (acts : List (List Value)) (flags : List Bool) (relabels : List (ℕ × ℕ)) → MemoryOk tables sh w acts flags relabels
       → MemoryOk tables sh (one_more w) acts flags relabels
   memory_one w acts flags relabels h = record {
     same_activations = h.same_activations;
@@ -137,7 +137,7 @@ module _ (tables : Tables) (sh : ℕ → ℕ → Option PlainShape) where
     labels = grow_relabels tables sh w (one_more w) (grow_one w) relabels h.labels;
   }
 
-  pub more_coexps : (w : Known) (st : Store WaitingChain) (values : List Value) (proc place : ℕ) → CoexpsOk tables sh w (λ i. i ≡ st.active) st.active st.coexps
+  pub more_coexps : (w : Knowledge) (st : Store WaitingChain) (values : List Value) (proc place : ℕ) → CoexpsOk tables sh w (λ i. i ≡ st.active) st.active st.coexps
       → LocalsOk tables sh w proc values → sh proc place ≡ Some (start_shape true)
       → CoexpsOk tables sh (one_more w) (λ i. i ≡ st.active) st.active
       (st.coexps ++ record { status = Fresh; activator = 0; values = values; proc = proc; place = place } ∷ [])

@@ -17,15 +17,15 @@ use Rattle.icn_run.specs.Step.{Status, Fresh, Active, Waiting, Exhausted, Coexp,
 use Rattle.icn_run_safe.specs.Within.{Each, ValueWithin, ItemWithin, ResidualWithin, WorldWithin}
 
 -- the procedure of each activation, the procedure of the mark of each flag with the shape before it, and the number of co-expressions
-pub record Known : Type 0 where
+pub record Knowledge : Type 0 where
   pub activations : List ℕ
   pub flags : List (ℕ × PlainShape)
   pub coexps : ℕ
 
-abbrev pub IsOf : Known → ℕ → ℕ → Type 0
+abbrev pub IsOf : Knowledge → ℕ → ℕ → Type 0
 IsOf w activation proc = slice_get w.activations activation ≡ Some proc
 
-abbrev pub IsBefore : Known → ℕ → ℕ → PlainShape → Type 0
+abbrev pub IsBefore : Knowledge → ℕ → ℕ → PlainShape → Type 0
 IsBefore w flag proc shape = slice_get w.flags flag ≡ Some (proc, shape)
 
 -- how many locals an activation of a procedure has: the parameters and the others
@@ -42,12 +42,12 @@ module _ (tables : Tables) (sh : ℕ → ℕ → Option PlainShape) where
   LabelTo p S None = Unit {0}
   LabelTo p S (Some label) = sh p label ≡ Some S
 
-  abbrev pub LabelOk : Known → ℕ → PlainShape → Label → Type 0
+  abbrev pub LabelOk : Knowledge → ℕ → PlainShape → Label → Type 0
   LabelOk w p S (fixed label) = ⊥
   LabelOk w p S (flagged label flag place) =
       IsBefore w flag p S × LabelTo p S label × (sh p (suc place) ≡ Some (with_mark Levels.Plain S))
 
-  abbrev pub ReasonOk : Known → ℕ → PlainShape → ℕ → Reason → Type 0
+  abbrev pub ReasonOk : Knowledge → ℕ → PlainShape → ℕ → Reason → Type 0
   ReasonOk w p S place (because Alt) = Unit {0}
   ReasonOk w p S place (because (Op residual)) =
       ResidualWithin w.coexps residual × (sh p place ≡ Some (with_more 1 S))
@@ -62,17 +62,17 @@ module _ (tables : Tables) (sh : ℕ → ℕ → Option PlainShape) where
   -- A chain of stack s in a procedure has a shape. A suspension has any, as it is to fail, or for an operation or a procedure that of the place where it
   -- goes on.
   abbrev mutual
-    pub ChainOk : Known → ℕ → ℕ → PlainShape → Chain → Type 0
+    pub ChainOk : Knowledge → ℕ → ℕ → PlainShape → Chain → Type 0
     ChainOk w s p S (chain items q scans o) =
         (length items ≡ S.inner.operands) × Each (ItemWithin w.coexps) items × (S.inner.scans ≤ length scans)
         × SuspsOk w s q × OuterOk w s p S.in_create S.inner.kind S.outer o
 
-    pub SuspsOk : Known → ℕ → Suspensions → Type 0
+    pub SuspsOk : Knowledge → ℕ → Suspensions → Type 0
     SuspsOk w s none = Unit {0}
     SuspsOk w s (suspension reason place inside) =
         (p : ℕ) × (S : PlainShape) × ReasonOk w p S place reason × ChainOk w s p S inside
 
-    pub OuterOk : Known → ℕ → ℕ → Bool → LevelKind → List Level → Outer → Type 0
+    pub OuterOk : Knowledge → ℕ → ℕ → Bool → LevelKind → List Level → Outer → Type 0
     OuterOk w s p cr kind ls (base proc a) =
         (proc ≡ p) × (cr ≡ not (is_main s)) × (kind ≡ Levels.Base) × (ls ≡ []) × IsOf w a p
     OuterOk w s p cr kind ls (call proc a level place caller) =
@@ -86,23 +86,23 @@ module _ (tables : Tables) (sh : ℕ → ℕ → Option PlainShape) where
         × ChainOk w s p (level_shape cr l ls') outside
 
   -- the frame of the procedure that runs
-  abbrev pub FrameOk : Known → ℕ → ℕ → Bool → Frame → Type 0
+  abbrev pub FrameOk : Knowledge → ℕ → ℕ → Bool → Frame → Type 0
   FrameOk w s p cr (at_base proc a) = (proc ≡ p) × (cr ≡ not (is_main s)) × IsOf w a p
   FrameOk w s p cr (in_call proc a level place caller) =
       (proc ≡ p) × (cr ≡ false) × IsOf w a p
       × ((p' : ℕ) × (S : PlainShape) × (sh p' place ≡ Some (with_more 1 S)) × ChainOk w s p' S caller)
 
   -- the locals of an activation
-  pub record LocalsOk (w : Known) (p : ℕ) (values : List Value) : Type 0 where
+  pub record LocalsOk (w : Knowledge) (p : ℕ) (values : List Value) : Type 0 where
     pub within : Each (ValueWithin w.coexps) values
     pub count : length values ≡ local_count tables p
 
   -- another label that a mark got
-  abbrev pub RelabelOk : Known → ℕ × ℕ → Type 0
+  abbrev pub RelabelOk : Knowledge → ℕ × ℕ → Type 0
   RelabelOk w entry = (p : ℕ) × (S : PlainShape) × IsBefore w entry.0 p S × (sh p entry.1 ≡ Some S)
 
   -- what changes is as is known of it
-  pub record MemoryOk (w : Known) (activations : List (List Value)) (flags : List Bool)
+  pub record MemoryOk (w : Knowledge) (activations : List (List Value)) (flags : List Bool)
       (relabels : List (ℕ × ℕ)) : Type 0 where
     pub same_activations : length w.activations ≡ length activations
     pub same_flags : length w.flags ≡ length flags
@@ -110,18 +110,18 @@ module _ (tables : Tables) (sh : ℕ → ℕ → Option PlainShape) where
         → (values : List Value) × (slice_get activations a ≡ Some values) × LocalsOk w p values
     pub labels : Each (RelabelOk w) relabels
 
-  abbrev pub MemoryOf : Known → LinkedStack → Type 0
+  abbrev pub MemoryOf : Knowledge → LinkedStack → Type 0
   MemoryOf w m = MemoryOk w m.activations m.flags m.relabels
 
   -- a stack that waits goes on with a value
-  pub record ParkedOk (w : Known) (s : ℕ) (k : WaitingChain) : Type 0 where
+  pub record ParkedOk (w : Knowledge) (s : ℕ) (k : WaitingChain) : Type 0 where
     pub proc : ℕ
     pub shape : PlainShape
     pub has : ChainOk w s proc shape k.chain
     pub goes : sh proc k.place ≡ Some (with_more 1 shape)
 
   -- that of one that does not run
-  abbrev pub StatusOk : Known → ℕ → Status WaitingChain → Type 0
+  abbrev pub StatusOk : Knowledge → ℕ → Status WaitingChain → Type 0
   StatusOk w i Fresh = i ≢ 0
   StatusOk w i Active = ⊥
   StatusOk w i (Waiting k) = ParkedOk w i k
@@ -138,14 +138,14 @@ module _ (tables : Tables) (sh : ℕ → ℕ → Option PlainShape) where
     pub begun : IsFresh coexp.status → ⊥
 
   -- the place and the values with which it began, and which of them entered it last
-  pub record CoexpOk (w : Known) (coexps : List (Coexp WaitingChain)) (i : ℕ)
+  pub record CoexpOk (w : Knowledge) (coexps : List (Coexp WaitingChain)) (i : ℕ)
       (c : Coexp WaitingChain) : Type 0 where
     pub values : i ≢ 0 → LocalsOk w c.proc c.values
     pub origin : i ≢ 0 → sh c.proc c.place ≡ Some (start_shape true)
     pub activator : Entered coexps c.activator
 
   -- those wait of which it may not be that they run
-  pub record CoexpsOk (w : Known) (May : ℕ → Type 0) (active : ℕ)
+  pub record CoexpsOk (w : Knowledge) (May : ℕ → Type 0) (active : ℕ)
       (coexps : List (Coexp WaitingChain)) : Type 0 where
     pub count : length coexps ≡ w.coexps
     pub each : (i : ℕ) (c : Coexp WaitingChain) → slice_get coexps i ≡ Some c → CoexpOk w coexps i c
@@ -154,20 +154,20 @@ module _ (tables : Tables) (sh : ℕ → ℕ → Option PlainShape) where
     pub there : Entered coexps active
     pub first : Entered coexps 0
 
-  pub record StoreOk (w : Known) (May : ℕ → Type 0) (st : Store WaitingChain) : Type 0 where
+  pub record StoreOk (w : Knowledge) (May : ℕ → Type 0) (st : Store WaitingChain) : Type 0 where
     pub world : WorldWithin w.coexps st.world
     pub coexps : CoexpsOk w May st.active st.coexps
 
-  pub record Now (w : Known) (s p : ℕ) (S : PlainShape) (m : LinkedStack) : Type 0 where
+  pub record Now (w : Knowledge) (s p : ℕ) (S : PlainShape) (m : LinkedStack) : Type 0 where
     pub has : ChainOk w s p S m.chain
     pub memory : MemoryOf w m
 
   abbrev pub Safe : State WaitingChain LinkedStack → Type 0
-  Safe (running m st) = (w : Known) × (p : ℕ) × (S : PlainShape) × Now w st.active p S m
+  Safe (running m st) = (w : Knowledge) × (p : ℕ) × (S : PlainShape) × Now w st.active p S m
       × (sh p m.place ≡ Some S) × StoreOk w (λ i. i ≡ st.active) st
   Safe (failing m st) =
-      (w : Known) × (p : ℕ) × (S : PlainShape) × Now w st.active p S m × StoreOk w (λ i. i ≡ st.active) st
-  Safe (hopping m st) = (w : Known) × MemoryOf w m × StoreOk w (λ i. ⊥) st
+      (w : Knowledge) × (p : ℕ) × (S : PlainShape) × Now w st.active p S m × StoreOk w (λ i. i ≡ st.active) st
+  Safe (hopping m st) = (w : Knowledge) × MemoryOf w m × StoreOk w (λ i. ⊥) st
   Safe (over ending outside) = Unit {0}
   Safe stuck = ⊥
 

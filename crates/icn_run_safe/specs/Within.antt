@@ -1,11 +1,11 @@
 -- Values that name no co-expression but one that is there: the first of them are so many.
 use Rattle.std.specs.Prelude.{◌≡◌, ℕ, suc, ◌<◌, List, [], ◌∷◌, length}
-use Rattle.icn_structs.specs.Numbered.{Numbered}
+use Rattle.icn_structs.specs.Numbered.{NumberedList}
 use Rattle.icn_value.specs.Values.{Value, ACoexp, Root, Key, Variable, Whole, Part, Item, Val, Var}
 use Rattle.icn_value.specs.Store.{Table, Record, Heap, World, Setting, Names}
 use Rattle.icn_defs.specs.Rows.{Residual, VariableBytes, UndoAssign, UndoExchange, Outcome, Fails, Gives, Suspends, Error, Ends}
 use Rattle.icn_defs.specs.Applying.{again}
-use Rattle.icn_defs.specs.StepRows.{Applied, apply, list_row, record_row, text_row, coexpression_row}
+use Rattle.icn_defs.specs.StepRows.{OperationOrFunction, apply, list_row, record_row, text_row, coexpression_row}
 use Rattle.icn_defs.specs.Running.{words_row}
 
 -- it is so of each in a list
@@ -32,7 +32,7 @@ ItemWithin n (Var variable) = VariableWithin n variable
 abbrev pub PairWithin : ℕ → Value × Value → Type 0
 PairWithin n pair = ValueWithin n pair.0 × ValueWithin n pair.1
 
-abbrev pub ListWithin : ℕ → Numbered Value → Type 0
+abbrev pub ListWithin : ℕ → NumberedList Value → Type 0
 ListWithin n list = Each (ValueWithin n) list.items
 
 abbrev pub SetWithin : ℕ → List Value → Type 0
@@ -85,7 +85,7 @@ CreatedWithin n before outcome = ⊥
 
 -- rows make no others
 pub record RowsStayWithin : Type 0 where
-  pub applied : (n : ℕ) (names : Names) (what : Applied) (items : List Item) (at : Setting)
+  pub applied : (n : ℕ) (names : Names) (what : OperationOrFunction) (items : List Item) (at : Setting)
       → SettingWithin n at → Each (ItemWithin n) items → OutcomeWithin n (apply names what items at)
   pub listed : (n : ℕ) (values : List Value) (at : Setting) → SettingWithin n at → Each (ValueWithin n) values
       → OutcomeWithin n (list_row values at)

@@ -10,7 +10,7 @@ use Rattle.icn_value.specs.Limited.{Bounds}
 use Rattle.icn_value.specs.Store.{Outside, Reading, outside_of}
 use Rattle.icn_code.specs.Codes.{Tables}
 use Rattle.icn_defs.specs.Interruptions.{LosesPart, Breaks, taken_of, BreaksReading}
-use Rattle.icn_defs.specs.Running.{Ending, Observed, Launch, launch_of, after_steps, with_errors}
+use Rattle.icn_defs.specs.Running.{Ending, Observation, Launch, launch_of, after_steps, with_errors}
 use Rattle.icn_defs.proofs.Interrupting.{outside_begins, reading_breaks}
 use Rattle.icn_streams.specs.Handed.{CallStreams, Follows, Puts, PutsPart}
 use Rattle.icn_streams.proofs.Following.{follows_then, part_of_nothing, puts_whole, then_puts_part}
@@ -51,7 +51,7 @@ get_behind [] this older = refl
 get_behind (x ∷ later) this older = get_behind later this older
 
 -- What was taken up to a state is a first part of what the run takes.
-loses : (input : List ℕ) (mid : Outside) (seen : Observed) (left : Option (List ℕ))
+loses : (input : List ℕ) (mid : Outside) (seen : Observation) (left : Option (List ℕ))
     → Extends (outside_of input) mid → Extends mid seen.outside → left ≡ Some mid.left → LosesPart input (taken_of input seen) left
 loses input mid seen left before since is = record {
   count = min before.taken (length input);
@@ -76,7 +76,7 @@ module _ (tables : Tables) where
   swap zero m s = refl
   swap (suc d) m s = swap d m (on s) ∙ ap (after_steps on d) (one m s)
 
-  lasts : (m : ℕ) (s : State Frames Frames) (seen : Observed) → observation s ≡ Some seen → observation (after_steps on m s) ≡ Some seen
+  lasts : (m : ℕ) (s : State Frames Frames) (seen : Observation) → observation s ≡ Some seen → observation (after_steps on m s) ≡ Some seen
   lasts zero s seen e = e
   lasts (suc m) s seen e = lasts m (on s) seen (kept flat tables s seen e)
 
@@ -84,11 +84,11 @@ module _ (tables : Tables) where
   stays zero = refl
   stays (suc m) = stays m
 
-  none : {A : Type 0} (m : ℕ) (seen : Observed) → observation (after_steps on m stuck) ≡ Some seen → A
+  none : {A : Type 0} (m : ℕ) (seen : Observation) → observation (after_steps on m stuck) ≡ Some seen → A
   none m seen e = let f : None ≡ Some seen = sym (ap observation (stays m)) ∙ e in absurd (cc f)
 
   -- what is observed at the end extends the outside of each state before it
-  to_end : (m : ℕ) (s : State Frames Frames) (seen : Observed)
+  to_end : (m : ℕ) (s : State Frames Frames) (seen : Observation)
       → observation (after_steps on m s) ≡ Some seen → Extends (outside_at s) seen.outside
   to_end m (running f st) seen e =
       subst (HasOutside (Extends st.outside)) (over_seen (after_steps on m (running f st)) seen e) (steps_extend tables (running f st) m)
@@ -100,7 +100,7 @@ module _ (tables : Tables) where
       subst (HasOutside (Extends outside)) (over_seen (after_steps on m (over ending outside)) seen e) (steps_extend tables (over ending outside) m)
   to_end m stuck seen e = none m seen e
 
-  has_at : (m : ℕ) (s : State Frames Frames) (seen : Observed) (o : Outside)
+  has_at : (m : ℕ) (s : State Frames Frames) (seen : Observation) (o : Outside)
       → observation (after_steps on m s) ≡ Some seen → HasOutside (Extends o) s → Extends o (outside_at s)
   has_at m (running f st) seen o e h = h
   has_at m (failing f st) seen o e h = h
@@ -108,7 +108,7 @@ module _ (tables : Tables) where
   has_at m (over ending outside) seen o e h = h
   has_at m stuck seen o e h = none m seen e
 
-  same_at : (m : ℕ) (s : State Frames Frames) (seen : Observed) (was : Outside)
+  same_at : (m : ℕ) (s : State Frames Frames) (seen : Observation) (was : Outside)
       → observation (after_steps on m s) ≡ Some seen → outside_at s ≡ outside_in was s
   same_at m (running f st) seen was e = refl
   same_at m (failing f st) seen was e = refl
@@ -116,7 +116,7 @@ module _ (tables : Tables) where
   same_at m (over ending outside) seen was e = refl
   same_at m stuck seen was e = none m seen e
 
-  module _ (words : List (List ℕ)) (bounds : Bounds) (input : List ℕ) (seen : Observed) (r : Flat.Runs tables (launch_of words bounds input) seen) where
+  module _ (words : List (List ℕ)) (bounds : Bounds) (input : List ℕ) (seen : Observation) (r : Flat.Runs tables (launch_of words bounds input) seen) where
     abbrev launch : Launch
     launch = launch_of words bounds input
 

@@ -10,7 +10,7 @@ use Rattle.icn_value.specs.Store.{Outside, outside_of}
 use Rattle.icn_heap.specs.Extents.{value_in}
 use Rattle.icn_heap.specs.Heaps.{heap_of}
 use Rattle.icn_defs.specs.Errors.{error_report}
-use Rattle.icn_defs.specs.Running.{Ending, Done, Exit, Errored, AtBound, Launch, Observed, bound_report, launch_of}
+use Rattle.icn_defs.specs.Running.{Ending, Done, Exit, Errored, AtBound, Launch, Observation, bound_report, launch_of}
 use Rattle.icn_vars.specs.declared.outcome.Halt.{Halt}
 use Rattle.icn_vars.specs.declared.outcome.Halt.TheVariants as Halts
 use Rattle.icn_code.specs.Codes.{Tables}
@@ -35,7 +35,7 @@ use Rattle.icn_running.specs.Runs.{AnswersRun, IsBrokenOff, LeavesBy, RunsTo}
 use Rattle.icn_running.proofs.BrokenOff.{run_breaks_off, run_breaks_putting, run_breaks_reading, run_cut_short, run_not_begun}
 use Rattle.icn_running.proofs.Observations.{ComesToEnd, bounded, ended, erred, finished, run_reported, then_errors}
 
-module _ (tables : Tables) (words : List (List ℕ)) (bounds : Bounds) (input : List ℕ) (seen : Observed) (r : Runs tables (launch_of words bounds input) seen)
+module _ (tables : Tables) (words : List (List ℕ)) (bounds : Bounds) (input : List ℕ) (seen : Observation) (r : Runs tables (launch_of words bounds input) seen)
     (before between : CallStreams) (errors : SinkState) where
   abbrev launch : Launch
   launch = launch_of words bounds input
@@ -102,7 +102,7 @@ module _ (tables : Tables) (words : List (List ℕ)) (bounds : Bounds) (input : 
 -- of a run that has started
 pub started_answers : {K : Type 0} (tables : Tables) (m n : Machine K) (before between : CallStreams) (errors : SinkState)
     (stopped : Result Stepped Halt) (answered : Result HeldEnding RunFault)
-    → ((launch : Launch) → (seen : Observed) × Runs tables launch seen)
+    → ((launch : Launch) → (seen : Observation) × Runs tables launch seen)
     → ((was : Outside) (state : State Frames Frames) → IsAt tables was state m Stages.Runs → before.left ≡ Some was.left
     → Leads tables state was before n between (stage_result stopped))
     → AnswersMachine (all_names tables) n stopped answered between.errors errors
@@ -115,7 +115,7 @@ started_answers tables m n before between errors stopped answered ends leads p w
     (leads (outside_of input) (start tables (launch_of words bounds input)) stands told) p
 
 -- of one that was over before its first instruction
-pub unbegun_answers : (K : Type 0) (tables : Tables) (words : List (List ℕ)) (bounds : Bounds) (input : List ℕ) (seen : Observed)
+pub unbegun_answers : (K : Type 0) (tables : Tables) (words : List (List ℕ)) (bounds : Bounds) (input : List ℕ) (seen : Observation)
     (halt : Halt) (answered : Result HeldEnding RunFault) (before : CallStreams) (errors : SinkState)
     → Runs tables (launch_of words bounds input) seen → before.left ≡ Some input → StartsAs {K = K} tables (launch_of words bounds input) (Err halt)
     → AnswersUnbegun (all_names tables) (first_store {K = Frames} tables (launch_of words bounds input)).world.heap halt answered before.errors errors

@@ -3,7 +3,7 @@ use Rattle.std.specs.Prelude.{◌≡◌, ℕ, List, Some, Result, Ok, Err}
 use Rattle.icn_value.specs.Limited.{Bounds}
 use Rattle.icn_value.specs.Store.{outside_of}
 use Rattle.icn_defs.specs.Interruptions.{Breaks, BreaksReading, Ends, Streams}
-use Rattle.icn_defs.specs.Running.{Ending, Launch, Observed, launch_of}
+use Rattle.icn_defs.specs.Running.{Ending, Launch, Observation, launch_of}
 use Rattle.icn_code.specs.Codes.{Tables}
 use Rattle.icn_run.specs.FlatStep.{Runs, start}
 use Rattle.icn_run.specs.Step.{running}
@@ -24,11 +24,11 @@ streams_of handed = record { left = handed.left; output = handed.output.held; er
 -- The run of a code ends so, and the streams have gained what it puts, with what it leaves of the input.
 abbrev pub RunsTo : Tables → Launch → Ending → CallStreams → CallStreams → Type 0
 RunsTo tables launch ending before after =
-    (seen : Observed)
+    (seen : Observation)
     × ((seen.ending ≡ ending) × (Runs tables launch seen × Ends seen (streams_of before) (streams_of after)))
 
 -- what this fault leaves of a run that was begun with this input: broken off at a reading, at a put, or for want of memory
-abbrev pub LeavesBy : RunFault → List ℕ → Observed → CallStreams → CallStreams → Type 0
+abbrev pub LeavesBy : RunFault → List ℕ → Observation → CallStreams → CallStreams → Type 0
 LeavesBy ReadFault input seen before after = BreaksReading seen (streams_of before) (streams_of after)
 LeavesBy WriteFault input seen before after = Breaks input seen (streams_of before) (streams_of after)
 LeavesBy NoMemory input seen before after = Breaks input seen (streams_of before) (streams_of after)
@@ -36,7 +36,7 @@ LeavesBy NoMemory input seen before after = Breaks input seen (streams_of before
 -- The run of a code was broken off by this fault.
 abbrev pub IsBrokenOff : Tables → Launch → RunFault → CallStreams → CallStreams → Type 0
 IsBrokenOff tables launch fault before after =
-    (seen : Observed) × (Runs tables launch seen × LeavesBy fault launch.outside.left seen before after)
+    (seen : Observation) × (Runs tables launch seen × LeavesBy fault launch.outside.left seen before after)
 
 -- what is said of a run that was begun so, by what was answered
 abbrev pub AnswersRun : Tables → Launch → Result HeldEnding RunFault → CallStreams → CallStreams → Type 0
@@ -65,4 +65,4 @@ EndsAtFirst (Err NoMemory) before after = WantsMemory before after
 pub record RunHolds (tables : Tables) (launch : Launch) : Type 0 where
   pub kept : IsKept tables (start tables launch)
   pub falls : EachStepFalls tables launch
-  pub ends : (seen : Observed) × Runs tables launch seen
+  pub ends : (seen : Observation) × Runs tables launch seen

@@ -1,6 +1,6 @@
 // The image of any value of a heap, whether it has a name or not.
 ghost use Rattle.std.specs.Prelude.{◌≡◌, ◌++◌, ◌+◌, ◌<◌, ◌^◌, IfOk, OnOk};
-ghost use Rattle.icn_defs.specs.Images.{image, numbered_image, procedure_image, quoted, record_number};
+ghost use Rattle.icn_defs.specs.Images.{image, numbered_image, procedure_image, in_quotes, record_number};
 ghost use Rattle.icn_value.specs.Sizes.{size_of};
 ghost use Rattle.icn_value.specs.Store.{Heap as HeapData, Names};
 ghost use Rattle.icn_value.specs.Values.{ARecord};
@@ -78,7 +78,7 @@ fn push_plain(out: &mut Vec<u8>, code: &Code, val: Val) -> Result<(), AllocError
 
 // The image of a text, as a heap has it in which nothing else is.
 fn push_text(out: &mut Vec<u8>, code: &Code, bytes: &[u8]) -> Result<(), AllocError>
-    ensures { OnOk result (out.new.items ≡ out.old.items ++ quoted 34 bytes.now) }
+    ensures { OnOk result (out.new.items ≡ out.old.items ++ in_quotes 34 bytes.now) }
 {
     let alloc = *out.allocator();
     let mut other = empty_heap(alloc)?;

@@ -8,7 +8,7 @@ use Rattle.std.proofs.lemmas.Int.{to_z_pos}
 use Rattle.icn_value.specs.Values.{Integer, Val}
 use Rattle.icn_value.specs.Store.{Setting}
 use Rattle.icn_defs.specs.Conversions.{contains}
-use Rattle.icn_defs.specs.Rows.{Row, Among, Balanced, Fails, Found, Residual, Suspends, found, passing, suspends}
+use Rattle.icn_defs.specs.Rows.{Row, Among, Balanced, Fails, Found, Residual, Suspends, thing_or_failure, passing, suspends}
 use Rattle.icn_defs.specs.Scanning.{Region, among_from, balanced_again, balanced_from, balanced_place, between, byte_behind, count_behind, ends_of, found_from, gives_place, stands}
 use Rattle.icn_scanfn.specs.Searches.{any_in, many_in, match_in}
 use Rattle.icn_scanfn.proofs.Places.{between_none}
@@ -67,45 +67,45 @@ module _ (region : Region) (setting : Setting) (from to : ℕ)
 
 pub text_found : (wanted text bytes searched : List ℕ) (place last : ℕ) (result : Option ℕ) (setting : Setting) → bytes ≡ wanted → searched ≡ text
     → result ≡ find (λ place. stands bytes searched place last) (range_with_len place (last + 1 - place))
-    → found_from wanted text place last setting ≡ found result (λ place. suspends (Val (Integer (pos place))) (Found wanted text place last)) setting
+    → found_from wanted text place last setting ≡ thing_or_failure result (λ place. suspends (Val (Integer (pos place))) (Found wanted text place last)) setting
 text_found wanted text bytes searched place last result setting is_wanted is_text is =
-    ap (λ (o : Option ℕ). found o (λ place. suspends (Val (Integer (pos place))) (Found wanted text place last)) setting)
+    ap (λ (o : Option ℕ). thing_or_failure o (λ place. suspends (Val (Integer (pos place))) (Found wanted text place last)) setting)
     (ap (λ wanted. find (λ place. stands wanted text place last) (range_with_len place (last + 1 - place))) (sym is_wanted)
     ∙ (ap (λ text. find (λ place. stands bytes text place last) (range_with_len place (last + 1 - place))) (sym is_text) ∙ sym is))
 
 pub no_more_text : (wanted text : List ℕ) (place last : ℕ) (setting : Setting) → last ≤ place → found_from wanted text (place + 1) last setting ≡ Fails setting
 no_more_text wanted text place last setting over =
     let none : last + 1 - (place + 1) ≡ 0 = omega arith in
-    ap (λ n. found (find (λ place. stands wanted text place last) (range_with_len (place + 1) n))
+    ap (λ n. thing_or_failure (find (λ place. stands wanted text place last) (range_with_len (place + 1) n))
     (λ place. suspends (Val (Integer (pos place))) (Found wanted text place last)) setting) none
 
 pub member_found : (bytes text searched : List ℕ) (place last : ℕ) (result : Option ℕ) (setting : Setting) → searched ≡ text
     → result ≡ find (λ place. contains bytes (byte_behind searched place)) (range_with_len place (last - place))
-    → among_from bytes text place last setting ≡ found result (λ place. suspends (Val (Integer (pos place))) (Among bytes text place last)) setting
+    → among_from bytes text place last setting ≡ thing_or_failure result (λ place. suspends (Val (Integer (pos place))) (Among bytes text place last)) setting
 member_found bytes text searched place last result setting is_text is =
-    ap (λ (o : Option ℕ). found o (λ place. suspends (Val (Integer (pos place))) (Among bytes text place last)) setting)
+    ap (λ (o : Option ℕ). thing_or_failure o (λ place. suspends (Val (Integer (pos place))) (Among bytes text place last)) setting)
     (ap (λ text. find (λ place. contains bytes (byte_behind text place)) (range_with_len place (last - place))) (sym is_text) ∙ sym is)
 
 pub no_more_members : (bytes text : List ℕ) (place last : ℕ) (setting : Setting) → last ≤ place → among_from bytes text (place + 1) last setting ≡ Fails setting
 no_more_members bytes text place last setting over =
     let none : last - (place + 1) ≡ 0 = omega arith in
-    ap (λ n. found (find (λ place. contains bytes (byte_behind text place)) (range_with_len (place + 1) n))
+    ap (λ n. thing_or_failure (find (λ place. contains bytes (byte_behind text place)) (range_with_len (place + 1) n))
     (λ place. suspends (Val (Integer (pos place))) (Among bytes text place last)) setting) none
 
 module _ (wanted opening closing text : List ℕ) (last : ℕ) (setting : Setting) where
   pub balanced_found : (searched : List ℕ) (place count : ℕ) (result : Option ℕ) → searched ≡ text
       → result ≡ balanced_place wanted opening closing (between searched place last) place count
       → balanced_from wanted opening closing text place last count setting
-      ≡ found result (λ place. suspends (Val (Integer (pos place))) (Balanced wanted opening closing text place last)) setting
+      ≡ thing_or_failure result (λ place. suspends (Val (Integer (pos place))) (Balanced wanted opening closing text place last)) setting
   balanced_found searched place count result is_text is =
-      ap (λ (o : Option ℕ). found o (λ place. suspends (Val (Integer (pos place))) (Balanced wanted opening closing text place last)) setting)
+      ap (λ (o : Option ℕ). thing_or_failure o (λ place. suspends (Val (Integer (pos place))) (Balanced wanted opening closing text place last)) setting)
       (ap (λ text. balanced_place wanted opening closing (between text place last) place count) (sym is_text) ∙ sym is)
 
   over : (place : ℕ) → last ≤ place → (counted : Option ℕ)
-      → found counted (λ count. balanced_from wanted opening closing text (place + 1) last count) setting ≡ Fails setting
+      → thing_or_failure counted (λ count. balanced_from wanted opening closing text (place + 1) last count) setting ≡ Fails setting
   over place less None = refl
   over place less (Some count) =
-      ap (λ bytes. found (balanced_place wanted opening closing bytes (place + 1) count)
+      ap (λ bytes. thing_or_failure (balanced_place wanted opening closing bytes (place + 1) count)
       (λ place. suspends (Val (Integer (pos place))) (Balanced wanted opening closing text place last)) setting)
       (between_none text (place + 1) last (omega arith))
 
@@ -115,9 +115,9 @@ module _ (wanted opening closing text : List ℕ) (last : ℕ) (setting : Settin
   pub balanced_on : (searched : List ℕ) (place : ℕ) (counted : Option ℕ) → searched ≡ text
       → counted ≡ count_behind opening closing (byte_behind searched place) 0
       → balanced_again wanted opening closing text place last setting
-      ≡ found counted (λ count. balanced_from wanted opening closing text (place + 1) last count) setting
+      ≡ thing_or_failure counted (λ count. balanced_from wanted opening closing text (place + 1) last count) setting
   balanced_on searched place counted is_text is =
-      ap (λ (o : Option ℕ). found o (λ count. balanced_from wanted opening closing text (place + 1) last count) setting)
+      ap (λ (o : Option ℕ). thing_or_failure o (λ count. balanced_from wanted opening closing text (place + 1) last count) setting)
       (ap (λ text. count_behind opening closing (byte_behind text place) 0) (sym is_text) ∙ sym is)
 
 -- a place that is given, as it is held

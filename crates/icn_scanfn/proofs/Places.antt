@@ -5,7 +5,7 @@ use Rattle.icn_value.specs.declared.cset.Cset.{Cset}
 use Rattle.icn_value.specs.Csets.{has}
 use Rattle.icn_value.specs.Members.{contains, members_of}
 use Rattle.icn_value.proofs.CsetMembers.{members_pass}
-use Rattle.icn_defs.specs.Scanning.{balanced_place, between, closed, count_behind}
+use Rattle.icn_defs.specs.Scanning.{balanced_place, between, close_one, count_behind}
 use Rattle.std.specs.Prelude.{◌==◌, ◌&&◌, nat_lt, option_and_then}
 use Rattle.std.proofs.lemmas.Bool.{lt-ltb}
 
@@ -66,18 +66,18 @@ runs_no_more test text at to low less high is =
 -- The count behind a byte
 
 pub counts_up : (opening closing : List ℕ) (byte count : ℕ) → contains opening byte ≡ true → Some (count + 1) ≡ count_behind opening closing byte count
-counts_up opening closing byte count is = sym (ap (λ b. cond b (Some (count + 1)) (cond (contains closing byte) (closed count) (Some count))) is)
+counts_up opening closing byte count is = sym (ap (λ b. cond b (Some (count + 1)) (cond (contains closing byte) (close_one count) (Some count))) is)
 
 counts_closed : (opening closing : List ℕ) (byte count : ℕ) → contains opening byte ≡ false → contains closing byte ≡ true
-    → count_behind opening closing byte count ≡ closed count
+    → count_behind opening closing byte count ≡ close_one count
 counts_closed opening closing byte count absent is =
-    ap (λ b. cond b (Some (count + 1)) (cond (contains closing byte) (closed count) (Some count))) absent ∙ ap (λ b. cond b (closed count) (Some count)) is
+    ap (λ b. cond b (Some (count + 1)) (cond (contains closing byte) (close_one count) (Some count))) absent ∙ ap (λ b. cond b (close_one count) (Some count)) is
 
 pub counts_none : (opening closing : List ℕ) (byte count : ℕ) → contains opening byte ≡ false → contains closing byte ≡ true → count ≡ 0
     → None ≡ count_behind opening closing byte count
-counts_none opening closing byte count absent is none = sym (counts_closed opening closing byte count absent is ∙ ap closed none)
+counts_none opening closing byte count absent is none = sym (counts_closed opening closing byte count absent is ∙ ap close_one none)
 
-closed_above : (count : ℕ) → 0 < count → closed count ≡ Some (count - 1)
+closed_above : (count : ℕ) → 0 < count → close_one count ≡ Some (count - 1)
 closed_above zero some = absurd (omega arith)
 closed_above (suc count) some = let same : count ≡ suc count - 1 = omega arith in ap Some same
 
@@ -88,8 +88,8 @@ counts_down opening closing byte count absent is some = sym (counts_closed openi
 pub counts_same : (opening closing : List ℕ) (byte count : ℕ) → contains opening byte ≡ false → contains closing byte ≡ false
     → Some count ≡ count_behind opening closing byte count
 counts_same opening closing byte count absent not =
-    sym (ap (λ b. cond b (Some (count + 1)) (cond (contains closing byte) (closed count) (Some count))) absent
-    ∙ ap (λ b. cond b (closed count) (Some count)) not)
+    sym (ap (λ b. cond b (Some (count + 1)) (cond (contains closing byte) (close_one count) (Some count))) absent
+    ∙ ap (λ b. cond b (close_one count) (Some count)) not)
 
 -- The first balanced place
 

@@ -5,7 +5,7 @@ ghost use Rattle.icn_value.specs.Store.{Outside, Setting};
 ghost use Rattle.icn_value.specs.declared.val.Val.{Val as ValData};
 ghost use Rattle.icn_defs.specs.Arguments.{arg};
 ghost use Rattle.icn_defs.specs.Conversions.{form_of, text_made};
-ghost use Rattle.icn_defs.specs.Rows.{Row, found};
+ghost use Rattle.icn_defs.specs.Rows.{Row, thing_or_failure};
 ghost use Rattle.icn_defs.specs.Scanning.{ends_of, region_from};
 ghost use Rattle.icn_defs.specs.Variables.{places};
 ghost use Rattle.icn_heap.specs.Extents.{Extent, IsLive, IsText, text_in, value_in};
@@ -102,7 +102,7 @@ pub fn charged_region<L: Locals>(
 pub fn ends_of(heap: &Heap, searched: Searched) -> Option<(u64, u64)>
     requires { IsText (extent_of heap.now) searched.text }
     ensures ends { (next : ℕ × ℕ → Row) (setting : Setting)
-        → ends_of (searched_in (extent_of heap.now) searched) next setting ≡ found result next setting }
+        → ends_of (searched_in (extent_of heap.now) searched) next setting ≡ thing_or_failure result next setting }
     ensures low { IfSome result (λ ends. 1 ≤ ends.0) }
     ensures order { IfSome result (λ ends. ends.0 ≤ ends.1) }
     ensures high { IfSome result (λ ends. ends.1 ≤ length (text_in (extent_of heap.now) searched.text) + 1) }
@@ -117,7 +117,7 @@ pub fn ends_of(heap: &Heap, searched: Searched) -> Option<(u64, u64)>
 fn ordered_places(first: i64, last: i64, size: u64) -> Option<(u64, u64)>
     requires { size < 2 ^ 63 - 1 }
     ensures ends { (next : ℕ × ℕ → Row) (setting : Setting)
-        → places first last size next setting ≡ found result next setting }
+        → places first last size next setting ≡ thing_or_failure result next setting }
     ensures low { IfSome result (λ ends. 1 ≤ ends.0) }
     ensures order { IfSome result (λ ends. ends.0 ≤ ends.1) }
     ensures high { IfSome result (λ ends. ends.1 ≤ size + 1) }

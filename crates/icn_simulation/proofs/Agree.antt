@@ -13,7 +13,7 @@ use Rattle.icn_meaning.specs.Contexts.{Nothing, NoChoice, InCall}
 use Rattle.icn_meaning.specs.Turns as MT
 use Rattle.icn_meaning.specs.Calls as MC
 use Rattle.icn_meaning.specs.Meaning as MM
-use Rattle.icn_meaning.specs.Meaning.{Observed, observation, Means}
+use Rattle.icn_meaning.specs.Meaning.{Observation, observation, Means}
 use Rattle.icn_defs.specs.Running.{Launch, first_world, words_row}
 use Rattle.icn_run.specs.Chains.{chain, none, base, empty, WaitingChain, LinkedStack}
 use Rattle.icn_run.specs.Step as S
@@ -163,26 +163,26 @@ module _ (G : Ground) where
   after_steps zero n e f = (n, ap (MM.steps G.L.program n) e ∙ f)
   after_steps (suc m) n e f = let a = after_steps m n e f in (suc a.0, a.1)
 
-  abbrev record_of : M.Ending → Outside → Observed
+  abbrev record_of : M.Ending → Outside → Observation
   record_of ending outside = record { ending = ending; outside = outside }
 
-  record Seen (s : M.State) (seen : Observed) : Type 0 where
+  record Seen (s : M.State) (seen : Observation) : Type 0 where
     pub store : M.Store
     pub is : s ≡ M.over seen.ending store
     pub outside_is : store.outside ≡ seen.outside
 
-  seen_over : (s : M.State) (seen : Observed) → observation s ≡ Some seen → Seen s seen
+  seen_over : (s : M.State) (seen : Observation) → observation s ≡ Some seen → Seen s seen
   seen_over (M.over ending st) seen e = let h : record_of ending st.outside ≡ seen = cc in
       record {
         store = st;
-        is = ap (λ (o : Observed). M.over o.ending st) h;
+        is = ap (λ (o : Observation). M.over o.ending st) h;
         outside_is =
-            ap (λ (o : Observed). o.outside) h;
+            ap (λ (o : Observation). o.outside) h;
       }
   seen_over s seen e = absurd (cc)
 
   -- what the meaning comes to, the code comes to
-  pub means_runs : (launch : Launch) (seen : Observed) → Begins G.L → Means G.L.program launch seen
+  pub means_runs : (launch : Launch) (seen : Observation) → Begins G.L → Means G.L.program launch seen
       → Linked.Runs G.L.repeats G.L.tables launch seen
   means_runs launch seen b m =
       let o = seen_over _ seen m.is in
@@ -193,7 +193,7 @@ module _ (G : Ground) where
       record { count = a.0; is = ap S.observation (a.1 ∙ ap (λ x. S.over seen.ending x) o.outside_is) }
 
   -- what the code comes to, the meaning comes to
-  pub runs_means : (launch : Launch) (seen : Observed) → Begins G.L
+  pub runs_means : (launch : Launch) (seen : Observation) → Begins G.L
       → Linked.Runs G.L.repeats G.L.tables launch seen → Means G.L.program launch seen
   runs_means launch seen b r =
       let z : LState = S.over seen.ending seen.outside in

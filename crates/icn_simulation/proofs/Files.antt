@@ -2,7 +2,7 @@
 use Rattle.std.proofs.Common.{◌≡◌, ◌<◌, ℕ, List, sym, subst}
 use Rattle.icn_tree.specs.Trees.{Declaration}
 use Rattle.icn_code.specs.Codes.{Tables}
-use Rattle.icn_defs.specs.Running.{Launch, Observed, Ending}
+use Rattle.icn_defs.specs.Running.{Launch, Observation, Ending}
 use Rattle.icn_defs.specs.Interruptions.{Streams}
 use Rattle.icn_meaning.specs.Program.{program_of, joined_declarations, procedures_of}
 use Rattle.icn_meaning.specs.Meaning.{Means}
@@ -17,9 +17,9 @@ use Rattle.icn_simulation.proofs.Joining.{is_translated, begins}
 use Rattle.icn_simulation.proofs.Routines.{first_law, none_missing as none_missing_of}
 
 -- what the evaluation and the run of the code come to is the same
-pub record AreSame (P Q : Launch → Observed → Type 0) : Type 0 where
-  pub to : (launch : Launch) (seen : Observed) → P launch seen → Q launch seen
-  pub from : (launch : Launch) (seen : Observed) → Q launch seen → P launch seen
+pub record AreSame (P Q : Launch → Observation → Type 0) : Type 0 where
+  pub to : (launch : Launch) (seen : Observation) → P launch seen → Q launch seen
+  pub from : (launch : Launch) (seen : Observation) → Q launch seen → P launch seen
 
 -- The tables are those of the joined code, whose procedures are translated and which begin as the program
 -- does.
@@ -62,8 +62,8 @@ same_flat files tables h =
 
 -- what is said of all ends of the one is said of all ends of the other
 
-takes : {P Q : Launch → Observed → Type 0} (limited : ℕ → Launch → Launch) (want : Ending) (launch : Launch) (amount : ℕ)
-    (seen : Observed) → ((launch : Launch) (seen : Observed) → P launch seen → Q launch seen)
+takes : {P Q : Launch → Observation → Type 0} (limited : ℕ → Launch → Launch) (want : Ending) (launch : Launch) (amount : ℕ)
+    (seen : Observation) → ((launch : Launch) (seen : Observation) → P launch seen → Q launch seen)
     → Takes limited want P launch amount seen → Takes limited want Q launch amount seen
 takes limited want launch amount seen f e = record {
   ends = f (limited amount launch) seen e.ends;
@@ -71,13 +71,13 @@ takes limited want launch amount seen f e = record {
   short = λ less h. let s = e.short less h in (s.0, f (limited less launch) s.0 s.1, s.2);
 }
 
-broken : {P Q : Launch → Observed → Type 0} (launch : Launch) (before after : Streams)
-    → ((launch : Launch) (seen : Observed) → P launch seen → Q launch seen)
+broken : {P Q : Launch → Observation → Type 0} (launch : Launch) (before after : Streams)
+    → ((launch : Launch) (seen : Observation) → P launch seen → Q launch seen)
     → BrokenOff P launch before after → BrokenOff Q launch before after
 broken launch before after f e = record { seen = e.seen; sees = f launch e.seen e.sees; breaks = e.breaks }
 
 pub same_amounts : (files : List (List Declaration)) (tables : Tables) (limited : ℕ → Launch → Launch) (want : Ending)
-    (launch : Launch) (amount : ℕ) (seen : Observed) → IsLinked files tables
+    (launch : Launch) (amount : ℕ) (seen : Observation) → IsLinked files tables
     → (Takes limited want (FilesMean files) launch amount seen → Takes limited want (RunsFlat tables) launch amount seen)
     × (Takes limited want (RunsFlat tables) launch amount seen → Takes limited want (FilesMean files) launch amount seen)
 same_amounts files tables limited want launch amount seen h =

@@ -1,7 +1,7 @@
 -- The translation of procedures stands, and the first law for translated programs.
 use Rattle.std.proofs.Common.{◌≡◌, ℕ, zero, suc, ◌+◌, Bool, true, false, List, [], ◌∷◌, ◌++◌, Option, Some, refl, sym, ap, ◌∙◌, subst, arith}
 use Rattle.std.specs.Prelude.{slice_get, if◌then◌else◌, find, ◌==◌}
-use Rattle.icn_defs.specs.Running.{Launch, Observed}
+use Rattle.icn_defs.specs.Running.{Launch, Observation}
 use Rattle.icn_code.specs.declared.instr.Instr.{Instr}
 use Rattle.icn_code.specs.declared.instr.Instr.TheVariants as I
 use Rattle.icn_code.specs.Codes.{Tables, Proc as Procedure, RecordType}
@@ -132,7 +132,7 @@ ground_of program tables t = record {
 
 -- The first law: where the code of each procedure is its translation, the meaning of the program and the
 -- linked run of its code agree.
-pub first_law : (program : M.Program) (tables : Tables) (launch : Launch) (seen : Observed)
+pub first_law : (program : M.Program) (tables : Tables) (launch : Launch) (seen : Observation)
     → IsTranslated program tables → Begins (linkage program tables)
     → (Means program launch seen → Linked.Runs (repeats_of tables) tables launch seen)
     × (Linked.Runs (repeats_of tables) tables launch seen → Means program launch seen)

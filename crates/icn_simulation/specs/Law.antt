@@ -2,7 +2,7 @@
 use Rattle.std.specs.Prelude.{◌<◌, ◌≡◌, ℕ, All, List}
 use Rattle.icn_tree.specs.Trees.{Declaration}
 use Rattle.icn_code.specs.Codes.{Tables}
-use Rattle.icn_defs.specs.Running.{Launch, Observed, Ending, Errored, AtBound}
+use Rattle.icn_defs.specs.Running.{Launch, Observation, Ending, Errored, AtBound}
 use Rattle.icn_defs.specs.Interruptions.{Streams, Breaks}
 use Rattle.icn_meaning.specs.Program.{program}
 use Rattle.icn_meaning.specs.Meaning.{Means}
@@ -18,22 +18,22 @@ pub record IsLinked (files : List (List Declaration)) (tables : Tables) : Type 0
   pub code : IsJoined files tables
 
 -- the program of these files, begun so, means an end of which this is observed
-abbrev pub FilesMean : List (List Declaration) → Launch → Observed → Type 0
+abbrev pub FilesMean : List (List Declaration) → Launch → Observation → Type 0
 FilesMean files launch seen = Means (program files) launch seen
 
 -- the run of this code, begun so, comes to an end of which this is observed: on linked marks, and on flat
 -- stacks
-abbrev pub RunsLinked : Tables → Launch → Observed → Type 0
+abbrev pub RunsLinked : Tables → Launch → Observation → Type 0
 RunsLinked tables launch seen = Linked.Runs (repeats_of tables) tables launch seen
 
 -- a run of the code on flat stacks is observed so
-abbrev pub RunsFlat : Tables → Launch → Observed → Type 0
+abbrev pub RunsFlat : Tables → Launch → Observation → Type 0
 RunsFlat tables launch seen = Flat.Runs tables launch seen
 
 -- Broken off, what comes to some end leaves these streams so.
-pub record BrokenOff (Sees : Launch → Observed → Type 0) (launch : Launch) (before after : Streams) : Type 0
+pub record BrokenOff (Sees : Launch → Observation → Type 0) (launch : Launch) (before after : Streams) : Type 0
   where
-    pub seen : Observed
+    pub seen : Observation
     pub sees : Sees launch seen
     pub breaks : Breaks launch.outside.left seen before after
 
@@ -49,21 +49,21 @@ with_cells n launch = record launch { bounds = record launch.bounds { cells = n 
 
 -- What is seen takes exactly so much of what is limited: with so much it ends so, and not for want of it; and with
 -- less it ends for want of it.
-pub record Takes (limited : ℕ → Launch → Launch) (want : Ending) (Sees : Launch → Observed → Type 0)
-    (launch : Launch) (amount : ℕ) (seen : Observed) : Type 0 where
+pub record Takes (limited : ℕ → Launch → Launch) (want : Ending) (Sees : Launch → Observation → Type 0)
+    (launch : Launch) (amount : ℕ) (seen : Observation) : Type 0 where
   pub ends : Sees (limited amount launch) seen
   pub other : seen.ending ≡ want → ⊥
   pub short : (less : ℕ) → less < amount
-      → (end : Observed) × Sees (limited less launch) end × (end.ending ≡ want)
+      → (end : Observation) × Sees (limited less launch) end × (end.ending ≡ want)
 
 -- exactly so many turns, string bytes, and cells
-abbrev pub TakesTurns : (Launch → Observed → Type 0) → Launch → ℕ → Observed → Type 0
+abbrev pub TakesTurns : (Launch → Observation → Type 0) → Launch → ℕ → Observation → Type 0
 TakesTurns Sees launch amount seen = Takes with_turns AtBound Sees launch amount seen
 
 -- a run takes exactly so many string bytes
-abbrev pub TakesStrings : (Launch → Observed → Type 0) → Launch → ℕ → Observed → Type 0
+abbrev pub TakesStrings : (Launch → Observation → Type 0) → Launch → ℕ → Observation → Type 0
 TakesStrings Sees launch amount seen = Takes with_strings (Errored 306) Sees launch amount seen
 
 -- a run takes exactly so many cells
-abbrev pub TakesCells : (Launch → Observed → Type 0) → Launch → ℕ → Observed → Type 0
+abbrev pub TakesCells : (Launch → Observation → Type 0) → Launch → ℕ → Observation → Type 0
 TakesCells Sees launch amount seen = Takes with_cells (Errored 307) Sees launch amount seen

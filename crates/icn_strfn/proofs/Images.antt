@@ -4,7 +4,7 @@ use Rattle.std.proofs.lemmas.List.{drop_more, get_or-set_same, get_or-set_other,
 use Rattle.std.proofs.lemmas.Bool.{false≢true, cases_lt}
 use Rattle.std.proofs.lemmas.Bool.Decides.{Decides-eqb}
 use Rattle.std.specs.List.{zip}
-use Rattle.icn_defs.specs.Strings.{mapped}
+use Rattle.icn_defs.specs.Strings.{map_byte}
 
 -- a byte becomes what stands beside it
 abbrev pub becomes : ℕ → ℕ → ℕ × ℕ → ℕ
@@ -20,8 +20,8 @@ set_tested images a b byte false is within =
 
 -- one pair more
 pub pair_more : (images from to : List ℕ) (n a b byte : ℕ) → n < length from → n < length to → a ≡ get_or from n 0 → b ≡ get_or to n 0 → a < length images
-    → fold (becomes byte) (get_or images byte 0) (zip (drop n from) (drop n to)) ≡ mapped from to byte
-    → fold (becomes byte) (get_or (set images a b) byte 0) (zip (drop (n + 1) from) (drop (n + 1) to)) ≡ mapped from to byte
+    → fold (becomes byte) (get_or images byte 0) (zip (drop n from) (drop n to)) ≡ map_byte from to byte
+    → fold (becomes byte) (get_or (set images a b) byte 0) (zip (drop (n + 1) from) (drop (n + 1) to)) ≡ map_byte from to byte
 pair_more images from to n a b byte first second same_a same_b within before =
     ap (λ start. fold (becomes byte) start (zip (drop (n + 1) from) (drop (n + 1) to))) (set_tested images a b byte (a == byte) refl within)
     ∙ (rw (same_a, same_b) (sym (rw (drop_more from n 0 first, drop_more to n 0 second) refl)) ∙ before)
@@ -47,6 +47,6 @@ past_one m n k is = ⊎_elim (λ less. inl (omega (arith, is))) (λ most. inr (o
 
 -- no pair is left
 pub pairs_done : (images from to : List ℕ) (n byte : ℕ) → n ≡ min (length from) (length to)
-    → fold (becomes byte) (get_or images byte 0) (zip (drop n from) (drop n to)) ≡ mapped from to byte → get_or images byte 0 ≡ mapped from to byte
+    → fold (becomes byte) (get_or images byte 0) (zip (drop n from) (drop n to)) ≡ map_byte from to byte → get_or images byte 0 ≡ map_byte from to byte
 pairs_done images from to n byte last is =
     sym (ap (fold (becomes byte) (get_or images byte 0)) (none_left from to n (past_one (length from) (length to) n last))) ∙ is

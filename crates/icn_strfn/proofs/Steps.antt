@@ -9,7 +9,7 @@ use Rattle.icn_value.specs.Store.{Setting}
 use Rattle.icn_defs.specs.Arguments.{arg, arg_or}
 use Rattle.icn_defs.specs.Conversions.{contains, cset_of, integer_of, text_of}
 use Rattle.icn_defs.specs.Rows.{Error, Fails, builds, check, costs_text, costs_texts, gives_value, natural}
-use Rattle.icn_defs.specs.Strings.{char_row, field_row, gives_integer, map_row, mapped, one, ord_row, repl_row, reverse_row, string_row, trim_row}
+use Rattle.icn_defs.specs.Strings.{char_row, field_row, gives_integer, map_row, map_byte, one, ord_row, repl_row, reverse_row, string_row, trim_row}
 use Rattle.icn_args.specs.Words.{HasText, the_text}
 use Rattle.icn_strfn.specs.declared.text_arguments.DefaultText.TheVariants.{Blank, Upper, Lower}
 use Rattle.icn_strfn.specs.Checks.{IsField, IsMapping, natural_in}
@@ -179,19 +179,19 @@ module _ (args : List Value) (text from to : Value) (setting : Setting) (first :
 
   pub map_left : IsMapping args
       → map_row args setting
-      ≡ costs_texts (text ∷ from ∷ to ∷ []) (builds (map (mapped (the_text (or_default Upper from)) (the_text (or_default Lower to))) (the_text text))) setting
+      ≡ costs_texts (text ∷ from ∷ to ∷ []) (builds (map (map_byte (the_text (or_default Upper from)) (the_text (or_default Lower to))) (the_text text))) setting
   map_left is =
       let test : (length (the_text (or_default Upper (arg args 1))) == length (the_text (or_default Lower (arg args 2)))) ≡ true =
       (Decides-eqb (length (the_text (or_default Upper (arg args 1)))) (length (the_text (or_default Lower (arg args 2))))).1 is.alike in
       (rw (is.text.is, is.from.is, is.to.is) refl)
       ∙ (ap (λ t. check t 208 None (costs_texts (arg args 0 ∷ arg args 1 ∷ arg args 2 ∷ [])
-      (builds (map (mapped (the_text (or_default Upper (arg args 1))) (the_text (or_default Lower (arg args 2)))) (the_text (arg args 0))))) setting) test
+      (builds (map (map_byte (the_text (or_default Upper (arg args 1))) (the_text (or_default Lower (arg args 2)))) (the_text (arg args 0))))) setting) test
       ∙ (ap (λ (v : Value). costs_texts (v ∷ arg args 1 ∷ arg args 2 ∷ [])
-      (builds (map (mapped (the_text (or_default Upper (arg args 1))) (the_text (or_default Lower (arg args 2)))) (the_text v))) setting) (sym first)
+      (builds (map (map_byte (the_text (or_default Upper (arg args 1))) (the_text (or_default Lower (arg args 2)))) (the_text v))) setting) (sym first)
       ∙ (ap (λ (v : Value). costs_texts (text ∷ v ∷ arg args 2 ∷ [])
-      (builds (map (mapped (the_text (or_default Upper v)) (the_text (or_default Lower (arg args 2)))) (the_text text))) setting) (sym second)
+      (builds (map (map_byte (the_text (or_default Upper v)) (the_text (or_default Lower (arg args 2)))) (the_text text))) setting) (sym second)
       ∙ ap (λ (v : Value). costs_texts (text ∷ from ∷ v ∷ [])
-      (builds (map (mapped (the_text (or_default Upper from)) (the_text (or_default Lower v))) (the_text text))) setting) (sym third))))
+      (builds (map (map_byte (the_text (or_default Upper from)) (the_text (or_default Lower v))) (the_text text))) setting) (sym third))))
 
 pub is_mapping : (args : List Value) (text from to : Value) → text ≡ arg args 0 → from ≡ arg args 1 → to ≡ arg args 2 → HasText text
     → HasText (or_default Upper from) → HasText (or_default Lower to)

@@ -1,7 +1,7 @@
 // Integers whose bits are moved, and their absolute values.
 ghost use Rattle.std.specs.Prelude.{◌≡◌, ◌+◌, ℕ, negsuc, pos, unsigned_abs};
 ghost use Rattle.icn_text.specs.IntegerArithmetic.{within_64_bits};
-ghost use Rattle.icn_defs.specs.Strings.{shifted};
+ghost use Rattle.icn_defs.specs.Strings.{shift_by};
 ghost use Rattle.icn_strfn.specs.Checks.{natural_in};
 
 use icn_text::Arith;
@@ -15,7 +15,7 @@ pub fn absolute(n: i64) -> Result<i64, Arith>
 
 // An integer shifted to the left, or to the right with zeros by a count below 0; 0 from 64 on.
 pub fn shifted(m: i64, n: i64) -> i64
-    ensures { result ≡ shifted m n }
+    ensures { result ≡ shift_by m n }
 {
     match u64::try_from(n) {
         Ok(count) => shifted_left(m, count),
@@ -31,7 +31,7 @@ pub fn natural(n: i64) -> Option<u64>
 }
 
 fn shifted_left(m: i64, count: u64) -> i64
-    ensures { result ≡ shifted m (pos count) }
+    ensures { result ≡ shift_by m (pos count) }
 {
     if count < 64 {
         (m.cast_unsigned() << count).cast_signed()
@@ -41,7 +41,7 @@ fn shifted_left(m: i64, count: u64) -> i64
 }
 
 fn shifted_right(m: i64, count: u64) -> i64
-    ensures { (k : ℕ) → count ≡ k + 1 → result ≡ shifted m (negsuc k) }
+    ensures { (k : ℕ) → count ≡ k + 1 → result ≡ shift_by m (negsuc k) }
 {
     if count < 64 {
         (m.cast_unsigned() >> count).cast_signed()

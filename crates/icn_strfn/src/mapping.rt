@@ -1,6 +1,6 @@
 // Texts whose bytes become others.
 ghost use Rattle.std.specs.Prelude.{◌≡◌, ◌<◌, ℕ, IfOk, length, map, slice_index};
-ghost use Rattle.icn_defs.specs.Strings.{mapped};
+ghost use Rattle.icn_defs.specs.Strings.{map_byte};
 
 use std::alloc::{AllocError, Global};
 
@@ -8,7 +8,7 @@ use std::alloc::{AllocError, Global};
 // want of memory.
 #[tactic(auto, using(crate::proofs::Images::same_map))]
 pub fn mapped(alloc: Global, text: &[u8], from: &[u8], to: &[u8]) -> Result<Vec<u8>, AllocError>
-    ensures { IfOk result (λ made. made.items ≡ map (mapped from.now to.now) text.now) }
+    ensures { IfOk result (λ made. made.items ≡ map (map_byte from.now to.now) text.now) }
 {
     mapped_by(alloc, text, &images(from, to))
 }
@@ -23,7 +23,7 @@ fn mapped_by(alloc: Global, text: &[u8], images: &[u8; 256]) -> Result<Vec<u8>, 
 
 // What each byte becomes.
 fn images(from: &[u8], to: &[u8]) -> [u8; 256]
-    ensures { (byte : ℕ) → byte < 256 → slice_index result byte ≡ mapped from.now to.now byte }
+    ensures { (byte : ℕ) → byte < 256 → slice_index result byte ≡ map_byte from.now to.now byte }
 {
     let mut images = themselves();
     for (byte, image) in from.iter().zip(to) {

@@ -4,7 +4,7 @@ use Rattle.std.specs.List.{All, slice_get}
 use Rattle.std.specs.Prelude.{IsErrAnd, slice_set, unwrap_or}
 use Rattle.std.proofs.lemmas.List.{set-set, get_or-set_same}
 use Rattle.std.proofs.lemmas.Option.{unwrap_or-slice_get}
-use Rattle.icn_structs.specs.Numbered.{Numbered}
+use Rattle.icn_structs.specs.Numbered.{NumberedList}
 use Rattle.icn_value.specs.declared.full.Full.{Full}
 use Rattle.icn_value.specs.declared.full.Full.TheVariants.{Cells, NoMemory}
 use Rattle.icn_value.specs.declared.item.Pair.{Pair}
@@ -40,7 +40,7 @@ paid_cells heap count paid is = by_test (nat_le (heap.cells + count) heap.bounds
     by_test true is = cc
     by_test false is = cc
 
-module _ (grown : Numbered Value → Value → Numbered Value) (id : ℕ) where
+module _ (grown : NumberedList Value → Value → NumberedList Value) (id : ℕ) where
   -- the list with one element more, which is charged
   one_more : Value → Heap → Heap
   one_more value heap = with_list id (grown (list_at heap id) value) (with_cells (heap.cells + 1) heap)
@@ -71,10 +71,10 @@ module _ (grown : Numbered Value → Value → Numbered Value) (id : ℕ) where
   unfolding one_more
   records_stay heap new value step = ap (λ (h : Heap). h.records) (added_one heap new value step)
 
-  at_set : (lists : List (Numbered Value)) (list : Numbered Value) → id < length lists → unwrap_or (slice_get (slice_set lists id list) id) (new_list []) ≡ list
+  at_set : (lists : List (NumberedList Value)) (list : NumberedList Value) → id < length lists → unwrap_or (slice_get (slice_set lists id list) id) (new_list []) ≡ list
   at_set lists list there = unwrap_or-slice_get (slice_set lists id list) id (new_list []) ∙ get_or-set_same lists id list (new_list []) there
 
-  heap_by : (heap : Heap) {lists lists' : List (Numbered Value)} {cells cells' : ℕ} → lists' ≡ lists → cells' ≡ cells
+  heap_by : (heap : Heap) {lists lists' : List (NumberedList Value)} {cells cells' : ℕ} → lists' ≡ lists → cells' ≡ cells
       → (let h : Heap = record heap { lists = lists'; cells = cells' } in h) ≡ (let h : Heap = record heap { lists = lists; cells = cells } in h)
   heap_by heap lists cells = cc
 
@@ -83,7 +83,7 @@ module _ (grown : Numbered Value → Value → Numbered Value) (id : ℕ) where
   unfolding one_more
   grows_next heap value values there =
       heap_by heap
-      (ap (λ (list : Numbered Value). slice_set (slice_set heap.lists id (grown (list_at heap id) value)) id (fold grown list values))
+      (ap (λ (list : NumberedList Value). slice_set (slice_set heap.lists id (grown (list_at heap id) value)) id (fold grown list values))
       (at_set heap.lists (grown (list_at heap id) value) there)
       ∙ set-set heap.lists id (grown (list_at heap id) value) (fold grown (grown (list_at heap id) value) values))
       (omega arith)
@@ -145,5 +145,5 @@ module _ (grown : Numbered Value → Value → Numbered Value) (id : ℕ) where
       ap_stop why = subst (λ f. StopsPassing all (adds grown id values) before after (stop_of f)) (sym why) tt
 
 -- the row of `put` and `push`, by the list and what is added
-abbrev pub adds_row : (Numbered Value → Value → Numbered Value) → Value → List Value → Row
+abbrev pub adds_row : (NumberedList Value → Value → NumberedList Value) → Value → List Value → Row
 adds_row grown value values = list value (λ id. adds grown id values (gives_value (AList id)))

@@ -13,7 +13,7 @@ use Rattle.std.proofs.lemmas.List.{ext_get_or, get_or-map, get_or_past, length-m
 use Rattle.std.proofs.lemmas.List.FromFn.{length-map-range_with_len, get_or-map-range_with_len}
 use Rattle.std.proofs.lemmas.List.Sorted.{ranks_by, IsPermutation-map}
 use Rattle.std.proofs.lemmas.Option.{unwrap_or-slice_get}
-use Rattle.icn_defs.specs.Conversions.{sorted}
+use Rattle.icn_defs.specs.Conversions.{sort_list}
 use Rattle.icn_structfn.proofs.Rows.{nothing_left}
 use denote.Ref.{Bor}
 use denote.Param.Members.{Mut}
@@ -57,8 +57,8 @@ module _ {A : Type 0} (xs : List A) (none : A) where
 
   -- so where only one list is in order and has these items, it is this
   pub ordered : (cmp : A → A → Ordering) (count : ℕ) (places held : List ℕ) → held ≡ places → count ≡ length xs → IsPermutation (range_with_len 0 count) places
-      → IsSorted (λ i j. cmp (item_at i) (item_at j)) places → ((ys : List A) → IsPermutation xs ys → IsSorted cmp ys → ys ≡ sorted cmp xs)
-      → map item_at held ≡ sorted cmp xs
+      → IsSorted (λ i j. cmp (item_at i) (item_at j)) places → ((ys : List A) → IsPermutation xs ys → IsSorted cmp ys → ys ≡ sort_list cmp xs)
+      → map item_at held ≡ sort_list cmp xs
   ordered cmp count places held is same moved up one =
       ap (map item_at) is ∙ one (map item_at places) (items_moved count places same moved) (items_sorted cmp places up)
 

@@ -2,7 +2,7 @@
 use Rattle.std.specs.Prelude.{ℕ, zero, suc, ℤ, pos, List, [], ◌∷◌, ◌++◌, flat_map, unwrap_or, slice_get, Some}
 use Rattle.icn_value.specs.Values.{Value, Null, Integer, Text, Chars, Std, Procedure, ARecord, AList, ASet, ATable, ACoexp}
 use Rattle.icn_value.specs.Store.{Heap, Names, list_at, set_at, table_at, record_at}
-use Rattle.icn_defs.specs.Conversions.{sorted}
+use Rattle.icn_defs.specs.Conversions.{sort_list}
 use Rattle.icn_defs.specs.Images.{value_cmp}
 use Rattle.icn_defs.specs.Rows.{Finds, ◌>>=◌, here, new_list_of, wrong}
 use Rattle.icn_defs.specs.Structures.{entry_cmp, key_cmp, pair_lists}
@@ -38,28 +38,28 @@ order_of n = Unknown
 
 -- a new list of what a table holds, in an order: 205 for what is none
 abbrev pub sorted_pairs : Names → Heap → List (Value × Value) → TableOrder → Value → Finds Value
-sorted_pairs names heap pairs ListsByKey chosen next = list_of_pairs (sorted (key_cmp names heap) pairs) next
+sorted_pairs names heap pairs ListsByKey chosen next = list_of_pairs (sort_list (key_cmp names heap) pairs) next
 sorted_pairs names heap pairs ListsByValue chosen next =
-    list_of_pairs (sorted (entry_cmp names heap) pairs) next
+    list_of_pairs (sort_list (entry_cmp names heap) pairs) next
 sorted_pairs names heap pairs TurnByKey chosen next =
-    new_list_of (in_turn (sorted (key_cmp names heap) pairs)) next
+    new_list_of (in_turn (sort_list (key_cmp names heap) pairs)) next
 sorted_pairs names heap pairs TurnByValue chosen next =
-    new_list_of (in_turn (sorted (entry_cmp names heap) pairs)) next
+    new_list_of (in_turn (sort_list (entry_cmp names heap) pairs)) next
 sorted_pairs names heap pairs Unknown chosen next = wrong 205 (Some chosen)
 
 -- a new list of what a structure holds, in order: 115 for other values
 abbrev pub sorted_value : Names → ℤ → Value → Value → Finds Value
 sorted_value names n chosen (AList id) next = do
   setting ← here
-  list ← new_list_of (sorted (value_cmp names setting.world.heap) (list_at setting.world.heap id).items)
+  list ← new_list_of (sort_list (value_cmp names setting.world.heap) (list_at setting.world.heap id).items)
   next list
 sorted_value names n chosen (ASet id) next = do
   setting ← here
-  list ← new_list_of (sorted (value_cmp names setting.world.heap) (set_at setting.world.heap id))
+  list ← new_list_of (sort_list (value_cmp names setting.world.heap) (set_at setting.world.heap id))
   next list
 sorted_value names n chosen (ARecord id) next = do
   setting ← here
-  list ← new_list_of (sorted (value_cmp names setting.world.heap) (record_at setting.world.heap id).fields)
+  list ← new_list_of (sort_list (value_cmp names setting.world.heap) (record_at setting.world.heap id).fields)
   next list
 sorted_value names n chosen (ATable id) next = do
   setting ← here

@@ -4,7 +4,7 @@ ghost use Rattle.std.specs.List.{All, range_with_len};
 ghost use Rattle.std.specs.List.Sorted.{IsPermutation, IsSorted};
 ghost use Rattle.icn_value.specs.Sameness.{same};
 ghost use Rattle.icn_defs.specs.Arguments.{arg};
-ghost use Rattle.icn_defs.specs.Conversions.{sorted};
+ghost use Rattle.icn_defs.specs.Conversions.{sort_list};
 ghost use Rattle.icn_defs.specs.Images.{value_cmp};
 ghost use Rattle.icn_defs.specs.Structures.{entry_cmp, key_cmp};
 ghost use Rattle.icn_structs.specs.PairLists.{KeysDiffer};
@@ -30,7 +30,7 @@ pub fn in_order<N: Names>(
     requires live { All (IsLive (extent_of heap.now)) vals.now }
     requires named { All (ValueNamed (N.known names.now)) (map (value_in (extent_of heap.now)) vals.now) }
     requires heap { HeapNamed (N.known names.now) (heap_of heap.now) }
-    ensures order { IfOk result (λ found. map (value_in (extent_of heap.now)) found.items ≡ sorted
+    ensures order { IfOk result (λ found. map (value_in (extent_of heap.now)) found.items ≡ sort_list
         (value_cmp (N.known names.now) (heap_of heap.now)) (map (value_in (extent_of heap.now)) vals.now)) }
     ensures live { IfOk result (λ found. All (IsLive (extent_of heap.now)) found.items) }
 {
@@ -49,7 +49,7 @@ pub fn by_key<N: Names>(
     requires named { All (PairNamed (N.known names.now)) (map (values_in (extent_of heap.now)) pairs.now) }
     requires heap { HeapNamed (N.known names.now) (heap_of heap.now) }
     requires differ { KeysDiffer same (map (values_in (extent_of heap.now)) pairs.now) }
-    ensures order { IfOk result (λ found. map (values_in (extent_of heap.now)) found.items ≡ sorted
+    ensures order { IfOk result (λ found. map (values_in (extent_of heap.now)) found.items ≡ sort_list
         (key_cmp (N.known names.now) (heap_of heap.now)) (map (values_in (extent_of heap.now)) pairs.now)) }
     ensures live { IfOk result (λ found. All (AreLive (extent_of heap.now)) found.items) }
 {
@@ -67,7 +67,7 @@ pub fn by_entry<N: Names>(
     requires live { All (AreLive (extent_of heap.now)) pairs.now }
     requires named { All (PairNamed (N.known names.now)) (map (values_in (extent_of heap.now)) pairs.now) }
     requires heap { HeapNamed (N.known names.now) (heap_of heap.now) }
-    ensures order { IfOk result (λ found. map (values_in (extent_of heap.now)) found.items ≡ sorted
+    ensures order { IfOk result (λ found. map (values_in (extent_of heap.now)) found.items ≡ sort_list
         (entry_cmp (N.known names.now) (heap_of heap.now)) (map (values_in (extent_of heap.now)) pairs.now)) }
     ensures live { IfOk result (λ found. All (AreLive (extent_of heap.now)) found.items) }
 {

@@ -3,7 +3,7 @@ ghost use Rattle.std.specs.Prelude.{◌≡◌, ◌++◌, ◌∷◌, [], map, IfE
 ghost use Rattle.std.specs.List.{All};
 ghost use Rattle.icn_value.specs.Store.{Outside};
 ghost use Rattle.icn_value.specs.Sameness.{same};
-ghost use Rattle.icn_defs.specs.Conversions.{sorted};
+ghost use Rattle.icn_defs.specs.Conversions.{sort_list};
 ghost use Rattle.icn_defs.specs.Images.{value_cmp};
 ghost use Rattle.icn_defs.specs.Rows.{new_list_of};
 ghost use Rattle.icn_defs.specs.Structures.{pair_lists, sort_row};
@@ -107,7 +107,7 @@ fn list_in_order<L: Locals, N: Names>(
     ensures live { IfOk result (IsLive (extent_of w.new.heap)) }
     ensures stops { IfErr result (IsLiveStop (extent_of w.new.heap)) }
     ensures found { (outside : Outside) → IsFound (extent_of w.new.heap)
-        (new_list_of (sorted (value_cmp (N.known names.now) (heap_of w.old.heap))
+        (new_list_of (sort_list (value_cmp (N.known names.now) (heap_of w.old.heap))
         (map (value_in (extent_of w.old.heap)) vals.now))) (setting_of outside w.old (L.items l.now))
         (setting_of outside w.new (L.items l.now)) (value_in (extent_of w.new.heap)) result }
     ensures locals { All (IsLive (extent_of w.new.heap)) (L.items l.now) }

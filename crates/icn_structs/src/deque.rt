@@ -22,9 +22,9 @@ pub struct Deque<T> {
 impl<T> Model for Deque<T> {
     ghost use Rattle.std.specs.Prelude.{length, pos, ◌+ℤ◌, FitsSigned};
     ghost use Rattle.std.specs.Int.{w64};
-    ghost use Rattle.icn_structs.specs.Numbered.{Numbered};
+    ghost use Rattle.icn_structs.specs.Numbered.{NumberedList};
 
-    ghost Value = { Numbered T };
+    ghost Value = { NumberedList T };
 
     ghost view = { λ d. record { items = d.items.items; number = d.first } };
 

@@ -1,24 +1,24 @@
 // Laws of the definitions that contracts cite.
 ghost use Rattle.std.specs.Prelude.{◌≡◌, ◌≢◌, ℤ, ℕ, List, None, Some, IsSome, slice_get, pos, ◌+ℤ◌, ◌-ℤ◌, ◌<ℤ◌, ◌≤ℤ◌, if◌then◌else◌};
-ghost use Rattle.icn_structs.specs.Numbered.{Numbered, number_after, item_numbered, with_numbered, with_left, with_right, without_left, without_right};
+ghost use Rattle.icn_structs.specs.Numbered.{NumberedList, number_after, item_numbered, with_numbered, with_left, with_right, without_left, without_right};
 ghost use Rattle.icn_structs.specs.PairLists.{value_of, stored, without, KeysDiffer};
 
 /// The numbers of a list follow without a gap, and an item's number stays with it, whatever joins, leaves or is set beside
 /// it.
 pub fn numbers_stay<T>()
-    ensures follow { (list : Numbered T) (place : ℕ)
+    ensures follow { (list : NumberedList T) (place : ℕ)
         → item_numbered list (list.number +ℤ pos place) ≡ slice_get list.items place }
-    ensures joins_left { (list : Numbered T) (item : T) (n : ℤ) → list.number ≤ℤ n
+    ensures joins_left { (list : NumberedList T) (item : T) (n : ℤ) → list.number ≤ℤ n
         → item_numbered (with_left list item) n ≡ item_numbered list n }
-    ensures joins_right { (list : Numbered T) (item : T) (n : ℤ) → n ≢ number_after list
+    ensures joins_right { (list : NumberedList T) (item : T) (n : ℤ) → n ≢ number_after list
         → item_numbered (with_right list item) n ≡ item_numbered list n }
-    ensures leaves_left { (list : Numbered T) (n : ℤ) → list.number <ℤ n
+    ensures leaves_left { (list : NumberedList T) (n : ℤ) → list.number <ℤ n
         → item_numbered (without_left list) n ≡ item_numbered list n }
-    ensures leaves_right { (list : Numbered T) (n : ℤ) → (n +ℤ pos 1) ≢ number_after list
+    ensures leaves_right { (list : NumberedList T) (n : ℤ) → (n +ℤ pos 1) ≢ number_after list
         → item_numbered (without_right list) n ≡ item_numbered list n }
-    ensures set { (list : Numbered T) (item : T) (n : ℤ) → IsSome (item_numbered list n)
+    ensures set { (list : NumberedList T) (item : T) (n : ℤ) → IsSome (item_numbered list n)
         → item_numbered (with_numbered list n item) n ≡ Some item }
-    ensures set_alone { (list : Numbered T) (item : T) (n m : ℤ) → m ≢ n
+    ensures set_alone { (list : NumberedList T) (item : T) (n m : ℤ) → m ≢ n
         → item_numbered (with_numbered list n item) m ≡ item_numbered list m }
 {}
 

@@ -8,7 +8,7 @@ use Rattle.std.specs.Int.{w64}
 use Rattle.std.specs.List.{list_all, prefix_len}
 use Rattle.std.specs.Option.{option_map}
 use Rattle.std.specs.Str.Parse.{digits_value}
-use Rattle.icn_text.specs.Integers.{is_space, is_digit_of, is_radix_mark, IsDigits, WritesNumeral, decimal, radix, signed, WritesSigned, plain, plus, minus, WritesInteger}
+use Rattle.icn_text.specs.Integers.{is_space, is_digit_of, is_radix_mark, IsDigits, WritesNumeral, decimal, radix, with_sign, WritesSigned, plain, plus, minus, WritesInteger}
 use Rattle.icn_text.specs.Reading.{digits_read, radix_read, numeral_by, numeral_read, signed_read, integer_read}
 use Rattle.icn_text.proofs.Numerals.{both, run_all}
 
@@ -160,8 +160,8 @@ signed_sound : (text : List ℕ) (is_negative : Bool) (n : ℕ) → signed_read 
 signed_sound [] is_negative n h = absurd (none-some (is_negative, n) h)
 signed_sound (sign ∷ rest) is_negative n h = minus_by sign rest is_negative n _ refl h
 
-pub integer_sound : (text : List ℕ) (is_negative : Bool) (n : ℕ) → integer_read text ≡ Some (is_negative, n) → FitsSigned w64 (signed is_negative n)
-    → WritesInteger text (signed is_negative n)
+pub integer_sound : (text : List ℕ) (is_negative : Bool) (n : ℕ) → integer_read text ≡ Some (is_negative, n) → FitsSigned w64 (with_sign is_negative n)
+    → WritesInteger text (with_sign is_negative n)
 integer_sound text is_negative n h fits =
     let count = prefix_len is_space text in
     let found = signed_sound (drop count text) is_negative n h in

@@ -12,7 +12,7 @@ use Rattle.std.specs.List.{list_all}
 use Rattle.std.specs.Option.{option_and_then}
 use Rattle.std.specs.Str.Parse.{AllDigits}
 use Rattle.icn_text.specs.IntegerArithmetic.{fitting}
-use Rattle.icn_text.specs.Integers.{is_digit_of, WritesNumeral, decimal, signed, WritesSigned, plain, minus, WritesInteger}
+use Rattle.icn_text.specs.Integers.{is_digit_of, WritesNumeral, decimal, with_sign, WritesSigned, plain, minus, WritesInteger}
 use Rattle.icn_text.specs.Reading.{integer_read, written_integer}
 use Rattle.icn_text.proofs.Completing.{integer_again}
 use Rattle.icn_text.proofs.Fitting.{fitting_so, so_fitting}
@@ -21,14 +21,14 @@ use Rattle.icn_text.proofs.Sounding.{integer_sound}
 -- what the relation says is found
 pub written : (text : List ℕ) (n : ℤ) → WritesInteger text n → written_integer text ≡ Some n
 written text n w =
-    ap (option_and_then (λ (found : Bool × ℕ). fitting (signed found.0 found.1))) (integer_again w)
+    ap (option_and_then (λ (found : Bool × ℕ). fitting (with_sign found.0 found.1))) (integer_again w)
     ∙ subst (λ z. fitting z ≡ Some n) w.value (fitting_so n w.fits)
 
 so_read : (text : List ℕ) (n : ℤ) (read : Option (Bool × ℕ)) → integer_read text ≡ read
-    → option_and_then (λ (found : Bool × ℕ). fitting (signed found.0 found.1)) read ≡ Some n → WritesInteger text n
+    → option_and_then (λ (found : Bool × ℕ). fitting (with_sign found.0 found.1)) read ≡ Some n → WritesInteger text n
 so_read text n None is h = absurd (none-some n h)
 so_read text n (Some found) is h =
-    let both = so_fitting (signed found.0 found.1) n h in
+    let both = so_fitting (with_sign found.0 found.1) n h in
     subst (WritesInteger text) both.0 (integer_sound text found.0 found.1 is both.1)
 
 -- and what is found, it says
@@ -60,7 +60,7 @@ numeral n h =
     let is = decimal_is_IsNumeral n h in
     subst (WritesNumeral (decimal_text n)) is.1 (decimal (decimal_text n) (record { some = is.0.0; each = digits_pass (decimal_text n) is.0.1 }))
 
-alone : (middle : List ℕ) (is_negative : Bool) (magnitude : ℕ) (n : ℤ) → WritesSigned middle is_negative magnitude → n ≡ signed is_negative magnitude
+alone : (middle : List ℕ) (is_negative : Bool) (magnitude : ℕ) (n : ℤ) → WritesSigned middle is_negative magnitude → n ≡ with_sign is_negative magnitude
     → FitsSigned w64 n → WritesInteger middle n
 alone middle is_negative magnitude n written value fits =
     record {

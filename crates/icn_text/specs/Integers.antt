@@ -30,8 +30,8 @@ pub data WritesNumeral : List ℕ → ℕ → Type 0 where
       → IsDigits (digits_value 10 radix) digits
       → WritesNumeral (radix ++ mark ∷ digits) (digits_value (digits_value 10 radix) digits)
 
-abbrev pub signed : Bool → ℕ → ℤ
-signed is_negative n = if is_negative then neg_ℤ (pos n) else pos n
+abbrev pub with_sign : Bool → ℕ → ℤ
+with_sign is_negative n = if is_negative then neg_ℤ (pos n) else pos n
 
 -- a numeral, perhaps behind a sign
 pub data WritesSigned : List ℕ → Bool → ℕ → Type 0 where
@@ -50,5 +50,5 @@ pub record WritesInteger (text : List ℕ) (n : ℤ) : Type 0 where
   pub is_negative : Bool
   pub magnitude : ℕ
   pub written : WritesSigned middle is_negative magnitude
-  pub value : n ≡ signed is_negative magnitude
+  pub value : n ≡ with_sign is_negative magnitude
   pub fits : FitsSigned w64 n

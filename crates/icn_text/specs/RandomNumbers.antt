@@ -6,5 +6,5 @@ abbrev pub random_step : ℕ → ℕ
 random_step state = (1103515245 * state + 453816694) % 2 ^ 31
 
 -- the place that a state below 2 ^ 31 picks among so many, from 0 on
-abbrev pub picked : ℕ → ℕ → ℕ
-picked state size = state * size / 2 ^ 31
+abbrev pub pick_place : ℕ → ℕ → ℕ
+pick_place state size = state * size / 2 ^ 31

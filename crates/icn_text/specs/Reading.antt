@@ -4,7 +4,7 @@ use Rattle.std.specs.List.{list_all, prefix_len}
 use Rattle.std.specs.Option.{option_map}
 use Rattle.std.specs.Str.Parse.{digits_value}
 use Rattle.icn_text.specs.IntegerArithmetic.{fitting}
-use Rattle.icn_text.specs.Integers.{is_space, is_digit_of, is_radix_mark, signed}
+use Rattle.icn_text.specs.Integers.{is_space, is_digit_of, is_radix_mark, with_sign}
 
 -- a number that 64 bits hold
 abbrev pub in_64_bits : ℕ → Option ℕ
@@ -46,4 +46,4 @@ pair_held found = option_map (λ n. (found.0, n)) (in_64_bits found.1)
 
 -- the integer of 64 bits that a text writes
 abbrev pub written_integer : List ℕ → Option ℤ
-written_integer text = option_and_then (λ found. fitting (signed found.0 found.1)) (integer_read text)
+written_integer text = option_and_then (λ found. fitting (with_sign found.0 found.1)) (integer_read text)

@@ -6,7 +6,7 @@ ghost use Rattle.std.specs.Int.{w64};
 ghost use Rattle.std.specs.List.{prefix_len, list_all};
 ghost use Rattle.std.specs.Option.{option_and_then};
 ghost use Rattle.std.specs.Str.Parse.{digits_value};
-ghost use Rattle.icn_text.specs.Integers.{is_space, is_digit_of, is_radix_mark, signed, WritesInteger};
+ghost use Rattle.icn_text.specs.Integers.{is_space, is_digit_of, is_radix_mark, with_sign, WritesInteger};
 ghost use Rattle.icn_text.specs.Reading.{in_64_bits, pair_held, digits_read, radix_read, numeral_read, signed_read, integer_read, written_integer};
 
 /// A text writes no integer of 64 bits.
@@ -28,7 +28,7 @@ pub fn read_integer(text: &[u8]) -> Result<i64, NotInteger>
 
 // The integer of this sign and magnitude.
 pub(crate) fn signed(is_negative: bool, magnitude: u64) -> Result<i64, NotInteger>
-    ensures { OkIff result (FitsSigned w64 (signed is_negative magnitude)) (signed is_negative magnitude) }
+    ensures { OkIff result (FitsSigned w64 (with_sign is_negative magnitude)) (with_sign is_negative magnitude) }
 {
     let magnitude = i128::from(magnitude);
     let value = if is_negative { -magnitude } else { magnitude };

@@ -44,9 +44,9 @@ abbrev pub number_of : Option ℕ → Draft → ℕ
 number_of None d = next_label d
 number_of (Some label) d = label
 
-abbrev pub numbered : Option ℕ → Draft → Draft
-numbered None d = with_label d
-numbered (Some label) d = d
+abbrev pub with_number : Option ℕ → Draft → Draft
+with_number None d = with_label d
+with_number (Some label) d = d
 
 -- names, each once
 abbrev pub with_name : List (List ℕ) → List ℕ → List (List ℕ)
@@ -73,11 +73,11 @@ put_variable name d = record {
 -- Loops
 
 -- the labels of a loop, neither of which was mentioned
-abbrev pub unmentioned : Ways
-unmentioned = record { next = None; last = None }
+abbrev pub no_ways : Ways
+no_ways = record { next = None; last = None }
 
 abbrev pub first_ways : List Ways → Ways
-first_ways [] = unmentioned
+first_ways [] = no_ways
 first_ways (ways ∷ others) = ways
 
 abbrev pub other_ways : List Ways → List Ways
@@ -113,7 +113,7 @@ next_number d = number_of (innermost d).next (outside_loop d)
 
 -- the label that `next` goes to is mentioned, and has its number
 abbrev pub with_next : Draft → Draft
-with_next d = d ▹ outside_loop ▹ numbered (innermost d).next
+with_next d = d ▹ outside_loop ▹ with_number (innermost d).next
     ▹ in_loop (record { next = Some (next_number d); last = (innermost d).last })
 
 -- an instruction with that label
@@ -126,7 +126,7 @@ last_number d = number_of (innermost d).last (outside_loop d)
 
 -- the label that `break` goes to is mentioned, and has its number
 abbrev pub with_last : Draft → Draft
-with_last d = d ▹ outside_loop ▹ numbered (innermost d).last
+with_last d = d ▹ outside_loop ▹ with_number (innermost d).last
     ▹ in_loop (record { next = (innermost d).next; last = Some (last_number d) })
 
 -- an instruction with the label that `break` goes to
@@ -168,7 +168,7 @@ end_number d = number_of (case_end d) (outside_case d)
 
 -- the last label of the innermost case is mentioned, and has its number
 abbrev pub with_end : Draft → Draft
-with_end d = d ▹ outside_case ▹ numbered (case_end d) ▹ in_case (Some (end_number d))
+with_end d = d ▹ outside_case ▹ with_number (case_end d) ▹ in_case (Some (end_number d))
 
 -- an instruction with the last label of the innermost case
 abbrev pub put_end : (ℕ → UnitInstr) → Draft → Draft

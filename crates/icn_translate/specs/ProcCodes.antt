@@ -54,8 +54,8 @@ abbrev pub draft_of : Procedure → Draft
 draft_of procedure = first_draft procedure ▹ initially procedure.initial ▹ body procedure.body ▹ put Pfail
 
 -- the names that it uses and does not declare, in the order of their first uses
-abbrev pub undeclared : Procedure → List (List ℕ)
-undeclared procedure = drop (length (first_draft procedure).names) (draft_of procedure).names
+abbrev pub undeclared_in : Procedure → List (List ℕ)
+undeclared_in procedure = drop (length (first_draft procedure).names) (draft_of procedure).names
 
 -- The code of a procedure: its names, and its instructions, whose labels are numbered from 1 in the order of their first
 -- mentions.
@@ -63,6 +63,6 @@ abbrev pub proc_code : Procedure → Proc
 proc_code procedure = record {
   name = procedure.name.text;
   collects = procedure.is_variadic;
-  names = declared_entries procedure ++ map (entry_of Undeclared) (undeclared procedure);
+  names = declared_entries procedure ++ map (entry_of Undeclared) (undeclared_in procedure);
   instrs = (draft_of procedure).instrs;
 }

@@ -11,7 +11,7 @@ use Rattle.icn_translate.specs.declared.forms.InfixForm.{InfixForm}
 use Rattle.icn_translate.specs.declared.forms.PrefixForm.{PrefixForm}
 use Rattle.icn_translate.specs.declared.forms.InfixForm.TheVariants.{Both, Scanning, Either, Limiting, Activating, Spreading, Operating}
 use Rattle.icn_translate.specs.declared.forms.PrefixForm.TheVariants.{Activation, Repetition, Operation}
-use Rattle.icn_translate.specs.Drafts.{Draft, ◌▹◌, put, next_label, with_label, put_variable, unmentioned, in_loop, outside_loop, aside, put_next, put_last, in_case, outside_case, put_end}
+use Rattle.icn_translate.specs.Drafts.{Draft, ◌▹◌, put, next_label, with_label, put_variable, no_ways, in_loop, outside_loop, aside, put_next, put_last, in_case, outside_case, put_end}
 use Rattle.icn_translate.specs.Instructions.{literal_instr, keyword_instr, section_op, infix_form, prefix_form}
 use Rattle.icn_translate.specs.Open.{Open, Outermost, Marked, Looped, Each, unmarks_for_break, unmarks_for_next, around}
 
@@ -73,10 +73,10 @@ until_part control d = d ▹ put_mark ▹ control ▹ put I.Unmark ▹ put I.Efa
 -- a loop with its control expression, before its `do` part
 abbrev pub control_part : LoopKind → (Draft → Draft) → Draft → Draft
 control_part While control d =
-    d ▹ with_label ▹ put (I.Lab (next_label d)) ▹ in_loop unmentioned ▹ put I.Mark0 ▹ control ▹ put I.Unmark
+    d ▹ with_label ▹ put (I.Lab (next_label d)) ▹ in_loop no_ways ▹ put I.Mark0 ▹ control ▹ put I.Unmark
 control_part Until control d =
-    d ▹ with_label ▹ put (I.Lab (next_label d)) ▹ in_loop unmentioned ▹ until_part control
-control_part Every control d = d ▹ in_loop unmentioned ▹ put I.Mark0 ▹ control ▹ put I.Pop
+    d ▹ with_label ▹ put (I.Lab (next_label d)) ▹ in_loop no_ways ▹ until_part control
+control_part Every control d = d ▹ in_loop no_ways ▹ put I.Mark0 ▹ control ▹ put I.Pop
 
 -- what is open in the control expression of a loop: of `every` its mark stays for the next pass
 abbrev pub in_control : LoopKind → Open → Open
@@ -176,7 +176,7 @@ abbrev mutual
       ▹ case_of (guarded o clauses) (default_part o clauses)
   translate o (Loop place kind c b) d = d ▹ control_part kind (translate (in_control kind o) c)
       ▹ looped_part (Marked (in_body kind o)) b ▹ loop_end (back kind (next_label d))
-  translate o (Repeat place b) d = d ▹ with_label ▹ put (I.Lab (next_label d)) ▹ in_loop unmentioned
+  translate o (Repeat place b) d = d ▹ with_label ▹ put (I.Lab (next_label d)) ▹ in_loop no_ways
       ▹ looped_body (translate (Marked (Looped o)) b) ▹ loop_end (I.Loop (next_label d))
   translate o (Create place e) d = d ▹ create_code (translate Outermost e)
   translate o (Next place) d = d ▹ unmarks_for_next o ▹ put_next I.Goto

@@ -1,7 +1,7 @@
 // The code of a procedure as far as it is written.
 ghost use Rattle.std.specs.Prelude.{◌≡◌, ◌+◌, ◌<◌, ◌≤◌, [], IfOk, OnOk, length, map};
 ghost use Rattle.icn_unit.specs.declared.unit.UnitInstr.TheVariants.{Cofail, Coret, Create as CreateInstr, Efail, Field as FieldInstr, Goto as GotoInstr, Lab as LabInstr, Loop as LoopInstr, Mark as MarkInstr};
-ghost use Rattle.icn_translate.specs.Drafts.{case_end, end_number, in_case, in_loop, innermost, last_number, name_place, next_label, next_number, number_of, numbered, outside_case, outside_loop, put, put_end, put_last, put_next, put_variable, unmentioned, with_end, with_label, with_last, with_name, with_next, ◌▹◌};
+ghost use Rattle.icn_translate.specs.Drafts.{case_end, end_number, in_case, in_loop, innermost, last_number, name_place, next_label, next_number, number_of, with_number, outside_case, outside_loop, put, put_end, put_last, put_next, put_variable, no_ways, with_end, with_label, with_last, with_name, with_next, ◌▹◌};
 ghost use Rattle.icn_translate.specs.Instructions.{literal_instr};
 ghost use Rattle.icn_translate.specs.Open.{unmarks_for_break, unmarks_for_next};
 ghost use Rattle.icn_translate.specs.Room.{IsRoomFor, TakesAtMost, numbers_given};
@@ -155,7 +155,7 @@ impl<'a> Builder<'a> {
     fn number(&mut self, known: Option<u32>) -> u32
         requires { IsRoomFor 1 (draft_of self.old) }
         ensures number { result ≡ number_of known (draft_of self.old) }
-        ensures draft { draft_of self.new ≡ numbered known (draft_of self.old) }
+        ensures draft { draft_of self.new ≡ with_number known (draft_of self.old) }
         ensures given { TakesAtMost 1 (draft_of self.old) (draft_of self.new) }
     {
         match known {
@@ -316,7 +316,7 @@ impl<'a> Builder<'a> {
         requires { IsRoomFor 1 (draft_of self.old) }
         ensures back { IfOk result (λ back. back ≡ LoopInstr (next_label (draft_of self.old))) }
         ensures draft { OnOk result (draft_of self.new ≡ (draft_of self.old ▹ with_label
-            ▹ put (LabInstr (next_label (draft_of self.old))) ▹ in_loop unmentioned)) }
+            ▹ put (LabInstr (next_label (draft_of self.old))) ▹ in_loop no_ways)) }
         ensures given { OnOk result (TakesAtMost 1 (draft_of self.old) (draft_of self.new)) }
     {
         let start = self.put_label()?;

@@ -17,8 +17,8 @@ use Rattle.icn_tree.specs.Literals.{Literal, with_byte, literal_kind, escape_of}
 use Rattle.icn_tree.specs.Numbers.{is_nothing, is_radix_mark, is_real_mark, number_by, number}
 use Rattle.icn_tree.specs.Semicolons.{Piece, with_semicolons}
 use Rattle.icn_tree.specs.Spellings.{lookup_text, marks_of}
-use Rattle.icn_tree.specs.TokenSpellings.{is_special, quoted, Spells, bare, string, cset, SpellsAll, nothing, last, more}
-use Rattle.icn_tree.specs.Tokens.{name, dot_number, mark, spelled, front_token, first_of, Scan, Found, before, piece_on, token_then, open_literal, closed_then, escape_found, Between, Inside, bytes_from, lines_from, Scanned, finish_scan, tokens_of}
+use Rattle.icn_tree.specs.TokenSpellings.{is_special, with_backslashes, Spells, bare, string, cset, SpellsAll, nothing, last, more}
+use Rattle.icn_tree.specs.Tokens.{name, dot_number, mark, one_token, front_token, first_of, Scan, Found, before, piece_on, token_then, open_literal, closed_then, escape_found, Between, Inside, bytes_from, lines_from, Scanned, finish_scan, tokens_of}
 use Rattle.icn_tree.proofs.Fronts.{longest_is}
 use Rattle.icn_tree.proofs.Scanning.{skip, TokensSound, tokens_sound, choose_rows}
 
@@ -141,8 +141,8 @@ rows_clean (row ∷ rows) text h =
     choose_row (bytes_eq text row.0) row.1 (lookup_text rows text) text (λ e. ap is_clean (same_text text row.0 (sym e)) ∙ parts.0)
     (rows_clean rows text parts.1)
 
-spelled_clean : (text : List ℕ) → Clean (spelled text) text
-unfolding spelled
+spelled_clean : (text : List ℕ) → Clean (one_token text) text
+unfolding one_token
 spelled_clean [] = tt
 spelled_clean (b ∷ rest) =
     choose_clean (begins_identifier b) (name b rest) (cond (is_digit b) (number (b ∷ rest)) (cond (b == 46) (dot_number rest) (mark b rest))) (b ∷ rest)
@@ -152,65 +152,65 @@ spelled_clean (b ∷ rest) =
     (λ e. subst (λ (c : ℕ). Clean (dot_number rest) (c ∷ rest)) (sym (eqb-true b 46 e)) (dotted_clean rest))
     (λ e. rows_clean (marks_of b) (b ∷ rest) (marks_clean b))))
 
-pub blank_none : (text : List ℕ) → is_clean text ≡ false → spelled text ≡ None
-blank_none text h = by_found (spelled text) refl (spelled_clean text) where
-  by_found : (found : Option (Result Kind Rule)) → spelled text ≡ found → Clean found text → found ≡ None
+pub blank_none : (text : List ℕ) → is_clean text ≡ false → one_token text ≡ None
+blank_none text h = by_found (one_token text) refl (spelled_clean text) where
+  by_found : (found : Option (Result Kind Rule)) → one_token text ≡ found → Clean found text → found ≡ None
   by_found None e c = refl
   by_found (Some sense) e c = absurd (false≢true (sym h ∙ c))
 
 -- No token begins with white space, `#` or a quote
 
-at_number : (b n : ℕ) (rest : List ℕ) → (b == n) ≡ true → spelled (n ∷ rest) ≡ None → spelled (b ∷ rest) ≡ None
-at_number b n rest h e = ap (λ c. spelled (c ∷ rest)) (eqb-true b n h) ∙ e
+at_number : (b n : ℕ) (rest : List ℕ) → (b == n) ≡ true → one_token (n ∷ rest) ≡ None → one_token (b ∷ rest) ≡ None
+at_number b n rest h e = ap (λ c. one_token (c ∷ rest)) (eqb-true b n h) ∙ e
 
-none_at : (b : ℕ) (rest : List ℕ) → spelled (9 ∷ rest) ≡ None
-unfolding spelled marks_of
+none_at : (b : ℕ) (rest : List ℕ) → one_token (9 ∷ rest) ≡ None
+unfolding one_token marks_of
 none_at b rest = refl
 
 either : (x y : Bool) → (x || y) ≡ true → (x ≡ true) ⊎ (y ≡ true)
 either true y h = inl refl
 either false y h = inr h
 
-from_11 : (b : ℕ) (rest : List ℕ) → 11 ≤ b → b ≤ 13 → spelled (b ∷ rest) ≡ None
-unfolding spelled marks_of
+from_11 : (b : ℕ) (rest : List ℕ) → 11 ≤ b → b ≤ 13 → one_token (b ∷ rest) ≡ None
+unfolding one_token marks_of
 from_11 b rest l h = by_12 (cases_lt b 12) where
-  at : (n : ℕ) → b ≡ n → spelled (n ∷ rest) ≡ None → spelled (b ∷ rest) ≡ None
-  at n same e = ap (λ c. spelled (c ∷ rest)) same ∙ e
+  at : (n : ℕ) → b ≡ n → one_token (n ∷ rest) ≡ None → one_token (b ∷ rest) ≡ None
+  at n same e = ap (λ c. one_token (c ∷ rest)) same ∙ e
 
-  by_13 : 12 ≤ b → (b < 13) ⊎ (13 ≤ b) → spelled (b ∷ rest) ≡ None
+  by_13 : 12 ≤ b → (b < 13) ⊎ (13 ≤ b) → one_token (b ∷ rest) ≡ None
   by_13 g (inl e) = at 12 (omega arith) refl
   by_13 g (inr e) = at 13 (omega arith) refl
 
-  by_12 : (b < 12) ⊎ (12 ≤ b) → spelled (b ∷ rest) ≡ None
+  by_12 : (b < 12) ⊎ (12 ≤ b) → one_token (b ∷ rest) ≡ None
   by_12 (inl e) = at 11 (omega arith) refl
   by_12 (inr e) = by_13 e (cases_lt b 13)
 
 between_11 : (b : ℕ) → is_between 11 13 b ≡ true → (11 ≤ b) × (b ≤ 13)
 between_11 b h = (grind (arith, nat_tests), grind (arith, nat_tests))
 
-space_none : (b : ℕ) (rest : List ℕ) → is_space b ≡ true → spelled (b ∷ rest) ≡ None
-unfolding spelled marks_of
+space_none : (b : ℕ) (rest : List ℕ) → is_space b ≡ true → one_token (b ∷ rest) ≡ None
+unfolding one_token marks_of
 space_none b rest h = by_last (either (b == 9 || is_between 11 13 b) (b == 32) h) where
-  by_first : ((b == 9) ≡ true) ⊎ (is_between 11 13 b ≡ true) → spelled (b ∷ rest) ≡ None
+  by_first : ((b == 9) ≡ true) ⊎ (is_between 11 13 b ≡ true) → one_token (b ∷ rest) ≡ None
   by_first (inl e) = at_number b 9 rest e refl
   by_first (inr e) = let range = between_11 b e in from_11 b rest range.0 range.1
 
-  by_last : ((b == 9 || is_between 11 13 b) ≡ true) ⊎ ((b == 32) ≡ true) → spelled (b ∷ rest) ≡ None
+  by_last : ((b == 9 || is_between 11 13 b) ≡ true) ⊎ ((b == 32) ≡ true) → one_token (b ∷ rest) ≡ None
   by_last (inl e) = by_first (either (b == 9) (is_between 11 13 b) e)
   by_last (inr e) = at_number b 32 rest e refl
 
-comment_none : (b : ℕ) (rest : List ℕ) → begins_comment b ≡ true → spelled (b ∷ rest) ≡ None
-unfolding spelled marks_of
+comment_none : (b : ℕ) (rest : List ℕ) → begins_comment b ≡ true → one_token (b ∷ rest) ≡ None
+unfolding one_token marks_of
 comment_none b rest h = at_number b 35 rest h refl
 
-quote_none : (b : ℕ) (rest : List ℕ) → is_quote b ≡ true → spelled (b ∷ rest) ≡ None
-unfolding spelled marks_of
+quote_none : (b : ℕ) (rest : List ℕ) → is_quote b ≡ true → one_token (b ∷ rest) ≡ None
+unfolding one_token marks_of
 quote_none b rest h = by_quote (either (b == 34) (b == 39) h) where
-  by_quote : ((b == 34) ≡ true) ⊎ ((b == 39) ≡ true) → spelled (b ∷ rest) ≡ None
+  by_quote : ((b == 34) ≡ true) ⊎ ((b == 39) ≡ true) → one_token (b ∷ rest) ≡ None
   by_quote (inl e) = at_number b 34 rest e refl
   by_quote (inr e) = at_number b 39 rest e refl
 
-is_not : (p : ℕ → Bool) (b : ℕ) (rest : List ℕ) (sense : Result Kind Rule) → (p b ≡ true → spelled (b ∷ rest) ≡ None) → spelled (b ∷ rest) ≡ Some sense
+is_not : (p : ℕ → Bool) (b : ℕ) (rest : List ℕ) (sense : Result Kind Rule) → (p b ≡ true → one_token (b ∷ rest) ≡ None) → one_token (b ∷ rest) ≡ Some sense
     → p b ≡ false
 is_not p b rest sense none e = false_from_ne_true (p b) (λ h. absurd (some_none sense (sym e ∙ none h))) where
   some_none : (sense : Result Kind Rule) → ◌≡◌ {A = Option (Result Kind Rule)} (Some sense) None → ⊥
@@ -222,14 +222,14 @@ abbrev Stops : List ℕ → Type 0
 Stops [] = Unit {0}
 Stops (b ∷ rest) = b ≡ 32
 
-longer_none : (text tail : List ℕ) (m : ℕ) → Stops tail → length text < m → m ≤ length (text ++ tail) → spelled (take m (text ++ tail)) ≡ None
+longer_none : (text tail : List ℕ) (m : ℕ) → Stops tail → length text < m → m ≤ length (text ++ tail) → one_token (take m (text ++ tail)) ≡ None
 longer_none text [] m s l g = absurd (omega (arith, length-append text []))
 longer_none text (b ∷ rest) m s l g =
     let n = length text in
     let size : m ≡ n + suc (m - n - 1) = omega arith in
     let cut : take m (text ++ b ∷ rest) ≡ text ++ b ∷ take (m - n - 1) rest = ap (λ k. take k (text ++ b ∷ rest)) size
     ∙ take-append-add text (b ∷ rest) (suc (m - n - 1)) in
-    ap spelled cut ∙ blank_none (text ++ b ∷ take (m - n - 1) rest) (unclean text b (take (m - n - 1) rest) s) where
+    ap one_token cut ∙ blank_none (text ++ b ∷ take (m - n - 1) rest) (unclean text b (take (m - n - 1) rest) s) where
       unclean : (text : List ℕ) (b : ℕ) (rest : List ℕ) → b ≡ 32 → is_clean (text ++ b ∷ rest) ≡ false
       unclean [] b rest s = rw s refl
       unclean (x ∷ text) b rest s = no_more (no_blank x) (is_clean (text ++ b ∷ rest)) (unclean text b rest s) where
@@ -237,19 +237,19 @@ longer_none text (b ∷ rest) m s l g =
         no_more true y h = h
         no_more false y h = refl
 
-first_alone : (b : ℕ) (rest tail : List ℕ) (kind : Kind) → spelled (b ∷ rest) ≡ Some (Ok kind) → Stops tail
+first_alone : (b : ℕ) (rest tail : List ℕ) (kind : Kind) → one_token (b ∷ rest) ≡ Some (Ok kind) → Stops tail
     → first_of (b ∷ rest ++ tail) ≡ Ok (kind, length (b ∷ rest))
 unfolding first_of
 first_alone b rest tail kind e s =
     let text = b ∷ rest in
     let size : length (text ++ tail) ≡ length text + length tail = length-append text tail in
-    ap front_token (longest_is spelled (length (text ++ tail)) (length text) (text ++ tail) (Ok kind) (omega arith) (omega (arith, size))
-    (ap spelled (take-append_seam text tail) ∙ e) (λ m l g. longer_none text tail m s l g))
+    ap front_token (longest_is one_token (length (text ++ tail)) (length text) (text ++ tail) (Ok kind) (omega arith) (omega (arith, size))
+    (ap one_token (take-append_seam text tail) ∙ e) (λ m l g. longer_none text tail m s l g))
 
-bare_step : (later : Option Literal → Scan) (line : SourceLine) (is_first : Bool) (text tail : List ℕ) (kind : Kind) → spelled text ≡ Some (Ok kind)
+bare_step : (later : Option Literal → Scan) (line : SourceLine) (is_first : Bool) (text tail : List ℕ) (kind : Kind) → one_token text ≡ Some (Ok kind)
     → Stops tail
     → bytes_from later line (Between is_first) zero (text ++ tail) ≡ before (piece_on line is_first kind) (bytes_from later line (Between false) zero tail)
-unfolding bytes_from spelled
+unfolding bytes_from one_token
 bare_step later line is_first [] tail kind e s = absurd (cc)
 bare_step later line is_first (b ∷ rest) tail kind e s =
     let one : suc (length rest) - 1 ≡ length rest = omega arith in
@@ -342,27 +342,27 @@ at_close later line literal rest = cond-true (literal.quote == literal.quote) _ 
 
 -- quoted bytes up to the closing quote
 inside_quoted : (later : Option Literal → Scan) (line : SourceLine) (literal : Literal) (bytes tail : List ℕ) → is_quote literal.quote ≡ true
-    → bytes_from later line (Inside literal) zero (quoted bytes ++ literal.quote ∷ tail)
+    → bytes_from later line (Inside literal) zero (with_backslashes bytes ++ literal.quote ∷ tail)
     ≡ closed_then (with_bytes literal bytes) (bytes_from later line (Between false) zero tail)
 unfolding with_bytes
 inside_quoted later line literal [] tail q =
     at_close later line literal tail
     ∙ ap (λ bytes. closed_then (record literal { bytes = bytes }) (bytes_from later line (Between false) zero tail)) (sym (append-nil literal.bytes))
 inside_quoted later line literal (b ∷ rest) tail q =
-    ap (bytes_from later line (Inside literal) zero) (append_assoc (cond (is_special b) (92 ∷ b ∷ []) (b ∷ [])) (quoted rest) (literal.quote ∷ tail))
-    ∙ (quoted_step later line literal b (quoted rest ++ literal.quote ∷ tail) (is_special b) q refl
+    ap (bytes_from later line (Inside literal) zero) (append_assoc (cond (is_special b) (92 ∷ b ∷ []) (b ∷ [])) (with_backslashes rest) (literal.quote ∷ tail))
+    ∙ (quoted_step later line literal b (with_backslashes rest ++ literal.quote ∷ tail) (is_special b) q refl
     ∙ (inside_quoted later line (with_byte literal b) rest tail q
     ∙ ap (λ bytes. closed_then (record literal { bytes = bytes }) (bytes_from later line (Between false) zero tail))
     (append_assoc literal.bytes (b ∷ []) rest)))
 
 literal_step : (later : Option Literal → Scan) (line : SourceLine) (is_first : Bool) (q : ℕ) (bytes tail : List ℕ) → is_space q ≡ false
     → begins_comment q ≡ false → is_quote q ≡ true → length bytes ≤ 65535
-    → bytes_from later line (Between is_first) zero (q ∷ (quoted bytes ++ q ∷ []) ++ tail)
+    → bytes_from later line (Between is_first) zero (q ∷ (with_backslashes bytes ++ q ∷ []) ++ tail)
     ≡ before (piece_on line is_first (literal_kind q bytes)) (bytes_from later line (Between false) zero tail)
 unfolding bytes_from with_bytes
 literal_step later line is_first q bytes tail s c h size =
     cond-false (is_space q) _ _ s ∙ (cond-false (begins_comment q) _ _ c ∙ (cond-true (is_quote q) _ _ h
-    ∙ (ap (bytes_from later line (Inside (open_literal line is_first q)) zero) (append_assoc (quoted bytes) (q ∷ []) tail)
+    ∙ (ap (bytes_from later line (Inside (open_literal line is_first q)) zero) (append_assoc (with_backslashes bytes) (q ∷ []) tail)
     ∙ (inside_quoted later line (open_literal line is_first q) bytes tail h
     ∙ cond-true (nat_le (length bytes) 65535) _ _ (small (length bytes) size))))) where
       small : (n : ℕ) → n ≤ 65535 → nat_le n 65535 ≡ true

@@ -17,14 +17,14 @@ use Rattle.icn_tree.specs.declared.token.Word.{Word}
 use Rattle.icn_tree.specs.ByteSets.{members_of}
 use Rattle.icn_tree.specs.Characters.{is_space, is_blank, begins_comment, begins_identifier, is_digit, continues_identifier, is_alphanumeric, is_quote, is_between}
 use Rattle.icn_tree.specs.Literals.{Literal, with_byte, escape_of}
-use Rattle.icn_tree.specs.Numbers.{is_nothing, is_radix_mark, is_real_mark, are_digits, number_in, sized, integer_kind, integer, number_by, number}
+use Rattle.icn_tree.specs.Numbers.{is_nothing, is_radix_mark, is_real_mark, are_digits, number_in, within_size, integer_kind, integer, number_by, number}
 use Rattle.icn_tree.specs.Semicolons.{Piece, is_ender, is_beginner, semicolon_at, between, with_semicolons}
 use Rattle.icn_tree.specs.SourceTexts.{joined_len}
 use Rattle.icn_tree.specs.Spellings.{lookup_text, word_of, name_of, marks_of}
 use Rattle.icn_tree.specs.TokenBounds.{IsScanRule, IsSized, IsFormed, is_name, is_augmented}
 use Rattle.icn_tree.proofs.Members.{members_ascend}
 use Rattle.icn_tree.specs.TokenSpellings.{Spells, bare, string, cset}
-use Rattle.icn_tree.specs.Tokens.{name, dot_number, mark, spelled, longer, longest, front_token, first_of, Scan, Found, Broken, before, piece_on, token_then, open_literal, literal_piece, closed_then, escape_found, escape_then, State, Between, Inside, bytes_from, line_from, lines_from, after_blanks, Outcome, Scanned, Fault, finish_scan, tokens_of}
+use Rattle.icn_tree.specs.Tokens.{name, dot_number, mark, one_token, longer, longest, front_token, first_of, Scan, Found, Broken, before, piece_on, token_then, open_literal, literal_piece, closed_then, escape_found, escape_then, State, Between, Inside, bytes_from, line_from, lines_from, after_blanks, Outcome, Scanned, Fault, finish_scan, tokens_of}
 
 -- One token
 
@@ -58,7 +58,7 @@ word_sized None text e n p h = ((p, h), (n, e))
 word_sized (Some word) text e n p h = (tt, tt)
 
 name_sized : (b : ℕ) (rest : List ℕ) → begins_identifier b ≡ true → FoundSized (name b rest)
-name_sized b rest begins = choose_found_so (list_all continues_identifier rest) (Some (sized (b ∷ rest) (Ok (name_of (b ∷ rest))))) None
+name_sized b rest begins = choose_found_so (list_all continues_identifier rest) (Some (within_size (b ∷ rest) (Ok (name_of (b ∷ rest))))) None
     (λ goes_on. choose_sense (nat_le (length (b ∷ rest)) 65535) (Ok (name_of (b ∷ rest))) (Err L7)
     (λ h. word_sized (word_of (b ∷ rest)) (b ∷ rest) refl (ap (λ first. first && list_all continues_identifier rest) begins
     ∙ goes_on) (omega arith) (at_most (length (b ∷ rest)) 65535 h)) tt) tt
@@ -74,7 +74,7 @@ number_by_sized : (digits rest : List ℕ) → FoundSized (number_by digits rest
 number_by_sized digits [] =
     choose_sense (nat_le (length digits) 65535) (integer_kind (number_in 10 digits)) (Err L7) (λ h. bounded_sized (number_in 10 digits)) tt
 number_by_sized digits (c ∷ rest) =
-    choose_found (is_radix_mark c && list_all is_alphanumeric rest) (Some (sized (digits ++ c ∷ rest) (integer (number_in 10 digits) rest)))
+    choose_found (is_radix_mark c && list_all is_alphanumeric rest) (Some (within_size (digits ++ c ∷ rest) (integer (number_in 10 digits) rest)))
     (cond (is_real_mark c && is_nothing rest) (Some (Err L6)) None)
     (choose_sense (nat_le (length (digits ++ c ∷ rest)) 65535) (integer (number_in 10 digits) rest) (Err L7) (λ h. integer_sized (number_in 10 digits) rest) tt)
     (choose_found (is_real_mark c && is_nothing rest) (Some (Err L6)) None tt tt)
@@ -145,8 +145,8 @@ rows_sized (row ∷ rows) text h =
     let parts = both (row_marks row) (list_all row_marks rows) h in
     choose_row (bytes_eq text row.0) row.1 (lookup_text rows text) (mark_is_sized row.1 parts.0) (rows_sized rows text parts.1)
 
-spelled_sized : (text : List ℕ) → FoundSized (spelled text)
-unfolding spelled
+spelled_sized : (text : List ℕ) → FoundSized (one_token text)
+unfolding one_token
 spelled_sized [] = tt
 spelled_sized (b ∷ rest) =
     choose_found_so (begins_identifier b) (name b rest) (cond (is_digit b) (number (b ∷ rest)) (cond (b == 46) (dot_number rest) (mark b rest)))
@@ -166,15 +166,15 @@ LongestSound None = Unit {0}
 LongestSound (Some (Ok kind, count)) = IsSound kind
 LongestSound (Some (Err rule, count)) = IsScanRule rule
 
-longer_sound : (found : Option (Result Kind Rule)) (text : List ℕ) (n : ℕ) (shorter : Option (Result Kind Rule × ℕ)) → spelled text ≡ found → FoundSized found
+longer_sound : (found : Option (Result Kind Rule)) (text : List ℕ) (n : ℕ) (shorter : Option (Result Kind Rule × ℕ)) → one_token text ≡ found → FoundSized found
     → LongestSound shorter → LongestSound (longer found n shorter)
 longer_sound None text n shorter e h g = g
 longer_sound (Some (Ok kind)) text n shorter e h g = record { sized = h.0; formed = h.1; text = text; spells = bare kind text e }
 longer_sound (Some (Err rule)) text n shorter e h g = h
 
-longest_sound : (n : ℕ) (bytes : List ℕ) → LongestSound (longest spelled n bytes)
+longest_sound : (n : ℕ) (bytes : List ℕ) → LongestSound (longest one_token n bytes)
 longest_sound zero bytes = tt
-longest_sound (suc n) bytes = longer_sound (spelled (take (suc n) bytes)) (take (suc n) bytes) (suc n) (longest spelled n bytes) refl
+longest_sound (suc n) bytes = longer_sound (one_token (take (suc n) bytes)) (take (suc n) bytes) (suc n) (longest one_token n bytes) refl
     (spelled_sized (take (suc n) bytes)) (longest_sound n bytes)
 
 abbrev FirstSound : Result (Kind × ℕ) Rule → Type 0
@@ -188,7 +188,7 @@ judged_sound (Some (Err rule, count)) h = h
 
 first_sound : (bytes : List ℕ) → FirstSound (first_of bytes)
 unfolding first_of
-first_sound bytes = judged_sound (longest spelled (length bytes) bytes) (longest_sound (length bytes) bytes)
+first_sound bytes = judged_sound (longest one_token (length bytes) bytes) (longest_sound (length bytes) bytes)
 
 -- All tokens
 
@@ -294,7 +294,7 @@ TokensSound [] = Unit {0}
 TokensSound (token ∷ tokens) = IsSound token.kind × TokensSound tokens
 
 semicolon_sound : IsSound (Punctuation Semicolon)
-unfolding spelled marks_of
+unfolding one_token marks_of
 semicolon_sound = record { sized = tt; formed = tt; text = 59 ∷ []; spells = bare (Punctuation Semicolon) (59 ∷ []) refl }
 
 choose_between : (test : Bool) (token : Token) (rest : List Token) → TokensSound rest → TokensSound (cond test (semicolon_at token ∷ []) [] ++ rest)

@@ -30,8 +30,8 @@ abbrev pub is_real_mark : ℕ → Bool
 is_real_mark b = b == 46 || b == 101 || b == 69
 
 -- a text that is not too long for a literal has this sense
-abbrev pub sized : List ℕ → Result Kind Rule → Result Kind Rule
-sized text sense = if nat_le (length text) 65535 then sense else Err L7
+abbrev pub within_size : List ℕ → Result Kind Rule → Result Kind Rule
+within_size text sense = if nat_le (length text) 65535 then sense else Err L7
 
 -- an integer literal of this value, or the rule that it breaks where it is too large
 abbrev pub integer_kind : ℕ → Result Kind Rule
@@ -49,10 +49,10 @@ integer radix digits =
 -- What decimal digits and the bytes behind them are as one literal: a number, or a radix with its digits. With the first
 -- byte of a fraction or an exponent they are one that is not whole.
 abbrev pub number_by : List ℕ → List ℕ → Option (Result Kind Rule)
-number_by digits [] = Some (sized digits (integer_kind (number_in 10 digits)))
+number_by digits [] = Some (within_size digits (integer_kind (number_in 10 digits)))
 number_by digits (mark ∷ rest) =
     if is_radix_mark mark && list_all is_alphanumeric rest
-    then Some (sized (digits ++ mark ∷ rest) (integer (number_in 10 digits) rest))
+    then Some (within_size (digits ++ mark ∷ rest) (integer (number_in 10 digits) rest))
     else (if is_real_mark mark && is_nothing rest then Some (Err L6) else None)
 
 -- what bytes that begin with a digit are as one literal

@@ -3,23 +3,23 @@ use Rattle.std.specs.Prelude.{◌==◌, ◌≡◌, ◌≤◌, ℕ, Bool, ◌||�
 use Rattle.icn_tree.specs.declared.token.Kind.{Kind}
 use Rattle.icn_tree.specs.declared.token.Kind.TheVariants.{Text, Cset}
 use Rattle.icn_tree.specs.ByteSets.{members_of}
-use Rattle.icn_tree.specs.Tokens.{spelled}
+use Rattle.icn_tree.specs.Tokens.{one_token}
 
 -- `"`, `'`, `\` or `_`
 abbrev pub is_special : ℕ → Bool
 is_special b = b == 34 || b == 39 || b == 92 || b == 95
 
 -- bytes inside a literal, with a backslash before each special one
-abbrev pub quoted : List ℕ → List ℕ
-quoted [] = []
-quoted (b ∷ rest) = (if is_special b then 92 ∷ b ∷ [] else b ∷ []) ++ quoted rest
+abbrev pub with_backslashes : List ℕ → List ℕ
+with_backslashes [] = []
+with_backslashes (b ∷ rest) = (if is_special b then 92 ∷ b ∷ [] else b ∷ []) ++ with_backslashes rest
 
 -- a text of one token
 pub data Spells : Kind → List ℕ → Type 0 where
-  bare : (kind : Kind) (text : List ℕ) → spelled text ≡ Some (Ok kind) → Spells kind text
-  string : (bytes : List ℕ) → length bytes ≤ 65535 → Spells (Text bytes) (34 ∷ (quoted bytes ++ 34 ∷ []))
+  bare : (kind : Kind) (text : List ℕ) → one_token text ≡ Some (Ok kind) → Spells kind text
+  string : (bytes : List ℕ) → length bytes ≤ 65535 → Spells (Text bytes) (34 ∷ (with_backslashes bytes ++ 34 ∷ []))
   cset : (bytes : List ℕ) → length bytes ≤ 65535
-      → Spells (Cset (members_of bytes)) (39 ∷ (quoted bytes ++ 39 ∷ []))
+      → Spells (Cset (members_of bytes)) (39 ∷ (with_backslashes bytes ++ 39 ∷ []))
 
 -- texts of tokens with one blank behind each but the last
 pub data SpellsAll : List Kind → List ℕ → Type 0 where

@@ -11,7 +11,7 @@ use Rattle.icn_tree.specs.declared.token.Operator.TheVariants.{Dot}
 use Rattle.icn_tree.specs.declared.token.Token.{Token}
 use Rattle.icn_tree.specs.Characters.{is_space, is_blank, begins_comment, begins_identifier, is_digit, continues_identifier, is_quote}
 use Rattle.icn_tree.specs.Literals.{Literal, with_byte, literal_kind, escape_of}
-use Rattle.icn_tree.specs.Numbers.{is_nothing, number, sized}
+use Rattle.icn_tree.specs.Numbers.{is_nothing, number, within_size}
 use Rattle.icn_tree.specs.Semicolons.{Piece, with_semicolons}
 use Rattle.icn_tree.specs.Spellings.{lookup_text, name_of, marks_of}
 
@@ -20,7 +20,7 @@ use Rattle.icn_tree.specs.Spellings.{lookup_text, name_of, marks_of}
 -- a letter or an underscore and what goes on with it
 abbrev pub name : ℕ → List ℕ → Option (Result Kind Rule)
 name b rest =
-    if list_all continues_identifier rest then Some (sized (b ∷ rest) (Ok (name_of (b ∷ rest)))) else None
+    if list_all continues_identifier rest then Some (within_size (b ∷ rest) (Ok (name_of (b ∷ rest)))) else None
 
 -- a dot, which with a digit behind it begins a number that is not whole
 abbrev pub dot_number : List ℕ → Option (Result Kind Rule)
@@ -33,9 +33,9 @@ abbrev pub mark : ℕ → List ℕ → Option (Result Kind Rule)
 mark b rest = option_map (λ kind. Ok kind) (lookup_text (marks_of b) (b ∷ rest))
 
 -- what the bytes are, all of them taken as one: a token, or one that breaks a rule
-unfoldable pub spelled : List ℕ → Option (Result Kind Rule)
-spelled [] = None
-spelled (b ∷ rest) =
+unfoldable pub one_token : List ℕ → Option (Result Kind Rule)
+one_token [] = None
+one_token (b ∷ rest) =
     if begins_identifier b then name b rest
     else (if is_digit b then number (b ∷ rest) else (if b == 46 then dot_number rest else mark b rest))
 
@@ -58,7 +58,7 @@ front_token (Some (Err rule, count)) = Err rule
 
 -- the token at the front of the bytes, the longest that fits, with the number of its bytes
 unfoldable pub first_of : List ℕ → Result (Kind × ℕ) Rule
-first_of bytes = front_token (longest spelled (length bytes) bytes)
+first_of bytes = front_token (longest one_token (length bytes) bytes)
 
 -- All tokens
 

@@ -5,7 +5,7 @@ use Rattle.icn_unit.specs.declared.unit.UnitInstr.{UnitInstr}
 use Rattle.icn_unit.specs.declared.unit.UnitInstr.TheVariants as I
 use Rattle.icn_unit.specs.UnitRules.{own_label}
 use Rattle.icn_translate.specs.declared.builder.Ways.{Ways}
-use Rattle.icn_translate.specs.Drafts.{Draft, put, next_label, with_label, number_of, numbered, put_variable, unmentioned, first_ways, other_ways, in_loop, outside_loop, innermost, next_number, with_next, put_next, last_number, with_last, put_last, first_end, other_ends, case_end, in_case, outside_case, end_number, with_end, put_end}
+use Rattle.icn_translate.specs.Drafts.{Draft, put, next_label, with_label, number_of, with_number, put_variable, no_ways, first_ways, other_ways, in_loop, outside_loop, innermost, next_number, with_next, put_next, last_number, with_last, put_last, first_end, other_ends, case_end, in_case, outside_case, end_number, with_end, put_end}
 use Rattle.icn_translate.specs.Translation.{loop_end}
 use Rattle.icn_units.proofs.Chains.{Keeps}
 
@@ -93,11 +93,11 @@ unfolding put_variable
 variable_labels name d = refl
 
 -- a label that has a number from its first mention on
-numbered_times : (l : ℕ) (k : Option ℕ) (d : Draft) → times l (numbered k d) ≡ times l d
+numbered_times : (l : ℕ) (k : Option ℕ) (d : Draft) → times l (with_number k d) ≡ times l d
 numbered_times l None d = label_times l d
 numbered_times l (Some n) d = refl
 
-numbered_given : (l : ℕ) (k : Option ℕ) (d : Draft) → given l (numbered k d).labels + held l k ≡ given l d.labels
+numbered_given : (l : ℕ) (k : Option ℕ) (d : Draft) → given l (with_number k d).labels + held l k ≡ given l d.labels
     + one l (number_of k d)
 numbered_given l None d = add-zero (given l (with_label d).labels) ∙ label_given l d
 numbered_given l (Some n) d = refl
@@ -170,12 +170,12 @@ next_held : (l : ℕ) (d : Draft) → times l (with_next d) + given l d.labels �
 next_held l d =
     let k = (innermost d).next in
     let o = outside_loop d in
-    sum_held (times l o) (times l (numbered k o)) (times l (with_next d)) (times l d)
-    (given l (numbered k o).labels) (given l d.labels) (given l (with_next d).labels)
+    sum_held (times l o) (times l (with_number k o)) (times l (with_next d)) (times l d)
+    (given l (with_number k o).labels) (given l d.labels) (given l (with_next d).labels)
     (held l k) (one l (number_of k o)) (held l (innermost d).last) (numbered_times l k o)
-    (in_times l _ (numbered k o)) (out_times l d)
+    (in_times l _ (with_number k o)) (out_times l d)
     (numbered_given l k o ∙ ap (λ n. given l n + one l (number_of k o)) (out_labels d))
-    (ap (given l) (in_labels _ (numbered k o)))
+    (ap (given l) (in_labels _ (with_number k o)))
 
 sum_last : (To Tn Tin Td Un Ud Uin hk h other : ℕ) → Tn ≡ To → Tin ≡ Tn + (other + h) → Td ≡ To + (other + hk) → Un
     + hk ≡ Ud + h → Uin ≡ Un → Tin + Ud ≡ Td + Uin
@@ -186,12 +186,12 @@ last_held : (l : ℕ) (d : Draft) → times l (with_last d) + given l d.labels �
 last_held l d =
     let k = (innermost d).last in
     let o = outside_loop d in
-    sum_last (times l o) (times l (numbered k o)) (times l (with_last d)) (times l d)
-    (given l (numbered k o).labels) (given l d.labels) (given l (with_last d).labels)
+    sum_last (times l o) (times l (with_number k o)) (times l (with_last d)) (times l d)
+    (given l (with_number k o).labels) (given l d.labels) (given l (with_last d).labels)
     (held l k) (one l (number_of k o)) (held l (innermost d).next) (numbered_times l k o)
-    (in_times l _ (numbered k o)) (out_times l d)
+    (in_times l _ (with_number k o)) (out_times l d)
     (numbered_given l k o ∙ ap (λ n. given l n + one l (number_of k o)) (out_labels d))
-    (ap (given l) (in_labels _ (numbered k o)))
+    (ap (given l) (in_labels _ (with_number k o)))
 
 sum_end : (To Tn Tin Td Un Ud Uin hk h : ℕ) → Tn ≡ To → Tin ≡ Tn + h → Td ≡ To + hk → Un + hk ≡ Ud + h → Uin ≡ Un
     → Tin + Ud ≡ Td + Uin
@@ -201,12 +201,12 @@ end_held : (l : ℕ) (d : Draft) → times l (with_end d) + given l d.labels ≡
 end_held l d =
     let k = case_end d in
     let o = outside_case d in
-    sum_end (times l o) (times l (numbered k o)) (times l (with_end d)) (times l d) (given l (numbered k o).labels)
+    sum_end (times l o) (times l (with_number k o)) (times l (with_end d)) (times l d) (given l (with_number k o).labels)
     (given l d.labels) (given l (with_end d).labels)
-    (held l k) (one l (number_of k o)) (numbered_times l k o) (in_case_times l _ (numbered k o))
+    (held l k) (one l (number_of k o)) (numbered_times l k o) (in_case_times l _ (with_number k o))
     (out_case_times l d)
     (numbered_given l k o ∙ ap (λ n. given l n + one l (number_of k o)) (out_case_labels d))
-    (ap (given l) (in_case_labels _ (numbered k o)))
+    (ap (given l) (in_case_labels _ (with_number k o)))
 
 -- an instruction with such a label
 sum_word : (Tw Td Tp Ud Uw Up : ℕ) → Tw + Ud ≡ Td + Uw → Tp ≡ Tw → Up ≡ Uw → Tp + Ud ≡ Td + Up
@@ -358,10 +358,10 @@ balance = record {
       (way l (innermost e)) (q.counts l) (out_times l e) (in_times l (innermost e) f) (ap (given l) (out_labels e))
       (ap (given l) (in_labels (innermost e) f)));
   loop = λ d e f ns i p q m. then_balanced d e (loop_end i f) ns p (λ l.
-      sum_within (times l e) (times l (in_loop unmentioned e)) (times l f) (times l (loop_end i f))
-      (given l e.labels) (given l (in_loop unmentioned e).labels) (given l f.labels)
+      sum_within (times l e) (times l (in_loop no_ways e)) (times l f) (times l (loop_end i f))
+      (given l e.labels) (given l (in_loop no_ways e).labels) (given l f.labels)
       (given l (loop_end i f).labels)
-      (q.counts l) (in_times l unmentioned e) (ap (given l) (in_labels unmentioned e)) (loop_held l i f m.place));
+      (q.counts l) (in_times l no_ways e) (ap (given l) (in_labels no_ways e)) (loop_held l i f m.place));
   case_begins = λ d end. tt;
   case_later = λ d e ns p h. tt;
   end_goto = λ d e ns h p. then_balanced d e (put_end I.Goto e) ns p

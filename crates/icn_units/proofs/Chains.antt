@@ -4,7 +4,7 @@ use Rattle.icn_unit.specs.declared.unit.UnitInstr.{UnitInstr}
 use Rattle.icn_unit.specs.declared.unit.UnitInstr.TheVariants as I
 use Rattle.icn_unit.specs.UnitRules.{label_in, own_label}
 use Rattle.icn_translate.specs.declared.builder.Ways.{Ways}
-use Rattle.icn_translate.specs.Drafts.{Draft, put, next_label, with_label, put_variable, unmentioned, in_loop, outside_loop, innermost, put_next, put_last, in_case, outside_case, put_end}
+use Rattle.icn_translate.specs.Drafts.{Draft, put, next_label, with_label, put_variable, no_ways, in_loop, outside_loop, innermost, put_next, put_last, in_case, outside_case, put_end}
 use Rattle.icn_unit.specs.UnitOperands.{is_name}
 use Rattle.icn_translate.specs.Translation.{loop_end}
 use Rattle.icn_units.specs.Written.{operand_fits}
@@ -69,7 +69,7 @@ pub record Keeps : Type 1 where
   pub aside_loop : (d e f : Draft) (ns : List ℕ) (n : ℕ) → Inside (suc n) e → Leads d e ns
       → Leads (outside_loop e) f []
       → Leads d (in_loop (innermost e) f) ns
-  pub loop : (d e f : Draft) (ns : List ℕ) (i : UnitInstr) → Leads d e ns → Leads (in_loop unmentioned e) f []
+  pub loop : (d e f : Draft) (ns : List ℕ) (i : UnitInstr) → Leads d e ns → Leads (in_loop no_ways e) f []
       → May f i
       → Leads d (loop_end i f) ns
   pub case_begins : (d : Draft) (end : Option ℕ) → InCase (in_case end d)

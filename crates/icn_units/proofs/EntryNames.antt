@@ -22,7 +22,7 @@ use Rattle.icn_unit.specs.declared.unit.UnitInstr.TheVariants as I
 use Rattle.icn_unit.specs.declared.unit.UnitName.{UnitName}
 use Rattle.icn_unit.specs.PlainUnits.{entry_names}
 use Rattle.icn_unit.specs.UnitRules.{names_differ, in_order, rank}
-use Rattle.icn_translate.specs.ProcCodes.{entry_of, texts_of, kind_of, local_entries, local_texts, declared_entries, declared_texts, first_draft, draft_of, undeclared, proc_code}
+use Rattle.icn_translate.specs.ProcCodes.{entry_of, texts_of, kind_of, local_entries, local_texts, declared_entries, declared_texts, first_draft, draft_of, undeclared_in, proc_code}
 use Rattle.icn_units.proofs.Forms.{none_before, none_behind}
 use Rattle.icn_units.proofs.Naming.{once_each, nor_of, is_not, Names, naming, naming_asks, are_named}
 use Rattle.icn_units.proofs.Procedures.{procedure_leads}
@@ -228,13 +228,13 @@ module _ (met : NameTest) (procedure : Procedure) (faultless : procedure_faults 
   pub code_names : entry_names (proc_code procedure).names ≡ (draft_of procedure).names
   code_names =
       let names = whole_names in
-      let others : undeclared procedure ≡ names.rest = ap (drop (length (first_draft procedure).names)) names.first
+      let others : undeclared_in procedure ≡ names.rest = ap (drop (length (first_draft procedure).names)) names.first
       ∙ drop-append_seam (first_draft procedure).names names.rest in
       map-append (λ (entry : UnitName). entry.name) (declared_entries procedure)
-      (map (entry_of Undeclared) (undeclared procedure))
-      ∙ ap (λ texts. texts ++ entry_names (map (entry_of Undeclared) (undeclared procedure)))
+      (map (entry_of Undeclared) (undeclared_in procedure))
+      ∙ ap (λ texts. texts ++ entry_names (map (entry_of Undeclared) (undeclared_in procedure)))
       (declared_named procedure ∙ sym begun_names)
-      ∙ ap (λ texts. (first_draft procedure).names ++ texts) (others_named (undeclared procedure) ∙ others)
+      ∙ ap (λ texts. (first_draft procedure).names ++ texts) (others_named (undeclared_in procedure) ∙ others)
       ∙ sym names.first
 
   pub code_names_differ : names_differ (entry_names (proc_code procedure).names) ≡ true
@@ -243,7 +243,7 @@ module _ (met : NameTest) (procedure : Procedure) (faultless : procedure_faults 
       (sym begun_names) declared_once))
 
   pub code_names_in_order : in_order (proc_code procedure).names ≡ true
-  code_names_in_order = procedure_order procedure (undeclared procedure)
+  code_names_in_order = procedure_order procedure (undeclared_in procedure)
 
   whole_vars : Vars (first_draft procedure) (draft_of procedure) []
   whole_vars = have_vars (first_draft procedure) (draft_of procedure) []

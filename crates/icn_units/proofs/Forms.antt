@@ -21,7 +21,7 @@ use Rattle.icn_translate.specs.declared.forms.InfixForm.{InfixForm}
 use Rattle.icn_translate.specs.declared.forms.InfixForm.TheVariants.{Both, Scanning, Either, Limiting, Activating, Spreading, Operating}
 use Rattle.icn_translate.specs.declared.forms.PrefixForm.{PrefixForm}
 use Rattle.icn_translate.specs.declared.forms.PrefixForm.TheVariants.{Activation, Repetition, Operation}
-use Rattle.icn_translate.specs.Drafts.{Draft, ◌▹◌, put, next_label, with_label, unmentioned, in_loop, outside_loop, aside, put_next, put_last, in_case, put_end}
+use Rattle.icn_translate.specs.Drafts.{Draft, ◌▹◌, put, next_label, with_label, no_ways, in_loop, outside_loop, aside, put_next, put_last, in_case, put_end}
 use Rattle.icn_translate.specs.Instructions.{literal_instr, known_keyword, keyword_by, keyword_instr, section_op, infix_form, prefix_form}
 use Rattle.icn_translate.specs.Open.{Open, Outermost, Marked, Looped, Each, unmarks_for_break, unmarks_for_next, around}
 use Rattle.icn_translate.specs.Translation.{is_empty, is_nothing, is_no_element, elements, bounded_code, create_code, if_mark, unless_empty, either_step, control_part, in_control, in_body, back, loop_end, prefix_by, plain_form, update, augmented_form, case_of, looped_body, translate, operands, arguments, conjunction, conjuncts, compound, creations, other_creations, subscripts, to_step, otherwise, looped_part, suspended_part, guarded, guarded_clause, default_part, default_clause, initially, body}
@@ -356,19 +356,19 @@ module _ (S : Keeps) where
 
   -- behind a first label
   loop_runs : {n : ℕ} {inner : Draft → Draft} → Runs S (suc n) inner
-      → Runs S n (λ d. d ▹ with_label ▹ put (I.Lab (next_label d)) ▹ in_loop unmentioned ▹ inner
+      → Runs S n (λ d. d ▹ with_label ▹ put (I.Lab (next_label d)) ▹ in_loop no_ways ▹ inner
       ▹ loop_end (I.Loop (next_label d)))
   loop_runs {n = n} {inner = inner} r = record {
     run = λ d h.
         let m = next_label d in
         let e = put (I.Lab m) (with_label d) in
         let c : Chain S n d e [] = from d h ▸ label ▸ placed in
-        let f = inner (in_loop unmentioned e) in
-        let within = r.run (in_loop unmentioned e) (S.inside_loop e unmentioned n (here c)) in
+        let f = inner (in_loop no_ways e) in
+        let within = r.run (in_loop no_ways e) (S.inside_loop e no_ways n (here c)) in
         let first = S.may_behind (with_label d) (I.Loop m) (I.Lab m)
         (S.fresh d (I.Loop m) (record { label = refl; place = refl; variable = refl; operand = λ passes. refl })) in
         S.loop d e f [] (I.Loop m) c.leads within
-        (S.may_later (in_loop unmentioned e) f [] (I.Loop m) within (S.may_inside e unmentioned (I.Loop m) first));
+        (S.may_later (in_loop no_ways e) f [] (I.Loop m) within (S.may_inside e no_ways (I.Loop m) first));
   }
 
   kinds_run : {n : ℕ} (kind : LoopKind) {control part : Draft → Draft} → Runs S (suc n) control
@@ -389,9 +389,9 @@ module _ (S : Keeps) where
       })
   kinds_run {n = n} Every {control = control} {part = part} c p = record {
     run = λ d h.
-        let e = in_loop unmentioned d in
+        let e = in_loop no_ways d in
         let within : Chain S (suc n) e (part (put I.Pop (control (put I.Mark0 e)))) [] =
-        from e (S.inside_loop d unmentioned n h) ▸ plainly I.Mark0 refl refl refl (λ h. refl) ▸ on c
+        from e (S.inside_loop d no_ways n h) ▸ plainly I.Mark0 refl refl refl (λ h. refl) ▸ on c
         ▸ plainly I.Pop refl refl refl (λ h. refl)
         ▸ on p in
         S.loop d d _ [] I.Efail (S.none d) within.leads

@@ -7,7 +7,7 @@ use Rattle.icn_unit.specs.declared.unit.UnitInstr.{UnitInstr}
 use Rattle.icn_unit.specs.declared.unit.UnitInstr.TheVariants as I
 use Rattle.icn_unit.specs.UnitRules.{names_differ}
 use Rattle.icn_translate.specs.declared.builder.Ways.{Ways}
-use Rattle.icn_translate.specs.Drafts.{Draft, put, with_label, numbered, with_name, with_names, put_variable, unmentioned, in_loop, outside_loop, innermost, with_next, put_next, with_last, put_last, case_end, in_case, outside_case, with_end, put_end}
+use Rattle.icn_translate.specs.Drafts.{Draft, put, with_label, with_number, with_name, with_names, put_variable, no_ways, in_loop, outside_loop, innermost, with_next, put_next, with_last, put_last, case_end, in_case, outside_case, with_end, put_end}
 use Rattle.icn_translate.specs.Translation.{loop_end}
 use Rattle.icn_units.proofs.Chains.{Keeps}
 
@@ -129,7 +129,7 @@ label_names : (d : Draft) → (with_label d).names ≡ d.names
 unfolding with_label
 label_names d = refl
 
-numbered_names : (k : Option ℕ) (d : Draft) → (numbered k d).names ≡ d.names
+numbered_names : (k : Option ℕ) (d : Draft) → (with_number k d).names ≡ d.names
 numbered_names None d = label_names d
 numbered_names (Some n) d = refl
 
@@ -150,15 +150,15 @@ unfolding outside_case
 out_case_names d = refl
 
 next_names : (d : Draft) → (with_next d).names ≡ d.names
-next_names d = in_names _ (numbered (innermost d).next (outside_loop d))
+next_names d = in_names _ (with_number (innermost d).next (outside_loop d))
     ∙ numbered_names (innermost d).next (outside_loop d) ∙ out_names d
 
 last_names : (d : Draft) → (with_last d).names ≡ d.names
-last_names d = in_names _ (numbered (innermost d).last (outside_loop d))
+last_names d = in_names _ (with_number (innermost d).last (outside_loop d))
     ∙ numbered_names (innermost d).last (outside_loop d) ∙ out_names d
 
 end_names : (d : Draft) → (with_end d).names ≡ d.names
-end_names d = in_case_names _ (numbered (case_end d) (outside_case d))
+end_names d = in_case_names _ (with_number (case_end d) (outside_case d))
     ∙ numbered_names (case_end d) (outside_case d) ∙ out_case_names d
 
 loop_names : (i : UnitInstr) (d : Draft) → (loop_end i d).names ≡ d.names
@@ -236,8 +236,8 @@ naming = record {
       (names_then d (outside_loop e) f ns [] (then_same d e (outside_loop e) ns p (out_names e)) q)
       (same_names f (in_loop (innermost e) f) [] (in_names (innermost e) f));
   loop = λ d e f ns i p q m. names_then d f (loop_end i f) ns []
-      (names_then d (in_loop unmentioned e) f ns []
-      (then_same d e (in_loop unmentioned e) ns p (in_names unmentioned e)) q)
+      (names_then d (in_loop no_ways e) f ns []
+      (then_same d e (in_loop no_ways e) ns p (in_names no_ways e)) q)
       (same_names f (loop_end i f) [] (loop_names i f));
   case_begins = λ d end. tt;
   case_later = λ d e ns p h. tt;

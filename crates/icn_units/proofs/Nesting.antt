@@ -3,7 +3,7 @@ use Rattle.std.proofs.Common.{◌≡◌, ◌≤◌, ℕ, true, false, suc, List,
 use Rattle.icn_unit.specs.declared.unit.UnitInstr.{UnitInstr}
 use Rattle.icn_unit.specs.declared.unit.UnitInstr.TheVariants as I
 use Rattle.icn_translate.specs.declared.builder.Ways.{Ways}
-use Rattle.icn_translate.specs.Drafts.{Draft, put, with_label, numbered, put_variable, unmentioned, other_ways, in_loop, outside_loop, innermost, with_next, put_next, with_last, put_last, other_ends, case_end, in_case, outside_case, with_end, put_end}
+use Rattle.icn_translate.specs.Drafts.{Draft, put, with_label, with_number, put_variable, no_ways, other_ways, in_loop, outside_loop, innermost, with_next, put_next, with_last, put_last, other_ends, case_end, in_case, outside_case, with_end, put_end}
 use Rattle.icn_translate.specs.Translation.{loop_end}
 use Rattle.icn_units.proofs.Chains.{Keeps}
 
@@ -32,7 +32,7 @@ variable_level : (name : List ℕ) (d : Draft) → Level d (put_variable name d)
 unfolding put_variable
 variable_level name d = record { loops = refl; cases = refl }
 
-numbered_level : (k : Option ℕ) (d : Draft) → Level d (numbered k d) []
+numbered_level : (k : Option ℕ) (d : Draft) → Level d (with_number k d) []
 numbered_level None d = label_level d
 numbered_level (Some n) d = record { loops = refl; cases = refl }
 
@@ -94,20 +94,20 @@ end_level : (d : Draft) → 1 ≤ length d.cases → Level d (with_end d) []
 end_level d h =
     let p = numbered_level (case_end d) (outside_case d) in
     record {
-      loops = in_case_loops _ (numbered (case_end d) (outside_case d)) ∙ p.loops ∙ out_case_loops d;
-      cases = in_case_cases _ (numbered (case_end d) (outside_case d)) ∙ ap suc p.cases ∙ out_case_cases d h;
+      loops = in_case_loops _ (with_number (case_end d) (outside_case d)) ∙ p.loops ∙ out_case_loops d;
+      cases = in_case_cases _ (with_number (case_end d) (outside_case d)) ∙ ap suc p.cases ∙ out_case_cases d h;
     }
 
 less : {a b : ℕ} → suc a ≡ suc b → a ≡ b
 less {a = a} {b = b} h = omega arith
 
 -- a step in one more loop, with the end of that loop
-loop_level : (i : UnitInstr) (e f : Draft) → Level (in_loop unmentioned e) f [] → Level e (loop_end i f) []
+loop_level : (i : UnitInstr) (e f : Draft) → Level (in_loop no_ways e) f [] → Level e (loop_end i f) []
 loop_level i e f p =
     let f2 = put_next I.Lab f in
     let f3 = put i f2 in
     let f5 = put_last I.Lab f3 in
-    let begun : length f.loops ≡ suc (length e.loops) = p.loops ∙ in_loops unmentioned e in
+    let begun : length f.loops ≡ suc (length e.loops) = p.loops ∙ in_loops no_ways e in
     let deep : 1 ≤ length f.loops = omega arith in
     let q : Level f f3 [] = level_then (next_level f deep)
     (level_then (put_level _ (with_next f)) (put_level i f2)) in
@@ -118,7 +118,7 @@ loop_level i e f p =
     let deep5 : 1 ≤ length f5.loops = omega arith in
     record {
       loops = less (out_loops f5 deep5 ∙ s.loops ∙ begun);
-      cases = out_cases f5 ∙ s.cases ∙ p.cases ∙ in_cases unmentioned e;
+      cases = out_cases f5 ∙ s.cases ∙ p.cases ∙ in_cases no_ways e;
     }
 
 case_level : (e f : Draft) → Level (in_case None e) f [] → Level e (outside_case (put_end I.Lab f)) []

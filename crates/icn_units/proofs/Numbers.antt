@@ -4,7 +4,7 @@ use Rattle.icn_unit.specs.declared.unit.UnitInstr.{UnitInstr}
 use Rattle.icn_unit.specs.declared.unit.UnitInstr.TheVariants as I
 use Rattle.icn_unit.specs.UnitRules.{label_in}
 use Rattle.icn_translate.specs.declared.builder.Ways.{Ways}
-use Rattle.icn_translate.specs.Drafts.{Draft, put, next_label, with_label, number_of, numbered, put_variable, unmentioned, first_ways, other_ways, in_loop, outside_loop, innermost, next_number, with_next, put_next, last_number, with_last, put_last, first_end, other_ends, case_end, in_case, outside_case, end_number, with_end, put_end}
+use Rattle.icn_translate.specs.Drafts.{Draft, put, next_label, with_label, number_of, with_number, put_variable, no_ways, first_ways, other_ways, in_loop, outside_loop, innermost, next_number, with_next, put_next, last_number, with_last, put_last, first_end, other_ends, case_end, in_case, outside_case, end_number, with_end, put_end}
 use Rattle.icn_translate.specs.Translation.{loop_end}
 use Rattle.icn_units.proofs.Chains.{Keeps}
 
@@ -129,15 +129,15 @@ variable_more : (name : List ℕ) (d : Draft) → d.labels ≤ (put_variable nam
 unfolding put_variable
 variable_more name d = same d.labels
 
-numbered_kept : (k : Option ℕ) (d : Draft) → Numbered d → Numbered (numbered k d)
+numbered_kept : (k : Option ℕ) (d : Draft) → Numbered d → Numbered (with_number k d)
 numbered_kept None d a = label_kept d a
 numbered_kept (Some n) d a = a
 
-numbered_more : (k : Option ℕ) (d : Draft) → d.labels ≤ (numbered k d).labels
+numbered_more : (k : Option ℕ) (d : Draft) → d.labels ≤ (with_number k d).labels
 numbered_more None d = label_more d
 numbered_more (Some n) d = same d.labels
 
-number_among : (k : Option ℕ) (d : Draft) → Among d.labels k → Among (numbered k d).labels (Some (number_of k d))
+number_among : (k : Option ℕ) (d : Draft) → Among d.labels k → Among (with_number k d).labels (Some (number_of k d))
 number_among None d a = label_among d
 number_among (Some n) d a = a
 
@@ -209,55 +209,55 @@ from_out_case d = subst (λ n. d.labels ≤ n) (sym (out_case_labels d)) (same d
 
 next_more : (d : Draft) → d.labels ≤ (with_next d).labels
 next_more d = trans (from_out d) (trans (numbered_more (innermost d).next (outside_loop d))
-    (in_more _ (numbered (innermost d).next (outside_loop d))))
+    (in_more _ (with_number (innermost d).next (outside_loop d))))
 
 last_more : (d : Draft) → d.labels ≤ (with_last d).labels
 last_more d = trans (from_out d) (trans (numbered_more (innermost d).last (outside_loop d))
-    (in_more _ (numbered (innermost d).last (outside_loop d))))
+    (in_more _ (with_number (innermost d).last (outside_loop d))))
 
 end_more : (d : Draft) → d.labels ≤ (with_end d).labels
 end_more d = trans (from_out_case d) (trans (numbered_more (case_end d) (outside_case d))
-    (in_case_more _ (numbered (case_end d) (outside_case d))))
+    (in_case_more _ (with_number (case_end d) (outside_case d))))
 
 next_kept : (d : Draft) → Numbered d → Numbered (with_next d)
 next_kept d a =
     let o = outside_loop d in
     let k = (innermost d).next in
     let w = innermost_among d a in
-    in_kept _ (numbered k o) (number_among k o w.0, among_more (innermost d).last (numbered_more k o) w.1)
+    in_kept _ (with_number k o) (number_among k o w.0, among_more (innermost d).last (numbered_more k o) w.1)
     (numbered_kept k o (out_kept d a))
 
 next_among : (d : Draft) → Numbered d → Among (with_next d).labels (Some (next_number d))
 next_among d a =
     let o = outside_loop d in
     let k = (innermost d).next in
-    in_again _ (numbered k o) (Some (next_number d)) (number_among k o (innermost_among d a).0)
+    in_again _ (with_number k o) (Some (next_number d)) (number_among k o (innermost_among d a).0)
 
 last_kept : (d : Draft) → Numbered d → Numbered (with_last d)
 last_kept d a =
     let o = outside_loop d in
     let k = (innermost d).last in
     let w = innermost_among d a in
-    in_kept _ (numbered k o) (among_more (innermost d).next (numbered_more k o) w.0, number_among k o w.1)
+    in_kept _ (with_number k o) (among_more (innermost d).next (numbered_more k o) w.0, number_among k o w.1)
     (numbered_kept k o (out_kept d a))
 
 last_among : (d : Draft) → Numbered d → Among (with_last d).labels (Some (last_number d))
 last_among d a =
     let o = outside_loop d in
     let k = (innermost d).last in
-    in_again _ (numbered k o) (Some (last_number d)) (number_among k o (innermost_among d a).1)
+    in_again _ (with_number k o) (Some (last_number d)) (number_among k o (innermost_among d a).1)
 
 end_kept : (d : Draft) → Numbered d → Numbered (with_end d)
 end_kept d a =
     let o = outside_case d in
     let k = case_end d in
-    in_case_kept _ (numbered k o) (number_among k o (case_end_among d a)) (numbered_kept k o (out_case_kept d a))
+    in_case_kept _ (with_number k o) (number_among k o (case_end_among d a)) (numbered_kept k o (out_case_kept d a))
 
 end_number_among : (d : Draft) → Numbered d → Among (with_end d).labels (Some (end_number d))
 end_number_among d a =
     let o = outside_case d in
     let k = case_end d in
-    in_case_again _ (numbered k o) (Some (end_number d)) (number_among k o (case_end_among d a))
+    in_case_again _ (with_number k o) (Some (end_number d)) (number_among k o (case_end_among d a))
 
 -- Chains of steps
 
@@ -348,8 +348,8 @@ numbers = record {
       (among_more (innermost e).next q.more w.0, among_more (innermost e).last q.more w.1)
       (q.kept (out_kept e a)));
   loop = λ d e f ns i p q m. let l = loop_grows i f m.goes in
-      then_grows d e (loop_end i f) ns p (trans (in_more unmentioned e) (trans q.more l.0))
-      (λ a. l.1 (q.kept (in_kept unmentioned e (tt, tt) a)));
+      then_grows d e (loop_end i f) ns p (trans (in_more no_ways e) (trans q.more l.0))
+      (λ a. l.1 (q.kept (in_kept no_ways e (tt, tt) a)));
   case_begins = λ d end. tt;
   case_later = λ d e ns p h. tt;
   end_goto = λ d e ns h p. then_grows d e (put_end I.Goto e) ns p (trans (end_more e) (put_more _ (with_end e)))

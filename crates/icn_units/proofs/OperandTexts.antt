@@ -6,7 +6,7 @@ use Rattle.icn_unit.specs.declared.unit.UnitInstr.{UnitInstr}
 use Rattle.icn_unit.specs.declared.unit.UnitInstr.TheVariants as I
 use Rattle.icn_unit.specs.UnitOperands.{is_name}
 use Rattle.icn_translate.specs.declared.builder.Ways.{Ways}
-use Rattle.icn_translate.specs.Drafts.{Draft, put, with_label, numbered, name_place, put_variable, unmentioned, in_loop, outside_loop, innermost, next_number, with_next, put_next, last_number, with_last, put_last, case_end, in_case, outside_case, end_number, with_end, put_end}
+use Rattle.icn_translate.specs.Drafts.{Draft, put, with_label, with_number, name_place, put_variable, no_ways, in_loop, outside_loop, innermost, next_number, with_next, put_next, last_number, with_last, put_last, case_end, in_case, outside_case, end_number, with_end, put_end}
 use Rattle.icn_translate.specs.Translation.{loop_end}
 use Rattle.icn_units.specs.Written.{operand_fits}
 use Rattle.icn_units.proofs.Chains.{Keeps, Told}
@@ -51,7 +51,7 @@ module _ (texts_pass : List ℕ → Bool) where
   unfolding with_label
   label_kept d = kept_same d (with_label d) [] refl refl
 
-  numbered_kept : (k : Option ℕ) (d : Draft) → Kept d (numbered k d) []
+  numbered_kept : (k : Option ℕ) (d : Draft) → Kept d (with_number k d) []
   numbered_kept None d = label_kept d
   numbered_kept (Some n) d = kept_same d d [] refl refl
 
@@ -75,22 +75,22 @@ module _ (texts_pass : List ℕ → Bool) where
   next_kept d =
       let o = outside_loop d in
       let k = (innermost d).next in
-      kept_then d o _ [] [] (out_kept d) (kept_then o (numbered k o) _ [] [] (numbered_kept k o)
-      (in_kept _ (numbered k o)))
+      kept_then d o _ [] [] (out_kept d) (kept_then o (with_number k o) _ [] [] (numbered_kept k o)
+      (in_kept _ (with_number k o)))
 
   last_kept : (d : Draft) → Kept d (with_last d) []
   last_kept d =
       let o = outside_loop d in
       let k = (innermost d).last in
-      kept_then d o _ [] [] (out_kept d) (kept_then o (numbered k o) _ [] [] (numbered_kept k o)
-      (in_kept _ (numbered k o)))
+      kept_then d o _ [] [] (out_kept d) (kept_then o (with_number k o) _ [] [] (numbered_kept k o)
+      (in_kept _ (with_number k o)))
 
   end_kept : (d : Draft) → Kept d (with_end d) []
   end_kept d =
       let o = outside_case d in
       let k = case_end d in
-      kept_then d o _ [] [] (out_case_kept d) (kept_then o (numbered k o) _ [] [] (numbered_kept k o)
-      (in_case_kept _ (numbered k o)))
+      kept_then d o _ [] [] (out_case_kept d) (kept_then o (with_number k o) _ [] [] (numbered_kept k o)
+      (in_case_kept _ (with_number k o)))
 
   next_word_kept : (i : UnitInstr) (d : Draft) → operand_fits texts_pass i ≡ true → Kept d (put i (with_next d)) []
   next_word_kept i d h = kept_then d (with_next d) (put i (with_next d)) [] [] (next_kept d)
@@ -167,8 +167,8 @@ module _ (texts_pass : List ℕ → Bool) where
         (kept_then e (outside_loop e) (in_loop (innermost e) f) [] [] (out_kept e)
         (kept_then (outside_loop e) f (in_loop (innermost e) f) [] [] q (in_kept (innermost e) f)));
     loop = λ d e f ns i p q m. kept_then d e (loop_end i f) ns [] p
-        (kept_then e (in_loop unmentioned e) (loop_end i f) [] [] (in_kept unmentioned e)
-        (kept_then (in_loop unmentioned e) f (loop_end i f) [] [] q (loop_kept i f m.fits)));
+        (kept_then e (in_loop no_ways e) (loop_end i f) [] [] (in_kept no_ways e)
+        (kept_then (in_loop no_ways e) f (loop_end i f) [] [] q (loop_kept i f m.fits)));
     case_begins = λ d end. tt;
     case_later = λ d e ns p h. tt;
     end_goto = λ d e ns h p. kept_then d e (put_end I.Goto e) ns [] p (end_word_kept (I.Goto (end_number e)) e refl);

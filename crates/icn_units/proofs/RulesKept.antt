@@ -24,7 +24,7 @@ use Rattle.icn_unit.specs.PlainUnits.{Global as GlobalLine, Link as LinkLine}
 use Rattle.icn_unit.specs.UnitOperands.{is_name, ascends}
 use Rattle.icn_unit.specs.UnitRules.{is_byte, is_number, keeps_operand, keeps_proc, keeps_decl, keeps_rules, names_differ}
 use Rattle.icn_translate.specs.FileUnits.{proc_codes, item_text, lines_in, unit_decls}
-use Rattle.icn_translate.specs.ProcCodes.{entry_of, texts_of, local_entries, declared_entries, undeclared, proc_code}
+use Rattle.icn_translate.specs.ProcCodes.{entry_of, texts_of, local_entries, declared_entries, undeclared_in, proc_code}
 use Rattle.icn_units.specs.CodeNames.{variable_is_named, fields_differ}
 use Rattle.icn_units.specs.TypeBounds.{number_fits, numbers_fit, bytes_fit}
 use Rattle.icn_units.specs.Written.{is_short, name_fits, names_fit, item_fits, operand_fits, procedure_fits, collects_fits, declaration_fits, file_fits, all_locals_fit, initial_fits, trees_fit}
@@ -96,10 +96,10 @@ none_undeclared (text ∷ texts) = sum_by-cons (λ (x : UnitName). cond (is_para
 
 params_most : (procedure : Procedure) → params_in (proc_code procedure).names ≤ length (declared_entries procedure)
 params_most procedure =
-    let others = map (entry_of Undeclared) (undeclared procedure) in
+    let others = map (entry_of Undeclared) (undeclared_in procedure) in
     let sum = sum_by-append (λ (x : UnitName). cond (is_parameter x.kind) 1 0)
     (declared_entries procedure) others in
-    let none = none_undeclared (undeclared procedure) in
+    let none = none_undeclared (undeclared_in procedure) in
     let most = count_by-le-length (λ (x : UnitName). is_parameter x.kind) (declared_entries procedure) in
     omega arith
 
@@ -130,7 +130,7 @@ some_params procedure h = by procedure.is_variadic h
     by false h = refl
     by true h = le_test 1 (params_in (proc_code procedure).names)
         (some_counted procedure.parameters (flat_map local_entries procedure.locals)
-        (map (entry_of Undeclared) (undeclared procedure)) h)
+        (map (entry_of Undeclared) (undeclared_in procedure)) h)
 
 -- A procedure
 

@@ -5,7 +5,7 @@ use Rattle.std.specs.Str.{bytes_eq}
 use Rattle.icn_unit.specs.declared.unit.UnitInstr.{UnitInstr}
 use Rattle.icn_unit.specs.declared.unit.UnitInstr.TheVariants as I
 use Rattle.icn_translate.specs.declared.builder.Ways.{Ways}
-use Rattle.icn_translate.specs.Drafts.{Draft, put, with_label, numbered, with_name, name_place, put_variable, unmentioned, in_loop, outside_loop, innermost, next_number, with_next, put_next, last_number, with_last, put_last, case_end, in_case, outside_case, end_number, with_end, put_end}
+use Rattle.icn_translate.specs.Drafts.{Draft, put, with_label, with_number, with_name, name_place, put_variable, no_ways, in_loop, outside_loop, innermost, next_number, with_next, put_next, last_number, with_last, put_last, case_end, in_case, outside_case, end_number, with_end, put_end}
 use Rattle.icn_translate.specs.Translation.{loop_end}
 use Rattle.icn_units.proofs.Chains.{Keeps, variable_in}
 
@@ -72,7 +72,7 @@ label_vars : (d : Draft) → Vars d (with_label d) []
 unfolding with_label
 label_vars d = vars_same d (with_label d) [] refl refl
 
-numbered_vars : (k : Option ℕ) (d : Draft) → Vars d (numbered k d) []
+numbered_vars : (k : Option ℕ) (d : Draft) → Vars d (with_number k d) []
 numbered_vars None d = label_vars d
 numbered_vars (Some n) d = vars_same d d [] refl refl
 
@@ -96,22 +96,22 @@ next_vars : (d : Draft) → Vars d (with_next d) []
 next_vars d =
     let o = outside_loop d in
     let k = (innermost d).next in
-    vars_then d o _ [] [] (out_vars d) (vars_then o (numbered k o) _ [] [] (numbered_vars k o)
-    (in_vars _ (numbered k o)))
+    vars_then d o _ [] [] (out_vars d) (vars_then o (with_number k o) _ [] [] (numbered_vars k o)
+    (in_vars _ (with_number k o)))
 
 last_vars : (d : Draft) → Vars d (with_last d) []
 last_vars d =
     let o = outside_loop d in
     let k = (innermost d).last in
-    vars_then d o _ [] [] (out_vars d) (vars_then o (numbered k o) _ [] [] (numbered_vars k o)
-    (in_vars _ (numbered k o)))
+    vars_then d o _ [] [] (out_vars d) (vars_then o (with_number k o) _ [] [] (numbered_vars k o)
+    (in_vars _ (with_number k o)))
 
 end_vars : (d : Draft) → Vars d (with_end d) []
 end_vars d =
     let o = outside_case d in
     let k = case_end d in
-    vars_then d o _ [] [] (out_case_vars d) (vars_then o (numbered k o) _ [] [] (numbered_vars k o)
-    (in_case_vars _ (numbered k o)))
+    vars_then d o _ [] [] (out_case_vars d) (vars_then o (with_number k o) _ [] [] (numbered_vars k o)
+    (in_case_vars _ (with_number k o)))
 
 next_word_vars : (i : UnitInstr) (d : Draft) → variable_in i ≡ None → Vars d (put i (with_next d)) []
 next_word_vars i d h = vars_then d (with_next d) (put i (with_next d)) [] [] (next_vars d)
@@ -220,8 +220,8 @@ variables = record {
       (vars_then e (outside_loop e) (in_loop (innermost e) f) [] [] (out_vars e)
       (vars_then (outside_loop e) f (in_loop (innermost e) f) [] [] q (in_vars (innermost e) f)));
   loop = λ d e f ns i p q m. vars_then d e (loop_end i f) ns [] p
-      (vars_then e (in_loop unmentioned e) (loop_end i f) [] [] (in_vars unmentioned e)
-      (vars_then (in_loop unmentioned e) f (loop_end i f) [] [] q (loop_vars i f m.none)));
+      (vars_then e (in_loop no_ways e) (loop_end i f) [] [] (in_vars no_ways e)
+      (vars_then (in_loop no_ways e) f (loop_end i f) [] [] q (loop_vars i f m.none)));
   case_begins = λ d end. tt;
   case_later = λ d e ns p h. tt;
   end_goto = λ d e ns h p. vars_then d e (put_end I.Goto e) ns [] p (end_word_vars (I.Goto (end_number e)) e refl);

@@ -1,6 +1,6 @@
 -- What a heap stands for, the world round it, and the outside.
 use Rattle.std.specs.Prelude.{ℕ, List, [], ◌∷◌, length, slice_get, slice_set, slice_index, unwrap_or, pos}
-use Rattle.icn_structs.specs.Numbered.{Numbered}
+use Rattle.icn_structs.specs.Numbered.{NumberedList}
 use Rattle.icn_value.specs.Limited.{Bounds}
 use Rattle.icn_value.specs.Values.{Value, Null}
 
@@ -17,7 +17,7 @@ pub record Record : Type 0 where
 -- The structures, each in the list of its type at its number; of each co-expression, `&main` first, how
 -- many results it gave; the sums of the string bytes and of the cells that were charged; and the limits.
 pub record Heap : Type 0 where
-  pub lists : List (Numbered Value)
+  pub lists : List (NumberedList Value)
   pub sets : List (List Value)
   pub tables : List Table
   pub records : List Record
@@ -85,11 +85,11 @@ pub record Names : Type 0 where
 -- Structures by their numbers. Each number of a value is that of a structure; elsewhere these give
 -- something empty.
 
-abbrev pub new_list : List Value → Numbered Value
+abbrev pub new_list : List Value → NumberedList Value
 new_list items = record { items = items; number = pos 1 }
 
 -- the list of this number; where there is none, an empty one
-abbrev pub list_at : Heap → ℕ → Numbered Value
+abbrev pub list_at : Heap → ℕ → NumberedList Value
 list_at heap id = unwrap_or (slice_get heap.lists id) (new_list [])
 
 -- the members of the set of this number; where there is none, no members
@@ -115,7 +115,7 @@ value_at values place = unwrap_or (slice_get values place) Null
 -- Changes
 
 -- another list under this number
-abbrev pub with_list : ℕ → Numbered Value → Heap → Heap
+abbrev pub with_list : ℕ → NumberedList Value → Heap → Heap
 with_list id list heap = record heap { lists = slice_set heap.lists id list }
 
 abbrev pub with_set : ℕ → List Value → Heap → Heap

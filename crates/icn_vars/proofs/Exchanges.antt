@@ -9,7 +9,7 @@ use Rattle.icn_value.specs.Store.{Setting}
 use Rattle.icn_defs.specs.Calls.{ComesTo, GoesOn}
 use Rattle.icn_defs.specs.Conversions.{held_text, text_of}
 use Rattle.icn_defs.specs.Facts.{can_hold}
-use Rattle.icn_defs.specs.Reading.{undoes_exchange, assigns_both, assigns_or, assigns_root, move_part, moved_by_left, moved_by_right, part_length, reads_text, replaced, root_value}
+use Rattle.icn_defs.specs.Reading.{undoes_exchange, assigns_both, assigns_or, assigns_root, move_part, moved_by_left, moved_by_right, part_length, reads_text, with_part, root_value}
 use Rattle.icn_defs.specs.Rows.{Row, Finds, Error, Mover, Neither, Left, Right, check, costs_bytes, costs_text, present, wrong}
 use Rattle.icn_heap.specs.Extents.{Extent}
 use Rattle.icn_vars.specs.declared.stop.Stop.{Stop}
@@ -52,16 +52,16 @@ far_same refused root p q size value next next' s one two = by (text_of value)
   where
     by : (found : Option (List ℕ))
         → present found 103 (Some value) (λ (new : List ℕ). reads_text root p size (λ text. costs_text value
-        (costs_bytes (length (replaced text p size new)) (assigns_root refused root (Text (replaced text p size new)) (next (Part root p (length new))))))) s
+        (costs_bytes (length (with_part text p size new)) (assigns_root refused root (Text (with_part text p size new)) (next (Part root p (length new))))))) s
         ≡ present found 103 (Some value) (λ (new : List ℕ). reads_text root q size (λ text. costs_text value
-        (costs_bytes (length (replaced text q size new)) (assigns_root refused root (Text (replaced text q size new)) (next' (Part root q (length new))))))) s
+        (costs_bytes (length (with_part text q size new)) (assigns_root refused root (Text (with_part text q size new)) (next' (Part root q (length new))))))) s
     by None = refl
     by (Some new) =
         unread_by p q size (root_value s root)
         (λ text. costs_text value
-        (costs_bytes (length (replaced text p size new)) (assigns_root refused root (Text (replaced text p size new)) (next (Part root p (length new))))))
+        (costs_bytes (length (with_part text p size new)) (assigns_root refused root (Text (with_part text p size new)) (next (Part root p (length new))))))
         (λ text. costs_text value
-        (costs_bytes (length (replaced text q size new)) (assigns_root refused root (Text (replaced text q size new)) (next' (Part root q (length new))))))
+        (costs_bytes (length (with_part text q size new)) (assigns_root refused root (Text (with_part text q size new)) (next' (Part root q (length new))))))
         s one two
 
 -- Stops within a row

@@ -6,7 +6,7 @@ use Rattle.icn_value.specs.Values.{Value, Text, Root, Variable, Whole, Part, Ran
 use Rattle.icn_value.specs.Store.{Setting, having_random, having_subject}
 use Rattle.icn_defs.specs.Calls.{ComesTo, GoesOn, Passes}
 use Rattle.icn_defs.specs.Conversions.{integer_of, text_of}
-use Rattle.icn_defs.specs.Reading.{assigns_keyword, assigns_or, assigns_root, reads_text, replaced, undoes}
+use Rattle.icn_defs.specs.Reading.{assigns_keyword, assigns_or, assigns_root, reads_text, with_part, undoes}
 use Rattle.icn_defs.specs.Rows.{Row, Finds, Error, changes, costs_bytes, costs_text, present, wrong}
 use Rattle.icn_heap.specs.Extents.{Extent}
 use Rattle.icn_vars.specs.declared.stop.Stop.{Stop}
@@ -58,21 +58,21 @@ pub part_no_text : (root : Root) (place size : ℕ) (value : Value) (s : Setting
     → (refused : Row) → ComesTo (assigns_or refused (Part root place size) value) s (Error 103 (Some value) s)
 part_no_text root place size value s has refused next =
     ap (λ found.
-    present found 103 (Some value) (λ (new : List ℕ). reads_text root place size (λ text. costs_text value (costs_bytes (length (replaced text place size new))
-    (assigns_root refused root (Text (replaced text place size new)) (next (Part root place (length new))))))) s) (none_is (text_of value) has)
+    present found 103 (Some value) (λ (new : List ℕ). reads_text root place size (λ text. costs_text value (costs_bytes (length (with_part text place size new))
+    (assigns_root refused root (Text (with_part text place size new)) (next (Part root place (length new))))))) s) (none_is (text_of value) has)
 
 module _ (all : Extent) (root : Root) (place size : ℕ) (value : Value) (new : List ℕ) (has : text_of value ≡ Some new) where
   rest : Row → (Variable → Row) → List ℕ → Row
-  rest refused next text = costs_text value (costs_bytes (length (replaced text place size new))
-      (assigns_root refused root (Text (replaced text place size new)) (next (Part root place (length new)))))
+  rest refused next text = costs_text value (costs_bytes (length (with_part text place size new))
+      (assigns_root refused root (Text (with_part text place size new)) (next (Part root place (length new)))))
 
   begun : (s : Setting) (refused : Row) (next : Variable → Row)
       → assigns_or refused (Part root place size) value next s ≡ reads_text root place size (rest refused next) s
   unfolding rest
   begun s refused next =
       ap (λ found. present found 103 (Some value)
-      (λ (new : List ℕ). reads_text root place size (λ text. costs_text value (costs_bytes (length (replaced text place size new))
-      (assigns_root refused root (Text (replaced text place size new)) (next (Part root place (length new))))))) s) has
+      (λ (new : List ℕ). reads_text root place size (λ text. costs_text value (costs_bytes (length (with_part text place size new))
+      (assigns_root refused root (Text (with_part text place size new)) (next (Part root place (length new))))))) s) has
 
   pub part_unread : (s t : Setting) (stop : Stop) → StopsFinding all (reads_text root place size) s t stop → (refused : Row)
       → StopsFinding all (assigns_or refused (Part root place size) value) s t stop
@@ -85,31 +85,31 @@ module _ (all : Extent) (root : Root) (place size : ℕ) (value : Value) (new : 
   unfolding rest
   part_text_stops text s t (StopError number offending) read is refused = λ next.
       begun s refused next ∙ (read (rest refused next)
-      ∙ is (costs_bytes (length (replaced text place size new))
-      (assigns_root refused root (Text (replaced text place size new)) (next (Part root place (length new))))))
+      ∙ is (costs_bytes (length (with_part text place size new))
+      (assigns_root refused root (Text (with_part text place size new)) (next (Part root place (length new))))))
   part_text_stops text s t NoMemory read is refused = tt
 
   pub part_bytes_stop : (text : List ℕ) (s t u : Setting) (stop : Stop) → GoesOn (reads_text root place size) s text s → Passes (costs_text value) s t
-      → StopsPassing all (costs_bytes (length (replaced text place size new))) t u stop → (refused : Row)
+      → StopsPassing all (costs_bytes (length (with_part text place size new))) t u stop → (refused : Row)
       → StopsFinding all (assigns_or refused (Part root place size) value) s u stop
   unfolding rest
   part_bytes_stop text s t u (StopError number offending) read made is refused = λ next.
       begun s refused next ∙ (read (rest refused next)
-      ∙ (made (costs_bytes (length (replaced text place size new))
-      (assigns_root refused root (Text (replaced text place size new)) (next (Part root place (length new)))))
-      ∙ is (assigns_root refused root (Text (replaced text place size new)) (next (Part root place (length new))))))
+      ∙ (made (costs_bytes (length (with_part text place size new))
+      (assigns_root refused root (Text (with_part text place size new)) (next (Part root place (length new)))))
+      ∙ is (assigns_root refused root (Text (with_part text place size new)) (next (Part root place (length new))))))
   part_bytes_stop text s t u NoMemory read made is refused = tt
 
   pub part_built : (text : List ℕ) (s t u : Setting) → GoesOn (reads_text root place size) s text s → Passes (costs_text value) s t
-      → Passes (costs_bytes (length (replaced text place size new))) t u
+      → Passes (costs_bytes (length (with_part text place size new))) t u
       → (refused : Row) (next : Variable → Row) → assigns_or refused (Part root place size) value next s
-      ≡ assigns_root refused root (Text (replaced text place size new)) (next (Part root place (length new))) u
+      ≡ assigns_root refused root (Text (with_part text place size new)) (next (Part root place (length new))) u
   unfolding rest
   part_built text s t u read made built refused next =
       begun s refused next ∙ (read (rest refused next)
-      ∙ (made (costs_bytes (length (replaced text place size new))
-      (assigns_root refused root (Text (replaced text place size new)) (next (Part root place (length new)))))
-      ∙ built (assigns_root refused root (Text (replaced text place size new)) (next (Part root place (length new))))))
+      ∙ (made (costs_bytes (length (with_part text place size new))
+      (assigns_root refused root (Text (with_part text place size new)) (next (Part root place (length new)))))
+      ∙ built (assigns_root refused root (Text (with_part text place size new)) (next (Part root place (length new))))))
 
 -- the root of a part is assigned: by what it was before the heap grew
 pub root_as : (all : Extent) (root root' : Root) (value value' : Value) (u t : Setting) (result : Result Bool Stop) → root' ≡ root → value' ≡ value

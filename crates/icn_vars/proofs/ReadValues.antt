@@ -4,7 +4,7 @@ use Rattle.std.specs.List.{slice_get, slice_range}
 use Rattle.std.specs.List.{All}
 use Rattle.std.specs.Option.{option_map}
 use Rattle.std.proofs.lemmas.Option.{slice_get-map}
-use Rattle.icn_structs.specs.Numbered.{Numbered, item_at, item_numbered}
+use Rattle.icn_structs.specs.Numbered.{NumberedList, item_at, item_numbered}
 use Rattle.icn_heap.specs.Parts.{list_in}
 use Rattle.icn_heap.proofs.ListChanges.{get_live}
 use Rattle.std.specs.Prelude.{ℤ, pos, negsuc, ◌-ℤ◌, IfSome, unwrap_or, slice_index, IsErrAnd, MatchResult}
@@ -120,7 +120,7 @@ part_stops all setting root place size stop (Err other) same h =
 
 -- Elements
 
-numbered : (all : Extent) (list : Numbered HeldVal) (number : ℤ)
+numbered : (all : Extent) (list : NumberedList HeldVal) (number : ℤ)
     → option_map (value_in all) (item_numbered list number) ≡ item_numbered (list_in all list) number
 numbered all list number = by (number -ℤ list.number)
   where
@@ -128,12 +128,12 @@ numbered all list number = by (number -ℤ list.number)
     by (pos place) = sym (slice_get-map (value_in all) list.items place)
     by (negsuc place) = refl
 
-pub element_read : (all : Extent) (list : Numbered HeldVal) (held : Numbered Value) (number : ℤ) (found : Option HeldVal) → list_in all list ≡ held
+pub element_read : (all : Extent) (list : NumberedList HeldVal) (held : NumberedList Value) (number : ℤ) (found : Option HeldVal) → list_in all list ≡ held
     → found ≡ item_numbered list number
     → option_map (value_in all) found ≡ item_numbered held number
 element_read all list held number found is same = ap (option_map (value_in all)) same ∙ (numbered all list number ∙ ap (λ one. item_numbered one number) is)
 
-pub element_live : (all : Extent) (list : Numbered HeldVal) (number : ℤ) (found : Option HeldVal) → All (IsLive all) list.items
+pub element_live : (all : Extent) (list : NumberedList HeldVal) (number : ℤ) (found : Option HeldVal) → All (IsLive all) list.items
     → found ≡ item_numbered list number → IfSome found (IsLive all)
 element_live all list number found live is = subst (λ one. IfSome one (IsLive all)) (sym is) (by (number -ℤ list.number))
   where

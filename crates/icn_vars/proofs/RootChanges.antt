@@ -4,7 +4,7 @@ use Rattle.std.specs.Prelude.{IsErrAnd, ℤ, pos, negsuc, ◌-ℤ◌, is_some, u
 use Rattle.std.specs.List.{All, slice_get}
 use Rattle.std.proofs.lemmas.List.{map-set}
 use Rattle.std.proofs.lemmas.List.Elements.{All-set}
-use Rattle.icn_structs.specs.Numbered.{Numbered, item_at, item_numbered, items_with, with_numbered}
+use Rattle.icn_structs.specs.Numbered.{NumberedList, item_at, item_numbered, items_with, with_numbered}
 use Rattle.icn_structs.specs.PairLists.{stored}
 use Rattle.icn_value.specs.declared.full.Full.{Full}
 use Rattle.icn_value.specs.declared.full.Full.TheVariants.{Cells, NoMemory, Strings}
@@ -92,9 +92,9 @@ with_gone : (items : List Value) (place : ℤ) (value : Value) → is_some (item
 with_gone items (pos place) value gone = set_gone items place value gone
 with_gone items (negsuc place) value gone = refl
 
-numbered_gone : (list : Numbered Value) (number : ℤ) (value : Value) → is_some (item_numbered list number) ≡ false → with_numbered list number value ≡ list
+numbered_gone : (list : NumberedList Value) (number : ℤ) (value : Value) → is_some (item_numbered list number) ≡ false → with_numbered list number value ≡ list
 numbered_gone list number value gone =
-    ap (λ items. let one : Numbered Value = record { items = items; number = list.number } in one) (with_gone list.items (number -ℤ list.number) value gone)
+    ap (λ items. let one : NumberedList Value = record { items = items; number = list.number } in one) (with_gone list.items (number -ℤ list.number) value gone)
 
 -- where no element has the number, nothing is changed
 pub element_gone : (heap : Heap) (id : ℕ) (number : ℤ) (value : Value) → is_some (item_numbered (list_at heap id) number) ≡ false

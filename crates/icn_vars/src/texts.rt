@@ -4,7 +4,7 @@ ghost use Rattle.std.specs.List.{All};
 ghost use Rattle.icn_value.specs.Store.{Outside};
 ghost use Rattle.icn_defs.specs.Calls.{Passes};
 ghost use Rattle.icn_defs.specs.Conversions.{text_of};
-ghost use Rattle.icn_defs.specs.Reading.{replaced};
+ghost use Rattle.icn_defs.specs.Reading.{with_part};
 ghost use Rattle.icn_defs.specs.Rows.{costs_bytes, costs_text};
 ghost use Rattle.icn_heap.specs.Extents.{Extent, IsLive, IsText, text_in, value_in};
 ghost use Rattle.icn_heap.specs.Heaps.{extent_of};
@@ -60,7 +60,7 @@ fn replaced_bytes(
 ) -> Result<Vec<u8>, AllocError>
     requires place { 1 ≤ place }
     requires within { place - 1 + len ≤ length whole.now }
-    ensures { IfOk result (λ bytes. bytes.items ≡ replaced whole.now place len new.now) }
+    ensures { IfOk result (λ bytes. bytes.items ≡ with_part whole.now place len new.now) }
 {
     let from = (place - 1) as usize;
     let mut bytes = Vec::new(alloc);
@@ -87,12 +87,12 @@ pub fn replace<L: Locals>(
     requires within { place - 1 + len ≤ length (text_in (extent_of w.old.heap) whole) }
     ensures live { IfOk result (IsText (extent_of w.new.heap)) }
     ensures text { IfOk result (λ span. text_in (extent_of w.new.heap) span
-        ≡ replaced (text_in (extent_of w.old.heap) whole) place len (text_in (extent_of w.old.heap) new)) }
+        ≡ with_part (text_in (extent_of w.old.heap) whole) place len (text_in (extent_of w.old.heap) new)) }
     ensures passes { (outside : Outside) → MatchResult result (λ _. Passes (costs_bytes (length
-        (replaced (text_in (extent_of w.old.heap) whole) place len (text_in (extent_of w.old.heap) new))))
+        (with_part (text_in (extent_of w.old.heap) whole) place len (text_in (extent_of w.old.heap) new))))
         (setting_of outside w.old (L.items l.now)) (setting_of outside w.new (L.items l.now)))
         (StopsPassing (extent_of w.new.heap) (costs_bytes (length
-        (replaced (text_in (extent_of w.old.heap) whole) place len (text_in (extent_of w.old.heap) new))))
+        (with_part (text_in (extent_of w.old.heap) whole) place len (text_in (extent_of w.old.heap) new))))
         (setting_of outside w.old (L.items l.now)) (setting_of outside w.new (L.items l.now))) }
     ensures stops { IfErr result (IsLiveStop (extent_of w.new.heap)) }
     ensures locals { All (IsLive (extent_of w.new.heap)) (L.items l.now) }

@@ -7,7 +7,7 @@ use Rattle.icn_verify.specs.declared.arena.Entry.{Entry}
 use Rattle.icn_verify.specs.Entries.{IsEntered}
 use Rattle.icn_verify.specs.Shapes.{shape_outside}
 use Rattle.icn_verify.specs.Passing.{same_levels}
-use Rattle.icn_verify.specs.Stacks.{stack_at, stacked, stacks_of, IsOnce, Grows}
+use Rattle.icn_verify.specs.Stacks.{stack_at, stacks_with, stacks_of, IsOnce, Grows}
 use Rattle.icn_verify.proofs.Same.{same_levels_tells, levels_itself}
 use Rattle.icn_verify.proofs.FirstFaults.{some_within}
 
@@ -21,11 +21,11 @@ stack_of : List (List Level) → Entry → List Level
 stack_of stacks entry = entry.level ∷ stack_at stacks entry.outer
 
 pub stacked_push : (stacks : List (List Level)) (entries : List Entry) (entry : Entry)
-    → stacked stacks (entries ++ entry ∷ []) ≡ stacked stacks entries ++ (entry.level ∷ stack_at (stacked stacks entries) entry.outer) ∷ []
+    → stacks_with stacks (entries ++ entry ∷ []) ≡ stacks_with stacks entries ++ (entry.level ∷ stack_at (stacks_with stacks entries) entry.outer) ∷ []
 stacked_push stacks [] entry = refl
 stacked_push stacks (first ∷ entries) entry = stacked_push (stacks ++ (first.level ∷ stack_at stacks first.outer) ∷ []) entries entry
 
-pub length-stacked : (stacks : List (List Level)) (entries : List Entry) → length (stacked stacks entries) ≡ length stacks + length entries
+pub length-stacked : (stacks : List (List Level)) (entries : List Entry) → length (stacks_with stacks entries) ≡ length stacks + length entries
 length-stacked stacks [] = omega arith
 length-stacked stacks (first ∷ entries) =
     let e = length-stacked (stacks ++ (first.level ∷ stack_at stacks first.outer) ∷ []) entries in
@@ -35,7 +35,7 @@ length-stacked stacks (first ∷ entries) =
 pub length-stacks_of : (entries : List Entry) → length (stacks_of entries) ≡ length entries + 1
 length-stacks_of entries = let e = length-stacked ([] ∷ []) entries in omega arith
 
-begins : (stacks : List (List Level)) (entries : List Entry) → (more : List (List Level)) × (stacked stacks entries ≡ stacks ++ more)
+begins : (stacks : List (List Level)) (entries : List Entry) → (more : List (List Level)) × (stacks_with stacks entries ≡ stacks ++ more)
 begins stacks [] = ([], sym (append-nil stacks))
 begins stacks (first ∷ entries) =
     let rest = begins (stacks ++ (first.level ∷ stack_at stacks first.outer) ∷ []) entries in

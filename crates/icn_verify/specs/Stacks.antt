@@ -14,14 +14,14 @@ abbrev pub stack_at : List (List Level) → ℕ → List Level
 stack_at stacks number = slice_index_or stacks number []
 
 -- each entry is a level on an earlier stack
-abbrev pub stacked : List (List Level) → List Entry → List (List Level)
-stacked stacks [] = stacks
-stacked stacks (entry ∷ entries) =
-    stacked (stacks ++ (entry.level ∷ stack_at stacks entry.outer) ∷ []) entries
+abbrev pub stacks_with : List (List Level) → List Entry → List (List Level)
+stacks_with stacks [] = stacks
+stacks_with stacks (entry ∷ entries) =
+    stacks_with (stacks ++ (entry.level ∷ stack_at stacks entry.outer) ∷ []) entries
 
 -- the stacks of these entries by their numbers, the empty one first
 abbrev pub stacks_of : List Entry → List (List Level)
-stacks_of entries = stacked ([] ∷ []) entries
+stacks_of entries = stacks_with ([] ∷ []) entries
 
 -- each stack is there once, and each entry's own stack is where it says
 pub record IsOnce (entries : List Entry) : Type 0 where

@@ -9,7 +9,7 @@ use Rattle.icn_unit.specs.PlainUnits.{Proc, Decl, UnitRead}
 use Rattle.icn_image.specs.Spelling.{image_of}
 use Rattle.icn_link.specs.declared.fault.LinkFault.{LinkFault}
 use Rattle.icn_link.specs.declared.fault.LinkFault.TheVariants.{NoMemory}
-use Rattle.icn_link.specs.Joined.{joined, joined_of}
+use Rattle.icn_link.specs.Joined.{joined_code, joined_of}
 use Rattle.icn_link.specs.LinkFaults.{Owner, count_fault, first_fault, local_counts, missing, missing_fault, missing_from, missing_in, over, owner_named, owners_from, record_sizes, repeat_of, repeated_name, repeated_from, size_of, static_counts, table_sizes, too_large_of, unit_names}
 use Rattle.icn_link.specs.Mentions.{globals, all_mentions, mentioned_by, operands_in}
 use Rattle.icn_link.specs.Units.{all_decls, all_procs}
@@ -114,6 +114,6 @@ image_counted D P e = right_none (statics D P) (bytes D P) (right_none (locals D
     (right_none (operands P) (behind_operands D P) (right_none (entries D P) (behind_entries D P) (right_none (instrs P) (behind_instrs D P) e)))))
 
 -- where the linker finds no fault, the image is within the bound
-pub image_within : (units : List UnitRead) → first_fault units ≡ None → length (image_of (joined units)) ≤ 1073741824
-image_within units e = within_count 1073741824 (length (image_of (joined units))) (image_counted (all_decls units) (all_procs units)
+pub image_within : (units : List UnitRead) → first_fault units ≡ None → length (image_of (joined_code units)) ≤ 1073741824
+image_within units e = within_count 1073741824 (length (image_of (joined_code units))) (image_counted (all_decls units) (all_procs units)
     (right_none (repeated_name units) (large units) (right_none (missing units) (option_or (repeated_name units) (large units)) e)))

@@ -6,7 +6,7 @@ use Rattle.icn_host.specs.FileMaps.{FileMap}
 use Rattle.icn_tree.specs.declared.rule.Rule.{Rule}
 use Rattle.icn_tree.specs.Trees.{Declaration}
 use Rattle.icn_code.specs.Codes.{Tables}
-use Rattle.icn_defs.specs.Running.{Launch, Observed}
+use Rattle.icn_defs.specs.Running.{Launch, Observation}
 use Rattle.icn_link.specs.LinkFaults.{first_fault}
 use Rattle.icn_meaning.specs.Meaning.{Means}
 use Rattle.icn_meaning.specs.Program.{Program, program}
@@ -26,7 +26,7 @@ use Rattle.icont_top.specs.Programs.{Links, linked_code, link_refusal, first_uco
 -- What units come to
 
 abbrev pub HasOne : Type 0
-HasOne = (program : Program) (launch : Launch) (a b : Observed) → Means program launch a → Means program launch b → a ≡ b
+HasOne = (program : Program) (launch : Launch) (a b : Observation) → Means program launch a → Means program launch b → a ≡ b
 
 -- no rule of linking is broken where the linker finds no fault
 none_refused : {T : Type 0} (members : List Member) (answer : Answer) → first_fault (units_of members) ≡ None → link_refusal members ≡ Some answer → T
@@ -58,12 +58,12 @@ module _ (one : HaveOneFault) (none : HaveNoFault) (members : List Member) where
   one_links _ _ (Links.is_program n x) (Links.unverified other rule number place m f y) = sound_fault rule number place y x
   one_links _ _ (Links.is_program n x) (Links.is_program m y) = refl
 
-one_run : HasOne → (files : Option (List (List Declaration))) (tables : Tables) (launch : Launch) (a b : Observed) → RunsBy files tables launch a
+one_run : HasOne → (files : Option (List (List Declaration))) (tables : Tables) (launch : Launch) (a b : Observation) → RunsBy files tables launch a
     → RunsBy files tables launch b → a ≡ b
 one_run one (Some files) tables launch a b x y = one (program files) launch a b x y
 one_run one None tables launch a b x y = flat_once tables launch a b x y
 
-pub one_behaves : HasOne → (members : List Member) (launch : Launch) (a b : Observed) → Behaves members launch a → Behaves members launch b → a ≡ b
+pub one_behaves : HasOne → (members : List Member) (launch : Launch) (a b : Observation) → Behaves members launch a → Behaves members launch b → a ≡ b
 one_behaves one members launch a b x y = one_run one (files_of members) (linked_code members) launch a b x y
 
 -- What words ask for
@@ -124,7 +124,7 @@ of_units left (Ok members) = files_job (ucode_files members) left
 -- where the code came to this, and a run was asked for so
 abbrev OfRun : List ℕ → Plan → Option Run → List Member → Tables → Job → Type 0
 OfRun left plan None members tables job = job ≡ files_job (image_file plan.image members tables ∷ []) left
-OfRun left plan (Some run) members tables job = (seen : Observed) × (Behaves members (run_launch run left) seen)
+OfRun left plan (Some run) members tables job = (seen : Observation) × (Behaves members (run_launch run left) seen)
     × (job ≡ run_job (image_file plan.image members tables) seen (behind plan.number seen.ending))
 
 abbrev OfCode : List ℕ → Plan → List Member → Result Tables Answer → Job → Type 0
@@ -179,7 +179,7 @@ module _ (observed : HasOne) (fault : HaveOneFault) (sound : HaveNoFault) (files
       → OfRun left plan run members tables b → a ≡ b
   same_run plan None members tables a b x y = x ∙ sym y
   same_run plan (Some run) members tables a b x y =
-      x.2 ∙ (ap (λ (seen : Observed). run_job (image_file plan.image members tables) seen (behind plan.number seen.ending))
+      x.2 ∙ (ap (λ (seen : Observation). run_job (image_file plan.image members tables) seen (behind plan.number seen.ending))
       (one_behaves observed members (run_launch run left) x.0 y.0 x.1 y.1) ∙ sym y.2)
 
   same_code : (plan : Plan) (members : List Member) (code : Result Tables Answer) (a b : Job) → OfCode left plan members code a

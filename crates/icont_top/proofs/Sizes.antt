@@ -7,7 +7,7 @@ use Rattle.icn_host.proofs.SinkSteps.{gains_nothing, gains_then}
 use Rattle.icn_host.specs.Puts.{LeadsBy}
 use Rattle.icn_host.specs.Sinks.{Gains, SinkState}
 use Rattle.icn_code.specs.Codes.{Tables}
-use Rattle.icn_defs.specs.Running.{Launch, Observed, Done, Exit, Errored, AtBound, Ending as SeenEnding}
+use Rattle.icn_defs.specs.Running.{Launch, Observation, Done, Exit, Errored, AtBound, Ending as SeenEnding}
 use Rattle.icn_run.specs.declared.ending.Ending.{Ending}
 use Rattle.icn_run.specs.declared.ending.Ending.TheVariants as Endings
 use Rattle.icn_simulation.specs.Law.{RunsFlat}
@@ -89,7 +89,7 @@ done_of NoMemory e = absurd (let wrong : false ≡ true = e in cc)
 
 -- what was observed of a run that was done
 record HasDone (tables : Tables) (launch : Launch) (before after : CallStreams) : Type 0 where
-  pub seen : Observed
+  pub seen : Observation
   pub flat : RunsFlat tables launch seen
   pub done : seen.ending ≡ Done
   pub left : after.left ≡ Some seen.outside.left

@@ -11,10 +11,10 @@ use Rattle.icn_unit.specs.PlainUnits.{UnitRead}
 use Rattle.icn_translate.specs.FileUnits.{translated_unit}
 use Rattle.icn_code.specs.Codes.{Tables}
 use Rattle.icn_code.specs.Rules.{keeps_rules}
-use Rattle.icn_defs.specs.Running.{Launch, Observed}
+use Rattle.icn_defs.specs.Running.{Launch, Observation}
 use Rattle.icn_link.specs.declared.fault.LinkFault.{LinkFault}
 use Rattle.icn_link.specs.declared.fault.LinkFault.TheVariants.{K1, K2, K3, NoMemory}
-use Rattle.icn_link.specs.Joined.{joined}
+use Rattle.icn_link.specs.Joined.{joined_code}
 use Rattle.icn_link.specs.LinkFaults.{first_fault}
 use Rattle.icn_verify.specs.Faults.{IsVerified}
 use Rattle.icn_verify.specs.Laws.{IsSoundOrBroken, AreSoundOrBroken, HaveNoFault}
@@ -64,14 +64,14 @@ IsSound is_joinable (FromUcode unit) = is_joinable unit ≡ true
 pub record Laws (is_joinable : UnitRead → Bool) : Type 0 where
   pub rules : KeepRules
   pub spelled : AreSpelled
-  pub kept : (units : List UnitRead) → list_all is_joinable units ≡ true → first_fault units ≡ None → keeps_rules (joined units) ≡ true
+  pub kept : (units : List UnitRead) → list_all is_joinable units ≡ true → first_fault units ≡ None → keeps_rules (joined_code units) ≡ true
   pub translations : (names : List (List ℕ)) (files : List (List Declaration)) → length names ≡ length files → All IsFaultless files
-      → IsJoined files (joined (translated_units names files))
+      → IsJoined files (joined_code (translated_units names files))
   pub verified : (files : List (List Declaration)) (tables : Tables) → IsLinked files tables → IsVerified tables
   pub no_fault : HaveNoFault
   pub judged : AreSoundOrBroken
   pub means : (files : List (List Declaration)) (tables : Tables) (launch : Launch) → IsLinked files tables → keeps_rules tables ≡ true
-      → (seen : Observed) × FilesMean files launch seen
+      → (seen : Observation) × FilesMean files launch seen
   pub ends : (tables : Tables) → keeps_rules tables ≡ true → IsVerified tables → AreOver tables
 
 module _ (is_joinable : UnitRead → Bool) (laws : Laws is_joinable) where
@@ -97,7 +97,7 @@ module _ (is_joinable : UnitRead → Bool) (laws : Laws is_joinable) where
       let sources : OfSources members files = subst (OfSourcesBy members) e (of_sources members h) in
       record {
         faultless = sources.faultless;
-        code = subst (λ units. IsJoined files (joined units)) (sym sources.units) (laws.translations sources.names files sources.few sources.faultless);
+        code = subst (λ units. IsJoined files (joined_code units)) (sym sources.units) (laws.translations sources.names files sources.few sources.faultless);
       }
 
   all_sources : (members : List Member) → first_ucode members ≡ None → (files : List (List Declaration)) × (files_of members ≡ Some files)
@@ -149,12 +149,12 @@ module _ (is_joinable : UnitRead → Bool) (laws : Laws is_joinable) where
 
   by_files : (members : List Member) (launch : Launch) → Each (IsSound is_joinable) members → keeps_rules (linked_code members) ≡ true
       → IsVerified (linked_code members)
-      → (files : Option (List (List Declaration))) → files_of members ≡ files → (seen : Observed) × RunsBy files (linked_code members) launch seen
+      → (files : Option (List (List Declaration))) → files_of members ≡ files → (seen : Observation) × RunsBy files (linked_code members) launch seen
   by_files members launch sound rules verified (Some files) e = laws.means files (linked_code members) launch (sources_linked members files sound e) rules
   by_files members launch sound rules verified None e = (laws.ends (linked_code members) rules verified).flat launch
 
   some_behaves : (members : List Member) (launch : Launch) → Each (IsSound is_joinable) members → keeps_rules (linked_code members) ≡ true
-      → IsVerified (linked_code members) → (seen : Observed) × Behaves members launch seen
+      → IsVerified (linked_code members) → (seen : Observation) × Behaves members launch seen
   some_behaves members launch sound rules verified = by_files members launch sound rules verified (files_of members) refl
 
   -- Jobs

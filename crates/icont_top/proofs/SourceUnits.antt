@@ -7,7 +7,7 @@ use Rattle.icn_tree.specs.Trees.{Declaration}
 use Rattle.icn_unit.specs.PlainUnits.{UnitRead}
 use Rattle.icn_unit.specs.declared.unit.Unit.{Unit as HeldUnit}
 use Rattle.icn_translate.specs.FileUnits.{translated_unit}
-use Rattle.icn_link.specs.Joined.{joined}
+use Rattle.icn_link.specs.Joined.{joined_code}
 use Rattle.icn_link.specs.Units.{units_seen}
 use Rattle.icn_simulation.specs.Faultless.{IsFaultless}
 use Rattle.icn_simulation.specs.Joined.{IsJoined}
@@ -62,7 +62,7 @@ of_files (FromUcode unit ∷ members) h = tt
 
 abbrev pub AllJoin : Type 0
 AllJoin = (names : List (List ℕ)) (files : List (List Declaration)) → length names ≡ length files → All IsFaultless files
-    → IsJoined files (joined (translated_units names files))
+    → IsJoined files (joined_code (translated_units names files))
 
 -- where all members are sources their code is that of their files
 pub sources_join : AllJoin → (members : List Member) → All IsFaultlessMember members → (files : List (List Declaration)) → files_of members ≡ Some files
@@ -71,7 +71,7 @@ sources_join joins members h files e =
     let sources : OfFiles members files = subst (OfFilesBy members) e (of_files members h) in
     record {
       faultless = sources.faultless;
-      code = subst (λ units. IsJoined files (joined units)) (sym sources.units) (joins sources.names files sources.few sources.faultless);
+      code = subst (λ units. IsJoined files (joined_code units)) (sym sources.units) (joins sources.names files sources.few sources.faultless);
     }
 
 no_place : {T : Type 0} (place : Option ℕ) → (place ≡ None → T) → option_map suc place ≡ None → T

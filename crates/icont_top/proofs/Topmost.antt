@@ -15,7 +15,7 @@ use Rattle.icn_tree.specs.Trees.{Declaration}
 use Rattle.icn_code.specs.Codes.{Tables}
 use Rattle.icn_code.specs.Rules.{keeps_rules}
 use Rattle.icn_code.specs.Seen.{tables_of}
-use Rattle.icn_defs.specs.Running.{Launch, Observed}
+use Rattle.icn_defs.specs.Running.{Launch, Observation}
 use Rattle.icn_link.specs.LinkFaults.{first_fault}
 use Rattle.icn_verify.specs.Faults.{IsVerified}
 use Rattle.icn_image.specs.Reading.{image_read}
@@ -170,21 +170,21 @@ asked_program Comes plan answer plans (inr (inl comes)) = inr (no_members plan a
 asked_program Comes plan answer plans (inr (inr some)) = inr (no_program plan some.0 answer (plans (Ok some.0) some.1.0) some.1.1.1)
 
 abbrev pub EndsAlike : Type 0
-EndsAlike = (files : List (List Declaration)) (tables : Tables) (launch : Launch) (seen : Observed) → IsLinked files tables
+EndsAlike = (files : List (List Declaration)) (tables : Tables) (launch : Launch) (seen : Observation) → IsLinked files tables
     → FilesMean files launch seen ↔ RunsFlat tables launch seen
 
-by_files : EndsAlike → (found : Option (List (List Declaration))) (tables : Tables) (launch : Launch) (seen : Observed)
+by_files : EndsAlike → (found : Option (List (List Declaration))) (tables : Tables) (launch : Launch) (seen : Observation)
     → ((files : List (List Declaration)) → found ≡ Some files → IsLinked files tables)
     → (RunsBy found tables launch seen → RunsFlat tables launch seen) × (RunsFlat tables launch seen → RunsBy found tables launch seen)
 by_files alike None tables launch seen joins = (λ x. x, λ x. x)
 by_files alike (Some files) tables launch seen joins =
     ((alike files tables launch seen (joins files refl)).0, (alike files tables launch seen (joins files refl)).1)
 
-behaves_alike : EndsAlike → (members : List Member) (program : Program) → IsProgram members program → (launch : Launch) (seen : Observed)
+behaves_alike : EndsAlike → (members : List Member) (program : Program) → IsProgram members program → (launch : Launch) (seen : Observation)
     → (Behaves members launch seen → RunsFlat (linked_code members) launch seen) × (RunsFlat (linked_code members) launch seen → Behaves members launch seen)
 behaves_alike alike members program is launch seen = by_files alike (files_of members) (linked_code members) launch seen is.made.joins
 
-behaves : EndsAlike → (members : List Member) (program : Program) → IsProgram members program → (launch : Launch) (seen : Observed)
+behaves : EndsAlike → (members : List Member) (program : Program) → IsProgram members program → (launch : Launch) (seen : Observation)
     → RunsFlat (tables_of program.made.code.code) launch seen → Behaves members launch seen
 behaves alike members program is launch seen flat =
     (behaves_alike alike members program is launch seen).1 (subst (λ t. RunsFlat t launch seen) is.made.code flat)

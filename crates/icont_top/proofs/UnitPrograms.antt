@@ -10,7 +10,7 @@ use Rattle.icn_image.specs.Spelling.{image_of}
 use Rattle.icn_unit.specs.PlainUnits.{UnitRead}
 use Rattle.icn_unit.specs.declared.unit.Unit.{Unit as HeldUnit}
 use Rattle.icn_link.specs.declared.fault.LinkFault.{LinkFault}
-use Rattle.icn_link.specs.Joined.{joined}
+use Rattle.icn_link.specs.Joined.{joined_code}
 use Rattle.icn_link.specs.LinkFaults.{first_fault, IsFault as IsLinkFault}
 use Rattle.icn_link.specs.Units.{units_seen}
 use Rattle.icn_verify.specs.declared.fault.VerifyFault.{VerifyFault}
@@ -41,12 +41,12 @@ abbrev pub AllVerified : Type 0
 AllVerified = (files : List (List Declaration)) (tables : Tables) → IsLinked files tables → IsVerified tables
 
 -- where no unit was read as ucode, the code breaks no rule of verified code
-pub sources_verified : AllJoin → AllVerified → (held : Members) (tables : Tables) → IsSound held → tables ≡ joined (units_seen held.units.items)
+pub sources_verified : AllJoin → AllVerified → (held : Members) (tables : Tables) → IsSound held → tables ≡ joined_code (units_seen held.units.items)
     → held.first_ucode ≡ None → IsVerified tables
 sources_verified joins verifies held tables sound e none =
     let stands = sound.stands in
     let all = all_files sound.members (sym stands.place ∙ none) in
-    let same : linked_code sound.members ≡ tables = sym (e ∙ ap joined stands.units) in
+    let same : linked_code sound.members ≡ tables = sym (e ∙ ap joined_code stands.units) in
     subst IsVerified same (verifies all.0 (linked_code sound.members) (sources_join joins sound.members stands.faultless all.0 all.1))
 
 -- What the units stand for
@@ -58,23 +58,23 @@ link_refused held members answer stands (inr e) =
     inr (not_linked answer (subst (λ units. option_and_then (link_answer units) (first_fault units) ≡ Some answer) stands.units e))
 
 pub code_refused : (held : Members) (members : List Member) (tables : Tables) (answer : Answer) → Stands held members
-    → tables ≡ joined (units_seen held.units.items) → first_fault (units_seen held.units.items) ≡ None
+    → tables ≡ joined_code (units_seen held.units.items) → first_fault (units_seen held.units.items) ≡ None
     → RefusesCode (units_seen held.units.items) held.first_ucode tables answer → (answer ≡ NoMemory) ⊎ Links members (Err answer)
 code_refused held members tables answer stands e fits (wants same) = inl same
 code_refused held members tables answer stands e fits (breaks first rule number place at fault same) =
     let base = unit_named (units_of members) first in
     let fits_all : first_fault (units_of members) ≡ None = subst (λ units. first_fault units ≡ None) stands.units fits in
-    let code : tables ≡ linked_code members = e ∙ ap joined stands.units in
+    let code : tables ≡ linked_code members = e ∙ ap joined_code stands.units in
     let told : answer ≡ BadUcode (first_name base) rule =
     subst (λ units. answer ≡ BadUcode (first_name (unit_named units first)) rule) stands.units same in
     inr (subst (λ (a : Answer). Links members (Err a)) (sym told) (unverified base rule number place fits_all
     (first_named members first (sym stands.place ∙ at)) (rw code at fault)))
 
 pub made_of : AllJoin → (held : Members) (members : List Member) (made : Made) (tables : Tables) → Stands held members
-    → tables ≡ joined (units_seen held.units.items) → first_fault (units_seen held.units.items) ≡ None → IsVerified tables
+    → tables ≡ joined_code (units_seen held.units.items) → first_fault (units_seen held.units.items) ≡ None → IsVerified tables
     → tables_of made.code.code ≡ tables → made.image.items ≡ image_of tables → IsMade members made
 made_of joins held members made tables stands e fits verified code bytes =
-    let same : tables ≡ linked_code members = e ∙ ap joined stands.units in
+    let same : tables ≡ linked_code members = e ∙ ap joined_code stands.units in
     record {
       code = code ∙ same;
       bytes = bytes ∙ ap image_of same;

@@ -5,7 +5,7 @@ use Rattle.icn_host.specs.FileMaps.{FileMap}
 use Rattle.icn_value.specs.Limited.{Bounds, default_limits}
 use Rattle.icn_code.specs.Codes.{Tables}
 use Rattle.icn_image.specs.Spelling.{image_of}
-use Rattle.icn_defs.specs.Running.{Ending, Done, Exit, Errored, AtBound, Launch, Observed, launch_of}
+use Rattle.icn_defs.specs.Running.{Ending, Done, Exit, Errored, AtBound, Launch, Observation, launch_of}
 use Rattle.icn_lines.specs.declared.answer.Answer.{Answer}
 use Rattle.icn_lines.specs.declared.answer.Answer.TheVariants.{Wrote, Ran, Command}
 use Rattle.icn_lines.specs.Lines.{line_of}
@@ -41,7 +41,7 @@ abbrev pub files_job : List WrittenFile → List ℕ → Job
 files_job written left = record { answer = Wrote; written = written; left = left; output = []; errors = [] }
 
 -- the image was written, and then the program ran, behind which this was put on the output
-abbrev pub run_job : WrittenFile → Observed → List ℕ → Job
+abbrev pub run_job : WrittenFile → Observation → List ℕ → Job
 run_job image seen behind = record {
   answer = Ran (ending_held seen.ending);
   written = image ∷ [];
@@ -144,7 +144,7 @@ pub data IsJob (words : List (List ℕ)) (files : FileMap) (left : List ℕ) : J
   writes : (plan : Plan) (members : List Member) (tables : Tables) → IsPlanned words files plan members tables
       → plan.run ≡ None
       → IsJob words files left (files_job (image_file plan.image members tables ∷ []) left)
-  runs : (plan : Plan) (members : List Member) (tables : Tables) (run : Run) (seen : Observed)
+  runs : (plan : Plan) (members : List Member) (tables : Tables) (run : Run) (seen : Observation)
       → IsPlanned words files plan members tables → plan.run ≡ Some run
       → Behaves members (run_launch run left) seen
       → IsJob words files left

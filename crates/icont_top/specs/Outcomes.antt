@@ -6,7 +6,7 @@ use Rattle.icn_host.specs.FileMaps.{FileMap, Follows, IsLeftBehind}
 use Rattle.icn_host.specs.Puts.{BreaksOff, Puts, RunsShort}
 use Rattle.icn_host.specs.Sinks.{Gains, SinkState}
 use Rattle.icn_code.specs.Codes.{Tables}
-use Rattle.icn_defs.specs.Running.{Done, Launch, Observed}
+use Rattle.icn_defs.specs.Running.{Done, Launch, Observation}
 use Rattle.icn_unit.specs.UnitTexts.{decls_text, procs_text}
 use Rattle.icn_ucode.specs.UnitReading.{Whole, unit_read}
 use Rattle.icn_image.specs.Reading.{image_read}
@@ -99,7 +99,7 @@ IsTornFault NoMemory = Unit {0}
 -- What a fault leaves of a program that is run with this input: all is said of what is observed of it, as each program comes to an end.
 pub record BrokenOff (members : List Member) (run : Run) (left : List ℕ) (fault : RunFault)
     (before after : CallStreams) : Type 0 where
-  pub seen : Observed
+  pub seen : Observation
   pub behaves : Behaves members (run_launch run left) seen
   pub leaves : LeavesBy fault left seen before after
 
@@ -110,7 +110,7 @@ StopsPut RunFaults.WriteFault = Unit {0}
 StopsPut RunFaults.NoMemory = Unit {0}
 
 -- What a put that was stopped leaves of the line of the sizes, behind a program that was done.
-pub record LeavesBehind (number : ℕ) (seen : Observed) (before after : CallStreams) : Type 0 where
+pub record LeavesBehind (number : ℕ) (seen : Observation) (before after : CallStreams) : Type 0 where
   pub done : seen.ending ≡ Done
   pub input : after.left ≡ Some seen.outside.left
   pub count : ℕ
@@ -121,7 +121,7 @@ pub record LeavesBehind (number : ℕ) (seen : Observed) (before after : CallStr
 -- The program of a number was done, and the line of its sizes was put in part behind its output.
 pub record BrokenBehind (members : List Member) (run : Run) (number : ℕ) (left : List ℕ)
     (before after : CallStreams) : Type 0 where
-  pub seen : Observed
+  pub seen : Observation
   pub behaves : Behaves members (run_launch run left) seen
   pub leaves : LeavesBehind number seen before after
 
@@ -222,7 +222,7 @@ pub record IsImage (members : List Member) (bytes : List ℕ) : Type 0 where
   pub within : length bytes ≤ 1073741824
   pub read : image_read bytes ≡ Ok tables
   pub verified : IsVerified tables
-  pub runs : (launch : Launch) (seen : Observed) → (Behaves members launch seen → RunsFlat tables launch seen)
+  pub runs : (launch : Launch) (seen : Observation) → (Behaves members launch seen → RunsFlat tables launch seen)
       × (RunsFlat tables launch seen → Behaves members launch seen)
 
 -- the two texts of each unit are read as that unit

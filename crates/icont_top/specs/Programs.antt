@@ -4,8 +4,8 @@ use Rattle.std.specs.Option.{option_and_then, option_map, option_or}
 use Rattle.icn_tree.specs.declared.rule.Rule.{Rule}
 use Rattle.icn_tree.specs.Trees.{Declaration}
 use Rattle.icn_code.specs.Codes.{Tables}
-use Rattle.icn_defs.specs.Running.{Launch, Observed}
-use Rattle.icn_link.specs.Joined.{joined}
+use Rattle.icn_defs.specs.Running.{Launch, Observation}
+use Rattle.icn_link.specs.Joined.{joined_code}
 use Rattle.icn_link.specs.LinkFaults.{first_fault}
 use Rattle.icn_verify.specs.Faults.{IsFirstFault, IsVerified}
 use Rattle.icn_simulation.specs.Law.{FilesMean, RunsFlat}
@@ -16,7 +16,7 @@ use Rattle.icont_units.specs.Units.{Member, FromSource, FromUcode, units_of, lin
 
 -- the code of all units
 abbrev pub linked_code : List Member → Tables
-linked_code members = joined (units_of members)
+linked_code members = joined_code (units_of members)
 
 -- the refusal of the first rule of linking that is broken
 abbrev pub link_refusal : List Member → Option Answer
@@ -51,9 +51,9 @@ pub data Links (members : List Member) : Result Tables Answer → Type 0 where
       → Links members (Ok (linked_code members))
 
 -- A program of sources alone runs as its files mean, any other as its code.
-abbrev pub RunsBy : Option (List (List Declaration)) → Tables → Launch → Observed → Type 0
+abbrev pub RunsBy : Option (List (List Declaration)) → Tables → Launch → Observation → Type 0
 RunsBy (Some files) tables launch seen = FilesMean files launch seen
 RunsBy None tables launch seen = RunsFlat tables launch seen
 
-abbrev pub Behaves : List Member → Launch → Observed → Type 0
+abbrev pub Behaves : List Member → Launch → Observation → Type 0
 Behaves members launch seen = RunsBy (files_of members) (linked_code members) launch seen

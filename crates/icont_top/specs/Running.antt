@@ -5,7 +5,7 @@ use Rattle.icn_host.specs.declared.fault.Fault.TheVariants as Faults
 use Rattle.icn_host.specs.Puts.{LeadsBy, Puts, PutsAll}
 use Rattle.icn_host.specs.Sinks.{Gains, SinkState}
 use Rattle.icn_code.specs.Codes.{Tables}
-use Rattle.icn_defs.specs.Running.{Launch, Observed}
+use Rattle.icn_defs.specs.Running.{Launch, Observation}
 use Rattle.icn_run.specs.declared.ending.Ending.{Ending}
 use Rattle.icn_run.specs.declared.ending.Ending.TheVariants as Endings
 use Rattle.icn_simulation.specs.Law.{RunsFlat}
@@ -70,7 +70,7 @@ pub data PutsSizes (number : ℕ) (answer : Answer) (out out' err err' : SinkSta
 -- The program ended, and the line of its sizes was put where it is that of a number; or it was broken off, or that line was.
 pub data HasRun (tables : Tables) (launch : Launch) (number : Option ℕ) (answer : Answer)
     (before after : CallStreams) : Type 0 where
-  has_ended : (seen : Observed) → RunsFlat tables launch seen → answer ≡ Ran (ending_held seen.ending)
+  has_ended : (seen : Observation) → RunsFlat tables launch seen → answer ≡ Ran (ending_held seen.ending)
       → after.left ≡ Some seen.outside.left
       → Gains before.output.held after.output.held (seen.outside.output ++ behind number seen.ending)
       → Gains before.errors.held after.errors.held seen.outside.errors
@@ -80,7 +80,7 @@ pub data HasRun (tables : Tables) (launch : Launch) (number : Option ℕ) (answe
       → IsBrokenOff tables launch fault before (with_errors between after)
       → Puts between after.errors (fault_line answer)
       → HasRun tables launch number answer before after
-  was_broken_behind : (n : ℕ) (fault : RunFault) (between : SinkState) (seen : Observed) → number ≡ Some n
+  was_broken_behind : (n : ℕ) (fault : RunFault) (between : SinkState) (seen : Observation) → number ≡ Some n
       → StopsPut fault
       → answer ≡ of_run fault → EndsAtFirst {A = Ending} (Err fault) before (with_errors between after)
       → RunsFlat tables launch seen

@@ -1,7 +1,7 @@
 // The program of units: its code and its image.
 ghost use Rattle.std.specs.Prelude.{◌≡◌, ◌⊎◌, List, None, Some, IfOk, IfErr, OnOk};
 ghost use Rattle.icn_code.specs.Seen.{tables_of};
-ghost use Rattle.icn_link.specs.Joined.{joined};
+ghost use Rattle.icn_link.specs.Joined.{joined_code};
 ghost use Rattle.icn_link.specs.LinkFaults.{first_fault};
 ghost use Rattle.icn_link.specs.Units.{units_seen};
 ghost use Rattle.icn_verify.specs.Faults.{IsVerified};
@@ -54,7 +54,7 @@ pub fn make(alloc: Global, members: &Members) -> Result<Made, Answer>
 
 // The linked code of units.
 fn link_members(alloc: Global, units: &[Unit]) -> Result<Code, Answer>
-    ensures code { IfOk result (λ code. tables_of code ≡ joined (units_seen units.now)) }
+    ensures code { IfOk result (λ code. tables_of code ≡ joined_code (units_seen units.now)) }
     ensures fits { OnOk result (first_fault (units_seen units.now) ≡ None) }
     ensures refused { IfErr result (RefusesLink (units_seen units.now)) }
     ensures others { IfErr result IsOfLink }

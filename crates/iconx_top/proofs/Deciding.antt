@@ -8,7 +8,7 @@ use Rattle.icn_code.specs.Codes.{Tables}
 use Rattle.icn_image.specs.Reading.{image_read}
 use Rattle.icn_verify.specs.Faults.{IsFirstFault, IsVerified}
 use Rattle.icn_verify.specs.Laws.{HaveOneFault, HaveNoFault}
-use Rattle.icn_defs.specs.Running.{Launch, Observed}
+use Rattle.icn_defs.specs.Running.{Launch, Observation}
 use Rattle.icn_run.specs.FlatStep.{Runs}
 use Rattle.icn_run.proofs.Observing.{flat_once}
 use Rattle.icn_lines.specs.Answers.{IsFault}
@@ -113,7 +113,7 @@ same_launch : (s t : Launch) → s.words ≡ t.words → s.bounds ≡ t.bounds �
 same_launch s t e f g =
     ap (λ x. record s { words = x }) e ∙ (ap (λ x. record s { words = t.words; bounds = x }) f ∙ ap (λ x. record t { outside = x }) g)
 
-seen_once : (s t : Tables) (a b : Launch) (x y : Observed) → s ≡ t → a ≡ b → Runs s a x → Runs t b y → x ≡ y
+seen_once : (s t : Tables) (a b : Launch) (x y : Observation) → s ≡ t → a ≡ b → Runs s a x → Runs t b y → x ≡ y
 seen_once s t a b x y tables launched p q = flat_once t b x y (subst (λ l. Runs t l x) launched (subst (λ u. Runs u a x) tables p)) q
 
 same_bytes : (held : FileMap) (n m x y : List ℕ) → n ≡ m → held n ≡ Some x → held m ≡ Some y → x ≡ y
@@ -137,7 +137,7 @@ module _ (one : HaveOneFault) (none : HaveNoFault) where
     launched_once s t a b x y = same_launch a b (same_arguments a.bounds b.bounds x.name y.name a.words b.words (words_reading words) x.asks y.asks)
         (same_bounds a.bounds b.bounds x.name y.name a.words b.words (words_reading words) x.asks y.asks) (x.input ∙ sym y.input)
 
-    observed_once : (s t : Tables) (a b : Launch) (p q : Observed) → IsRun words held left s a → IsRun words held left t b → Runs s a p → Runs t b q → p ≡ q
+    observed_once : (s t : Tables) (a b : Launch) (p q : Observation) → IsRun words held left s a → IsRun words held left t b → Runs s a p → Runs t b q → p ≡ q
     observed_once s t a b p q x y = seen_once s t a b p q (same_tables s t a b x y) (launched_once s t a b x y)
 
     -- an image that is refused is not run

@@ -12,7 +12,7 @@ use Rattle.icn_image.specs.Spelling.{image_of}
 use Rattle.icn_verify.specs.Faults.{IsVerified}
 use Rattle.icn_verify.specs.Laws.{IsSoundOrBroken, AreSoundOrBroken}
 use Rattle.icn_value.specs.Store.{outside_of}
-use Rattle.icn_defs.specs.Running.{Launch, Observed}
+use Rattle.icn_defs.specs.Running.{Launch, Observation}
 use Rattle.icn_run.specs.FlatStep.{Runs}
 use Rattle.icn_run_safe.specs.Ended.{AreOver}
 use Rattle.icn_lines.specs.declared.answer.Answer.TheVariants.{Command, Missing, BadImage}
@@ -53,7 +53,7 @@ module _ (laws : Laws) where
   judges bytes all = short_or_not bytes all (cases_lt 1073741824 (length bytes))
 
   module _ (words : List (List ℕ)) (files : FileMap) (left : List ℕ) (hold : HoldBytes files) where
-    observed_job : (tables : Tables) (launch : Launch) → IsRun words files left tables launch → (seen : Observed) × Runs tables launch seen
+    observed_job : (tables : Tables) (launch : Launch) → IsRun words files left tables launch → (seen : Observation) × Runs tables launch seen
         → (job : Job) × IsJob words files left job
     observed_job tables launch is seen = (observation files seen.0, ran tables launch seen.0 is seen.1)
 

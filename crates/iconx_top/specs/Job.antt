@@ -4,7 +4,7 @@ use Rattle.icn_host.specs.FileMaps.{FileMap}
 use Rattle.icn_tree.specs.declared.rule.Rule.{Rule}
 use Rattle.icn_value.specs.Limited.{Bounds}
 use Rattle.icn_value.specs.Store.{outside_of}
-use Rattle.icn_defs.specs.Running.{Launch, Observed}
+use Rattle.icn_defs.specs.Running.{Launch, Observation}
 use Rattle.icn_code.specs.Codes.{Tables}
 use Rattle.icn_run.specs.FlatStep.{Runs}
 use Rattle.icn_lines.specs.declared.answer.Answer.{Answer}
@@ -29,7 +29,7 @@ refusal files left name answer =
     record { answer = answer; files = files; left = left; output = []; errors = line_of usage name answer }
 
 -- a run was observed
-abbrev pub observation : FileMap → Observed → Job
+abbrev pub observation : FileMap → Observation → Job
 observation files observed = record {
   answer = Ran (ending_held observed.ending);
   files = files;
@@ -59,6 +59,6 @@ pub data IsJob (words : List (List ℕ)) (files : FileMap) (left : List ℕ) : J
       → words_reading words ≡ Asks bounds name arguments
       → files name ≡ Some bytes → IsJudged bytes (Err rule)
       → IsJob words files left (refusal files left name (BadImage rule))
-  ran : (tables : Tables) (launch : Launch) (observed : Observed) → IsRun words files left tables launch
+  ran : (tables : Tables) (launch : Launch) (observed : Observation) → IsRun words files left tables launch
       → Runs tables launch observed
       → IsJob words files left (observation files observed)

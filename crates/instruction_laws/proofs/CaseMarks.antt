@@ -27,7 +27,7 @@ use Rattle.icn_run_laws.proofs.SecondLaw.{starts_so}
 use Rattle.icn_run_safe.specs.AnyOutside.{over_outside, run_over}
 use Rattle.icn_run_safe.specs.Facts.{marks, shapes_of}
 use Rattle.icn_run_safe.specs.NoStuck.{TablesOk}
-use Rattle.icn_run_safe.specs.Shaped.{ChainOk, Known, OuterOk, Safe}
+use Rattle.icn_run_safe.specs.Shaped.{ChainOk, Knowledge, OuterOk, Safe}
 use Rattle.icn_run_safe.specs.Within.{RowsStayWithin}
 use Rattle.icn_run_safe.proofs.AnyOutside.{follows_run, over_own, over_twice, own_outside}
 use Rattle.icn_run_safe.proofs.Facts.{Follows, IsDue, Sames, given}
@@ -64,14 +64,14 @@ module _ (tables : Tables) (have : HaveShapes tables) (ok : TablesOk tables) (ke
   abbrev sh : ℕ → ℕ → Option PlainShape
   sh = shapes_of tables have
 
-  marked : (w : Known) (s p : ℕ) (cr : Bool) (kind : LevelKind) (ls : List Level) (o : Outer) → OuterOk tables sh w s p cr kind ls o → (ls ≡ [] → ⊥)
+  marked : (w : Knowledge) (s p : ℕ) (cr : Bool) (kind : LevelKind) (ls : List Level) (o : Outer) → OuterOk tables sh w s p cr kind ls o → (ls ≡ [] → ⊥)
       → (m : LinkedStack) → is_some (unmark_from m o) ≡ true
   marked w s p cr kind ls (base proc a) h d m = absurd (d h.3)
   marked w s p cr kind ls (call proc a level place caller) h d m = absurd (d h.3)
   marked w s p cr kind ls (mark label (chain items q scans o)) h d m = refl
   marked w s p cr kind ls (limit n (chain items q scans o)) h d m = refl
 
-  chain_marked : (w : Known) (s p : ℕ) (S : PlainShape) (c : Chain) → ChainOk tables sh w s p S c → (S.outer ≡ [] → ⊥) → (m : LinkedStack)
+  chain_marked : (w : Knowledge) (s p : ℕ) (S : PlainShape) (c : Chain) → ChainOk tables sh w s p S c → (S.outer ≡ [] → ⊥) → (m : LinkedStack)
       → is_some (unmark_from m (outer_of c)) ≡ true
   chain_marked w s p S (chain items q scans o) h d m = marked w s p S.in_create S.inner.kind S.outer o h.4 d m
 

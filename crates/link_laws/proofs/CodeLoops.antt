@@ -5,7 +5,7 @@ use Rattle.icn_tree.specs.declared.tree.LoopKind.TheVariants.{While, Until, Ever
 use Rattle.icn_code.specs.declared.instr.Instr.{Instr}
 use Rattle.icn_code.specs.declared.instr.Instr.TheVariants as I
 use Rattle.icn_unit.specs.declared.unit.UnitInstr.TheVariants as U
-use Rattle.icn_translate.specs.Drafts.{Draft, ◌▹◌, put, with_label, next_label, unmentioned, in_loop, put_end}
+use Rattle.icn_translate.specs.Drafts.{Draft, ◌▹◌, put, with_label, next_label, no_ways, in_loop, put_end}
 use Rattle.icn_translate.specs.Translation.{put_mark, until_part, control_part, loop_end, looped_body, case_of}
 use Rattle.icn_link.specs.Resolving.{Scope}
 use Rattle.icn_simulation.specs.Translation as X
@@ -25,7 +25,7 @@ module _ {S : Scope} {F : List (List ℕ)} {W : List X.Ways} {E : List ℕ} wher
   looped_gives x = given_as (puts_next U.Mark I.Mark (λ l. refl) ⨾ x ⨾ puts U.Unmark refl) (omega arith) (λ p f. (refl, tt))
 
   pub repeat_gives : {s : Draft → Draft} {n : ℕ} {c : X.Ways → ℕ → List Instr} → ((w : X.Ways) → Gives S F (w ∷ W) E s n (c w) none)
-      → Gives S F W E (λ d. d ▹ with_label ▹ put (U.Lab (next_label d)) ▹ in_loop unmentioned ▹ looped_body s ▹ loop_end (U.Loop (next_label d))) (n + 3)
+      → Gives S F W E (λ d. d ▹ with_label ▹ put (U.Lab (next_label d)) ▹ in_loop no_ways ▹ looped_body s ▹ loop_end (U.Loop (next_label d))) (n + 3)
       (λ p. I.Mark (p + n + 2) ∷ c (X.ways (p + n + 3) (p + n + 2)) (p + 1) ++ (I.Unmark ∷ I.Loop p ∷ [])) none
   repeat_gives {n = n} {c = c} x =
       given_numbered (λ l. numbered_then (placed_then l (loops_give (U.Loop l) refl (λ w. looped_gives (x w))))) (omega arith)

@@ -5,7 +5,7 @@ use Rattle.icn_code.specs.declared.instr.Instr.TheVariants as I
 use Rattle.icn_unit.specs.declared.unit.UnitInstr.{UnitInstr}
 use Rattle.icn_unit.specs.declared.unit.UnitInstr.TheVariants as U
 use Rattle.icn_translate.specs.declared.builder.Ways.{Ways}
-use Rattle.icn_translate.specs.Drafts.{Draft, put, with_label, number_of, numbered, unmentioned, first_ways, other_ways, in_loop, outside_loop, innermost, aside, next_number, with_next, put_next, last_number, with_last, put_last, first_end, other_ends, case_end, in_case, outside_case, end_number, with_end, put_end}
+use Rattle.icn_translate.specs.Drafts.{Draft, put, with_label, number_of, with_number, no_ways, first_ways, other_ways, in_loop, outside_loop, innermost, aside, next_number, with_next, put_next, last_number, with_last, put_last, first_end, other_ends, case_end, in_case, outside_case, end_number, with_end, put_end}
 use Rattle.icn_translate.specs.Translation.{loop_end}
 use Rattle.icn_link.specs.Resolving.{Scope, resolved_one, resolve}
 use Rattle.icn_simulation.specs.Translation as X
@@ -20,17 +20,17 @@ pub record Same (d e : Draft) : Type 0 where
 same_then : {d e f : Draft} → Same d e → Same e f → Same d f
 same_then p q = record { instrs = q.instrs ∙ p.instrs; names = q.names ∙ p.names }
 
-numbered_same : (k : Option ℕ) (d : Draft) → Same d (numbered k d)
+numbered_same : (k : Option ℕ) (d : Draft) → Same d (with_number k d)
 unfolding with_label
 numbered_same None d = record { instrs = refl; names = refl }
 numbered_same (Some n) d = record { instrs = refl; names = refl }
 
-numbered_loops : (k : Option ℕ) (d : Draft) → (numbered k d).loops ≡ d.loops
+numbered_loops : (k : Option ℕ) (d : Draft) → (with_number k d).loops ≡ d.loops
 unfolding with_label
 numbered_loops None d = refl
 numbered_loops (Some n) d = refl
 
-numbered_cases : (k : Option ℕ) (d : Draft) → (numbered k d).cases ≡ d.cases
+numbered_cases : (k : Option ℕ) (d : Draft) → (with_number k d).cases ≡ d.cases
 unfolding with_label
 numbered_cases None d = refl
 numbered_cases (Some n) d = refl
@@ -73,25 +73,25 @@ put_cases i d = refl
 
 next_same : (d : Draft) → Same d (with_next d)
 next_same d = let k = (innermost d).next in let o = outside_loop d in
-    same_then (out_same d) (same_then (numbered_same k o) (in_same _ (numbered k o)))
+    same_then (out_same d) (same_then (numbered_same k o) (in_same _ (with_number k o)))
 
 next_loops : (d : Draft) → (with_next d).loops ≡ record { next = Some (next_number d); last = (innermost d).last } ∷ other_ways d.loops
 next_loops d = let k = (innermost d).next in let o = outside_loop d in
-    in_loops _ (numbered k o) ∙ ap (λ loops. record { next = Some (next_number d); last = (innermost d).last } ∷ loops) (numbered_loops k o ∙ out_loops d)
+    in_loops _ (with_number k o) ∙ ap (λ loops. record { next = Some (next_number d); last = (innermost d).last } ∷ loops) (numbered_loops k o ∙ out_loops d)
 
 next_cases : (d : Draft) → (with_next d).cases ≡ d.cases
-next_cases d = let k = (innermost d).next in let o = outside_loop d in in_cases _ (numbered k o) ∙ numbered_cases k o ∙ out_cases d
+next_cases d = let k = (innermost d).next in let o = outside_loop d in in_cases _ (with_number k o) ∙ numbered_cases k o ∙ out_cases d
 
 last_same : (d : Draft) → Same d (with_last d)
 last_same d = let k = (innermost d).last in let o = outside_loop d in
-    same_then (out_same d) (same_then (numbered_same k o) (in_same _ (numbered k o)))
+    same_then (out_same d) (same_then (numbered_same k o) (in_same _ (with_number k o)))
 
 last_loops : (d : Draft) → (with_last d).loops ≡ record { next = (innermost d).next; last = Some (last_number d) } ∷ other_ways d.loops
 last_loops d = let k = (innermost d).last in let o = outside_loop d in
-    in_loops _ (numbered k o) ∙ ap (λ loops. record { next = (innermost d).next; last = Some (last_number d) } ∷ loops) (numbered_loops k o ∙ out_loops d)
+    in_loops _ (with_number k o) ∙ ap (λ loops. record { next = (innermost d).next; last = Some (last_number d) } ∷ loops) (numbered_loops k o ∙ out_loops d)
 
 last_cases : (d : Draft) → (with_last d).cases ≡ d.cases
-last_cases d = let k = (innermost d).last in let o = outside_loop d in in_cases _ (numbered k o) ∙ numbered_cases k o ∙ out_cases d
+last_cases d = let k = (innermost d).last in let o = outside_loop d in in_cases _ (with_number k o) ∙ numbered_cases k o ∙ out_cases d
 
 in_case_same : (end : Option ℕ) (d : Draft) → Same d (in_case end d)
 unfolding in_case
@@ -123,14 +123,14 @@ case_end_is d = refl
 
 end_same : (d : Draft) → Same d (with_end d)
 end_same d = let k = case_end d in let o = outside_case d in
-    same_then (out_case_same d) (same_then (numbered_same k o) (in_case_same _ (numbered k o)))
+    same_then (out_case_same d) (same_then (numbered_same k o) (in_case_same _ (with_number k o)))
 
 end_loops : (d : Draft) → (with_end d).loops ≡ d.loops
-end_loops d = let k = case_end d in let o = outside_case d in in_case_loops _ (numbered k o) ∙ numbered_loops k o ∙ out_case_loops d
+end_loops d = let k = case_end d in let o = outside_case d in in_case_loops _ (with_number k o) ∙ numbered_loops k o ∙ out_case_loops d
 
 end_cases : (d : Draft) → (with_end d).cases ≡ Some (end_number d) ∷ other_ends d.cases
 end_cases d = let k = case_end d in let o = outside_case d in
-    in_case_cases _ (numbered k o) ∙ ap (λ cases. Some (end_number d) ∷ cases) (numbered_cases k o ∙ out_case_cases d)
+    in_case_cases _ (with_number k o) ∙ ap (λ cases. Some (end_number d) ∷ cases) (numbered_cases k o ∙ out_case_cases d)
 
 -- Labels of loops and cases
 
@@ -338,26 +338,26 @@ module _ (S : Scope) (i : UnitInstr) (one : length (resolved_one S i) ≡ 1) whe
 -- a loop, and what goes on with its next pass
 pub loops_give : {S : Scope} {F : List (List ℕ)} {W : List X.Ways} {E : List ℕ} {inner : Draft → Draft} {n : ℕ} {c : X.Ways → ℕ → List Instr}
     {f : X.Ways → ℕ → Type 0} (i : UnitInstr) → length (resolved_one S i) ≡ 1 → ((w : X.Ways) → Gives S F (w ∷ W) E inner n (c w) (f w))
-    → Gives S F W E (λ d. loop_end i (inner (in_loop unmentioned d))) (n + 1) (λ p. c (X.ways (p + n + 1) (p + n)) p ++ resolved_one S i)
+    → Gives S F W E (λ d. loop_end i (inner (in_loop no_ways d))) (n + 1) (λ p. c (X.ways (p + n + 1) (p + n)) p ++ resolved_one S i)
     (λ p. f (X.ways (p + n + 1) (p + n)) p)
 loops_give {S = S} {F = F} {W = W} {E = E} {inner = inner} {n = n} {c = c} {f = f} i one x = record {
   long = λ d.
-      let a = loop_end_len S i one (inner (in_loop unmentioned d)) in
-      let b = (x (X.ways 0 0)).long (in_loop unmentioned d) in
-      let s = same_len S (in_same unmentioned d) in
+      let a = loop_end_len S i one (inner (in_loop no_ways d)) in
+      let b = (x (X.ways 0 0)).long (in_loop no_ways d) in
+      let s = same_len S (in_same no_ways d) in
       omega arith;
   at = λ d h.
       let w = X.ways (len S d + n + 1) (len S d + n) in
-      let e = in_loop unmentioned d in
-      let same = same_len S (in_same unmentioned d) in
+      let e = in_loop no_ways d in
+      let same = same_len S (in_same no_ways d) in
       let long : len S d + n ≡ len S (inner e) = sym ((x w).long e ∙ ap (λ p. p + n) same) in
       let all = (x w).at e (loop_known S i one w (inner e) long (ap (λ p. p + 1) long) h) in
-      let k : Loops S (unmentioned ∷ d.loops) (w ∷ W) = subst (λ (loops : List Ways). Loops S loops (w ∷ W)) (in_loops unmentioned d) all.before.loops in
+      let k : Loops S (no_ways ∷ d.loops) (w ∷ W) = subst (λ (loops : List Ways). Loops S loops (w ∷ W)) (in_loops no_ways d) all.before.loops in
       record {
-        before = other_ways_agree S (in_same unmentioned d) k.1
-            (subst (λ (cases : List (Option ℕ)). Ends S cases E) (in_cases unmentioned d) all.before.ends) all.before;
+        before = other_ways_agree S (in_same no_ways d) k.1
+            (subst (λ (cases : List (Option ℕ)). Ends S cases E) (in_cases no_ways d) all.before.ends) all.before;
         is = loop_end_code S i one (inner e) ∙ ap (λ (is : List Instr). is ++ resolved_one S i)
-            (all.is ∙ ap (λ (is : List Instr). is ++ c w (len S e)) (same_code S (in_same unmentioned d)) ∙ ap (λ p. resolve S d.instrs ++ c w p) same)
+            (all.is ∙ ap (λ (is : List Instr). is ++ c w (len S e)) (same_code S (in_same no_ways d)) ∙ ap (λ p. resolve S d.instrs ++ c w p) same)
             ∙ append_assoc (resolve S d.instrs) (c w (len S d)) (resolved_one S i);
         known = subst (f w) same all.known;
       };

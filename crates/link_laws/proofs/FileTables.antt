@@ -26,7 +26,7 @@ use Rattle.icn_meaning.specs.Program.{texts, with_more_names, without_names, onl
 use Rattle.icn_simulation.specs.Mentions.{Mention, AnInteger, AText, ASet, AField, integers_among, texts_among, sets_among, fields_among, firsts, initial_mentions, all_mentions}
 use Rattle.icn_simulation.specs.Joined.{routines, routine_mentions, code_mentions, record_fields, fields_of, strings_of, integers_of, sets_of}
 use Rattle.icn_translate.specs.FileUnits.{proc_codes, item_text, lines_in, unit_decls}
-use Rattle.icn_translate.specs.ProcCodes.{entry_of, kind_of, local_entries, first_draft, draft_of, undeclared, proc_code}
+use Rattle.icn_translate.specs.ProcCodes.{entry_of, kind_of, local_entries, first_draft, draft_of, undeclared_in, proc_code}
 use Rattle.link_laws.proofs.FirstsOnce.{texts_firsts, integers_firsts, texts_all, added_firsts, without_kept, only_kept}
 use Rattle.link_laws.proofs.Mentioning.{taken, taken_in, code_adds}
 use Rattle.link_laws.proofs.NameEntries.{IsFit, texts_same, undeclared_same}
@@ -281,12 +281,12 @@ functions_same : (procedure : Procedure) → IsFit procedure
 functions_same procedure h =
     let parameters = map (λ (name : Name). entry_of Kinds.Parameter name.text) procedure.parameters in
     let locals = flat_map local_entries procedure.locals in
-    let others = map (entry_of Kinds.Undeclared) (undeclared procedure) in
+    let others = map (entry_of Kinds.Undeclared) (undeclared_in procedure) in
     flat_map-append function_in (parameters ++ locals) others
     ∙ ap (λ l. l ++ flat_map function_in others) (flat_map-append function_in parameters locals
     ∙ ap (λ l. l ++ flat_map function_in locals) (no_function Kinds.Parameter procedure.parameters (λ text. refl))
     ∙ no_local_function procedure.locals)
-    ∙ functions_kept (undeclared procedure) ∙ ap (filter names_function) (undeclared_same procedure h)
+    ∙ functions_kept (undeclared_in procedure) ∙ ap (filter names_function) (undeclared_same procedure h)
 
 functions_used : (procedures : List Procedure) → Fit procedures
     → flat_map functions_in (map proc_code procedures) ≡ filter names_function (used_names procedures)

@@ -335,12 +335,12 @@ procs_joined (name ∷ names) (file ∷ files) e =
     ap (λ l. proc_codes file ++ l) (procs_joined names files (omega (arith, e))) ∙ sym (flat_map-append codes_in file (joined_declarations files))
 
 pub units_join : (names : List (List ℕ)) (files : List (List Declaration)) → length names ≡ length files → All IsFaultless files
-    → IsJoined files (Linked.joined (translated_units names files))
+    → IsJoined files (Linked.joined_code (translated_units names files))
 units_join names files same h =
     let decls = decls_joined names files same in
     let procs = procs_joined names files same in
     subst (λ (tables : Tables). IsCodeOf (joined_declarations files) tables) (λ i. joined_of (sym decls i) (sym procs i)) (files_join files h)
 
 -- one file
-pub unit_joins : (name : List ℕ) (file : List Declaration) → IsFaultless file → IsJoined (file ∷ []) (Linked.joined (translated_unit name file ∷ []))
+pub unit_joins : (name : List ℕ) (file : List Declaration) → IsFaultless file → IsJoined (file ∷ []) (Linked.joined_code (translated_unit name file ∷ []))
 unit_joins name file h = units_join (name ∷ []) (file ∷ []) refl (single file h)

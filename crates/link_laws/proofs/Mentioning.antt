@@ -28,7 +28,7 @@ use Rattle.icn_translate.specs.declared.forms.InfixForm.{InfixForm}
 use Rattle.icn_translate.specs.declared.forms.InfixForm.TheVariants.{Both, Scanning, Either, Limiting, Activating, Spreading, Operating}
 use Rattle.icn_translate.specs.declared.forms.PrefixForm.{PrefixForm}
 use Rattle.icn_translate.specs.declared.forms.PrefixForm.TheVariants.{Activation, Repetition, Operation}
-use Rattle.icn_translate.specs.Drafts.{Draft, ◌▹◌, put, next_label, with_label, numbered, with_name, with_names, put_variable, unmentioned, in_loop, outside_loop, innermost, aside, put_next, put_last, case_end, in_case, outside_case, put_end}
+use Rattle.icn_translate.specs.Drafts.{Draft, ◌▹◌, put, next_label, with_label, with_number, with_name, with_names, put_variable, no_ways, in_loop, outside_loop, innermost, aside, put_next, put_last, case_end, in_case, outside_case, put_end}
 use Rattle.icn_translate.specs.Instructions.{literal_instr, known_keyword, keyword_by, keyword_instr, section_op, infix_form, prefix_form}
 use Rattle.icn_translate.specs.Open.{Open, Outermost, Marked, Looped, Each, unmarks_for_break, unmarks_for_next, around}
 use Rattle.icn_translate.specs.Translation.{is_empty, is_nothing, is_no_element, elements, bounded_code, create_code, if_mark, unless_empty, either_step, control_part, in_control, in_body, back, loop_end, prefix_by, plain_form, update, augmented_form, case_of, looped_body, translate, operands, arguments, conjunction, conjuncts, compound, creations, other_creations, subscripts, to_step, otherwise, looped_part, suspended_part, guarded, default_part, initially, body}
@@ -157,7 +157,7 @@ module _ {d e : Draft} {ms : List Mention} {ns : List (List ℕ)} where
   label : Adds d e ms ns → Adds d (with_label e) ms ns
   label c = same (label_instrs e) (label_names e) c
 
-  numbers : (k : Option ℕ) → Adds d e ms ns → Adds d (numbered k e) ms ns
+  numbers : (k : Option ℕ) → Adds d e ms ns → Adds d (with_number k e) ms ns
   numbers None c = label c
   numbers (Some n) c = c
 
@@ -393,22 +393,22 @@ ended i h c = next_label_put I.Lab (λ l. refl) c ▸ plainly i h ▸ last_label
 kinds_add : {ks bs : List Mention} {ms ns : List (List ℕ)} (kind : LoopKind) {c s : Draft → Draft} → AddsAlways ks ms c → AddsAlways bs ns s
     → AddsAlways (ks ++ bs) (ms ++ ns) (λ d. d ▹ control_part kind c ▹ s ▹ loop_end (back kind (next_label d)))
 kinds_add While r q = record {
-  adds = λ d. from d ▸ label ▸ plainly (I.Lab _) refl ▸ inner unmentioned ▸ plainly I.Mark0 refl ▸ on r
+  adds = λ d. from d ▸ label ▸ plainly (I.Lab _) refl ▸ inner no_ways ▸ plainly I.Mark0 refl ▸ on r
       ▸ plainly I.Unmark refl ▸ on q ▸ ended (I.Loop _) refl;
 }
 kinds_add Until r q = record {
-  adds = λ d. from d ▸ label ▸ plainly (I.Lab _) refl ▸ inner unmentioned ▸ labelled I.Mark (λ l. refl) ▸ on r
+  adds = λ d. from d ▸ label ▸ plainly (I.Lab _) refl ▸ inner no_ways ▸ labelled I.Mark (λ l. refl) ▸ on r
       ▸ plainly I.Unmark refl ▸ plainly I.Efail refl ▸ plainly (I.Lab _) refl ▸ on q ▸ ended (I.Loop _) refl;
 }
 kinds_add Every r q = record {
-  adds = λ d. from d ▸ inner unmentioned ▸ plainly I.Mark0 refl ▸ on r
+  adds = λ d. from d ▸ inner no_ways ▸ plainly I.Mark0 refl ▸ on r
       ▸ plainly I.Pop refl ▸ on q ▸ ended I.Efail refl;
 }
 
 loop_adds : {ks : List Mention} {ms : List (List ℕ)} {s : Draft → Draft} → AddsAlways ks ms s
-    → AddsAlways ks ms (λ d. d ▹ with_label ▹ put (I.Lab (next_label d)) ▹ in_loop unmentioned ▹ s ▹ loop_end (I.Loop (next_label d)))
+    → AddsAlways ks ms (λ d. d ▹ with_label ▹ put (I.Lab (next_label d)) ▹ in_loop no_ways ▹ s ▹ loop_end (I.Loop (next_label d)))
 loop_adds r = record {
-  adds = λ d. from d ▸ label ▸ plainly (I.Lab _) refl ▸ inner unmentioned ▸ on r ▸ ended (I.Loop _) refl;
+  adds = λ d. from d ▸ label ▸ plainly (I.Lab _) refl ▸ inner no_ways ▸ on r ▸ ended (I.Loop _) refl;
 }
 
 aside_adds : {ks : List Mention} {ms : List (List ℕ)} {s : Draft → Draft} → AddsAlways ks ms s → AddsAlways ks ms (aside s)

@@ -30,7 +30,7 @@ use Rattle.icn_meaning.specs.Program.{place_of, later, texts, locals_among, stat
 use Rattle.icn_simulation.specs.Joined.{variable_by}
 use Rattle.icn_simulation.specs.Mentions.{firsts}
 use Rattle.icn_simulation.proofs.TreeForms.{FormedInitial, FormedAll}
-use Rattle.icn_translate.specs.ProcCodes.{entry_of, texts_of, kind_of, local_entries, local_texts, declared_texts, first_draft, draft_of, undeclared, proc_code}
+use Rattle.icn_translate.specs.ProcCodes.{entry_of, texts_of, kind_of, local_entries, local_texts, declared_texts, first_draft, draft_of, undeclared_in, proc_code}
 use Rattle.icn_units.proofs.EntryNames.{begun_names, code_names, code_names_differ, names_length}
 use Rattle.icn_units.proofs.Naming.{both_of, neither_of, was_not}
 use Rattle.link_laws.proofs.FirstsOnce.{filter_by, firsts_kept, names_all, added_firsts, without_kept}
@@ -406,13 +406,13 @@ parameters_counted procedure =
     let test : UnitName → Bool = λ x. is_parameter x.kind in
     let parameters = map (λ (name : Name). entry_of Kinds.Parameter name.text) procedure.parameters in
     let locals = flat_map local_entries procedure.locals in
-    let others = map (entry_of Kinds.Undeclared) (undeclared procedure) in
+    let others = map (entry_of Kinds.Undeclared) (undeclared_in procedure) in
     sym (length-filter test (proc_code procedure).names)
     ∙ ap length (filter-append test (parameters ++ locals) others
     ∙ ap (λ xs. xs ++ filter test others) (filter-append test parameters locals
     ∙ ap (λ xs. xs ++ filter test locals) (kind_counted Kinds.Parameter procedure.parameters true refl)
     ∙ ap (λ xs. parameters ++ xs) (no_parameter procedure.locals) ∙ append-nil parameters)
-    ∙ ap (λ xs. parameters ++ xs) (none_undeclared (undeclared procedure)) ∙ append-nil parameters)
+    ∙ ap (λ xs. parameters ++ xs) (none_undeclared (undeclared_in procedure)) ∙ append-nil parameters)
     ∙ map_length Kinds.Parameter procedure.parameters
 
 -- A procedure
@@ -428,7 +428,7 @@ abbrev pub uses : Procedure → List (List ℕ)
 uses procedure = names_in_initial procedure.initial ++ names_in_all procedure.body
 
 -- the undeclared names are those that are used and not declared, each once
-pub undeclared_same : (procedure : Procedure) → IsFit procedure → undeclared procedure ≡ undeclared_names procedure
+pub undeclared_same : (procedure : Procedure) → IsFit procedure → undeclared_in procedure ≡ undeclared_names procedure
 undeclared_same procedure h =
     let B = (first_draft procedure).names in
     let K = own_names procedure ++ statics_among procedure.locals in
@@ -449,13 +449,13 @@ locals_same globals procedure h =
     let test = is_local_in globals in
     let parameters = map (λ (name : Name). entry_of Kinds.Parameter name.text) procedure.parameters in
     let locals = flat_map local_entries procedure.locals in
-    let others = map (entry_of Kinds.Undeclared) (undeclared procedure) in
+    let others = map (entry_of Kinds.Undeclared) (undeclared_in procedure) in
     named_append test (parameters ++ locals) others
     ∙ ap (λ l. l ++ entry_names (filter test others)) (named_append test parameters locals
     ∙ ap (λ l. l ++ entry_names (filter test locals)) (all_pass test Kinds.Parameter procedure.parameters (λ text. refl))
     ∙ ap (λ l. texts procedure.parameters ++ l) (declared_locals globals procedure.locals))
-    ∙ ap (λ l. own_names procedure ++ l) (others_pass test (λ y. not (list_any (bytes_eq y) globals)) (undeclared procedure) (local_test globals)
-    ∙ sym (without_kept globals (undeclared procedure)) ∙ ap (without_names globals) (undeclared_same procedure h))
+    ∙ ap (λ l. own_names procedure ++ l) (others_pass test (λ y. not (list_any (bytes_eq y) globals)) (undeclared_in procedure) (local_test globals)
+    ∙ sym (without_kept globals (undeclared_in procedure)) ∙ ap (without_names globals) (undeclared_same procedure h))
 
 pub statics_same : (globals : List (List ℕ)) (procedure : Procedure)
     → static_names globals (proc_code procedure).names ≡ statics_among procedure.locals
@@ -463,13 +463,13 @@ statics_same globals procedure =
     let test = is_static_in globals in
     let parameters = map (λ (name : Name). entry_of Kinds.Parameter name.text) procedure.parameters in
     let locals = flat_map local_entries procedure.locals in
-    let others = map (entry_of Kinds.Undeclared) (undeclared procedure) in
+    let others = map (entry_of Kinds.Undeclared) (undeclared_in procedure) in
     named_append test (parameters ++ locals) others
     ∙ ap (λ l. l ++ entry_names (filter test others)) (named_append test parameters locals
     ∙ ap (λ l. l ++ entry_names (filter test locals)) (none_pass test Kinds.Parameter procedure.parameters (λ text. refl))
     ∙ declared_statics globals procedure.locals)
-    ∙ ap (λ l. statics_among procedure.locals ++ l) (others_pass test (λ y. false) (undeclared procedure) (static_test globals)
-    ∙ none_of (undeclared procedure)) ∙ append-nil (statics_among procedure.locals)
+    ∙ ap (λ l. statics_among procedure.locals ++ l) (others_pass test (λ y. false) (undeclared_in procedure) (static_test globals)
+    ∙ none_of (undeclared_in procedure)) ∙ append-nil (statics_among procedure.locals)
 
 -- the instruction of a name of the code is that of the name's place among locals, statics and globals
 pub variable_same : (globals : List (List ℕ)) (procedure : Procedure) (h : IsFit procedure) (name : List ℕ)

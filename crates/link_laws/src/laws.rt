@@ -4,8 +4,8 @@ ghost use Rattle.icn_tree.specs.Trees.{Declaration};
 ghost use Rattle.icn_translate.specs.FileUnits.{translated_unit};
 ghost use Rattle.icn_unit.specs.UnitRules.{is_byte_text};
 ghost use Rattle.icn_units.specs.Written.{file_fits};
-ghost use Rattle.icn_defs.specs.Running.{Launch, Observed};
-ghost use Rattle.icn_link.specs.Joined.{joined};
+ghost use Rattle.icn_defs.specs.Running.{Launch, Observation};
+ghost use Rattle.icn_link.specs.Joined.{joined_code};
 ghost use Rattle.icn_link.specs.JoinableUnits.{is_joinable};
 ghost use Rattle.icn_simulation.specs.Faultless.{IsFaultless};
 ghost use Rattle.icn_simulation.specs.Joined.{IsJoined};
@@ -20,7 +20,7 @@ use icn_simulation::same_ends;
 pub fn translations_join()
     ensures { (names : List (List ℕ)) (files : List (List Declaration)) → length names ≡ length files
         → All IsFaultless files
-        → IsJoined files (joined (translated_units names files)) }
+        → IsJoined files (joined_code (translated_units names files)) }
 {}
 
 /// So files that break no rule mean, with some words, limits and input, what the linked code of their units comes to: how it ends,
@@ -28,13 +28,13 @@ pub fn translations_join()
 /// the flat stacks that a machine has.
 pub fn translations_run()
     ensures on_marks { (names : List (List ℕ)) (files : List (List Declaration)) (launch : Launch)
-        (seen : Observed)
+        (seen : Observation)
         → length names ≡ length files → All IsFaultless files
-        → FilesMean files launch seen ↔ RunsLinked (joined (translated_units names files)) launch seen }
+        → FilesMean files launch seen ↔ RunsLinked (joined_code (translated_units names files)) launch seen }
     ensures on_stacks { (names : List (List ℕ)) (files : List (List Declaration)) (launch : Launch)
-        (seen : Observed)
+        (seen : Observation)
         → length names ≡ length files → All IsFaultless files
-        → FilesMean files launch seen ↔ RunsFlat (joined (translated_units names files)) launch seen }
+        → FilesMean files launch seen ↔ RunsFlat (joined_code (translated_units names files)) launch seen }
 {
     translations_join();
     same_ends();
@@ -43,7 +43,7 @@ pub fn translations_run()
 /// The linked code of a file that breaks no rule, from its translated unit, is the code of which the first law speaks.
 pub fn translated_units_join()
     ensures { (name : List ℕ) (file : List Declaration) → IsFaultless file
-        → IsJoined (file ∷ []) (joined (translated_unit name file ∷ [])) }
+        → IsJoined (file ∷ []) (joined_code (translated_unit name file ∷ [])) }
 {}
 
 /// The translated unit of a file that breaks no rule can be joined, where the texts of the file are bytes. Nothing is asked of how many

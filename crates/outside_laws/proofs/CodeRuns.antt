@@ -14,7 +14,7 @@ use Rattle.icn_defs.specs.Conversions.{integer_of}
 use Rattle.icn_defs.specs.Errors.{error_report}
 use Rattle.icn_defs.specs.Keywords.{keyword_item}
 use Rattle.icn_defs.specs.Rows.{Outcome, Fails, Gives, Suspends, Error, Ends}
-use Rattle.icn_defs.specs.Running.{Pair, Ending, Done, bound_report, Launch, Observed, words_row, number_of, after_steps}
+use Rattle.icn_defs.specs.Running.{Pair, Ending, Done, bound_report, Launch, Observation, words_row, number_of, after_steps}
 use Rattle.icn_defs.specs.StepRows.{Operation, Function, apply, value_row, list_row, text_row, record_row, coexpression_row}
 use Rattle.icn_run.specs.Calls.{Why, Alt, Op as Operating, Scan, Escan, Proc, MarkDrop, NoMark, Goes, Repeats, Outside as WithoutLabel, Calls}
 use Rattle.icn_run.specs.Step as S
@@ -407,17 +407,17 @@ module _ {H M : Type 0} (C : Calls H M) (P : Program) (b : Lasting) where
       (words_leave b lines (S.here C m st) k)
       (λ list m st k. begun_if (nat_le 1 st.world.heap.bounds.levels) main entry (list ∷ []) m st k))
 
-  abbrev record_of : Ending → Outside → Observed
+  abbrev record_of : Ending → Outside → Observation
   record_of ending outside = record { ending = ending; outside = outside }
 
-  seen_so : (s : State H M) (seen : Observed) → S.observation s ≡ Some seen → G s → b.is seen.outside
-  seen_so (over ending outside) seen e k = subst b.is (let h : record_of ending outside ≡ seen = cc in ap (λ (o : Observed). o.outside) h) k
+  seen_so : (s : State H M) (seen : Observation) → S.observation s ≡ Some seen → G s → b.is seen.outside
+  seen_so (over ending outside) seen e k = subst b.is (let h : record_of ending outside ≡ seen = cc in ap (λ (o : Observation). o.outside) h) k
   seen_so (running m st) seen e k = absurd (cc e)
   seen_so (failing m st) seen e k = absurd (cc e)
   seen_so (hopping m st) seen e k = absurd (cc e)
   seen_so stuck seen e k = absurd (cc e)
 
   -- it is so of the outside that a run comes to after so many steps
-  pub run_leaves : (m : M) (launch : Launch) (n : ℕ) (seen : Observed) → b.is launch.outside
+  pub run_leaves : (m : M) (launch : Launch) (n : ℕ) (seen : Observation) → b.is launch.outside
       → S.observation (after_steps (S.step C P) n (S.start C m P launch)) ≡ Some seen → b.is seen.outside
   run_leaves m launch n seen k e = seen_so _ seen e (steps n (S.start C m P launch) (start_of launch.words m (S.first_store P launch) (S.main_of P) k))

@@ -20,7 +20,7 @@ use Rattle.icn_defs.specs.Applying.{again}
 use Rattle.icn_defs.specs.Conversions.{integer_of, place_of as position_of}
 use Rattle.icn_defs.specs.Keywords.{keyword_item}
 use Rattle.icn_defs.specs.Errors.{error_report}
-use Rattle.icn_defs.specs.Running.{Errored, AtBound, bound_report, Launch, Observed, words_row, number_of, after_steps}
+use Rattle.icn_defs.specs.Running.{Errored, AtBound, bound_report, Launch, Observation, words_row, number_of, after_steps}
 use Rattle.icn_defs.specs.StepRows.{Operation, Function, apply, value_row, list_row, text_row, record_row, coexpression_row}
 use Rattle.icn_meaning.specs.Program.{Program, Routine, Kind, Callee, IsRoutine, IsKind, IsFunction, IsNothing, callee_of, place_of, routine_names}
 use Rattle.icn_meaning.specs.Contexts.{Form, Operating, Calling, Spreading, Collecting, Taking, Activating, frame_of, activation_of, Works, Nothing, ◌and_then◌, Choices, NoChoice, ◌or_else◌, Work, Args, Then, Cut, Raise, Limit, Count, Scan, Leave, Update, Each, Select, Returning, Suspending, Result, Do, Again, Resume, Restore, Reenter, Back, Exhaust, Action, Go, Give, Pass, Body, Try, Rest, Off, Surroundings, InCall, InScan, InLoop, Status, Fresh, Active, Waiting, AfterResult, Exhausted, Coexpression, Store, State, eval, succeed, fail, hop, over, lost, Ending}
@@ -475,11 +475,11 @@ module _ (b : Lasting) where
     start : (launch : Launch) → b.is launch.outside → G (M.start p launch)
     start launch k = main_at (place_of (codes "main") (routine_names p.routines)) launch.words (M.first_store p launch) k
 
-    abbrev record_of : Ending → Store → Observed
+    abbrev record_of : Ending → Store → Observation
     record_of ending st = record { ending = ending; outside = st.outside }
 
-    seen_so : (s : State) (seen : Observed) → M.observation s ≡ Some seen → G s → b.is seen.outside
-    seen_so (over ending st) seen e k = subst b.is (let h : record_of ending st ≡ seen = cc in ap (λ (o : Observed). o.outside) h) k
+    seen_so : (s : State) (seen : Observation) → M.observation s ≡ Some seen → G s → b.is seen.outside
+    seen_so (over ending st) seen e k = subst b.is (let h : record_of ending st ≡ seen = cc in ap (λ (o : Observation). o.outside) h) k
     seen_so (eval e s w r st) seen f k = absurd (cc f)
     seen_so (succeed x w r st) seen f k = absurd (cc f)
     seen_so (fail r st) seen f k = absurd (cc f)
@@ -487,5 +487,5 @@ module _ (b : Lasting) where
     seen_so lost seen f k = absurd (cc f)
 
     -- what a program means leaves it so
-    pub means_leaves : (launch : Launch) (seen : Observed) → b.is launch.outside → M.Means p launch seen → b.is seen.outside
+    pub means_leaves : (launch : Launch) (seen : Observation) → b.is launch.outside → M.Means p launch seen → b.is seen.outside
     means_leaves launch seen k m = seen_so _ seen m.is (steps m.count (M.start p launch) (start launch k))

@@ -12,7 +12,7 @@ use Rattle.icn_text.specs.declared.func.Func.TheVariants as Funcs
 use Rattle.icn_value.specs.Values.{Value, Text, Integer, Std, File, Input, Output, Errout, Root, Global, Static, Local, Element, Field, Key, Keyword, KeywordVariable, Subject, Position, Random, Variable, Whole, Part, Item, Val, Var}
 use Rattle.icn_value.specs.Store.{Setting, Request, ALine, SomeBytes, Outside, with_reading, having_left, Heap, Names, having_position, having_heap}
 use Rattle.icn_defs.specs.Conversions.{integer_of, place_of, Group, Textual, Listed, Collected, Tabled, Recorded, Filed, Activated, Single}
-use Rattle.icn_defs.specs.Rows.{Row, costs_bytes, gives_value, ends, suspends, Outcome, Fails, Gives, Suspends, Error, Ends, Residual, TextBytes, VariableBytes, ListItems, SetMembers, TableValues, TableKeys, RecordFields, InputLines, UndoAssign, UndoExchange, UndoPosition, Counting, Sequence, Balanced, Found, Among, Mover, Neither, Left, Right, check, present, computed, passing, found, natural, costs_made, gives_list}
+use Rattle.icn_defs.specs.Rows.{Row, costs_bytes, gives_value, ends, suspends, Outcome, Fails, Gives, Suspends, Error, Ends, Residual, TextBytes, VariableBytes, ListItems, SetMembers, TableValues, TableKeys, RecordFields, InputLines, UndoAssign, UndoExchange, UndoPosition, Counting, Sequence, Balanced, Found, Among, Mover, Neither, Left, Right, check, present, number_or_error, passing, thing_or_failure, natural, costs_made, gives_list}
 use Rattle.icn_defs.specs.Reading.{the_value, the_values, the_variable, assigns_keyword, assigns_root, assigns_or, assigns_both, move_part, moved_by_left, moved_by_right, costs_unless, reads}
 use Rattle.icn_defs.specs.Arguments.{Keeper, SetKeeper, TableKeeper}
 use Rattle.icn_defs.specs.Arithmetic.{count_from}
@@ -68,7 +68,7 @@ pub k_present : {A : Type 0} (b : Lasting) (o : Option A) (n : ℕ) (v : Option 
 k_present b (Some x) n v next a k f = f x
 k_present b None n v next a k f = record { is = k }
 
-pub k_computed : (b : Lasting) (o : Result ℤ Arith) (next : ℤ → Row) (a : Setting) → Keeps b a → ((x : ℤ) → KI b (next x a)) → KI b (computed o next a)
+pub k_computed : (b : Lasting) (o : Result ℤ Arith) (next : ℤ → Row) (a : Setting) → Keeps b a → ((x : ℤ) → KI b (next x a)) → KI b (number_or_error o next a)
 k_computed b (Ok x) next a k f = f x
 k_computed b (Err why) next a k f = record { is = k }
 
@@ -76,7 +76,7 @@ pub k_passing : (b : Lasting) (t : Bool) (next : Row) (a : Setting) → Keeps b 
 k_passing b true next a k f = f
 k_passing b false next a k f = record { is = k }
 
-pub k_found : {A : Type 0} (b : Lasting) (o : Option A) (next : A → Row) (a : Setting) → Keeps b a → ((x : A) → KI b (next x a)) → KI b (found o next a)
+pub k_found : {A : Type 0} (b : Lasting) (o : Option A) (next : A → Row) (a : Setting) → Keeps b a → ((x : A) → KI b (next x a)) → KI b (thing_or_failure o next a)
 k_found b (Some x) next a k f = f x
 k_found b None next a k f = record { is = k }
 

@@ -8,7 +8,7 @@ ghost use Rattle.icn_value.specs.Values.{Item};
 ghost use Rattle.icn_defs.specs.Applying.{again, function_row, operation_row};
 ghost use Rattle.icn_defs.specs.Interruptions.{Breaks, BreaksReading, IsOutsideOf, Streams};
 ghost use Rattle.icn_defs.specs.Rows.{Residual};
-ghost use Rattle.icn_defs.specs.Running.{Launch, Observed, after_steps, launch_of};
+ghost use Rattle.icn_defs.specs.Running.{Launch, Observation, after_steps, launch_of};
 ghost use Rattle.icn_code.specs.Codes.{Tables};
 ghost use Rattle.icn_run.specs.FlatStep as Flat;
 ghost use Rattle.icn_run.specs.LinkedStep as Linked;
@@ -33,12 +33,12 @@ pub fn rows_leave()
 /// the input, and each reading of its history was made when no more was put than at the end, and found an input that holds what it takes and all
 /// that is left.
 pub fn runs_leave()
-    ensures meant { (input : List ℕ) (program : Program) (launch : Launch) (seen : Observed)
+    ensures meant { (input : List ℕ) (program : Program) (launch : Launch) (seen : Observation)
         → IsOutsideOf input launch.outside → Means program launch seen → IsOutsideOf input seen.outside }
-    ensures on_stacks { (input : List ℕ) (tables : Tables) (launch : Launch) (seen : Observed)
+    ensures on_stacks { (input : List ℕ) (tables : Tables) (launch : Launch) (seen : Observation)
         → IsOutsideOf input launch.outside → Flat.Runs tables launch seen → IsOutsideOf input seen.outside }
     ensures on_marks { (input : List ℕ) (repeats : ℕ → ℕ → Bool) (tables : Tables) (launch : Launch)
-        (seen : Observed) → IsOutsideOf input launch.outside → Linked.Runs repeats tables launch seen
+        (seen : Observation) → IsOutsideOf input launch.outside → Linked.Runs repeats tables launch seen
         → IsOutsideOf input seen.outside }
 {}
 
@@ -56,22 +56,22 @@ pub fn outsides_grow()
         → HasOutside (Extends launch.outside) (after_steps (Flat.step tables) n (Flat.start tables launch)) }
     ensures steps { (tables : Tables) (state : State Frames Frames) (n : ℕ)
         → StateExtends state (after_steps (Flat.step tables) n state) }
-    ensures meant { (program : Program) (launch : Launch) (seen : Observed) → Means program launch seen
+    ensures meant { (program : Program) (launch : Launch) (seen : Observation) → Means program launch seen
         → Extends launch.outside seen.outside }
-    ensures on_stacks { (tables : Tables) (launch : Launch) (seen : Observed) → Flat.Runs tables launch seen
+    ensures on_stacks { (tables : Tables) (launch : Launch) (seen : Observation) → Flat.Runs tables launch seen
         → Extends launch.outside seen.outside }
-    ensures on_marks { (repeats : ℕ → ℕ → Bool) (tables : Tables) (launch : Launch) (seen : Observed)
+    ensures on_marks { (repeats : ℕ → ℕ → Bool) (tables : Tables) (launch : Launch) (seen : Observation)
         → Linked.Runs repeats tables launch seen → Extends launch.outside seen.outside }
 {}
 
 /// A program's run that a failed reading broke off left a first part of what it puts and takes, as every run that was broken off.
 pub fn readings_break()
     ensures meant { (program : Program) (words : List (List ℕ)) (bounds : Bounds) (input : List ℕ)
-        (seen : Observed) (before after : Streams) →
+        (seen : Observation) (before after : Streams) →
         Means program (launch_of words bounds input) seen → BreaksReading seen before after
         → Breaks input seen before after }
     ensures on_stacks { (tables : Tables) (words : List (List ℕ)) (bounds : Bounds) (input : List ℕ)
-        (seen : Observed) (before after : Streams) →
+        (seen : Observation) (before after : Streams) →
         Flat.Runs tables (launch_of words bounds input) seen → BreaksReading seen before after
         → Breaks input seen before after }
 {}

@@ -3,9 +3,9 @@ use Rattle.std.proofs.Common.{refl}
 use Rattle.std.specs.Fmt.{digits}
 use Rattle.std.specs.List.{AllByRecursion}
 use Rattle.program_tests.specs.Cases.{Holds}
-use Rattle.program_tests.specs.Bounded.{bounded}
+use Rattle.program_tests.specs.Bounded.{bounded_cases}
 
-pub bounded_hold : AllByRecursion Holds bounded
+pub bounded_hold : AllByRecursion Holds bounded_cases
 unfolding digits
 bounded_hold = (
   refl,

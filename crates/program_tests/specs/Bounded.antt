@@ -3,7 +3,7 @@ use Rattle.std.specs.Prelude.{ℕ, List, [], ◌∷◌}
 use Rattle.icn_tree.specs.declared.token.Operator.TheVariants as Signs
 use Rattle.icn_tree.specs.Trees.{Declaration}
 use Rattle.program_tests.specs.Words.{int, name, before, between, assign, write, to, all_of, every, create, main}
-use Rattle.program_tests.specs.Cases.{Case, Wanted, under, most_turns, done, at_bound}
+use Rattle.program_tests.specs.Cases.{Case, Expectation, under, most_turns, ends_done, at_bound}
 
 -- procedure main(); every write((1 to 2) + (10 | 20)); end
 abbrev pub sums : List Declaration
@@ -36,18 +36,18 @@ results =
     []) ∷
     []
 
-abbrev pub sums_under : ℕ → Wanted → Case
+abbrev pub sums_under : ℕ → Expectation → Case
 sums_under turns wanted = under (most_turns turns) sums 160 wanted
 
-abbrev pub rounds_under : ℕ → Wanted → Case
+abbrev pub rounds_under : ℕ → Expectation → Case
 rounds_under turns wanted = under (most_turns turns) rounds 160 wanted
 
-abbrev pub results_under : ℕ → Wanted → Case
+abbrev pub results_under : ℕ → Expectation → Case
 results_under turns wanted = under (most_turns turns) results 200 wanted
 
 -- one small program under bounds of 0, 1, 2 and more turns
-abbrev pub bounded : List Case
-bounded =
+abbrev pub bounded_cases : List Case
+bounded_cases =
     sums_under 0 (at_bound "" 0 0 1) ∷
     sums_under 1 (at_bound "" 1 0 1) ∷
     sums_under 2 (at_bound "" 2 0 1) ∷
@@ -59,7 +59,7 @@ bounded =
     sums_under 8 (at_bound "11\n21\n12\n" 8 0 1) ∷
     sums_under 9 (at_bound "11\n21\n12\n" 9 0 1) ∷
     sums_under 10 (at_bound "11\n21\n12\n22\n" 10 0 1) ∷
-    sums_under 11 (done "11\n21\n12\n22\n" 11 0 1) ∷
+    sums_under 11 (ends_done "11\n21\n12\n22\n" 11 0 1) ∷
     rounds_under 1 (at_bound "" 1 0 1) ∷
     rounds_under 2 (at_bound "1\n" 2 0 1) ∷
     rounds_under 3 (at_bound "1\n" 3 0 1) ∷
@@ -67,7 +67,7 @@ bounded =
     rounds_under 5 (at_bound "1\n2\n" 5 0 1) ∷
     rounds_under 6 (at_bound "1\n2\n" 6 0 1) ∷
     rounds_under 7 (at_bound "1\n2\n" 7 0 1) ∷
-    rounds_under 8 (done "1\n2\n1\n" 8 0 1) ∷
+    rounds_under 8 (ends_done "1\n2\n1\n" 8 0 1) ∷
     results_under 0 (at_bound "" 0 0 1) ∷
     results_under 1 (at_bound "" 1 0 3) ∷
     results_under 2 (at_bound "" 2 0 3) ∷
@@ -80,5 +80,5 @@ bounded =
     results_under 9 (at_bound "1\n2\n" 9 0 3) ∷
     results_under 10 (at_bound "1\n2\n" 10 0 3) ∷
     results_under 11 (at_bound "1\n2\n" 11 0 3) ∷
-    results_under 12 (done "1\n2\n" 12 0 3) ∷
+    results_under 12 (ends_done "1\n2\n" 12 0 3) ∷
     []

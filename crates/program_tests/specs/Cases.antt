@@ -6,7 +6,7 @@ use Rattle.std.specs.Option.{option_map}
 use Rattle.icn_tree.specs.Trees.{Declaration}
 use Rattle.icn_value.specs.Limited.{Bounds, default_limits}
 use Rattle.icn_code.specs.Codes.{Tables}
-use Rattle.icn_defs.specs.Running.{Ending, Done, Errored, AtBound, Observed, launch_of}
+use Rattle.icn_defs.specs.Running.{Ending, Done, Errored, AtBound, Observation, launch_of}
 use Rattle.icn_meaning.specs.Program.{Program, program}
 use Rattle.icn_meaning.specs.Contexts as M
 use Rattle.icn_meaning.specs.Meaning as Meaning
@@ -18,7 +18,7 @@ use Rattle.program_tests.specs.Coded.{tables_of}
 
 -- how a run ends, what it put on both outputs, the turns that it made, and the string bytes and cells that
 -- were charged
-pub record Wanted : Type 0 where
+pub record Expectation : Type 0 where
   pub ending : Ending
   pub output : List ℕ
   pub errors : List ℕ
@@ -33,11 +33,11 @@ pub record Case : Type 0 where
   pub bounds : Bounds
   pub input : List ℕ
   pub steps : ℕ
-  pub wanted : Wanted
+  pub wanted : Expectation
 
 -- Words for cases
 
-abbrev pub ends : Ending → String → String → ℕ → ℕ → ℕ → Wanted
+abbrev pub ends : Ending → String → String → ℕ → ℕ → ℕ → Expectation
 ends ending output errors turns strings cells = record {
   ending = ending;
   output = codes output;
@@ -47,28 +47,28 @@ ends ending output errors turns strings cells = record {
   cells = cells;
 }
 
-abbrev pub done : String → ℕ → ℕ → ℕ → Wanted
-done output turns strings cells = ends Done output "" turns strings cells
+abbrev pub ends_done : String → ℕ → ℕ → ℕ → Expectation
+ends_done output turns strings cells = ends Done output "" turns strings cells
 
-abbrev pub stopped : ℕ → String → String → ℕ → ℕ → ℕ → Wanted
-stopped number output errors turns strings cells = ends (Errored number) output errors turns strings cells
+abbrev pub ends_errored : ℕ → String → String → ℕ → ℕ → ℕ → Expectation
+ends_errored number output errors turns strings cells = ends (Errored number) output errors turns strings cells
 
-abbrev pub at_bound : String → ℕ → ℕ → ℕ → Wanted
+abbrev pub at_bound : String → ℕ → ℕ → ℕ → Expectation
 at_bound output turns strings cells = ends AtBound output "turn bound reached\n" turns strings cells
 
-abbrev pub started : List (List Declaration) → List (List ℕ) → Bounds → List ℕ → ℕ → Wanted → Case
-started files words bounds input steps wanted =
+abbrev pub run_of : List (List Declaration) → List (List ℕ) → Bounds → List ℕ → ℕ → Expectation → Case
+run_of files words bounds input steps wanted =
     record { files = files; words = words; bounds = bounds; input = input; steps = steps; wanted = wanted }
 
 -- one file, without words and input, under the limits that a command gives
-abbrev pub case : List Declaration → ℕ → Wanted → Case
-case file steps wanted = started (file ∷ []) [] default_limits [] steps wanted
+abbrev pub case : List Declaration → ℕ → Expectation → Case
+case file steps wanted = run_of (file ∷ []) [] default_limits [] steps wanted
 
-abbrev pub under : Bounds → List Declaration → ℕ → Wanted → Case
-under bounds file steps wanted = started (file ∷ []) [] bounds [] steps wanted
+abbrev pub under : Bounds → List Declaration → ℕ → Expectation → Case
+under bounds file steps wanted = run_of (file ∷ []) [] bounds [] steps wanted
 
-abbrev pub reading : String → List Declaration → ℕ → Wanted → Case
-reading input file steps wanted = started (file ∷ []) [] default_limits (codes input) steps wanted
+abbrev pub reading : String → List Declaration → ℕ → Expectation → Case
+reading input file steps wanted = run_of (file ∷ []) [] default_limits (codes input) steps wanted
 
 abbrev pub most_turns : ℕ → Bounds
 most_turns turns = record default_limits { turns = turns }
@@ -84,7 +84,7 @@ most_levels levels = record default_limits { levels = levels }
 
 -- What is seen of the meaning
 
-abbrev pub seen_of : M.State → Option Wanted
+abbrev pub seen_of : M.State → Option Expectation
 seen_of (M.over ending st) = Some (record {
   ending = ending;
   output = st.outside.output;
@@ -95,7 +95,7 @@ seen_of (M.over ending st) = Some (record {
 })
 seen_of state = None
 
-abbrev pub meant_by : Case → Program → Option Wanted
+abbrev pub meant_by : Case → Program → Option Expectation
 meant_by c p = seen_of (Meaning.steps p c.steps (Meaning.start p (launch_of c.words c.bounds c.input)))
 
 -- What is seen of the code. Its charges are told by limits: with just the turns, the string bytes and the
@@ -108,21 +108,21 @@ pub record End : Type 0 where
   pub errors : List ℕ
 
 -- how a run ends with just what it takes, and with a turn, a string byte and a cell less
-pub record Limited : Type 0 where
+pub record UnderLimits : Type 0 where
   pub just : Option End
   pub a_turn_less : Option Ending
   pub a_byte_less : Option Ending
   pub a_cell_less : Option Ending
 
-abbrev pub end_of : Observed → End
+abbrev pub end_of : Observation → End
 end_of seen = record { ending = seen.ending; output = seen.outside.output; errors = seen.outside.errors }
 
-abbrev pub ending_of : Observed → Ending
+abbrev pub ending_of : Observation → Ending
 ending_of seen = seen.ending
 
 -- what runs under these limits come to
-abbrev pub limited : (Bounds → Option Observed) → Bounds → Limited
-limited run bounds = record {
+abbrev pub under_limits : (Bounds → Option Observation) → Bounds → UnderLimits
+under_limits run bounds = record {
   just = option_map end_of (run bounds);
   a_turn_less = option_map ending_of (run (record bounds { turns = pred bounds.turns }));
   a_byte_less = option_map ending_of (run (record bounds { strings = pred bounds.strings }));
@@ -137,11 +137,11 @@ just c = record {
   levels = c.bounds.levels;
 }
 
-abbrev pub on_flat : Case → Tables → Bounds → Option Observed
+abbrev pub on_flat : Case → Tables → Bounds → Option Observation
 on_flat c tables bounds =
     Step.observation (Flat.steps tables c.steps (Flat.start tables (launch_of c.words bounds c.input)))
 
-abbrev pub on_linked : Case → Tables → Bounds → Option Observed
+abbrev pub on_linked : Case → Tables → Bounds → Option Observation
 on_linked c tables bounds =
     let repeats = repeats_of tables in
     Step.observation
@@ -152,7 +152,7 @@ abbrev pub short : ℕ → Ending → Ending → Option Ending
 short zero other ending = Some ending
 short (suc n) other ending = Some other
 
-abbrev pub wanted_limited : Wanted → Limited
+abbrev pub wanted_limited : Expectation → UnderLimits
 wanted_limited w = record {
   just = Some (record { ending = w.ending; output = w.output; errors = w.errors });
   a_turn_less = short w.turns AtBound w.ending;
@@ -161,19 +161,19 @@ wanted_limited w = record {
 }
 
 -- All that is seen: of the meaning, and of the code on flat stacks and on linked marks.
-pub record Seen : Type 0 where
-  pub meant : Option Wanted
-  pub on_stacks : Limited
-  pub on_marks : Limited
+pub record SeenOfCase : Type 0 where
+  pub meant : Option Expectation
+  pub on_stacks : UnderLimits
+  pub on_marks : UnderLimits
 
-abbrev pub seen_with : Case → Tables → Seen
+abbrev pub seen_with : Case → Tables → SeenOfCase
 seen_with c tables = record {
   meant = meant_by c (program c.files);
-  on_stacks = limited (on_flat c tables) (just c);
-  on_marks = limited (on_linked c tables) (just c);
+  on_stacks = under_limits (on_flat c tables) (just c);
+  on_marks = under_limits (on_linked c tables) (just c);
 }
 
-abbrev pub wanted_seen : Wanted → Seen
+abbrev pub wanted_seen : Expectation → SeenOfCase
 wanted_seen w =
     record { meant = Some w; on_stacks = wanted_limited w; on_marks = wanted_limited w }
 

@@ -3,7 +3,7 @@ use Rattle.std.specs.Prelude.{List, [], ◌∷◌, false}
 use Rattle.icn_tree.specs.declared.token.Operator.TheVariants as Signs
 use Rattle.icn_tree.specs.Trees.{Empty, NoInitial}
 use Rattle.program_tests.specs.Words.{int, text, name, key, before, between, assign, update, call, write, cocall, element, to, block, when, while, every_do, break, next, create, return, globals, locals, procedure_of, procedure, main}
-use Rattle.program_tests.specs.Cases.{Case, case, under, done, at_bound, most_turns}
+use Rattle.program_tests.specs.Cases.{Case, case, under, ends_done, at_bound, most_turns}
 
 -- programs that create and activate co-expressions
 abbrev pub coexpressions : List Case
@@ -19,7 +19,7 @@ coexpressions =
     []) ∷
     [])
     210
-    (done "1\n2\nend\n2\n" 16 0 3) ∷
+    (ends_done "1\n2\nend\n2\n" 16 0 3) ∷
     -- procedure main(); c := (create 1 to 3); @c; d := ^c; write(@d, @c); end
     case
     (main
@@ -30,7 +30,7 @@ coexpressions =
     []) ∷
     [])
     196
-    (done "12\n" 14 0 7) ∷
+    (ends_done "12\n" 14 0 7) ∷
     -- procedure main(); c := (create write("got ", "a" @ &source)); write(@c); "b" @ c; end
     case
     (main
@@ -41,7 +41,7 @@ coexpressions =
     []) ∷
     [])
     146
-    (done "a\ngot b\n" 8 0 3) ∷
+    (ends_done "a\ngot b\n" 8 0 3) ∷
     -- procedure p(); return &level; end
     -- procedure main(); write(&level, p()); c := (create p()); write(@c); end
     case
@@ -53,7 +53,7 @@ coexpressions =
     []) ∷
     [])
     152
-    (done "12\n2\n" 8 0 3) ∷
+    (ends_done "12\n2\n" 8 0 3) ∷
     -- procedure main(); c := (create |(1 to 2)); every 1 to 5 do writes(@c, " "); write(*c); end
     case
     (main
@@ -64,7 +64,7 @@ coexpressions =
     []) ∷
     [])
     390
-    (done "1 2 1 2 1 5\n" 34 0 3) ∷
+    (ends_done "1 2 1 2 1 5\n" 34 0 3) ∷
     -- global a, b
     -- procedure main(); a := (create {write("a1"); @b; write("a2"); "ra"}); b := (create {write("b1"); @a;
     --   write("b2")}); write(@a, "m"); write(@b | "f"); end
@@ -136,7 +136,7 @@ coexpressions =
     []) ∷
     [])
     192
-    (done "5\nco-expression_1(0)co-expression_1(0)co-expression_1(0)\n" 11 54 4) ∷
+    (ends_done "5\nco-expression_1(0)co-expression_1(0)co-expression_1(0)\n" 11 54 4) ∷
     -- procedure p(n); local c; c := (create {n +:= 1; n}); n := 100; return c; end
     -- procedure main(); c := p(3); write(@c); c := ^c; write(@c, @p(1)); end
     case
@@ -153,7 +153,7 @@ coexpressions =
     []) ∷
     [])
     340
-    (done "4\n42\n" 25 0 10) ∷
+    (ends_done "4\n42\n" 25 0 10) ∷
     -- global c
     -- procedure main(); every i := 1 to 3 do {c := (create {every j := i | 9 do {if j < 2 then next; if j
     --   > 8 then break; suspendless(j)}; i}); write(@c, *c, @c | "f")}; end
@@ -185,7 +185,7 @@ coexpressions =
     procedure "suspendless" ("x" ∷ []) (write (text "s" ∷ name "x" ∷ []) ∷ []) ∷
     [])
     790
-    (done "11f\ns2\n21f\ns3\n31f\n" 52 0 10) ∷
+    (ends_done "11f\ns2\n21f\ns3\n31f\n" 52 0 10) ∷
     -- procedure main(); x := (create 1 to 3); y := "v"; y @:= x; write(y); end
     case
     (main
@@ -196,7 +196,7 @@ coexpressions =
     []) ∷
     [])
     144
-    (done "1\n" 8 0 4) ∷
+    (ends_done "1\n" 8 0 4) ∷
     -- procedure p(L); while write(@L[1], @L[2]); end
     -- procedure main(); p{1 to 3, "a" | "b"}; end
     case
@@ -210,7 +210,7 @@ coexpressions =
     main (cocall (name "p") (to (int 1) (int 3) ∷ between (text "a") Signs.Bar (text "b") ∷ []) ∷ []) ∷
     [])
     320
-    (done "1a\n2b\n" 29 0 6) ∷
+    (ends_done "1a\n2b\n" 29 0 6) ∷
     -- procedure main(); x := 1; c := (create x); x := 2; write(@c); d := ^c; write(@d); end
     case
     (main
@@ -223,10 +223,10 @@ coexpressions =
     []) ∷
     [])
     186
-    (done "1\n1\n" 12 0 9) ∷
+    (ends_done "1\n1\n" 12 0 9) ∷
     -- procedure main(); write(image(create 1)); end
     case
     (main (write (call (name "image") (create (int 1) ∷ []) ∷ []) ∷ []) ∷ [])
     86
-    (done "co-expression_2(0)\n" 3 18 2) ∷
+    (ends_done "co-expression_2(0)\n" 3 18 2) ∷
     []

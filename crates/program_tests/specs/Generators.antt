@@ -3,7 +3,7 @@ use Rattle.std.specs.Prelude.{List, [], ◌∷◌, false}
 use Rattle.icn_tree.specs.declared.token.Operator.TheVariants as Signs
 use Rattle.icn_tree.specs.Trees.{Empty, NoInitial}
 use Rattle.program_tests.specs.Words.{int, text, name, key, before, between, assign, update, call, write, element, list, to, all_of, block, when, while_do, every, return, fail, suspend, suspend_do, globals, locals, procedure_of, procedure, main}
-use Rattle.program_tests.specs.Cases.{Case, case, done, stopped}
+use Rattle.program_tests.specs.Cases.{Case, case, ends_done, ends_errored}
 
 -- programs with generators
 abbrev pub generators : List Case
@@ -16,7 +16,7 @@ generators =
     []) ∷
     [])
     154
-    (done "11\n21\n12\n22\n" 11 0 1) ∷
+    (ends_done "11\n21\n12\n22\n" 11 0 1) ∷
     -- procedure main(); x := 1; every write(x <- 2 | 3); write(x); end
     case
     (main
@@ -27,9 +27,9 @@ generators =
     []) ∷
     [])
     142
-    (done "2\n3\n1\n" 8 0 1) ∷
+    (ends_done "2\n3\n1\n" 8 0 1) ∷
     -- procedure main(); write(2 to 1); write("z"); end
-    case (main (write (to (int 2) (int 1) ∷ []) ∷ write (text "z" ∷ []) ∷ []) ∷ []) 104 (done "z\n" 2 0 1) ∷
+    case (main (write (to (int 2) (int 1) ∷ []) ∷ write (text "z" ∷ []) ∷ []) ∷ []) 104 (ends_done "z\n" 2 0 1) ∷
     -- procedure main(); every write(|(1 to 2) \ 5); end
     case
     (main
@@ -37,7 +37,7 @@ generators =
     []) ∷
     [])
     202
-    (done "1\n2\n1\n2\n1\n" 14 0 1) ∷
+    (ends_done "1\n2\n1\n2\n1\n" 14 0 1) ∷
     -- procedure main(); x := 1; every write((x <- 2) \ 1); write(x); end
     case
     (main
@@ -49,7 +49,7 @@ generators =
     []) ∷
     [])
     132
-    (done "2\n2\n" 4 0 1) ∷
+    (ends_done "2\n2\n" 4 0 1) ∷
     -- procedure main(); x := 0; x <- 1 & x <- 2 & &fail; write(x); end
     case
     (main
@@ -64,7 +64,7 @@ generators =
     []) ∷
     [])
     136
-    (done "0\n" 6 0 1) ∷
+    (ends_done "0\n" 6 0 1) ∷
     -- procedure main(); every write((1 to 3) \ (1 | 2)); end
     case
     (main
@@ -74,12 +74,12 @@ generators =
     []) ∷
     [])
     152
-    (done "1\n1\n2\n" 6 0 1) ∷
+    (ends_done "1\n1\n2\n" 6 0 1) ∷
     -- procedure main(); every write(|&fail); write("z"); end
     case
     (main (every (write (before Signs.Bar (key "fail") ∷ [])) ∷ write (text "z" ∷ []) ∷ []) ∷ [])
     96
-    (done "z\n" 1 0 1) ∷
+    (ends_done "z\n" 1 0 1) ∷
     -- procedure main(); a := 1; b := 2; a <-> b & &fail; write(a, b); end
     case
     (main
@@ -90,7 +90,7 @@ generators =
     []) ∷
     [])
     136
-    (done "12\n" 5 0 1) ∷
+    (ends_done "12\n" 5 0 1) ∷
     -- procedure main(); every write((1 to 4) \ 2 + (10 | 20)); write((1 to 3) \ 0 | "none"); every
     --   write(|(1 \ 1) \ 3); every write(!"abc" \ 2); end
     case
@@ -114,7 +114,7 @@ generators =
     []) ∷
     [])
     332
-    (done "11\n21\n12\n22\nnone\n1\n1\n1\na\nb\n" 20 0 1) ∷
+    (ends_done "11\n21\n12\n22\nnone\n1\n1\n1\na\nb\n" 20 0 1) ∷
     -- procedure main(); i := 0; every write(|(3 > (i +:= 1))); every write(|(1 | &fail) \ 3); end
     case
     (main
@@ -130,7 +130,7 @@ generators =
     []) ∷
     [])
     272
-    (done "1\n2\n1\n1\n1\n" 19 0 1) ∷
+    (ends_done "1\n2\n1\n1\n1\n" 19 0 1) ∷
     -- procedure main(); L := [1, 2, 3]; every !L +:= 10; every writes(!L, " "); write(L[2], L[-1]);
     --   write(L[9] | "none"); s := "abc"; !s := "xy" & write(s); every (!s := "q") \ 2; write(s); end
     case
@@ -150,7 +150,7 @@ generators =
     []) ∷
     [])
     404
-    (done "11 12 13 1213\nnone\nxybc\nqqbc\n" 34 12 5) ∷
+    (ends_done "11 12 13 1213\nnone\nxybc\nqqbc\n" 34 12 5) ∷
     -- procedure main(); s := "abc"; s[2] <- "zz" & &fail; write(s); every s[1] <- "q" & write(s); end
     case
     (main
@@ -168,7 +168,7 @@ generators =
     []) ∷
     [])
     176
-    (done "abc\nqbc\n" 9 13 1) ∷
+    (ends_done "abc\nqbc\n" 9 13 1) ∷
     -- procedure upto3(a); local i; i := a; while i < 4 do {suspend i; i +:= 1}; end
     -- procedure main(); every write(upto3(1 to 3) \ 4); every write(upto3(2) + upto3(3)); end
     case
@@ -188,7 +188,7 @@ generators =
     []) ∷
     [])
     756
-    (done "1\n2\n3\n2\n5\n6\n" 60 0 1) ∷
+    (ends_done "1\n2\n3\n2\n5\n6\n" 60 0 1) ∷
     -- procedure p(); suspend 1 to 2 do write("d"); end
     -- procedure main(); every write(p()); end
     case
@@ -196,7 +196,7 @@ generators =
     main (every (write (call (name "p") [] ∷ [])) ∷ []) ∷
     [])
     160
-    (done "1\nd\n2\nd\n" 10 0 1) ∷
+    (ends_done "1\nd\n2\nd\n" 10 0 1) ∷
     -- procedure p(); local x; x := "ab"; suspend x | x[1] | !x; x := 9; end
     -- global g
     -- procedure q(); suspend g; end
@@ -219,7 +219,7 @@ generators =
     []) ∷
     [])
     300
-    (stopped 111 "ab\na\na\nb\n5\n"
+    (ends_errored 111 "ab\na\na\nb\n5\n"
     "Run-time error 111\nvariable expected\noffending value: \"ab\"\n"
     23
     0
@@ -235,7 +235,7 @@ generators =
     main (every (write (call (name "p") (between (int 0) Signs.Bar (int 1) ∷ []) ∷ [])) ∷ []) ∷
     [])
     206
-    (done "r\n1\n2\n7\n" 13 0 1) ∷
+    (ends_done "r\n1\n2\n7\n" 13 0 1) ∷
     -- procedure p(x); "xyz" ? {suspend x <- 2 to 3; suspend x}; fail; end
     -- procedure q(); return 2 < 1; end
     -- procedure main(); every write(p(7), " ", &pos); write(q() | "q failed"); every write((p(8) + p(9)) \
@@ -264,5 +264,5 @@ generators =
     []) ∷
     [])
     700
-    (done "2 1\n3 1\n7 1\nq failed\n4\n5\n11\n" 36 0 1) ∷
+    (ends_done "2 1\n3 1\n7 1\nq failed\n4\n5\n11\n" 36 0 1) ∷
     []

@@ -3,7 +3,7 @@ use Rattle.std.specs.Prelude.{List, [], ◌∷◌}
 use Rattle.icn_tree.specs.declared.token.Operator.TheVariants as Signs
 use Rattle.icn_tree.specs.declared.tree.SectionKind.TheVariants.{Between}
 use Rattle.program_tests.specs.Words.{int, text, letters, name, key, before, between, assign, update, call, write, element, section, field, list, while, while_do, every, kind, main}
-use Rattle.program_tests.specs.Cases.{Case, case, reading, done}
+use Rattle.program_tests.specs.Cases.{Case, case, reading, ends_done}
 
 -- programs that read, make structures and call functions
 abbrev pub library : List Case
@@ -12,7 +12,7 @@ library =
     reading "a\n\nb"
     (main (while (write (call (name "read") [] ∷ [])) ∷ []) ∷ [])
     150
-    (done "a\n\nb\n" 10 2 1) ∷
+    (ends_done "a\n\nb\n" 10 2 1) ∷
     -- procedure main(); t := table(0); while line := read() do line ? (while tab(upto(&letters)) do
     --   t[tab(many(&letters))] +:= 1); every write(k := key(t), " ", t[k]); end
     reading "to be or not to be\n"
@@ -36,12 +36,12 @@ library =
     []) ∷
     [])
     766
-    (done "to 2\nbe 2\nor 1\nnot 1\n" 72 18 6) ∷
+    (ends_done "to 2\nbe 2\nor 1\nnot 1\n" 72 18 6) ∷
     -- procedure main(); write(?6, " ", &random); end
     case
     (main (write (before Signs.Question (int 6) ∷ text " " ∷ key "random" ∷ []) ∷ []) ∷ [])
     92
-    (done "2 453816694\n" 2 0 1) ∷
+    (ends_done "2 453816694\n" 2 0 1) ∷
     -- procedure main(); L := [3, "a", 1]; put(L, 2); every writes(!sort(L), " "); write(*L); end
     case
     (main
@@ -54,7 +54,7 @@ library =
     []) ∷
     [])
     212
-    (done "1 2 3 a 4\n" 15 0 11) ∷
+    (ends_done "1 2 3 a 4\n" 15 0 11) ∷
     -- procedure main(); write(image("a\x09b"), " ", image('ab'), " ", image([1])); end
     case
     (main
@@ -68,7 +68,7 @@ library =
     []) ∷
     [])
     132
-    (done "\"a\\tb\" 'ab' list_2(1)\n" 5 19 3) ∷
+    (ends_done "\"a\\tb\" 'ab' list_2(1)\n" 5 19 3) ∷
     -- procedure main(); s := "hello"; s[2:4] := "ipp"; write(s); s[-1] := ""; write(s); end
     case
     (main
@@ -80,7 +80,7 @@ library =
     []) ∷
     [])
     166
-    (done "hipplo\nhippl\n" 8 11 1) ∷
+    (ends_done "hipplo\nhippl\n" 8 11 1) ∷
     -- procedure main(); S := set([1, 2]) ++ set([2, 3]); delete(S, 1); every writes(!S); write(member(S,
     --   3), *copy(S)); end
     case
@@ -98,7 +98,7 @@ library =
     []) ∷
     [])
     232
-    (done "2332\n" 16 0 20) ∷
+    (ends_done "2332\n" 16 0 20) ∷
     -- procedure main(); t := table(0); t["b"] := 1; t["a"] := 2; L := sort(t, 3); write(L[1], L[2], L[3],
     --   L[4]); write(pull(L), pop(L), right(7, 3, "0"), map("Ab")); end
     case
@@ -122,7 +122,7 @@ library =
     []) ∷
     [])
     316
-    (done "a2b1\n1a007ab\n" 18 6 9) ∷
+    (ends_done "a2b1\n1a007ab\n" 18 6 9) ∷
     -- record p(x)
     -- procedure main(); r := p(4); write(r.x, image(r)); end
     case
@@ -133,5 +133,5 @@ library =
     []) ∷
     [])
     122
-    (done "4record p_1(1)\n" 5 13 3) ∷
+    (ends_done "4record p_1(1)\n" 5 13 3) ∷
     []

@@ -3,7 +3,7 @@ use Rattle.std.specs.Prelude.{List, [], ◌∷◌}
 use Rattle.icn_tree.specs.declared.token.Operator.TheVariants as Signs
 use Rattle.icn_tree.specs.Trees.{Empty}
 use Rattle.program_tests.specs.Words.{int, text, name, between, assign, update, write, to, block, when, while, while_do, until, until_do, every, every_do, repeat, break, next, main}
-use Rattle.program_tests.specs.Cases.{Case, case, under, done, at_bound, most_turns}
+use Rattle.program_tests.specs.Cases.{Case, case, under, ends_done, at_bound, most_turns}
 
 -- programs with loops
 abbrev pub loops : List Case
@@ -26,7 +26,7 @@ loops =
     []) ∷
     [])
     526
-    (done "1\n3\n4\ne5\n" 33 0 1) ∷
+    (ends_done "1\n3\n4\ne5\n" 33 0 1) ∷
     -- procedure main(); i := 0; until (i +:= 1) > 3 do write(i); write(until i > 0); end
     case
     (main
@@ -38,7 +38,7 @@ loops =
     []) ∷
     [])
     272
-    (done "1\n2\n3\n" 20 0 1) ∷
+    (ends_done "1\n2\n3\n" 20 0 1) ∷
     -- procedure main(); i := 0; write(repeat {i +:= 1; if i > 3 then break i * 2}); end
     case
     (main
@@ -54,7 +54,7 @@ loops =
     []) ∷
     [])
     274
-    (done "8\n" 18 0 1) ∷
+    (ends_done "8\n" 18 0 1) ∷
     -- procedure main(); every i := 1 to 4 do {if i = 2 then next; if i = 4 then break; write(i)};
     --   write((every 1 to 2) | "no"); write(i); end
     case
@@ -70,7 +70,7 @@ loops =
     []) ∷
     [])
     366
-    (done "1\n3\nno\n4\n" 22 0 1) ∷
+    (ends_done "1\n3\nno\n4\n" 22 0 1) ∷
     -- procedure main(); write(every i := 1 to 3 do {while 1 do break break i; write("no")}); end
     case
     (main
@@ -81,7 +81,7 @@ loops =
     []) ∷
     [])
     124
-    (done "1\n" 3 0 1) ∷
+    (ends_done "1\n" 3 0 1) ∷
     -- procedure main(); i := 0; while (i +:= 1) < 4; until (i -:= 1) < 0; every i := 1 to 3; write(i); end
     case
     (main
@@ -93,7 +93,7 @@ loops =
     []) ∷
     [])
     416
-    (done "3\n" 43 0 1) ∷
+    (ends_done "3\n" 43 0 1) ∷
     -- procedure main(); every write(1 to 5); end
     under (most_turns 6)
     (main (every (write (to (int 1) (int 5) ∷ [])) ∷ []) ∷ [])

@@ -5,20 +5,20 @@ use Rattle.icn_tree.specs.declared.tree.SectionKind.TheVariants.{Between, Forwar
 use Rattle.icn_tree.specs.Trees.{Empty, NoInitial}
 use Rattle.icn_value.specs.Limited.{default_limits}
 use Rattle.program_tests.specs.Words.{int, text, name, key, before, between, assign, update, call, write, element, section, field, list, to, all_of, block, not, when, either, select, on, otherwise, every, every_do, return, globals, kind, locals, statics, first, procedure_of, procedure, main}
-use Rattle.program_tests.specs.Cases.{Case, case, started, done, stopped}
+use Rattle.program_tests.specs.Cases.{Case, case, run_of, ends_done, ends_errored}
 
 -- programs without generators
 abbrev pub plain : List Case
 plain =
     -- procedure main(); write("hi"); end
-    case (main (write (text "hi" ∷ []) ∷ []) ∷ []) 76 (done "hi\n" 1 0 1) ∷
+    case (main (write (text "hi" ∷ []) ∷ []) ∷ []) 76 (ends_done "hi\n" 1 0 1) ∷
     -- procedure main(); end
-    case (main [] ∷ []) 62 (done "" 0 0 1) ∷
+    case (main [] ∷ []) 62 (ends_done "" 0 0 1) ∷
     -- procedure main(); x := 1; -x; write(x); end
     case
     (main (assign (name "x") (int 1) ∷ before Signs.Minus (name "x") ∷ write (name "x" ∷ []) ∷ []) ∷ [])
     102
-    (done "1\n" 3 0 1) ∷
+    (ends_done "1\n" 3 0 1) ∷
     -- procedure main(); x := 1; write(x + (x := 5)); end
     case
     (main
@@ -27,12 +27,12 @@ plain =
     []) ∷
     [])
     112
-    (done "10\n" 4 0 1) ∷
+    (ends_done "10\n" 4 0 1) ∷
     -- global g
     -- procedure main(); g := 7; p(); end
     -- and in another file
     -- procedure p(); write(g); end
-    started
+    run_of
     ((globals ("g" ∷ []) ∷ main (assign (name "g") (int 7) ∷ call (name "p") [] ∷ []) ∷ []) ∷
     (procedure "p" [] (write (name "g" ∷ []) ∷ []) ∷ []) ∷
     [])
@@ -40,7 +40,7 @@ plain =
     default_limits
     []
     102
-    (done "7\n" 3 0 1) ∷
+    (ends_done "7\n" 3 0 1) ∷
     -- procedure main(); a := 1; b := 2; a :=: b; write(a, b); end
     case
     (main
@@ -51,23 +51,23 @@ plain =
     []) ∷
     [])
     126
-    (done "21\n" 4 0 1) ∷
+    (ends_done "21\n" 4 0 1) ∷
     -- procedure main(); write(2(10, 20, 30)); end
     case
     (main (write (call (int 2) (int 10 ∷ int 20 ∷ int 30 ∷ []) ∷ []) ∷ []) ∷ [])
     96
-    (done "20\n" 2 0 1) ∷
+    (ends_done "20\n" 2 0 1) ∷
     -- procedure main(); write(-1(10, 20)); end
     case
     (main (write (before Signs.Minus (call (int 1) (int 10 ∷ int 20 ∷ [])) ∷ []) ∷ []) ∷ [])
     96
-    (done "-10\n" 3 0 1) ∷
+    (ends_done "-10\n" 3 0 1) ∷
     -- procedure main(); write("a" == "a", not 1, "z"); end
     case
     (main (write (between (text "a") Signs.EqualEqual (text "a") ∷ not (int 1) ∷ text "z" ∷ []) ∷ []) ∷
     [])
     94
-    (done "" 1 0 1) ∷
+    (ends_done "" 1 0 1) ∷
     -- procedure main(); s := "abc"; s[1] :=: s[2:4]; write(s); end
     case
     (main
@@ -78,7 +78,7 @@ plain =
     []) ∷
     [])
     132
-    (done "bca\n" 5 7 1) ∷
+    (ends_done "bca\n" 5 7 1) ∷
     -- procedure main(); write({1; 2; 3}); write((1, 2, 3)); write(); write({}, "x"); 1 & &fail &
     --   write("no"); end
     case
@@ -91,7 +91,7 @@ plain =
     []) ∷
     [])
     174
-    (done "3\n3\n\nx\n" 4 0 1) ∷
+    (ends_done "3\n3\n\nx\n" 4 0 1) ∷
     -- procedure main(); write(if 1 < 2 then "a" else "b", if 2 < 1 then "a" else "b"); write(if 2 < 1 then
     --   3); every write(if 1 then 1 to 2 else 3); end
     case
@@ -105,7 +105,7 @@ plain =
     []) ∷
     [])
     194
-    (done "ab\n1\n2\n" 9 0 1) ∷
+    (ends_done "ab\n1\n2\n" 9 0 1) ∷
     -- procedure main(); every x := 1 to 4 do write(case x of { default: "d"; 1 | 3: "odd"; "2": "no"; 2: 1
     --   to 3 }); write(case 5 of { 1: 2 }); end
     case
@@ -123,7 +123,7 @@ plain =
     []) ∷
     [])
     344
-    (done "odd\n1\nodd\nd\n" 26 0 1) ∷
+    (ends_done "odd\n1\nodd\nd\n" 26 0 1) ∷
     -- procedure main(); case 2 of { 1: write("a"); default: write("d"); 2 | 3: write("b") }; end
     case
     (main
@@ -135,7 +135,7 @@ plain =
     []) ∷
     [])
     102
-    (done "b\n" 3 0 1) ∷
+    (ends_done "b\n" 3 0 1) ∷
     -- procedure main(); write(not 1 | "one"); write(not &fail, "null"); every write(not (1 to 2) | 3); end
     case
     (main
@@ -145,7 +145,7 @@ plain =
     []) ∷
     [])
     162
-    (done "one\nnull\n3\n" 4 0 1) ∷
+    (ends_done "one\nnull\n3\n" 4 0 1) ∷
     -- global write2, x
     -- record r(a)
     -- procedure p(); local writes; writes := write; writes(x, y, "p"); end
@@ -171,7 +171,7 @@ plain =
     []) ∷
     [])
     232
-    (done "w\n3p\n5\n6\n" 11 0 1) ∷
+    (ends_done "w\n3p\n5\n6\n" 11 0 1) ∷
     -- procedure main(); writes(&digits, &lcase, &ucase, &letters, *&ascii, *&cset, &null, &random);
     --   write(not (&errout === &output), &input === &input & 1); end
     case
@@ -193,7 +193,7 @@ plain =
     []) ∷
     [])
     174
-    (done
+    (ends_done
     "0123456789abcdefghijklmnopqrstuvwxyzABCDEFGHIJKLMNOPQRSTUVWXYZABCDEFGHIJKLMNOPQRSTUVWXYZabcdefghijklmnopqrstuvwxyz12825601\n"
     6
     0
@@ -211,7 +211,7 @@ plain =
     []) ∷
     [])
     140
-    (stopped 101 "2xyz\n"
+    (ends_errored 101 "2xyz\n"
     "Run-time error 101\ninteger expected or out of range\noffending value: \"no\"\n"
     5
     0
@@ -232,7 +232,7 @@ plain =
     []) ∷
     [])
     252
-    (done "bcbcddeb\n2\n" 15 0 9) ∷
+    (ends_done "bcbcddeb\n2\n" 15 0 9) ∷
     -- record p(x, y)
     -- procedure main(); r := p(1); r.y := r.x + 4; write(r.x, r.y, *r, image(r)); every write(p ! [7, 8,
     --   9].x | 2); end
@@ -257,7 +257,7 @@ plain =
     []) ∷
     [])
     216
-    (stopped 107 "152record p_1(2)\n"
+    (ends_errored 107 "152record p_1(2)\n"
     "Run-time error 107\nrecord expected\noffending value: list_2(3)\n"
     13
     13
@@ -278,7 +278,7 @@ plain =
     []) ∷
     [])
     310
-    (done "567\n1\n" 19 0 1) ∷
+    (ends_done "567\n1\n" 19 0 1) ∷
     -- procedure p(a, b[]); write(a, "-", *b, b[1] | "none"); end
     -- procedure main(); p(1, 2, 3); p(1); p(); p ! ["x", "y"]; end
     case
@@ -298,7 +298,7 @@ plain =
     []) ∷
     [])
     336
-    (done "1-22\n1-0none\n-0none\nx-1y\n" 17 0 11) ∷
+    (ends_done "1-22\n1-0none\n-0none\nx-1y\n" 17 0 11) ∷
     -- procedure main(); write("2"(7, 8)); write(-1(7, 8), 1(9)); write(3(7, 8)); x := 1; 1(x, 2) := 6;
     --   write(x); every write((1 | 2)(5, 6)); end
     case
@@ -313,7 +313,7 @@ plain =
     []) ∷
     [])
     290
-    (done "8\n-79\n6\n5\n6\n" 15 0 1) ∷
+    (ends_done "8\n-79\n6\n5\n6\n" 15 0 1) ∷
     -- procedure f(n); if n < 2 then return 1; return n * f(n - 1); end
     -- procedure main(); write(f(6)); end
     case
@@ -326,9 +326,9 @@ plain =
     main (write (call (name "f") (int 6 ∷ []) ∷ []) ∷ []) ∷
     [])
     386
-    (done "720\n" 23 0 1) ∷
+    (ends_done "720\n" 23 0 1) ∷
     -- procedure main(a); write(*a, a[1], a[-1]); end
-    started
+    run_of
     ((procedure "main" ("a" ∷ [])
     (write
     (before Signs.Star (name "a") ∷
@@ -342,5 +342,5 @@ plain =
     default_limits
     []
     116
-    (done "2abcde\n" 5 5 3) ∷
+    (ends_done "2abcde\n" 5 5 3) ∷
     []

@@ -5,7 +5,7 @@ use Rattle.icn_tree.specs.Trees.{Empty, Declaration}
 use Rattle.icn_value.specs.Limited.{default_limits}
 use Rattle.icn_value.specs.Store.{ALine, SomeBytes, Reading, Outside}
 use Rattle.icn_code.specs.Codes.{Tables}
-use Rattle.icn_defs.specs.Running.{Launch, Observed, launch_of}
+use Rattle.icn_defs.specs.Running.{Launch, Observation, launch_of}
 use Rattle.icn_meaning.specs.Program.{Program, program}
 use Rattle.icn_meaning.specs.Meaning as Meaning
 use Rattle.icn_run.specs.Step as Step
@@ -16,7 +16,7 @@ use Rattle.program_tests.specs.Coded.{tables_of}
 use Rattle.program_tests.specs.Words.{int, text, name, key, call, write, while, main}
 
 -- a program with its input, and the outside at its end
-pub record Read : Type 0 where
+pub record ReadCase : Type 0 where
   pub file : List Declaration
   pub input : List ℕ
   pub outside : Outside
@@ -24,16 +24,16 @@ pub record Read : Type 0 where
 abbrev pub steps_enough : ℕ
 steps_enough = 300
 
-abbrev pub outside_seen : Observed → Outside
+abbrev pub outside_seen : Observation → Outside
 outside_seen seen = seen.outside
 
 -- the outside at the end on each side
-pub record Left : Type 0 where
+pub record EndOutsides : Type 0 where
   pub meant : Option Outside
   pub on_stacks : Option Outside
   pub on_marks : Option Outside
 
-abbrev pub left_by : Launch → Program → Tables → Left
+abbrev pub left_by : Launch → Program → Tables → EndOutsides
 left_by launch program tables =
     let repeats = repeats_of tables in
     record {
@@ -46,7 +46,7 @@ left_by launch program tables =
     }
 
 -- the meaning and both runs of the code leave this outside
-abbrev pub Reads : Read → Type 0
+abbrev pub Reads : ReadCase → Type 0
 Reads r =
     let files = r.file ∷ [] in
     left_by (launch_of [] default_limits r.input) (program files) (tables_of files)
@@ -61,7 +61,7 @@ bytes_of count left output errors =
     record { asked = SomeBytes count; left = left; output = output; errors = errors }
 
 -- programs that read, with the input that they leave and the readings that they made
-abbrev pub readings : List Read
+abbrev pub readings : List ReadCase
 readings =
     -- procedure main(); while write(read()); end
     record {

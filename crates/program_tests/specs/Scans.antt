@@ -3,7 +3,7 @@ use Rattle.std.specs.Prelude.{List, [], ◌∷◌}
 use Rattle.icn_tree.specs.declared.token.Operator.TheVariants as Signs
 use Rattle.icn_tree.specs.Trees.{Empty}
 use Rattle.program_tests.specs.Words.{int, text, name, key, before, between, assign, update, call, write, to, all_of, block, when, while_do, every, every_do, break, next, return, fail, suspend, suspend_do, procedure, main}
-use Rattle.program_tests.specs.Cases.{Case, case, done}
+use Rattle.program_tests.specs.Cases.{Case, case, ends_done}
 
 -- programs that scan
 abbrev pub scans : List Case
@@ -20,7 +20,7 @@ scans =
     []) ∷
     [])
     126
-    (done "1\n" 4 0 1) ∷
+    (ends_done "1\n" 4 0 1) ∷
     -- procedure main(); "ab" ? {every write("xy" ? move(1 to 2)) do &pos := 3; write(&pos)}; end
     case
     (main
@@ -35,7 +35,7 @@ scans =
     []) ∷
     [])
     204
-    (done "x\nxy\n3\n" 12 0 1) ∷
+    (ends_done "x\nxy\n3\n" 12 0 1) ∷
     -- procedure p(); "xyz" ? (suspend tab(2 | 3)); end
     -- procedure main(); "ab" ? {every write(p(), &pos); write(&subject)}; end
     case
@@ -50,7 +50,7 @@ scans =
     []) ∷
     [])
     184
-    (done "x1\nxy1\nab\n" 10 0 1) ∷
+    (ends_done "x1\nxy1\nab\n" 10 0 1) ∷
     -- procedure main(); "ab" ? {while 1 do "xyz" ? {move(1); break}; write(&subject, &pos)}; end
     case
     (main
@@ -64,7 +64,7 @@ scans =
     []) ∷
     [])
     140
-    (done "ab1\n" 2 0 1) ∷
+    (ends_done "ab1\n" 2 0 1) ∷
     -- procedure main(); x := "abc"; x ?:= {move(1); tab(0)}; write(x); x &:= 5; write(x); end
     case
     (main
@@ -77,7 +77,7 @@ scans =
     []) ∷
     [])
     172
-    (done "bc\n5\n" 7 0 1) ∷
+    (ends_done "bc\n5\n" 7 0 1) ∷
     -- procedure main(); "abcd" ? {move(1); "xy" ? {move(1); write(&subject, &pos)}; write(&subject, &pos);
     --   every write("pq" ? move(1 | 2))}; end
     case
@@ -97,7 +97,7 @@ scans =
     []) ∷
     [])
     236
-    (done "xy2\nabcd2\np\npq\n" 10 0 1) ∷
+    (ends_done "xy2\nabcd2\np\npq\n" 10 0 1) ∷
     -- procedure p(); "xyz" ? {move(2); fail}; end
     -- procedure q(); "xyz" ? (return move(2)); end
     -- procedure r(); "uv" ? {move(1); "w" ? (suspend 1 | &pos)}; end
@@ -129,7 +129,7 @@ scans =
     []) ∷
     [])
     364
-    (done "ab1\nxyab1\n1ab1\n2ab2\nab3\n" 15 0 1) ∷
+    (ends_done "ab1\nxyab1\n1ab1\n2ab2\nab3\n" 15 0 1) ∷
     -- procedure main(); every i := 1 to 3 do "abc" ? {move(i); "d" ? {if i = 2 then next;
     --   write(&subject)}; write(&pos)}; write(&subject, "|", &pos); end
     case
@@ -149,7 +149,7 @@ scans =
     []) ∷
     [])
     386
-    (done "d\n2\nd\n4\n|1\n" 18 0 1) ∷
+    (ends_done "d\n2\nd\n4\n|1\n" 18 0 1) ∷
     -- procedure main(); "abc" ? {every ("de" ? move(1 to 2)) || (1 | 2) do &subject := "zz";
     --   write(&subject)}; end
     case
@@ -167,7 +167,7 @@ scans =
     []) ∷
     [])
     264
-    (done "zz\n" 16 14 1) ∷
+    (ends_done "zz\n" 16 14 1) ∷
     -- procedure p(); "abc" ? (move(1), "xyz" ? (tab(3), suspend &pos | &subject do write(&subject))); end
     -- procedure q(); "abc" ? ("xyz" ? (move(2), return &subject)); end
     -- procedure r(); "abc" ? ("xyz" ? (move(2), fail)); end
@@ -220,15 +220,15 @@ scans =
     []) ∷
     [])
     700
-    (done "3 01233\nxyz\n0123 01233\nxyz\n012301233\n01233\n01233\n01233\n" 27 0 1) ∷
+    (ends_done "3 01233\nxyz\n0123 01233\nxyz\n012301233\n01233\n01233\n01233\n" 27 0 1) ∷
     -- procedure main(); write(12 ? &subject); end
     case
     (main (write (between (int 12) Signs.Question (key "subject") ∷ []) ∷ []) ∷ [])
     60
-    (done "\n" 1 2 1) ∷
+    (ends_done "\n" 1 2 1) ∷
     -- procedure main(); write(12 ? .&subject); end
     case
     (main (write (between (int 12) Signs.Question (before Signs.Dot (key "subject")) ∷ []) ∷ []) ∷ [])
     60
-    (done "12\n" 2 2 1) ∷
+    (ends_done "12\n" 2 2 1) ∷
     []

@@ -16,8 +16,8 @@ use Rattle.icn_tree.specs.Trees.{Tree, Trees, Clause, Clauses, Locals, Initial, 
 abbrev pub here : Place
 here = record { line = 1; file = 0 }
 
-abbrev pub named : String → Name
-named text = record { text = codes text; place = here }
+abbrev pub name_at_one : String → Name
+name_at_one text = record { text = codes text; place = here }
 
 abbrev pub trees : List Tree → Trees
 trees [] = NoTrees
@@ -39,10 +39,10 @@ abbrev pub letters : String → Tree
 letters members = T.Constant here (Literals.Cset (codes members))
 
 abbrev pub name : String → Tree
-name x = T.Identifier (named x)
+name x = T.Identifier (name_at_one x)
 
 abbrev pub key : String → Tree
-key x = T.Keyword here (named x)
+key x = T.Keyword here (name_at_one x)
 
 -- Operations and calls
 
@@ -74,7 +74,7 @@ abbrev pub section : SectionKind → Tree → Tree → Tree → Tree
 section kind x i j = T.Section here kind x i j
 
 abbrev pub field : Tree → String → Tree
-field e x = T.Field here e (named x)
+field e x = T.Field here e (name_at_one x)
 
 abbrev pub list : List Tree → Tree
 list es = T.Listing here (trees es)
@@ -160,16 +160,16 @@ suspend_do e b = T.Suspend here e (Present b)
 -- Declarations
 
 abbrev pub globals : List String → Declaration
-globals names = T.Global here (map named names)
+globals names = T.Global here (map name_at_one names)
 
 abbrev pub kind : String → List String → Declaration
-kind x fields = T.Record here (named x) (map named fields)
+kind x fields = T.Record here (name_at_one x) (map name_at_one fields)
 
 abbrev pub locals : List String → Locals
-locals names = record { place = here; kind = Kinds.Local; names = map named names }
+locals names = record { place = here; kind = Kinds.Local; names = map name_at_one names }
 
 abbrev pub statics : List String → Locals
-statics names = record { place = here; kind = Kinds.Static; names = map named names }
+statics names = record { place = here; kind = Kinds.Static; names = map name_at_one names }
 
 abbrev pub first : Tree → Initial
 first e = Initially here e
@@ -178,8 +178,8 @@ first e = Initially here e
 abbrev pub procedure_of : String → List String → Bool → List Locals → Initial → List Tree → Declaration
 procedure_of x parameters collects own initial body = T.ProcedureOf (record {
   place = here;
-  name = named x;
-  parameters = map named parameters;
+  name = name_at_one x;
+  parameters = map name_at_one parameters;
   is_variadic = collects;
   locals = own;
   initial = initial;

@@ -1,7 +1,7 @@
 // The tables of programs.
 ghost use Rattle.std.specs.List.{AllByRecursion};
 ghost use Rattle.program_tests.specs.Cases.{Holds};
-ghost use Rattle.program_tests.specs.Bounded.{bounded};
+ghost use Rattle.program_tests.specs.Bounded.{bounded_cases};
 ghost use Rattle.program_tests.specs.Coexpressions.{coexpressions};
 ghost use Rattle.program_tests.specs.Errors.{errors};
 ghost use Rattle.program_tests.specs.Generators.{generators};
@@ -48,7 +48,7 @@ pub fn library()
 
 /// Small programs under each bound of turns.
 pub fn bounded()
-    ensures { AllByRecursion Holds bounded }
+    ensures { AllByRecursion Holds bounded_cases }
 {}
 
 /// What a run leaves of the input, and the readings that it makes.

@@ -10,8 +10,8 @@ use Rattle.icn_text.specs.declared.func.Func.TheVariants as Funcs
 use Rattle.icn_value.specs.Values.{Value, Text, Root, Global, Static, Local, Element, Field, Key, Keyword, KeywordVariable, Subject, Position, Random, Variable, Whole, Part, Item, Val, Var}
 use Rattle.icn_value.specs.Store.{Setting, Heap, Names, list_at, new_list, having_position}
 use Rattle.icn_defs.specs.Conversions.{text_of, form_of, text_made, held_text, integer_of, place_of, Group, Textual, Listed, Collected, Tabled, Recorded, Filed, Activated, Single}
-use Rattle.icn_defs.specs.Rows.{Row, Outcome, Fails, Gives, Suspends, Error, Ends, Residual, TextBytes, VariableBytes, ListItems, SetMembers, TableValues, TableKeys, RecordFields, InputLines, UndoAssign, UndoExchange, UndoPosition, Counting, Sequence, Balanced, Found, Among, check, present, computed, passing, found, natural, costs_made, costs_text, costs_bytes, costs_cells}
-use Rattle.icn_defs.specs.Reading.{the_value, the_values, the_variable, assigns_keyword, assigns_root, assigns_or, costs_unless, reads, reads_text, replaced}
+use Rattle.icn_defs.specs.Rows.{Row, Outcome, Fails, Gives, Suspends, Error, Ends, Residual, TextBytes, VariableBytes, ListItems, SetMembers, TableValues, TableKeys, RecordFields, InputLines, UndoAssign, UndoExchange, UndoPosition, Counting, Sequence, Balanced, Found, Among, check, present, number_or_error, passing, thing_or_failure, natural, costs_made, costs_text, costs_bytes, costs_cells}
+use Rattle.icn_defs.specs.Reading.{the_value, the_values, the_variable, assigns_keyword, assigns_root, assigns_or, costs_unless, reads, reads_text, with_part}
 use Rattle.icn_defs.specs.Arguments.{Keeper, SetKeeper, TableKeeper}
 use Rattle.icn_defs.specs.Arithmetic.{count_from}
 use Rattle.icn_defs.specs.Operations.{sets_or_csets}
@@ -54,7 +54,7 @@ l_passing : (t : Bool) (next : Row) (a : Setting) → Later (next a) → Later (
 l_passing true next a f = f
 l_passing false next a f = record { is = tt }
 
-l_found : {A : Type 0} (o : Option A) (next : A → Row) (a : Setting) → ((x : A) → Later (next x a)) → Later (found o next a)
+l_found : {A : Type 0} (o : Option A) (next : A → Row) (a : Setting) → ((x : A) → Later (next x a)) → Later (thing_or_failure o next a)
 l_found (Some x) next a f = f x
 l_found None next a f = record { is = tt }
 
@@ -112,7 +112,7 @@ c_present : {A : Type 0} (b : Setting) (o : Option A) (n : ℕ) (v : Option Valu
 c_present b (Some x) n v next f = f x
 c_present b None n v next f = record { is = inr refl }
 
-c_computed : (b : Setting) (o : Result ℤ Arith) (next : ℤ → Row) → ((x : ℤ) → Clean b (next x b)) → Clean b (computed o next b)
+c_computed : (b : Setting) (o : Result ℤ Arith) (next : ℤ → Row) → ((x : ℤ) → Clean b (next x b)) → Clean b (number_or_error o next b)
 c_computed b (Ok x) next f = f x
 c_computed b (Err why) next f = record { is = inr refl }
 
@@ -120,7 +120,7 @@ c_passing : (b : Setting) (t : Bool) (next : Row) → Clean b (next b) → Clean
 c_passing b true next f = f
 c_passing b false next f = record { is = tt }
 
-c_found : {A : Type 0} (b : Setting) (o : Option A) (next : A → Row) → ((x : A) → Clean b (next x b)) → Clean b (found o next b)
+c_found : {A : Type 0} (b : Setting) (o : Option A) (next : A → Row) → ((x : A) → Clean b (next x b)) → Clean b (thing_or_failure o next b)
 c_found b (Some x) next f = f x
 c_found b None next f = record { is = tt }
 
@@ -220,16 +220,16 @@ c_spend b value n next f = c_later b (costs_text value (costs_bytes n next) b)
 c_element_by : (b : Setting) (refused : Row) (id : ℕ) (number : ℤ) (place size : ℕ) (value : Value) (next : Variable → Row)
     → ((v : Variable) (s : Setting) → Later (next v s))
     → (new : List ℕ) (o : Option Value) → item_numbered (list_at b.world.heap id) number ≡ o
-    → Clean b (reads_text (Element id number) place size (λ text. costs_text value (costs_bytes (length (replaced text place size new))
-    (assigns_root refused (Element id number) (Text (replaced text place size new)) (next (Part (Element id number) place (length new)))))) b)
+    → Clean b (reads_text (Element id number) place size (λ text. costs_text value (costs_bytes (length (with_part text place size new))
+    (assigns_root refused (Element id number) (Text (with_part text place size new)) (next (Part (Element id number) place (length new)))))) b)
 c_element_by b refused id number place size value next f new None e = rw e (record { is = inr refl })
 c_element_by b refused id number place size value next f new (Some held) e =
     rw e (c_present b (held_text held) 103 (Some held) _ (λ text. c_check b (nat_le (place - 1 + size) (length text)) 205 None
-    (costs_text value (costs_bytes (length (replaced text place size new))
-    (assigns_root refused (Element id number) (Text (replaced text place size new)) (next (Part (Element id number) place (length new))))))
-    (c_spend b value (length (replaced text place size new))
-    (assigns_root refused (Element id number) (Text (replaced text place size new)) (next (Part (Element id number) place (length new))))
-    (λ s same. l_element b s refused id number held (Text (replaced text place size new)) (next (Part (Element id number) place (length new))) e same (f _)))))
+    (costs_text value (costs_bytes (length (with_part text place size new))
+    (assigns_root refused (Element id number) (Text (with_part text place size new)) (next (Part (Element id number) place (length new))))))
+    (c_spend b value (length (with_part text place size new))
+    (assigns_root refused (Element id number) (Text (with_part text place size new)) (next (Part (Element id number) place (length new))))
+    (λ s same. l_element b s refused id number held (Text (with_part text place size new)) (next (Part (Element id number) place (length new))) e same (f _)))))
 
 c_element : (b : Setting) (refused : Row) (id : ℕ) (number : ℤ) (place size : ℕ) (value : Value) (next : Variable → Row)
     → ((v : Variable) (s : Setting) → Later (next v s))

@@ -10,7 +10,7 @@ use Rattle.icn_text.specs.declared.func.Func.TheVariants as Funcs
 use Rattle.icn_value.specs.Values.{Value, Root, Global, Static, Local, Element, Field, Key, Keyword, KeywordVariable, Subject, Position, Random, Variable, Whole, Part, Item, Val, Var}
 use Rattle.icn_value.specs.Store.{Setting, Heap, Names, having_position, having_heap}
 use Rattle.icn_defs.specs.Conversions.{integer_of, place_of, Group, Textual, Listed, Collected, Tabled, Recorded, Filed, Activated, Single}
-use Rattle.icn_defs.specs.Rows.{Row, Outcome, Fails, Gives, Suspends, Error, Ends, Residual, TextBytes, VariableBytes, ListItems, SetMembers, TableValues, TableKeys, RecordFields, InputLines, UndoAssign, UndoExchange, UndoPosition, Counting, Sequence, Balanced, Found, Among, Mover, Neither, Left, Right, check, present, computed, passing, found, natural, costs_made}
+use Rattle.icn_defs.specs.Rows.{Row, Outcome, Fails, Gives, Suspends, Error, Ends, Residual, TextBytes, VariableBytes, ListItems, SetMembers, TableValues, TableKeys, RecordFields, InputLines, UndoAssign, UndoExchange, UndoPosition, Counting, Sequence, Balanced, Found, Among, Mover, Neither, Left, Right, check, present, number_or_error, passing, thing_or_failure, natural, costs_made}
 use Rattle.icn_defs.specs.Reading.{the_value, the_values, the_variable, assigns_keyword, assigns_root, assigns_or, assigns_both, move_part, moved_by_left, moved_by_right, costs_unless, reads}
 use Rattle.icn_defs.specs.Arguments.{Keeper, SetKeeper, TableKeeper}
 use Rattle.icn_defs.specs.Arithmetic.{count_from}
@@ -90,7 +90,7 @@ g_present : {A : Type 0} (b : Setting) (o : Option A) (n : ℕ) (v : Option Valu
 g_present b (Some x) n v next a f = f x
 g_present b None n v next a f = record { is = tt }
 
-g_computed : (b : Setting) (o : Result ℤ Arith) (next : ℤ → Row) (a : Setting) → ((x : ℤ) → GI b (next x a)) → GI b (computed o next a)
+g_computed : (b : Setting) (o : Result ℤ Arith) (next : ℤ → Row) (a : Setting) → ((x : ℤ) → GI b (next x a)) → GI b (number_or_error o next a)
 g_computed b (Ok x) next a f = f x
 g_computed b (Err why) next a f = record { is = tt }
 
@@ -98,7 +98,7 @@ g_passing : (b : Setting) (t : Bool) (next : Row) (a : Setting) → Grows b a �
 g_passing b true next a k f = f
 g_passing b false next a k f = record { is = k }
 
-g_found : {A : Type 0} (b : Setting) (o : Option A) (next : A → Row) (a : Setting) → Grows b a → ((x : A) → GI b (next x a)) → GI b (found o next a)
+g_found : {A : Type 0} (b : Setting) (o : Option A) (next : A → Row) (a : Setting) → Grows b a → ((x : A) → GI b (next x a)) → GI b (thing_or_failure o next a)
 g_found b (Some x) next a k f = f x
 g_found b None next a k f = record { is = k }
 

@@ -7,7 +7,7 @@ use Rattle.std.proofs.lemmas.List.FromFn.{length-range_with_len, length-map-rang
 use Rattle.std.proofs.lemmas.Bool.{cases_lt, le-leb, leb-true, lt-ltb, ltb-true}
 use Rattle.icn_value.specs.Values.{Integer, Text, ASet, ATable, AList, ARecord, Item, Val}
 use Rattle.icn_value.specs.Store.{Names, Setting, set_at, table_at, list_at, record_at}
-use Rattle.icn_defs.specs.Rows.{Row, Outcome, Residual, TextBytes, ListItems, SetMembers, TableValues, TableKeys, RecordFields, Found, Among, Counting, Fails, Gives, Suspends, Error, Ends, suspends, found, passing}
+use Rattle.icn_defs.specs.Rows.{Row, Outcome, Residual, TextBytes, ListItems, SetMembers, TableValues, TableKeys, RecordFields, Found, Among, Counting, Fails, Gives, Suspends, Error, Ends, suspends, thing_or_failure, passing}
 use Rattle.icn_defs.specs.Applying.{again}
 use Rattle.icn_defs.specs.Elements.{element_item, field_item}
 use Rattle.icn_defs.specs.Scanning.{found_from, among_from, stands, byte_behind}
@@ -46,7 +46,7 @@ given row at items n is less = settled n (length items + 1) (row at) (rw is (ome
 
 -- a search from a place on, over so many places, that is kept by its last result
 abbrev search_from : (ℕ → Bool) → (ℕ → Residual) → ℕ → ℕ → Row
-search_from test kept place count = found (find test (range_with_len place count)) (λ p. suspends (Val (Integer (pos p))) (kept p))
+search_from test kept place count = thing_or_failure (find test (range_with_len place count)) (λ p. suspends (Val (Integer (pos p))) (kept p))
 
 -- resumed, it goes on behind its last result
 record IsSearch (test : ℕ → Bool) (kept : ℕ → Residual) (stop : ℕ) : Type 0 where
@@ -106,7 +106,7 @@ among_in_order bytes text place last at within =
 -- Walks over what a list holds
 
 abbrev walk_from : {A : Type 0} → List A → (A → Item) → (ℕ → Residual) → ℕ → Row
-walk_from xs item kept place = found (slice_get xs place) (λ x. suspends (item x) (kept (place + 1)))
+walk_from xs item kept place = thing_or_failure (slice_get xs place) (λ x. suspends (item x) (kept (place + 1)))
 
 first_of : {A : Type 0} → List A → Option A
 first_of [] = None
@@ -136,9 +136,9 @@ walked : {A : Type 0} (xs : List A) (item : A → Item) (kept : ℕ → Residual
 unfolding first_of rest_of
 walked xs item kept at is rest place zero ends enough = absurd (omega (arith, enough))
 walked xs item kept at is [] place (suc n) ends enough =
-    ap (λ o. results (suc n) (found o (λ x. suspends (item x) (kept (place + 1))) at)) (at_drop xs place ∙ ap first_of ends)
+    ap (λ o. results (suc n) (thing_or_failure o (λ x. suspends (item x) (kept (place + 1))) at)) (at_drop xs place ∙ ap first_of ends)
 walked xs item kept at is (x ∷ rest) place (suc n) ends enough =
-    ap (λ o. results (suc n) (found o (λ x. suspends (item x) (kept (place + 1))) at)) (at_drop xs place ∙ ap first_of ends)
+    ap (λ o. results (suc n) (thing_or_failure o (λ x. suspends (item x) (kept (place + 1))) at)) (at_drop xs place ∙ ap first_of ends)
     ∙ ap (λ later. item x ∷ later) (ap (results n) (is (place + 1)) ∙ walked xs item kept at is rest (place + 1) n next (omega (arith, enough)))
   where
     next : drop (place + 1) xs ≡ rest

@@ -18,7 +18,7 @@ use Rattle.icn_structs.specs.PairLists.{value_of, KeysDiffer}
 use Rattle.icn_value.specs.Values.{Value}
 use Rattle.icn_value.specs.Sameness.{same}
 use Rattle.icn_value.proofs.SameValues.{same_equiv, same_self}
-use Rattle.icn_defs.specs.Conversions.{sorted_in, sorted_onto, sorted}
+use Rattle.icn_defs.specs.Conversions.{sorted_in, sorted_onto, sort_list}
 
 -- each of the items is at or above x
 Above : {A : Type 0} → (A → A → Ordering) → A → List A → Type 0
@@ -200,9 +200,9 @@ next_by cmp (x ∷ (y ∷ ys)) up zero m d same below = rw same up.0.0
 next_by cmp (x ∷ (y ∷ ys)) up (suc k) m d same below =
     rw same (next_by cmp (y ∷ ys) up.1 k (suc k) d refl (omega (arith, same, below)))
 
-pub ascending : {A : Type 0} (cmp : A → A → Ordering) → IsTotalOrder cmp → (xs : List A) → IsSorted cmp (sorted cmp xs)
+pub ascending : {A : Type 0} (cmp : A → A → Ordering) → IsTotalOrder cmp → (xs : List A) → IsSorted cmp (sort_list cmp xs)
 unfolding Ascends
-ascending cmp total xs = λ k d low below. next_by cmp (sorted cmp xs) (ascends_onto cmp total [] xs tt) k (k + 1) d (omega arith) below
+ascending cmp total xs = λ k d low below. next_by cmp (sort_list cmp xs) (ascends_onto cmp total [] xs tt) k (k + 1) d (omega arith) below
 
 moved_in : {A : Type 0} (cmp : A → A → Ordering) (item : A) (xs : List A) → IsPermutation (item ∷ xs) (sorted_in cmp item xs)
 moved_in cmp item [] = IsPermutation-refl (item ∷ [])
@@ -221,7 +221,7 @@ moved_onto cmp placed (item ∷ items) =
     (IsPermutation-trans (item ∷ (placed ++ items)) (sorted_in cmp item placed ++ items) (sorted_onto cmp (sorted_in cmp item placed) items)
     (IsPermutation-append_left items (item ∷ placed) (sorted_in cmp item placed) (moved_in cmp item placed)) (moved_onto cmp (sorted_in cmp item placed) items))
 
-pub moved : {A : Type 0} (cmp : A → A → Ordering) (xs : List A) → IsPermutation xs (sorted cmp xs)
+pub moved : {A : Type 0} (cmp : A → A → Ordering) (xs : List A) → IsPermutation xs (sort_list cmp xs)
 moved cmp xs = moved_onto cmp [] xs
 
 by_place : {A : Type 0} (P : A → Type 0) (xs : List A) → AllOf P xs → All P xs
@@ -240,12 +240,12 @@ by_rest P (x ∷ xs) all = (all zero x (omega arith), by_rest P xs (λ k d below
 
 -- where the items of the list pass, and two that pass and tie are one
 alone_of : {A : Type 0} (P : A → Type 0) (cmp : A → A → Ordering) → IsTotalOrder cmp → ((x y : A) → P x → P y → cmp x y ≡ Equal → x ≡ y)
-    → (xs ys : List A) → AllOf P xs → IsPermutation xs ys → IsSorted cmp ys → ys ≡ sorted cmp xs
+    → (xs ys : List A) → AllOf P xs → IsPermutation xs ys → IsSorted cmp ys → ys ≡ sort_list cmp xs
 unfolding Ascends SameSums sums
 alone_of P cmp total exact xs ys all moves up =
-    one_list P cmp total exact ys (sorted cmp xs)
+    one_list P cmp total exact ys (sort_list cmp xs)
     (by_rest P ys (All-permutation P xs ys moves (by_place P xs all)))
-    (by_rest P (sorted cmp xs) (All-permutation P xs (sorted cmp xs) (moved cmp xs) (by_place P xs all)))
+    (by_rest P (sort_list cmp xs) (All-permutation P xs (sort_list cmp xs) (moved cmp xs) (by_place P xs all)))
     (ascends_by cmp ys (sorted_far (λ x y. is_lt (cmp x y)) (ranks_by total (λ x. x)) ys up)) (ascends_onto cmp total [] xs tt)
     (λ f. sym (summed f ys) ∙ (sum_by-IsPermutation f xs ys moves ∙ (summed f xs ∙ (sym (nothing_more (sums f xs)) ∙ sym (sums_onto cmp f [] xs)))))
 
@@ -255,7 +255,7 @@ all_pass [] = tt
 all_pass (x ∷ xs) = (tt, all_pass xs)
 
 pub alone : {A : Type 0} (cmp : A → A → Ordering) → IsTotalOrder cmp → CmpEqualImpliesEq cmp → (xs ys : List A) → IsPermutation xs ys → IsSorted cmp ys
-    → ys ≡ sorted cmp xs
+    → ys ≡ sort_list cmp xs
 alone cmp total exact xs ys = alone_of (λ x. Unit {0}) cmp total (λ x y p q. exact x y) xs ys (all_pass xs)
 
 -- Pairs whose keys differ, by key
@@ -281,7 +281,7 @@ fits_all (pair ∷ pairs) differ = (
 )
 
 pub keys_alone : (cmp : Value × Value → Value × Value → Ordering) → IsTotalOrder cmp → ((a b : Value × Value) → cmp a b ≡ Equal → a.0 ≡ b.0)
-    → (xs ys : List (Value × Value)) → KeysDiffer same xs → IsPermutation xs ys → IsSorted cmp ys → ys ≡ sorted cmp xs
+    → (xs ys : List (Value × Value)) → KeysDiffer same xs → IsPermutation xs ys → IsSorted cmp ys → ys ≡ sort_list cmp xs
 unfolding Fits
 keys_alone cmp total exact xs ys differ = alone_of (Fits xs) cmp total one xs ys (fits_all xs differ)
   where

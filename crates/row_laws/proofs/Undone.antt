@@ -5,13 +5,13 @@ use Rattle.std.proofs.lemmas.Option.{none-some, same_Some}
 use Rattle.std.proofs.lemmas.List.Folds.{drop_split}
 use Rattle.std.proofs.Math.Seq.{take-append_seam, drop-append_seam}
 use Rattle.icn_structs.specs.PairLists.{value_of, stored}
-use Rattle.icn_structs.specs.Numbered.{Numbered, item_at, items_with, item_numbered, with_numbered}
+use Rattle.icn_structs.specs.Numbered.{NumberedList, item_at, items_with, item_numbered, with_numbered}
 use Rattle.icn_value.specs.Values.{Value, Root, Global, Static, Local, Element, Field, Key, Keyword, Whole}
 use Rattle.icn_value.specs.Store.{Setting, Table, Record, value_at, list_at, record_at, with_list, having_globals, having_statics, having_heap, new_list}
 use Rattle.icn_value.specs.Sameness.{same}
 use Rattle.icn_value.proofs.SameValues.{same_self}
 use Rattle.icn_defs.specs.Rows.{Row, check, wrong}
-use Rattle.icn_defs.specs.Reading.{root_value, assigns, undoes, assigns_root, replaced, table_value}
+use Rattle.icn_defs.specs.Reading.{root_value, assigns, undoes, assigns_root, with_part, table_value}
 use Rattle.row_laws.specs.Undos.{is_kept}
 
 -- Lists with a value set and set back
@@ -50,7 +50,7 @@ front_and_back (suc p) [] = refl
 front_and_back (suc p) (x ∷ text) = ap (λ rest. x ∷ rest) (front_and_back p text)
 
 pub part_back : (text new : List ℕ) (place size : ℕ) → 1 ≤ place → place - 1 + size ≤ length text
-    → replaced (replaced text place size new) place (length new) (slice_range text (place - 1) (place - 1 + size)) ≡ text
+    → with_part (with_part text place size new) place (length new) (slice_range text (place - 1) (place - 1 + size)) ≡ text
 part_back text new place size some within =
     put_back (place - 1) (take (place - 1) text) new (drop (place - 1 + size) text) (slice_range text (place - 1) (place - 1 + size))
     (taken (place - 1) text (omega (arith, within)))
@@ -126,10 +126,10 @@ no_item (pos zero) = refl
 no_item (pos (suc n)) = refl
 no_item (negsuc n) = refl
 
-list_in : List (Numbered Value) → ℕ → Numbered Value
+list_in : List (NumberedList Value) → ℕ → NumberedList Value
 list_in lists id = unwrap_or (slice_get lists id) (new_list [])
 
-lists_back : (lists : List (Numbered Value)) (id : ℕ) (number : ℤ) (value old : Value) → item_numbered (list_in lists id) number ≡ Some old
+lists_back : (lists : List (NumberedList Value)) (id : ℕ) (number : ℤ) (value old : Value) → item_numbered (list_in lists id) number ≡ Some old
     → (item_numbered (list_in (slice_set lists id (with_numbered (list_in lists id) number value)) id) number ≡ Some value)
     × (slice_set (slice_set lists id (with_numbered (list_in lists id) number value)) id
     (with_numbered (list_in (slice_set lists id (with_numbered (list_in lists id) number value)) id) number old) ≡ lists)

@@ -1,6 +1,6 @@
 // Laws of what is taken back.
 ghost use Rattle.std.specs.Prelude.{◌≡◌, ◌≤◌, ◌+◌, ◌-◌, ℕ, true, List, length, Some};
-ghost use Rattle.icn_defs.specs.Reading.{replaced, root_value, table_value};
+ghost use Rattle.icn_defs.specs.Reading.{with_part, root_value, table_value};
 ghost use Rattle.icn_defs.specs.Rows.{Row};
 ghost use Rattle.icn_value.specs.Store.{Setting, Table};
 ghost use Rattle.icn_value.specs.Values.{Root, Value};
@@ -13,5 +13,5 @@ pub fn undoing_gives_back()
         → root_value at root ≡ Some old → assigned_and_undone root value old next at ≡ next at }
     ensures key { (table : Table) (key value : Value) → table_value (with_value table key value) key ≡ value }
     ensures part { (text new : List ℕ) (place size : ℕ) → 1 ≤ place → place - 1 + size ≤ length text
-        → replaced (replaced text place size new) place (length new) (part_at text place size) ≡ text }
+        → with_part (with_part text place size new) place (length new) (part_at text place size) ≡ text }
 {}

@@ -97,12 +97,12 @@ holding values setting = record setting { locals = values }
 
 -- What is seen
 
-pub data Seen : Type 0 where
-  Gave : Item → Setting → Seen
-  Suspended : Item → Setting → Seen
-  Failed : Setting → Seen
-  Stopped : ℕ → Option Value → Setting → Seen
-  Ended : ℕ → Setting → Seen
+pub data Sight : Type 0 where
+  Gave : Item → Setting → Sight
+  Suspended : Item → Setting → Sight
+  Failed : Setting → Sight
+  Stopped : ℕ → Option Value → Setting → Sight
+  Ended : ℕ → Setting → Sight
 
 abbrev pub setting_after : Outcome → Setting
 setting_after (Fails setting) = setting
@@ -112,14 +112,14 @@ setting_after (Error number offending setting) = setting
 setting_after (Ends status setting) = setting
 
 -- what is seen of an outcome and of its resumptions, each after another row was applied, and whether the facts hold of all
-abbrev pub seen : List Row → Outcome → List Seen
-seen rows (Fails setting) = Failed setting ∷ []
-seen rows (Gives item setting) = Gave item setting ∷ []
-seen rows (Error number offending setting) = Stopped number offending setting ∷ []
-seen rows (Ends status setting) = Ended status setting ∷ []
-seen [] (Suspends item rest setting) = Suspended item setting ∷ []
-seen (row ∷ rows) (Suspends item rest setting) =
-    Suspended item setting ∷ seen rows (again rest (setting_after (row setting)))
+abbrev pub sights : List Row → Outcome → List Sight
+sights rows (Fails setting) = Failed setting ∷ []
+sights rows (Gives item setting) = Gave item setting ∷ []
+sights rows (Error number offending setting) = Stopped number offending setting ∷ []
+sights rows (Ends status setting) = Ended status setting ∷ []
+sights [] (Suspends item rest setting) = Suspended item setting ∷ []
+sights (row ∷ rows) (Suspends item rest setting) =
+    Suspended item setting ∷ sights rows (again rest (setting_after (row setting)))
 
 abbrev pub sound : List Row → Outcome → Bool
 sound rows (Fails setting) = is_setting names setting
@@ -136,18 +136,18 @@ pub record Case : Type 0 where
   pub row : Row
   pub from : Setting
   pub between : List Row
-  pub to : List Seen
+  pub to : List Sight
 
 -- all that is seen of the case is what it says, and the facts hold of each outcome
 pub record Holds (case : Case) : Type 0 where
-  pub saw : seen case.between (case.row case.from) ≡ case.to
+  pub saw : sights case.between (case.row case.from) ≡ case.to
   pub facts : sound case.between (case.row case.from) ≡ true
 
 -- nothing is done
 abbrev pub nothing : Row
 nothing setting = Fails setting
 
-abbrev pub resumptions : List Seen → List Row
+abbrev pub resumptions : List Sight → List Row
 resumptions [] = []
 resumptions (first ∷ []) = []
 resumptions (first ∷ (second ∷ others)) = nothing ∷ resumptions (second ∷ others)
@@ -159,30 +159,30 @@ abbrev pub fn : Func → List Item → Row
 fn func items = function_row names func items
 
 -- in the plain setting
-abbrev pub case : Row → List Seen → Case
+abbrev pub case : Row → List Sight → Case
 case row to = record { row = row; from = plain; between = resumptions to; to = to }
 
-abbrev pub case_from : Setting → Row → List Seen → Case
+abbrev pub case_from : Setting → Row → List Sight → Case
 case_from from row to = record { row = row; from = from; between = resumptions to; to = to }
 
-abbrev pub case_between : List Row → Row → List Seen → Case
+abbrev pub case_between : List Row → Row → List Sight → Case
 case_between between row to = record { row = row; from = plain; between = between; to = to }
 
 -- where the setting stays as it is
-abbrev pub gives : Item → List Seen
+abbrev pub gives : Item → List Sight
 gives item = Gave item plain ∷ []
 
-abbrev pub fails : List Seen
+abbrev pub fails : List Sight
 fails = Failed plain ∷ []
 
-abbrev pub stops : ℕ → Item → List Seen
+abbrev pub stops : ℕ → Item → List Sight
 stops number (Val value) = Stopped number (Some value) plain ∷ []
 stops number (Var variable) = []
 
-abbrev pub stops_alone : ℕ → List Seen
+abbrev pub stops_alone : ℕ → List Sight
 stops_alone number = Stopped number None plain ∷ []
 
 -- so many results one after the other, and then none
-abbrev pub gives_all : List Item → List Seen
+abbrev pub gives_all : List Item → List Sight
 gives_all [] = Failed plain ∷ []
 gives_all (item ∷ items) = Suspended item plain ∷ gives_all items

@@ -1,6 +1,6 @@
 -- Structures: their elements, what is added and taken, sets, tables, copies and sorting.
 use Rattle.std.specs.Prelude.{ℕ, ℤ, pos, List, [], ◌∷◌, ◌++◌, codes, Some}
-use Rattle.icn_structs.specs.Numbered.{Numbered}
+use Rattle.icn_structs.specs.Numbered.{NumberedList}
 use Rattle.icn_text.specs.declared.op.Op.TheVariants as O
 use Rattle.icn_text.specs.declared.func.Func.TheVariants as F
 use Rattle.icn_value.specs.Values.{Value, Null, Integer, Text, Chars, AList, ASet, ATable, ARecord, ACoexp, Procedure, Std, Input, Errout, Element, Field, Key, Whole, Item, Val, Var}
@@ -25,20 +25,20 @@ field id place = Var (Whole (Field id place))
 abbrev key : ℕ → Value → Item
 key id value = Var (Whole (Key id value))
 
-abbrev listed : List Value → ℤ → Numbered Value
-listed items number = record { items = items; number = number }
+abbrev numbered_list : List Value → ℤ → NumberedList Value
+numbered_list items number = record { items = items; number = number }
 
 -- list 0 has these items from this number on, and list 1 so too
 abbrev first_list : List Value → ℤ → Setting → Setting
-first_list items number setting = having_heap (with_list 0 (listed items number)) setting
+first_list items number setting = having_heap (with_list 0 (numbered_list items number)) setting
 
 abbrev second_list : List Value → ℤ → Setting → Setting
-second_list items number setting = having_heap (with_list 1 (listed items number)) setting
+second_list items number setting = having_heap (with_list 1 (numbered_list items number)) setting
 
 -- there is one list, set, table or record more
 abbrev more_list : List Value → Setting → Setting
 more_list items setting =
-    having_heap (λ heap. record heap { lists = heap.lists ++ listed items (pos 1) ∷ [] }) setting
+    having_heap (λ heap. record heap { lists = heap.lists ++ numbered_list items (pos 1) ∷ [] }) setting
 
 abbrev more_set : List Value → Setting → Setting
 more_set members setting = having_heap (λ heap. record heap { sets = heap.sets ++ members ∷ [] }) setting
@@ -65,8 +65,8 @@ abbrev new_list : Row → List Value → ℕ → Case
 new_list row items cells = case row (Gave (list 2) (costs 0 cells (more_list items plain)) ∷ [])
 
 -- one list of many types
-abbrev mixed : Setting
-mixed =
+abbrev mixed_setting : Setting
+mixed_setting =
     first_list (ARecord 2 ∷ ARecord 1 ∷ ARecord 0 ∷ ATable 0 ∷ ASet 0 ∷ AList 0 ∷ Procedure 5 ∷ Procedure 1
     ∷ Procedure 0 ∷ ACoexp 1
     ∷ Std Input ∷ Std Errout ∷ Chars (codes "a") ∷ txt (codes "ab") ∷ txt (codes "B") ∷ num 10 ∷ num 9
@@ -182,11 +182,11 @@ structures =
     case (fn F.Copy (Val (ACoexp 1) ∷ [])) (gives (Val (ACoexp 1))) ∷
     -- sort(x, i)
     new_list (fn F.Sort (list 0 ∷ [])) (Null ∷ num 1 ∷ num 3 ∷ txt (codes "a") ∷ []) 5 ∷
-    case_from mixed (fn F.Sort (list 0 ∷ []))
+    case_from mixed_setting (fn F.Sort (list 0 ∷ []))
     (Gave (list 2) (costs 0 19 (more_list (Null ∷ num 9 ∷ num 10 ∷ txt (codes "B") ∷ txt (codes "ab")
     ∷ Chars (codes "a") ∷ Std Errout ∷ Std Input ∷ ACoexp 1 ∷ Procedure 1 ∷ Procedure 5 ∷ Procedure 0
     ∷ AList 0 ∷ ASet 0 ∷ ATable 0
-    ∷ ARecord 1 ∷ ARecord 0 ∷ ARecord 2 ∷ []) mixed)) ∷ []) ∷
+    ∷ ARecord 1 ∷ ARecord 0 ∷ ARecord 2 ∷ []) mixed_setting)) ∷ []) ∷
     new_list (fn F.Sort (Val (ATable 0) ∷ int 3 ∷ []))
     (txt (codes "a") ∷ num 2 ∷ txt (codes "b") ∷ num 2 ∷ []) 5 ∷
     new_list (fn F.Sort (Val (ATable 0) ∷ int 4 ∷ []))

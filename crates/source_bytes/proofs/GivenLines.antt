@@ -16,7 +16,7 @@ use Rattle.icn_prep.specs.declared.keyword.Keyword.TheVariants.{Define, Undef, I
 use Rattle.icn_prep.specs.declared.literal.LiteralState.{LiteralState}
 use Rattle.icn_prep.specs.declared.literal.LiteralState.TheVariants.{Outside}
 use Rattle.icn_prep.specs.declared.place.Conditional.{Conditional}
-use Rattle.icn_prep.specs.Directives.{is_directive, is_comment, uncommented, directive_text, directive_name, names_file, operand, keyword_of}
+use Rattle.icn_prep.specs.Directives.{is_directive, is_comment, without_comment, directive_text, directive_name, names_file, operand, keyword_of}
 use Rattle.icn_prep.specs.FileLines.{begins_with, put_before, lines_of}
 use Rattle.icn_prep.specs.LiteralStates.{after, after_in as state_in, next_line_state}
 use Rattle.icn_prep.specs.Operands.{is_empty, name_operand, define_operand, file_operand, line_operand}
@@ -27,7 +27,7 @@ use Rattle.icn_prep.specs.SourceLines.{State, Source, Outcome, Step, first_state
 use Rattle.icn_prep.specs.Texts.{TextOf, without, with_text, without_text, undefined_by}
 use Rattle.icn_tree.specs.Characters.{continues_identifier, is_blank}
 use Rattle.icn_tree.specs.TokenBounds.{is_name}
-use Rattle.icn_prep.specs.Words.{first_word, behind_word, trimmed, trimmed_start}
+use Rattle.icn_prep.specs.Words.{first_word, behind_word, trim, trimmed_start}
 use Rattle.source_bytes.specs.LineBytes.{line_is_of_bytes, lines_are_of_bytes}
 use Rattle.source_bytes.proofs.ByteLists.{AreBytes, no_bytes, with_first, first_byte, other_bytes, bytes_joined, bytes_taken, bytes_dropped, bytes_reversed, bytes_chosen, bytes_held}
 
@@ -56,7 +56,7 @@ lines_cut (b ∷ rest) h =
 -- What stands in a directive
 
 uncommented_bytes : (is_name : Bool) (state : LiteralState) (bytes : List ℕ) → AreBytes bytes
-    → AreBytes (uncommented is_name state bytes)
+    → AreBytes (without_comment is_name state bytes)
 uncommented_bytes is_name state [] h = no_bytes
 uncommented_bytes is_name state (b ∷ rest) h = bytes_chosen (is_comment (state_in is_name state b)) no_bytes
     (with_first (first_byte h) (uncommented_bytes is_name (state_in is_name state b) rest (other_bytes h)))
@@ -64,7 +64,7 @@ uncommented_bytes is_name state (b ∷ rest) h = bytes_chosen (is_comment (state
 start_trimmed : (bytes : List ℕ) → AreBytes bytes → AreBytes (trimmed_start bytes)
 start_trimmed bytes h = bytes_dropped (prefix_len is_blank bytes) bytes h
 
-both_trimmed : (bytes : List ℕ) → AreBytes bytes → AreBytes (trimmed bytes)
+both_trimmed : (bytes : List ℕ) → AreBytes bytes → AreBytes (trim bytes)
 both_trimmed bytes h =
     let start = trimmed_start bytes in
     bytes_reversed (trimmed_start (reverse start))
@@ -216,7 +216,7 @@ operand_known : (s : State) (place : Place) (text : List ℕ) → Known s → Ar
     → Gives of_step (define_line s place (define_operand text))
 operand_known s place text k h = define_known s place
     (is_name (first_word text) && not (begins_with 40 (behind_word text)))
-    (first_word text) (trimmed (behind_word text)) k (both_trimmed (behind_word text) (word_passed text h))
+    (first_word text) (trim (behind_word text)) k (both_trimmed (behind_word text) (word_passed text h))
 
 undefined_known : (s : State) (name : List ℕ) (old : Option (List ℕ)) → Known s
     → HaveBytes (undefined_by s.texts name old).text_of

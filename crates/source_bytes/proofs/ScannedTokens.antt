@@ -15,10 +15,10 @@ use Rattle.icn_tree.specs.declared.token.Word.{Word}
 use Rattle.icn_tree.specs.ByteSets.{members_of}
 use Rattle.icn_tree.specs.Characters.{is_space, is_blank, begins_comment, begins_identifier, is_digit, continues_identifier, is_alphanumeric, is_quote, is_between}
 use Rattle.icn_tree.specs.Literals.{Literal, with_byte, escape_of}
-use Rattle.icn_tree.specs.Numbers.{is_nothing, is_radix_mark, is_real_mark, are_digits, number_in, sized, integer_kind, integer, number_by, number}
+use Rattle.icn_tree.specs.Numbers.{is_nothing, is_radix_mark, is_real_mark, are_digits, number_in, within_size, integer_kind, integer, number_by, number}
 use Rattle.icn_tree.specs.Semicolons.{Piece, is_ender, is_beginner, semicolon_at, with_semicolons}
 use Rattle.icn_tree.specs.Spellings.{lookup_text, word_of, name_of, marks_of}
-use Rattle.icn_tree.specs.Tokens.{name, dot_number, mark, spelled, longer, longest, front_token, first_of, Scan, Found, Broken, before, piece_on, token_then, open_literal, literal_piece, closed_then, escape_found, escape_then, Between, Inside, bytes_from, line_from, lines_from, after_blanks, Outcome, Scanned, Fault, finish_scan, tokens_of}
+use Rattle.icn_tree.specs.Tokens.{name, dot_number, mark, one_token, longer, longest, front_token, first_of, Scan, Found, Broken, before, piece_on, token_then, open_literal, literal_piece, closed_then, escape_found, escape_then, Between, Inside, bytes_from, line_from, lines_from, after_blanks, Outcome, Scanned, Fault, finish_scan, tokens_of}
 use Rattle.icn_tree.proofs.Members.{members_ascend}
 use Rattle.icn_tree.proofs.Scanning.{choose_rows}
 use Rattle.source_bytes.specs.LineBytes.{line_is_of_bytes, lines_are_of_bytes}
@@ -51,7 +51,7 @@ word_sense (Some word) text h = refl
 
 name_found : (b : ℕ) (rest : List ℕ) → AreBytes (b ∷ rest) → IsFound (name b rest)
 name_found b rest h = found_chosen (list_all continues_identifier rest)
-    (Some (sized (b ∷ rest) (Ok (name_of (b ∷ rest))))) None
+    (Some (within_size (b ∷ rest) (Ok (name_of (b ∷ rest))))) None
     (sense_chosen (nat_le (length (b ∷ rest)) 65535) (Ok (name_of (b ∷ rest))) (Err L7)
     (word_sense (word_of (b ∷ rest)) (b ∷ rest) h) tt) tt
 
@@ -68,7 +68,7 @@ number_found_by digits [] = sense_chosen (nat_le (length digits) 65535) (integer
     (bounded_sense (number_in 10 digits)) tt
 number_found_by digits (c ∷ rest) =
     found_chosen (is_radix_mark c && list_all is_alphanumeric rest)
-    (Some (sized (digits ++ c ∷ rest) (integer (number_in 10 digits) rest)))
+    (Some (within_size (digits ++ c ∷ rest) (integer (number_in 10 digits) rest)))
     (cond (is_real_mark c && is_nothing rest) (Some (Err L6)) None)
     (sense_chosen (nat_le (length (digits ++ c ∷ rest)) 65535) (integer (number_in 10 digits) rest) (Err L7)
     (integer_sense (number_in 10 digits) rest) tt)
@@ -120,8 +120,8 @@ rows_found (row ∷ rows) text h =
     let parts = and_parts (row_is row) (list_all row_is rows) h in
     row_chosen (bytes_eq text row.0) row.1 (lookup_text rows text) parts.0 (rows_found rows text parts.1)
 
-spelled_found : (text : List ℕ) → AreBytes text → IsFound (spelled text)
-unfolding spelled
+spelled_found : (text : List ℕ) → AreBytes text → IsFound (one_token text)
+unfolding one_token
 spelled_found [] h = tt
 spelled_found (b ∷ rest) h =
     found_chosen (begins_identifier b) (name b rest)
@@ -144,9 +144,9 @@ longer_found None n shorter h g = g
 longer_found (Some (Ok kind)) n shorter h g = h
 longer_found (Some (Err rule)) n shorter h g = tt
 
-longest_found : (n : ℕ) (bytes : List ℕ) → AreBytes bytes → IsLongest (longest spelled n bytes)
+longest_found : (n : ℕ) (bytes : List ℕ) → AreBytes bytes → IsLongest (longest one_token n bytes)
 longest_found zero bytes h = tt
-longest_found (suc n) bytes h = longer_found (spelled (take (suc n) bytes)) (suc n) (longest spelled n bytes)
+longest_found (suc n) bytes h = longer_found (one_token (take (suc n) bytes)) (suc n) (longest one_token n bytes)
     (spelled_found (take (suc n) bytes) (bytes_taken (suc n) bytes h)) (longest_found n bytes h)
 
 abbrev IsFirst : Result (Kind × ℕ) Rule → Type 0
@@ -160,7 +160,7 @@ judged_first (Some (Err rule, count)) h = tt
 
 first_found : (bytes : List ℕ) → AreBytes bytes → IsFirst (first_of bytes)
 unfolding first_of
-first_found bytes h = judged_first (longest spelled (length bytes) bytes) (longest_found (length bytes) bytes h)
+first_found bytes h = judged_first (longest one_token (length bytes) bytes) (longest_found (length bytes) bytes h)
 
 -- All tokens
 

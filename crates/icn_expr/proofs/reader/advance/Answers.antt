@@ -3,7 +3,7 @@ use Rattle.icn_tree.specs.Trees.{Tree, Trees, Clauses}
 use Rattle.icn_tree.specs.Grammar.{before}
 use Rattle.std.specs.Prelude.{Some}
 use Rattle.icn_expr.specs.Automata.{Starting, Climbing, Closing}
-use Rattle.icn_expr.specs.Capped.{Capped, capped}
+use Rattle.icn_expr.specs.Capped.{WithHeight, builds_with_height}
 use Rattle.icn_expr.specs.Reading.{steps_left, end_of}
 use Rattle.icn_expr.specs.Views.{capped_of, stack_of, state_of}
 use Rattle.icn_expr.proofs.Advancing.{same_end, less_left}
@@ -12,10 +12,10 @@ use Rattle.icn_expr.proofs.reader.advance.Goals as goal
 
 pub returns-in-Finished-clause-same : goal.returns-in-Finished-clause-same
 returns-in-Finished-clause-same c =
-    rw c.in-Finished.is (sym (end_finished (Capped Tree) (Capped Trees) (Capped Clauses) capped (capped_of c.in-Finished.value) c.args.tokens.now))
+    rw c.in-Finished.is (sym (end_finished (WithHeight Tree) (WithHeight Trees) (WithHeight Clauses) builds_with_height (capped_of c.in-Finished.value) c.args.tokens.now))
 
 pub returns-in-Broken-clause-same : goal.returns-in-Broken-clause-same
-returns-in-Broken-clause-same c = rw c.in-Broken.is (sym (end_broken (Capped Tree) (Capped Trees) (Capped Clauses) capped))
+returns-in-Broken-clause-same c = rw c.in-Broken.is (sym (end_broken (WithHeight Tree) (WithHeight Trees) (WithHeight Clauses) builds_with_height))
 
 pub returns-in_ok-next-in-Starting-clause-same : goal.returns-in_ok-next-in-Starting-clause-same
 returns-in_ok-next-in-Starting-clause-same c =

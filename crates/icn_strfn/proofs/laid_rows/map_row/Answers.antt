@@ -2,7 +2,7 @@ use Rattle.std.proofs.lemmas.List.{length-map}
 use Rattle.std.proofs.Common.{◌≡◌, arith, length, ◌∙◌, sym, ap, subst, List, ℕ, [], ◌∷◌, map}
 use Rattle.icn_value.specs.Values.{Value}
 use Rattle.icn_defs.specs.Rows.{builds, costs_text, costs_texts}
-use Rattle.icn_defs.specs.Strings.{map_row, mapped}
+use Rattle.icn_defs.specs.Strings.{map_row, map_byte}
 use Rattle.icn_heap.specs.Extents.{value_in}
 use Rattle.icn_heap.specs.Heaps.{extent_of}
 use Rattle.icn_vars.proofs.KeptItems.{items_then}
@@ -35,7 +35,7 @@ returns-in_err-span-clause-row g c = λ outside.
     stops_at (extent_of c.two_texts.new.w.heap) (map_row (map (value_in (extent_of c.args.w.now.heap)) c.args.args.now))
     (costs_texts ((value_in (extent_of c.args.w.now.heap) c.arg-val.result) ∷ (value_in (extent_of c.args.w.now.heap) c.arg-from.result) ∷ []))
     (costs_text (value_in (extent_of c.args.w.now.heap) c.arg-to.result)
-    (builds (map (mapped (the_text (or_default Upper (value_in (extent_of c.args.w.now.heap) c.arg-from.result))) (the_text (or_default Lower
+    (builds (map (map_byte (the_text (or_default Upper (value_in (extent_of c.args.w.now.heap) c.arg-from.result))) (the_text (or_default Lower
     (value_in (extent_of c.args.w.now.heap) c.arg-to.result)))) (the_text (value_in (extent_of c.args.w.now.heap) c.arg-val.result)))))
     (setting_of outside c.args.w.now (g.L.Locals.items c.args.l.now)) (setting_of outside c.args.w.now (g.L.Locals.items c.args.l.now))
     (setting_of outside c.two_texts.new.w (g.L.Locals.items c.args.l.now)) c.in_err-span.field-0.0 c.from_residual-in_err-span.result
@@ -58,7 +58,7 @@ pub returns-in_err-second-clause-row : goal.returns-in_err-second-clause-row
 returns-in_err-second-clause-row g c = λ outside.
     stops_at (extent_of c.text_argument.new.w.heap)
     (map_row (map (value_in (extent_of c.args.w.now.heap)) c.args.args.now)) (costs_text (value_in (extent_of c.two_texts.new.w.heap) c.arg-to.result))
-    (builds (map (mapped (the_text (or_default Upper (value_in (extent_of c.args.w.now.heap) c.arg-from.result))) (the_text (or_default Lower
+    (builds (map (map_byte (the_text (or_default Upper (value_in (extent_of c.args.w.now.heap) c.arg-from.result))) (the_text (or_default Lower
     (value_in (extent_of c.args.w.now.heap) c.arg-to.result)))) (the_text (value_in (extent_of c.args.w.now.heap) c.arg-val.result))))
     (setting_of outside c.args.w.now (g.L.Locals.items c.args.l.now)) (setting_of outside c.two_texts.new.w (g.L.Locals.items c.args.l.now))
     (setting_of outside c.text_argument.new.w (g.L.Locals.items c.args.l.now)) c.in_err-second.field-0.0 c.from_residual-in_err-second.result
@@ -67,9 +67,9 @@ returns-in_err-second-clause-row g c = λ outside.
     (setting_of outside c.args.w.now (g.L.Locals.items c.args.l.now)) (c.arg-val.ensures.value (extent_of c.args.w.now.heap))
     (c.arg-from.ensures.value (extent_of c.args.w.now.heap)) (c.arg-to.ensures.value (extent_of c.args.w.now.heap)) c.in_ok-checked_mapping.ensures.mapping)
     ∙ c.in_ok-span.ensures.step outside (costs_text (value_in (extent_of c.args.w.now.heap) c.arg-to.result)
-    (builds (map (mapped (the_text (or_default Upper (value_in (extent_of c.args.w.now.heap) c.arg-from.result))) (the_text (or_default Lower
+    (builds (map (map_byte (the_text (or_default Upper (value_in (extent_of c.args.w.now.heap) c.arg-from.result))) (the_text (or_default Lower
     (value_in (extent_of c.args.w.now.heap) c.arg-to.result)))) (the_text (value_in (extent_of c.args.w.now.heap) c.arg-val.result))))))
-    ∙ ap (λ (v : Value). costs_text v (builds (map (mapped (the_text (or_default Upper (value_in (extent_of c.args.w.now.heap) c.arg-from.result)))
+    ∙ ap (λ (v : Value). costs_text v (builds (map (map_byte (the_text (or_default Upper (value_in (extent_of c.args.w.now.heap) c.arg-from.result)))
     (the_text (or_default Lower (value_in (extent_of c.args.w.now.heap) c.arg-to.result))))
     (the_text (value_in (extent_of c.args.w.now.heap) c.arg-val.result)))) (setting_of outside c.two_texts.new.w (g.L.Locals.items c.args.l.now)))
     (sym (c.two_texts.ensures.kept.extent.value c.arg-to.result (c.arg-to.ensures.live (extent_of c.args.w.now.heap) c.requires.args))))
@@ -94,22 +94,22 @@ returns-then-lacks_room-clause-row g c = λ outside.
     (setting_of outside c.args.w.now (g.L.Locals.items c.args.l.now)) (c.arg-val.ensures.value (extent_of c.args.w.now.heap))
     (c.arg-from.ensures.value (extent_of c.args.w.now.heap)) (c.arg-to.ensures.value (extent_of c.args.w.now.heap)) c.in_ok-checked_mapping.ensures.mapping)
     ∙ c.in_ok-span.ensures.step outside (costs_text (value_in (extent_of c.args.w.now.heap) c.arg-to.result)
-    (builds (map (mapped (the_text (or_default Upper (value_in (extent_of c.args.w.now.heap) c.arg-from.result))) (the_text (or_default Lower
+    (builds (map (map_byte (the_text (or_default Upper (value_in (extent_of c.args.w.now.heap) c.arg-from.result))) (the_text (or_default Lower
     (value_in (extent_of c.args.w.now.heap) c.arg-to.result)))) (the_text (value_in (extent_of c.args.w.now.heap) c.arg-val.result))))))
-    ∙ ap (λ (v : Value). costs_text v (builds (map (mapped (the_text (or_default Upper (value_in (extent_of c.args.w.now.heap) c.arg-from.result)))
+    ∙ ap (λ (v : Value). costs_text v (builds (map (map_byte (the_text (or_default Upper (value_in (extent_of c.args.w.now.heap) c.arg-from.result)))
     (the_text (or_default Lower (value_in (extent_of c.args.w.now.heap) c.arg-to.result))))
     (the_text (value_in (extent_of c.args.w.now.heap) c.arg-val.result)))) (setting_of outside c.two_texts.new.w (g.L.Locals.items c.args.l.now)))
     (sym (c.two_texts.ensures.kept.extent.value c.arg-to.result (c.arg-to.ensures.live (extent_of c.args.w.now.heap) c.requires.args))))
-    ∙ (c.in_ok-second.ensures.step outside (builds (map (mapped (the_text (or_default Upper (value_in (extent_of c.args.w.now.heap) c.arg-from.result)))
+    ∙ (c.in_ok-second.ensures.step outside (builds (map (map_byte (the_text (or_default Upper (value_in (extent_of c.args.w.now.heap) c.arg-from.result)))
     (the_text (or_default Lower (value_in (extent_of c.args.w.now.heap) c.arg-to.result))))
     (the_text (value_in (extent_of c.args.w.now.heap) c.arg-val.result))))
-    ∙ too_long (map (mapped (the_text (or_default Upper (value_in (extent_of c.args.w.now.heap) c.arg-from.result)))
+    ∙ too_long (map (map_byte (the_text (or_default Upper (value_in (extent_of c.args.w.now.heap) c.arg-from.result)))
     (the_text (or_default Lower (value_in (extent_of c.args.w.now.heap) c.arg-to.result))))
     (the_text (value_in (extent_of c.args.w.now.heap) c.arg-val.result))) (setting_of outside c.text_argument.new.w (g.L.Locals.items c.args.l.now)) (omega (
       arith,
       c.if-lacks_room.ensures,
       same,
-      length-map text (mapped (the_text (or_default Upper (value_in (extent_of c.args.w.now.heap) c.arg-from.result)))
+      length-map text (map_byte (the_text (or_default Upper (value_in (extent_of c.args.w.now.heap) c.arg-from.result)))
           (the_text (or_default Lower (value_in (extent_of c.args.w.now.heap) c.arg-to.result)))),
     )))
 
@@ -123,23 +123,23 @@ returns-clause-row g c = λ outside.
     (setting_of outside c.args.w.now (g.L.Locals.items c.args.l.now)) (c.arg-val.ensures.value (extent_of c.args.w.now.heap))
     (c.arg-from.ensures.value (extent_of c.args.w.now.heap)) (c.arg-to.ensures.value (extent_of c.args.w.now.heap)) c.in_ok-checked_mapping.ensures.mapping)
     ∙ c.in_ok-span.ensures.step outside (costs_text (value_in (extent_of c.args.w.now.heap) c.arg-to.result)
-    (builds (map (mapped (the_text (or_default Upper (value_in (extent_of c.args.w.now.heap) c.arg-from.result))) (the_text (or_default Lower
+    (builds (map (map_byte (the_text (or_default Upper (value_in (extent_of c.args.w.now.heap) c.arg-from.result))) (the_text (or_default Lower
     (value_in (extent_of c.args.w.now.heap) c.arg-to.result)))) (the_text (value_in (extent_of c.args.w.now.heap) c.arg-val.result))))))
-    ∙ ap (λ (v : Value). costs_text v (builds (map (mapped (the_text (or_default Upper (value_in (extent_of c.args.w.now.heap) c.arg-from.result)))
+    ∙ ap (λ (v : Value). costs_text v (builds (map (map_byte (the_text (or_default Upper (value_in (extent_of c.args.w.now.heap) c.arg-from.result)))
     (the_text (or_default Lower (value_in (extent_of c.args.w.now.heap) c.arg-to.result))))
     (the_text (value_in (extent_of c.args.w.now.heap) c.arg-val.result)))) (setting_of outside c.two_texts.new.w (g.L.Locals.items c.args.l.now)))
     (sym (c.two_texts.ensures.kept.extent.value c.arg-to.result (c.arg-to.ensures.live (extent_of c.args.w.now.heap) c.requires.args))))
-    ∙ (c.in_ok-second.ensures.step outside (builds (map (mapped (the_text (or_default Upper (value_in (extent_of c.args.w.now.heap) c.arg-from.result)))
+    ∙ (c.in_ok-second.ensures.step outside (builds (map (map_byte (the_text (or_default Upper (value_in (extent_of c.args.w.now.heap) c.arg-from.result)))
     (the_text (or_default Lower (value_in (extent_of c.args.w.now.heap) c.arg-to.result))))
     (the_text (value_in (extent_of c.args.w.now.heap) c.arg-val.result))))
     ∙ ap (λ bytes. builds bytes (setting_of outside c.text_argument.new.w (g.L.Locals.items c.args.l.now)))
-    (ap (λ (bytes : List ℕ). map (mapped (the_text (or_default Upper (value_in (extent_of c.args.w.now.heap) c.arg-from.result)))
+    (ap (λ (bytes : List ℕ). map (map_byte (the_text (or_default Upper (value_in (extent_of c.args.w.now.heap) c.arg-from.result)))
     (the_text (or_default Lower (value_in (extent_of c.args.w.now.heap) c.arg-to.result)))) bytes) (sym (c.bytes-2.ensures
     ∙ ((c.text_argument.ensures.kept.extent.bytes c.in_ok-span.span c.in_ok-span.ensures.first_live) ∙ c.in_ok-span.ensures.first_text)))
-    ∙ (ap (λ (bytes : List ℕ). map (mapped bytes (the_text (or_default Lower (value_in (extent_of c.args.w.now.heap) c.arg-to.result)))) c.bytes-2.result.now)
+    ∙ (ap (λ (bytes : List ℕ). map (map_byte bytes (the_text (or_default Lower (value_in (extent_of c.args.w.now.heap) c.arg-to.result)))) c.bytes-2.result.now)
     (sym (c.bytes-3.ensures ∙ (same_argument _ _ c.text_argument.ensures.kept.extent c.in_ok-span.first c.in_ok-span.ensures.second_live
     ∙ c.in_ok-span.ensures.second_text)))
-    ∙ (ap (λ (bytes : List ℕ). map (mapped c.bytes-3.result.now bytes) c.bytes-2.result.now)
+    ∙ (ap (λ (bytes : List ℕ). map (map_byte c.bytes-3.result.now bytes) c.bytes-2.result.now)
     (sym (c.bytes-4.ensures ∙ (c.in_ok-second.ensures.text ∙ ap (λ (v : Value). the_text (or_default Lower v))
     (c.two_texts.ensures.kept.extent.value c.arg-to.result (c.arg-to.ensures.live (extent_of c.args.w.now.heap) c.requires.args)))))
     ∙ (sym c.in_ok-made.ensures ∙ sym c.deref.ensures.value))))))

@@ -1,5 +1,5 @@
 use Rattle.std.proofs.Common.{◌∙◌, sym, ap, map}
-use Rattle.icn_defs.specs.Conversions.{sorted}
+use Rattle.icn_defs.specs.Conversions.{sort_list}
 use Rattle.icn_defs.specs.Images.{value_cmp}
 use Rattle.icn_defs.specs.Rows.{new_list_of}
 use Rattle.icn_heap.specs.Extents.{value_in}
@@ -10,7 +10,7 @@ use Rattle.icn_structfn.proofs.sorting.list_in_order.Goals as goal
 
 pub returns-clause-found : goal.returns-clause-found
 returns-clause-found g c outside =
-    found_as (extent_of c.new_list.new.w.heap) (new_list_of (sorted (value_cmp (g.N.Names.known c.args.names.now) (heap_of c.args.w.now.heap))
+    found_as (extent_of c.new_list.new.w.heap) (new_list_of (sort_list (value_cmp (g.N.Names.known c.args.names.now) (heap_of c.args.w.now.heap))
     (map (value_in (extent_of c.args.w.now.heap)) c.args.vals.now)))
     (new_list_of (map (value_in (extent_of c.args.w.now.heap)) c.deref.result.now)) (setting_of outside c.args.w.now (g.L.Locals.items c.args.l.now))
     (setting_of outside c.new_list.new.w (g.L.Locals.items c.args.l.now)) (value_in (extent_of c.new_list.new.w.heap)) c.new_list.result

@@ -4,7 +4,7 @@ use Rattle.std.proofs.lemmas.List.Elements.{All-same}
 use Rattle.icn_structs.specs.PairLists.{KeysDiffer}
 use Rattle.icn_value.specs.Sameness.{same}
 use Rattle.icn_value.specs.Values.{Value}
-use Rattle.icn_defs.specs.Conversions.{sorted}
+use Rattle.icn_defs.specs.Conversions.{sort_list}
 use Rattle.icn_defs.specs.Images.{value_cmp}
 use Rattle.icn_defs.specs.Rows.{new_list_of}
 use Rattle.icn_heap.specs.Extents.{value_in, values_in}
@@ -27,12 +27,12 @@ pub returns-in_ok-items-in-List-clause-found : goal.returns-in_ok-items-in-List-
 returns-in_ok-items-in-List-clause-found g c outside =
     found_as (extent_of c.list_in_order.new.w.heap) (sorted_value (g.N.Names.known c.args.names.now) c.args.n
     (value_in (extent_of c.args.w.now.heap) c.args.chosen) (value_in (extent_of c.args.w.now.heap) c.args.val))
-    (new_list_of (sorted (value_cmp (g.N.Names.known c.args.names.now) (heap_of c.args.w.now.heap))
+    (new_list_of (sort_list (value_cmp (g.N.Names.known c.args.names.now) (heap_of c.args.w.now.heap))
     (map (value_in (extent_of c.args.w.now.heap)) c.deref.result.now))) (setting_of outside c.args.w.now (g.L.Locals.items c.args.l.now))
     (setting_of outside c.list_in_order.new.w (g.L.Locals.items c.args.l.now)) (value_in (extent_of c.list_in_order.new.w.heap)) c.list_in_order.result
     (λ next. ap (λ v. sorted_value (g.N.Names.known c.args.names.now) c.args.n (value_in (extent_of c.args.w.now.heap) c.args.chosen)
     (value_in (extent_of c.args.w.now.heap) v) next (setting_of outside c.args.w.now (g.L.Locals.items c.args.l.now))) c.in-List.is
-    ∙ ap (λ items. new_list_of (sorted (value_cmp (g.N.Names.known c.args.names.now) (heap_of c.args.w.now.heap)) items) next (setting_of outside c.args.w.now
+    ∙ ap (λ items. new_list_of (sort_list (value_cmp (g.N.Names.known c.args.names.now) (heap_of c.args.w.now.heap)) items) next (setting_of outside c.args.w.now
     (g.L.Locals.items c.args.l.now))) (sym (ap (map (value_in (extent_of c.args.w.now.heap))) c.deref.ensures.value ∙ c.in_ok-items-in-List.ensures.items)))
     (c.list_in_order.ensures.found outside)
 
@@ -45,13 +45,13 @@ pub returns-in_ok-members-in-Set-clause-found : goal.returns-in_ok-members-in-Se
 returns-in_ok-members-in-Set-clause-found g c outside =
     found_as (extent_of c.list_in_order-in-Set.new.w.heap) (sorted_value (g.N.Names.known c.args.names.now) c.args.n
     (value_in (extent_of c.args.w.now.heap) c.args.chosen) (value_in (extent_of c.args.w.now.heap) c.args.val))
-    (new_list_of (sorted (value_cmp (g.N.Names.known c.args.names.now) (heap_of c.args.w.now.heap))
+    (new_list_of (sort_list (value_cmp (g.N.Names.known c.args.names.now) (heap_of c.args.w.now.heap))
     (map (value_in (extent_of c.args.w.now.heap)) c.deref-in-Set.result.now)))
     (setting_of outside c.args.w.now (g.L.Locals.items c.args.l.now)) (setting_of outside c.list_in_order-in-Set.new.w (g.L.Locals.items c.args.l.now))
     (value_in (extent_of c.list_in_order-in-Set.new.w.heap)) c.list_in_order-in-Set.result
     (λ next. ap (λ v. sorted_value (g.N.Names.known c.args.names.now) c.args.n (value_in (extent_of c.args.w.now.heap) c.args.chosen)
     (value_in (extent_of c.args.w.now.heap) v) next (setting_of outside c.args.w.now (g.L.Locals.items c.args.l.now))) c.in-Set.is
-    ∙ ap (λ items. new_list_of (sorted (value_cmp (g.N.Names.known c.args.names.now) (heap_of c.args.w.now.heap)) items) next
+    ∙ ap (λ items. new_list_of (sort_list (value_cmp (g.N.Names.known c.args.names.now) (heap_of c.args.w.now.heap)) items) next
     (setting_of outside c.args.w.now (g.L.Locals.items c.args.l.now)))
     (sym (ap (map (value_in (extent_of c.args.w.now.heap))) c.deref-in-Set.ensures.value ∙ c.in_ok-members-in-Set.ensures.members)))
     (c.list_in_order-in-Set.ensures.found outside)
@@ -66,13 +66,13 @@ pub returns-in_ok-fields-in-Rec-clause-found : goal.returns-in_ok-fields-in-Rec-
 returns-in_ok-fields-in-Rec-clause-found g c outside =
     found_as (extent_of c.list_in_order-in-Rec.new.w.heap) (sorted_value (g.N.Names.known c.args.names.now) c.args.n
     (value_in (extent_of c.args.w.now.heap) c.args.chosen) (value_in (extent_of c.args.w.now.heap) c.args.val))
-    (new_list_of (sorted (value_cmp (g.N.Names.known c.args.names.now) (heap_of c.args.w.now.heap))
+    (new_list_of (sort_list (value_cmp (g.N.Names.known c.args.names.now) (heap_of c.args.w.now.heap))
     (map (value_in (extent_of c.args.w.now.heap)) c.deref-in-Rec.result.now)))
     (setting_of outside c.args.w.now (g.L.Locals.items c.args.l.now)) (setting_of outside c.list_in_order-in-Rec.new.w (g.L.Locals.items c.args.l.now))
     (value_in (extent_of c.list_in_order-in-Rec.new.w.heap)) c.list_in_order-in-Rec.result
     (λ next. ap (λ v. sorted_value (g.N.Names.known c.args.names.now) c.args.n (value_in (extent_of c.args.w.now.heap) c.args.chosen)
     (value_in (extent_of c.args.w.now.heap) v) next (setting_of outside c.args.w.now (g.L.Locals.items c.args.l.now))) c.in-Rec.is
-    ∙ ap (λ items. new_list_of (sorted (value_cmp (g.N.Names.known c.args.names.now) (heap_of c.args.w.now.heap)) items) next
+    ∙ ap (λ items. new_list_of (sort_list (value_cmp (g.N.Names.known c.args.names.now) (heap_of c.args.w.now.heap)) items) next
     (setting_of outside c.args.w.now (g.L.Locals.items c.args.l.now)))
     (sym (ap (map (value_in (extent_of c.args.w.now.heap))) (c.deref-in-Rec.ensures.value ∙ c.in_ok-fields-in-Rec.ensures.items) ∙ c.fields.ensures.fields)))
     (c.list_in_order-in-Rec.ensures.found outside)

@@ -4,7 +4,7 @@ use Rattle.icn_value.specs.declared.val.Val.TheVariants.{Text as TextVal}
 use Rattle.icn_value.specs.Values.{Part, Root, Text}
 use Rattle.icn_defs.specs.Calls.{GoesOn}
 use Rattle.icn_defs.specs.Conversions.{text_of}
-use Rattle.icn_defs.specs.Reading.{assigns_or, assigns_root, reads_text, replaced}
+use Rattle.icn_defs.specs.Reading.{assigns_or, assigns_root, reads_text, with_part}
 use Rattle.icn_heap.specs.Extents.{text_in, value_in}
 use Rattle.icn_heap.specs.Heaps.{extent_of}
 use Rattle.icn_vars.specs.Worlds.{KeepsItems, reach_of, root_in, setting_of}
@@ -78,7 +78,7 @@ returns-in_err-assign_root-clause-assigned g c = λ outside.
     c.in_err-assign_root.field-0.0 c.from_residual-in_err-assign_root.result c.from_residual-in_err-assign_root.ensures.1
     (λ refused. root_stops (extent_of c.assign_root.new.w.heap)
     (assigns_or refused (Part (root_in (extent_of c.args.w.now.heap) c.args.root) c.args.place c.args.len) (value_in (extent_of c.args.w.now.heap) c.args.val))
-    (assigns_root refused (root_in (extent_of c.args.w.now.heap) c.args.root) (Text (replaced (text_in (extent_of c.made_text.new.w.heap) c.in_ok-whole.whole)
+    (assigns_root refused (root_in (extent_of c.args.w.now.heap) c.args.root) (Text (with_part (text_in (extent_of c.made_text.new.w.heap) c.in_ok-whole.whole)
     c.args.place c.args.len (text_in (extent_of c.made_text.new.w.heap) c.in_ok-new.new))))
     (Part (root_in (extent_of c.args.w.now.heap) c.args.root) c.args.place (length (text_in (extent_of c.made_text.new.w.heap) c.in_ok-new.new)))
     (setting_of outside c.args.w.now (g.L.Locals.items c.args.l.now)) (setting_of outside c.replace.new.w (g.L.Locals.items c.args.l.now))
@@ -89,7 +89,7 @@ returns-in_err-assign_root-clause-assigned g c = λ outside.
     (setting_of outside c.made_text.new.w (g.L.Locals.items c.args.l.now)) (setting_of outside c.replace.new.w (g.L.Locals.items c.args.l.now)) read
     (c.in_ok-new.ensures.passes outside) (c.in_ok-text.ensures.passes outside) refused)
     (root_as (extent_of c.assign_root.new.w.heap) (root_in (extent_of c.args.w.now.heap) c.args.root) (root_in (extent_of c.replace.new.w.heap) c.args.root)
-    (Text (replaced (text_in (extent_of c.made_text.new.w.heap) c.in_ok-whole.whole) c.args.place c.args.len (text_in (extent_of c.made_text.new.w.heap)
+    (Text (with_part (text_in (extent_of c.made_text.new.w.heap) c.in_ok-whole.whole) c.args.place c.args.len (text_in (extent_of c.made_text.new.w.heap)
     c.in_ok-new.new))) (value_in (extent_of c.replace.new.w.heap) (TextVal c.in_ok-text.text)) (setting_of outside c.replace.new.w
     (g.L.Locals.items c.args.l.now)) (setting_of outside c.assign_root.new.w (g.L.Locals.items c.assign_root.new.l)) (Err c.in_err-assign_root.field-0.0)
     (root_kept kept c.args.root c.requires.root) (ap Text c.in_ok-text.ensures.text) (c.in_err-assign_root.ensures.assigned outside) refused))
@@ -114,11 +114,11 @@ returns-then-branch-clause-assigned g c = λ outside.
     (text_in (extent_of c.made_text.new.w.heap) c.in_ok-whole.whole) (setting_of outside c.args.w.now (g.L.Locals.items c.args.l.now))
     (setting_of outside c.made_text.new.w (g.L.Locals.items c.args.l.now)) (setting_of outside c.replace.new.w (g.L.Locals.items c.args.l.now)) read
     (c.in_ok-new.ensures.passes outside) (c.in_ok-text.ensures.passes outside) refused next
-    ∙ (root_true (extent_of c.assign_root.new.w.heap) (λ refused. assigns_root refused (root_in (extent_of c.args.w.now.heap) c.args.root) (Text (replaced
+    ∙ (root_true (extent_of c.assign_root.new.w.heap) (λ refused. assigns_root refused (root_in (extent_of c.args.w.now.heap) c.args.root) (Text (with_part
     (text_in (extent_of c.made_text.new.w.heap) c.in_ok-whole.whole) c.args.place c.args.len (text_in (extent_of c.made_text.new.w.heap) c.in_ok-new.new))))
     (setting_of outside c.replace.new.w (g.L.Locals.items c.args.l.now)) (setting_of outside c.assign_root.new.w (g.L.Locals.items c.assign_root.new.l))
     c.in_ok-assign_root.field-0 c.if-branch.true (root_as (extent_of c.assign_root.new.w.heap) (root_in (extent_of c.args.w.now.heap) c.args.root)
-    (root_in (extent_of c.replace.new.w.heap) c.args.root) (Text (replaced (text_in (extent_of c.made_text.new.w.heap) c.in_ok-whole.whole) c.args.place
+    (root_in (extent_of c.replace.new.w.heap) c.args.root) (Text (with_part (text_in (extent_of c.made_text.new.w.heap) c.in_ok-whole.whole) c.args.place
     c.args.len (text_in (extent_of c.made_text.new.w.heap) c.in_ok-new.new)))
     (value_in (extent_of c.replace.new.w.heap) (TextVal c.in_ok-text.text)) (setting_of outside c.replace.new.w (g.L.Locals.items c.args.l.now))
     (setting_of outside c.assign_root.new.w (g.L.Locals.items c.assign_root.new.l)) (Ok c.in_ok-assign_root.field-0)
@@ -156,11 +156,11 @@ returns-else-branch-clause-assigned g c = λ outside.
     (text_in (extent_of c.made_text.new.w.heap) c.in_ok-whole.whole) (setting_of outside c.args.w.now (g.L.Locals.items c.args.l.now))
     (setting_of outside c.made_text.new.w (g.L.Locals.items c.args.l.now)) (setting_of outside c.replace.new.w (g.L.Locals.items c.args.l.now)) read
     (c.in_ok-new.ensures.passes outside) (c.in_ok-text.ensures.passes outside) refused next
-    ∙ root_false (extent_of c.assign_root.new.w.heap) (λ refused. assigns_root refused (root_in (extent_of c.args.w.now.heap) c.args.root) (Text (replaced
+    ∙ root_false (extent_of c.assign_root.new.w.heap) (λ refused. assigns_root refused (root_in (extent_of c.args.w.now.heap) c.args.root) (Text (with_part
     (text_in (extent_of c.made_text.new.w.heap) c.in_ok-whole.whole) c.args.place c.args.len (text_in (extent_of c.made_text.new.w.heap) c.in_ok-new.new))))
     (setting_of outside c.replace.new.w (g.L.Locals.items c.args.l.now)) (setting_of outside c.assign_root.new.w (g.L.Locals.items c.assign_root.new.l))
     c.in_ok-assign_root.field-0 c.if-branch.false (root_as (extent_of c.assign_root.new.w.heap) (root_in (extent_of c.args.w.now.heap) c.args.root)
-    (root_in (extent_of c.replace.new.w.heap) c.args.root) (Text (replaced (text_in (extent_of c.made_text.new.w.heap) c.in_ok-whole.whole) c.args.place
+    (root_in (extent_of c.replace.new.w.heap) c.args.root) (Text (with_part (text_in (extent_of c.made_text.new.w.heap) c.in_ok-whole.whole) c.args.place
     c.args.len (text_in (extent_of c.made_text.new.w.heap) c.in_ok-new.new)))
     (value_in (extent_of c.replace.new.w.heap) (TextVal c.in_ok-text.text)) (setting_of outside c.replace.new.w (g.L.Locals.items c.args.l.now))
     (setting_of outside c.assign_root.new.w (g.L.Locals.items c.assign_root.new.l)) (Ok c.in_ok-assign_root.field-0)
