@@ -2,6 +2,7 @@
 use Rattle.std.specs.Prelude.{◌==◌, ℕ, ℤ, ◌+◌, ◌^◌, pos, negsuc, Bool, true, ◌&&◌, ◌||◌, not, nat_le, nat_lt, List, [], ◌∷◌, length, map, slice_index_or}
 use Rattle.std.specs.List.{list_all, list_any}
 use Rattle.std.specs.Str.{bytes_eq}
+use Rattle.icn_profile.specs.Numbers.{most_entries}
 use Rattle.icn_value.specs.declared.cset.Cset.{Cset}
 use Rattle.icn_code.specs.declared.instr.Instr.{Instr}
 use Rattle.icn_code.specs.declared.instr.Instr.TheVariants.{Int, Str, Cset as CsetAt, Local, Static, Global as GlobalAt, Llist, Field, Invoke, Mark, Chfail, Goto, Loop, Init, Create}
@@ -12,7 +13,7 @@ use Rattle.icn_code.specs.Codes.{RecordType, Proc, Tables}
 
 -- a table has at most 65535 entries, and so have other things that are counted
 abbrev pub is_count : ℕ → Bool
-is_count n = nat_le n 65535
+is_count n = nat_le n most_entries
 
 abbrev pub is_byte : ℕ → Bool
 is_byte b = nat_lt b 256

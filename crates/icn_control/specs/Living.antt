@@ -1,6 +1,7 @@
 -- What all stacks of a machine keep: what their cells hold is of its world, each local of its own activation.
 use Rattle.std.specs.Prelude.{◌≡◌, ℕ, ◌+◌, ◌<◌, ◌≤◌, List, [], ◌∷◌, length, slice_get, Option, None, Some, ⊤}
 use Rattle.std.specs.Option.{option_map_or}
+use Rattle.icn_profile.specs.Numbers.{most_levels}
 use Rattle.icn_cells.specs.Heights.{cell_at}
 use Rattle.icn_value.specs.declared.item.Pair.{Pair}
 use Rattle.icn_heap.specs.Extents.{Extent, IsLive, IsText, text_in}
@@ -79,7 +80,7 @@ AreLive tables reach n (Base proc locals ∷ cells) =
     (locals ≡ variable_count tables proc) × AreLive tables reach 0 cells
 AreLive tables reach n (Call proc locals level r place ∷ cells) =
     (locals ≡ variable_count tables proc)
-    × ((level ≤ 4294967295) × (IsRooted r cells × AreLive tables reach (locals_at r cells) cells))
+    × ((level ≤ most_levels) × (IsRooted r cells × AreLive tables reach (locals_at r cells) cells))
 AreLive tables reach n (Mark label changed r ∷ cells) =
     IsRooted r cells × AreLive tables reach (locals_at r cells) cells
 AreLive tables reach n (Limit count r ∷ cells) =

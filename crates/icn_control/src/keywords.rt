@@ -2,6 +2,7 @@
 ghost use Rattle.std.specs.Prelude.{◌≡◌, ◌<◌, ◌≤◌, Some, IsSome, IfOk, OnOk, IfSome};
 ghost use Rattle.std.specs.List.{range_with_len};
 ghost use Rattle.std.specs.Option.{option_map};
+ghost use Rattle.icn_profile.specs.Numbers.{most_levels};
 ghost use Rattle.icn_value.specs.Members.{members_of};
 ghost use Rattle.icn_value.specs.Store.{Outside};
 ghost use Rattle.icn_value.specs.declared.item.Item.TheVariants.{Var as HeldVar};
@@ -97,7 +98,7 @@ fn both_cases() -> Cset
 /// What a keyword gives, in a procedure of this level, up to 4294967295, in this co-expression, which this one activated.
 /// `&fail` gives nothing.
 pub fn keyword_item(word: Keyword, level: u64, current: u32, source: u32) -> Option<Item>
-    requires { level ≤ 4294967295 }
+    requires { level ≤ most_levels }
     ensures item { (all : Extent) → option_map (item_in all) result
         ≡ keyword_item (record { level = level; current = current; source = source }) word }
     ensures live { (reach : Reach) → current < reach.extent.coexps → source < reach.extent.coexps

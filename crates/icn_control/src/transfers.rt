@@ -1,5 +1,6 @@
 // Transfers between co-expressions.
 ghost use Rattle.std.specs.Prelude.{◌≡◌, ◌<◌, ◌≤◌, ◌+◌, ℕ, [], true, length, slice_index, IsSome, IfSome, IfOk, OnOk, IfErr};
+ghost use Rattle.icn_profile.specs.Numbers.{greatest_integer};
 ghost use Rattle.icn_value.specs.declared.val.Val.TheVariants.{Coexp as HeldCoexp};
 ghost use Rattle.icn_value.specs.Changes.{with_result};
 ghost use Rattle.icn_value.specs.Store.{Outside, count_at};
@@ -176,7 +177,7 @@ pub fn take_two_values<K: Stack<Cell> + Drop>(
 #[tactic(auto, using(icn_vars::proofs::Growing::grows))]
 fn count_result(world: &mut World, id: u32)
     requires live { IsLive (extent_of world.old.heap) (HeldCoexp id) }
-    requires few { count_at (heap_of world.old.heap) id < 9223372036854775807 }
+    requires few { count_at (heap_of world.old.heap) id < greatest_integer }
     ensures world { world_of world.new ≡ having_result id (world_of world.old) }
     ensures heap { heap_of world.new.heap ≡ with_result id (heap_of world.old.heap) }
     ensures kept { KeepsItems (reach_of world.old []) (reach_of world.new []) }

@@ -1,6 +1,7 @@
 -- The context rules that a file breaks, in the order of their places, and at one place in the order of their numbers.
 use Rattle.std.specs.Prelude.{ℕ, Bool, true, false, List, [], ◌∷◌, ◌++◌, length, nat_lt, if◌then◌else◌}
 use Rattle.std.specs.List.{flat_map}
+use Rattle.icn_profile.specs.Numbers.{most_entries}
 use Rattle.icn_tree.specs.declared.rule.Rule.{Rule}
 use Rattle.icn_tree.specs.declared.rule.Rule.TheVariants.{C1, C5, C6, C7, C8}
 use Rattle.icn_tree.specs.declared.tree.LoopKind.{LoopKind}
@@ -99,7 +100,7 @@ all_repeated rule met (name ∷ names) =
 
 -- more than 65535 names at once
 abbrev pub too_many : ℕ → Name → List Fault
-too_many count name = if nat_lt 65535 count then fault C7 name.place else []
+too_many count name = if nat_lt most_entries count then fault C7 name.place else []
 
 -- the parameters, locals and statics of a procedure
 abbrev pub declared_names : Procedure → List Name

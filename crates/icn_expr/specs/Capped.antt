@@ -1,5 +1,6 @@
 -- Trees up to a height: what is higher is left out.
 use Rattle.std.specs.Prelude.{ℕ, ◌+◌, max, Bool, true, false, nat_le, Option, Some, None, if◌then◌else◌}
+use Rattle.icn_profile.specs.Numbers.{highest_tree}
 use Rattle.icn_tree.specs.declared.tree.Place.{Place}
 use Rattle.icn_tree.specs.declared.tree.Name.{Name}
 use Rattle.icn_tree.specs.declared.tree.Literal.{Literal}
@@ -15,7 +16,7 @@ WithHeight A = Option (A × ℕ)
 
 -- the tree, unless it is higher than 2000
 abbrev pub capped_at : {A : Type 0} → A → ℕ → WithHeight A
-capped_at tree height = if nat_le height 2000 then Some (tree, height) else None
+capped_at tree height = if nat_le height highest_tree then Some (tree, height) else None
 
 -- the tree alone, where it is kept
 abbrev pub kept_tree : {A : Type 0} → WithHeight A → Option A

@@ -3,14 +3,16 @@ ghost use Rattle.std.specs.Prelude.{◌≡◌, ◌<◌, Some, None, IfOk, box_va
 ghost use Rattle.icn_tree.specs.Trees.{Parentheses, Listing, Compound, Call, CoCall, Subscript, Case};
 ghost use Rattle.icn_tree.specs.TreeOf.{tree_of, all_of, all_clauses_of};
 ghost use Rattle.std.specs.Option.{option_map};
+ghost use Rattle.icn_profile.specs.Numbers.{highest_tree};
 ghost use Rattle.icn_expr.specs.Capped.{builds_with_height, kept_tree};
 ghost use Rattle.icn_expr.specs.Views.{capped_of, elements_of, branches_of};
 
+use icn_profile::HIGHEST_TREE;
 use icn_tree::{Clause, Expr, Infix, Literal, LoopKind, Name, Operator, Place, SectionKind};
 use std::alloc::{AllocError, Global};
 
 /// The greatest height of a tree that is kept.
-const HIGHEST: u32 = 2000;
+const HIGHEST: u32 = HIGHEST_TREE;
 
 /// A tree with its height. Of a tree that is higher than 2000 only a height above that is kept.
 #[derive(Drop)]
@@ -47,7 +49,7 @@ pub fn discard_branches(branches: Branches) {
 }
 
 fn too_high() -> Value
-    ensures { 2000 < result.height }
+    ensures { highest_tree < result.height }
 {
     Value {
         expr: Expr::Empty,

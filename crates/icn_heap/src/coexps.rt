@@ -1,4 +1,5 @@
 // The co-expressions of a heap, of which it knows how many results each gave.
+ghost use Rattle.icn_profile.specs.Numbers.{greatest_integer};
 use crate::counts::{add_count, raise_at};
 use crate::heap::Heap;
 use icn_value::Full;
@@ -32,7 +33,7 @@ impl Heap {
     #[tactic(auto, unfolding(crate::specs::Heaps::extent_of, crate::specs::Heaps::heap_of))]
     pub fn count(&mut self, id: u32)
         requires live { IsLive (extent_of self.old) (Coexp id) }
-        requires few { count_at (heap_of self.old) id < 9223372036854775807 }
+        requires few { count_at (heap_of self.old) id < greatest_integer }
         ensures step { heap_of self.new ≡ with_result id (heap_of self.old) }
         ensures kept { Keeps (extent_of self.old) (extent_of self.new) }
     {

@@ -2,6 +2,7 @@
 use Rattle.std.specs.Prelude.{◌==◌, ℕ, ℤ, zero, suc, ◌+◌, Bool, true, false, ◌&&◌, List, [], ◌∷◌, length, drop, Option, Some, None, Result, Ok, Err, nat_eq, nat_le, nat_lt, slice_index_or, if◌then◌else◌}
 use Rattle.std.specs.List.{list_all, starts_with}
 use Rattle.std.specs.Int.{Width, w16, w32, w64, cast_signed}
+use Rattle.icn_profile.specs.Numbers.{most_entries}
 use Rattle.icn_tree.specs.declared.rule.Rule.{Rule}
 use Rattle.icn_tree.specs.declared.rule.Rule.TheVariants.{I1, I3, I4, I5}
 use Rattle.icn_text.specs.declared.func.Func.{Func}
@@ -133,7 +134,7 @@ collects_at parameters bytes = do
 unfoldable pub locals_at : Width → ℕ → Reader ℕ
 locals_at width parameters bytes = do
   locals ← number_at width bytes
-  if nat_le (parameters + locals.0) 65535 then Ok locals else Err I4
+  if nat_le (parameters + locals.0) most_entries then Ok locals else Err I4
 
 -- what an image says of a procedure in front of all instructions
 unfoldable pub head_at : Width → ℕ → Reader Head

@@ -6,6 +6,7 @@ ghost use Rattle.icn_image.specs.Reading.{collects_at, head_at, locals_at};
 
 use crate::fault::ImageFault;
 use crate::number::{byte_at, label_at, number_at, place_at};
+use icn_profile::MOST_ENTRIES;
 use icn_tree::Rule;
 
 // A procedure without its instructions.
@@ -39,7 +40,7 @@ fn locals_at(parameters: u32, bytes: &[u8]) -> Result<(u32, &[u8]), ImageFault>
     ensures { Gives (λ x. (x.0, x.1.now)) result (locals_at w16 parameters bytes.now) }
 {
     let (locals, rest) = number_at(bytes)?;
-    if u64::from(parameters) + u64::from(locals) > 65535 {
+    if u64::from(parameters) + u64::from(locals) > MOST_ENTRIES {
         return Err(ImageFault::Broken(Rule::I4));
     }
     Ok((locals, rest))

@@ -2,6 +2,7 @@
 ghost use Rattle.std.specs.Prelude.{◌≡◌};
 
 use icn_code::Instr;
+use icn_profile::MOST_ENTRIES;
 
 // How many there are of what an instruction can name.
 #[derive(Clone, Copy, Debug)]
@@ -33,7 +34,7 @@ impl Scope {
             Instr::Static(place) => u64::from(place) < self.statics,
             Instr::Global(place) => u64::from(place) < self.globals,
             Instr::Field(place) => u64::from(place) < self.fields,
-            Instr::Llist(count) | Instr::Invoke(count) => count <= 65535,
+            Instr::Llist(count) | Instr::Invoke(count) => count <= MOST_ENTRIES as u32,
             Instr::Mark(label)
             | Instr::Chfail(label)
             | Instr::Goto(label)

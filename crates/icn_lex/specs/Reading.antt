@@ -2,6 +2,7 @@
 use Rattle.std.specs.Prelude.{◌==◌, ℕ, ◌+◌, ◌-◌, pos, nat_eq, nat_le, List, [], ◌∷◌, length, take, drop, slice_get, Option, Some, None, Result, Ok, Err, unwrap_or, if◌then◌else◌}
 use Rattle.std.specs.List.{prefix_len, starts_with}
 use Rattle.std.specs.Option.{option_map, option_map_or, ok_or}
+use Rattle.icn_profile.specs.Numbers.{greatest_integer, most_bytes_of_name}
 use Rattle.icn_tree.specs.declared.rule.Rule.{Rule}
 use Rattle.icn_tree.specs.declared.rule.Rule.TheVariants.{L1, L4, L6, L7}
 use Rattle.icn_tree.specs.declared.token.Kind.{Kind}
@@ -22,7 +23,7 @@ first_match (row ∷ rows) bytes =
 
 -- a number that is not too large
 abbrev pub within_limit : ℕ → Option ℕ
-within_limit n = if nat_le n 9223372036854775807 then Some n else None
+within_limit n = if nat_le n greatest_integer then Some n else None
 
 -- the integer that digits write in a radix, where it fits
 abbrev pub value_in : ℕ → List ℕ → Option ℕ
@@ -41,7 +42,7 @@ with_count count (Ok kind) = Ok (kind, count)
 with_count count (Err rule) = Err rule
 
 abbrev pub with_length : ℕ → Result Kind Rule → Result (Kind × ℕ) Rule
-with_length count sense = if nat_le count 65535 then with_count count sense else Err L7
+with_length count sense = if nat_le count most_bytes_of_name then with_count count sense else Err L7
 
 -- the integer literal that begins with decimal digits, by what stands behind them
 abbrev pub number_read_by : List ℕ → ℕ → List ℕ → Result (Kind × ℕ) Rule
@@ -72,7 +73,7 @@ name_by first name =
 
 abbrev pub name_read : ℕ → List ℕ → Result (Kind × ℕ) Rule
 name_read first rest = let count = prefix_len continues_identifier rest + 1 in
-    if nat_le count 65535 then Ok (name_by first (take count (first ∷ rest)), count) else Err L7
+    if nat_le count most_bytes_of_name then Ok (name_by first (take count (first ∷ rest)), count) else Err L7
 
 -- the kind of the token that stands first, with its length in bytes; or the rule that it breaks
 abbrev pub first_read : List ℕ → Result (Kind × ℕ) Rule

@@ -6,6 +6,7 @@ ghost use Rattle.icn_lex.specs.Literals.{literal_of, scan_escape, scan_inside};
 
 use crate::escapes::escape;
 use crate::fault::LexFault;
+use icn_profile::MOST_BYTES_OF_NAME;
 use icn_tree::{ByteSet, Bytes, Kind, Rule, SourceLine, Token};
 use std::alloc::Global;
 
@@ -141,7 +142,7 @@ fn escape_step<'a>(
 pub fn close(alloc: Global, opening: Opening, bytes: Vec<u8>) -> Result<Token, LexFault>
     ensures { ClosesAs result (literal_of opening bytes.items) }
 {
-    if bytes.len() > 65535 {
+    if bytes.len() > MOST_BYTES_OF_NAME as usize {
         return Err(opening.fault(Rule::L7));
     }
     let kind = if opening.quote == b'\'' {

@@ -1,14 +1,16 @@
 // Integer literals.
 ghost use Rattle.std.specs.Prelude.{◌≡◌, ◌≤◌, ◌*◌, ◌+◌, IfSome, nat_lt};
 ghost use Rattle.std.specs.List.{list_all};
+ghost use Rattle.icn_profile.specs.Numbers.{greatest_integer};
 ghost use Rattle.icn_tree.specs.Characters.{digit_value};
 ghost use Rattle.icn_tree.specs.Numbers.{are_digits, integer, number_in};
 ghost use Rattle.icn_lex.specs.Reading.{bounded_by, with_length, within_limit, number_read, value_in};
 
+use icn_profile::{GREATEST_INTEGER, MOST_BYTES_OF_NAME};
 use icn_tree::characters::{alphanumeric_len, digit_value, digits_len};
 use icn_tree::{Kind, Rule};
 
-const GREATEST: u64 = 9223372036854775807;
+const GREATEST: u64 = GREATEST_INTEGER;
 
 // The integer literal at the front of bytes that begin with a digit, and how many bytes it has.
 pub fn integer_literal(bytes: &[u8]) -> Result<(Kind, usize), Rule>
@@ -31,7 +33,7 @@ pub fn integer_literal(bytes: &[u8]) -> Result<(Kind, usize), Rule>
 fn counted(count: usize, sense: Result<Kind, Rule>) -> Result<(Kind, usize), Rule>
     ensures { result ≡ with_length count sense }
 {
-    if count <= 65535 {
+    if count <= MOST_BYTES_OF_NAME as usize {
         Ok((sense?, count))
     } else {
         Err(Rule::L7)
@@ -39,7 +41,7 @@ fn counted(count: usize, sense: Result<Kind, Rule>) -> Result<(Kind, usize), Rul
 }
 
 fn bounded(value: Option<u64>) -> Result<Kind, Rule>
-    requires { IfSome value (λ n. n ≤ 9223372036854775807) }
+    requires { IfSome value (λ n. n ≤ greatest_integer) }
     ensures { result ≡ bounded_by value }
 {
     match value {
@@ -80,7 +82,7 @@ fn are_below(radix: u64, digits: &[u8]) -> bool
 pub fn value(radix: u64, digits: &[u8]) -> Option<u64>
     requires { 1 ≤ radix }
     ensures found { result ≡ value_in radix digits.now }
-    ensures within { IfSome result (λ n. n ≤ 9223372036854775807) }
+    ensures within { IfSome result (λ n. n ≤ greatest_integer) }
 {
     let mut value = 0;
     for digit in digits {

@@ -7,6 +7,7 @@ use crate::fault::LexFault;
 use crate::marks::mark;
 use crate::numbers::integer_literal;
 use crate::words::reserved_word;
+use icn_profile::MOST_BYTES_OF_NAME;
 use icn_tree::characters::{begins_identifier, identifier_len, is_digit};
 use icn_tree::{Bytes, Kind, Operator, Rule, SourceLine};
 use std::alloc::{AllocError, Global};
@@ -74,7 +75,7 @@ fn name(
     ensures { FirstIs line.now result (name_read first rest.now) }
 {
     let count = identifier_len(rest) + 1;
-    if count > 65535 {
+    if count > MOST_BYTES_OF_NAME as usize {
         return Err(LexFault::on(line, Rule::L7));
     }
     let kind = word_or_identifier(alloc, first, bytes.split_at(count).0)?;

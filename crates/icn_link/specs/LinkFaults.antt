@@ -3,6 +3,7 @@ use Rattle.std.specs.Prelude.{◌≡◌, ◌⊎◌, ℕ, suc, ◌-◌, ◌^◌, 
 use Rattle.std.specs.List.{flat_map, list_any, sum_by, ends_with}
 use Rattle.std.specs.Option.{option_map, option_or}
 use Rattle.std.specs.Str.{bytes_eq}
+use Rattle.icn_profile.specs.Numbers.{most_bytes_of_image, most_entries, most_instructions}
 use Rattle.icn_image.specs.Spelling.{image_of}
 use Rattle.icn_unit.specs.declared.unit.UnitInstr.{UnitInstr}
 use Rattle.icn_unit.specs.PlainUnits.{Proc, Decl, Global, Procedure, Link, Record, UnitRead}
@@ -158,13 +159,13 @@ a orelse b = option_or a b
 -- parameters and other locals of a procedure together; its statics; and the bytes of the image.
 abbrev pub too_large_of : List Decl → List Proc → Option LinkFault
 too_large_of decls procs =
-    over 16777216 (sum_by size_of procs ∷ [])
-    orelse over 65535 (table_sizes (all_mentions decls procs) decls procs)
-    orelse over 65535 (mentioned_by operands_in procs)
-    orelse over 65535 (record_sizes decls)
-    orelse over 65535 (local_counts (globals decls procs) procs)
-    orelse over 65535 (static_counts (globals decls procs) procs)
-    orelse over 1073741824 (length (image_of (joined_of decls procs)) ∷ [])
+    over most_instructions (sum_by size_of procs ∷ [])
+    orelse over most_entries (table_sizes (all_mentions decls procs) decls procs)
+    orelse over most_entries (mentioned_by operands_in procs)
+    orelse over most_entries (record_sizes decls)
+    orelse over most_entries (local_counts (globals decls procs) procs)
+    orelse over most_entries (static_counts (globals decls procs) procs)
+    orelse over most_bytes_of_image (length (image_of (joined_of decls procs)) ∷ [])
 
 -- the first bound that the units pass together
 abbrev pub too_large : List UnitRead → Option LinkFault

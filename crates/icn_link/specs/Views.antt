@@ -5,6 +5,7 @@ use Rattle.std.specs.List.{list_all, sum_by}
 use Rattle.std.specs.Option.{unwrap_or}
 use Rattle.indexmap.specs.IndexMap.{IndexMap, get, get_by}
 use Rattle.std.specs.Str.{bytes_eq}
+use Rattle.icn_profile.specs.Numbers.{most_entries, most_instructions}
 use Rattle.icn_unit.specs.declared.unit.ProcCode.{ProcCode}
 use Rattle.icn_unit.specs.declared.unit.UnitDecl.{UnitDecl}
 use Rattle.icn_unit.specs.declared.unit.UnitInstr.{UnitInstr}
@@ -71,19 +72,19 @@ address_from labels label rest =
 
 -- Each place in a table has 16 bits.
 pub record AreFew (tables : AllMentions) : Type 0 where
-  pub strings : length tables.strings ≤ 65535
-  pub sets : length tables.sets ≤ 65535
-  pub integers : length tables.integers ≤ 65535
-  pub fields : length tables.fields ≤ 65535
-  pub globals : length tables.globals ≤ 65535
+  pub strings : length tables.strings ≤ most_entries
+  pub sets : length tables.sets ≤ most_entries
+  pub integers : length tables.integers ≤ most_entries
+  pub fields : length tables.fields ≤ most_entries
+  pub globals : length tables.globals ≤ most_entries
 
 -- Declarations and procedures of units that can be joined, and that are not too large but for the bytes of the image.
 pub record Joinable (decls : List Decl) (procs : List Proc) : Type 0 where
   pub joinable_decls : list_all is_joinable_decl decls ≡ true
   pub joinable_procs : list_all is_joinable_proc procs ≡ true
-  pub instrs : over 16777216 (sum_by size_of procs ∷ []) ≡ None
-  pub tables : over 65535 (table_sizes (all_mentions decls procs) decls procs) ≡ None
-  pub operands : over 65535 (mentioned_by operands_in procs) ≡ None
-  pub records : over 65535 (record_sizes decls) ≡ None
-  pub locals : over 65535 (local_counts (globals decls procs) procs) ≡ None
-  pub statics : over 65535 (static_counts (globals decls procs) procs) ≡ None
+  pub instrs : over most_instructions (sum_by size_of procs ∷ []) ≡ None
+  pub tables : over most_entries (table_sizes (all_mentions decls procs) decls procs) ≡ None
+  pub operands : over most_entries (mentioned_by operands_in procs) ≡ None
+  pub records : over most_entries (record_sizes decls) ≡ None
+  pub locals : over most_entries (local_counts (globals decls procs) procs) ≡ None
+  pub statics : over most_entries (static_counts (globals decls procs) procs) ≡ None

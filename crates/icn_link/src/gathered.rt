@@ -1,6 +1,7 @@
 // What units mention, each once.
 ghost use Rattle.std.specs.Prelude.{◌≡◌, ◌≤◌, ◌++◌, ◌∷◌, [], List, if◌then◌else◌, is_some, length, map, IfOk, OnOk};
 ghost use Rattle.std.specs.List.{flat_map};
+ghost use Rattle.icn_profile.specs.Numbers.{most_entries};
 ghost use Rattle.icn_unit.specs.declared.unit.UnitInstr.{UnitInstr};
 ghost use Rattle.icn_unit.specs.declared.unit.UnitName.{UnitName};
 ghost use Rattle.icn_unit.specs.PlainUnits.{Decl, Proc, proc_names};
@@ -435,7 +436,7 @@ fn enter_integer(found: &mut IndexSet<i64>, n: i64) -> Result<(), AllocError>
 
 /// Where a text stands in a table.
 pub fn text_place(texts: &IndexSet<&[u8]>, text: &[u8]) -> u32
-    requires { length (texts_seen texts.now.keys) ≤ 65535 }
+    requires { length (texts_seen texts.now.keys) ≤ most_entries }
     ensures { result ≡ text_place (texts_seen texts.now.keys) text.now }
 {
     match texts.get_index_of(text) {
@@ -446,7 +447,7 @@ pub fn text_place(texts: &IndexSet<&[u8]>, text: &[u8]) -> u32
 
 /// Where an integer stands in the table of integers.
 pub fn integer_place(integers: &IndexSet<i64>, n: i64) -> u32
-    requires { length integers.now.keys ≤ 65535 }
+    requires { length integers.now.keys ≤ most_entries }
     ensures { result ≡ integer_place integers.now.keys n }
 {
     match integers.get_index_of(&n) {

@@ -3,6 +3,7 @@ ghost use Rattle.std.specs.Prelude.{◌≡◌, ◌≤◌, ◌-◌, ◌++◌, ◌
 ghost use Rattle.std.specs.List.{flat_map, list_all, sum_by};
 ghost use Rattle.std.specs.Option.{option_or};
 ghost use Rattle.std.specs.Str.{bytes_eq};
+ghost use Rattle.icn_profile.specs.Numbers.{most_bytes_of_image, most_entries, most_instructions};
 ghost use Rattle.icn_code.specs.Codes.{proc_of, procs_of, record_of, records_of};
 ghost use Rattle.icn_code.specs.Seen.{tables_of};
 ghost use Rattle.icn_image.specs.Spelling.{image_of};
@@ -30,13 +31,14 @@ use crate::sizes::{
 };
 use crate::variable::{locals_in, statics_in, variables};
 use icn_code::{Code, Global as Variable, Instr, Procedure, Record, Start};
+use icn_profile::MOST_BYTES_OF_IMAGE;
 use icn_tree::Bytes;
 use icn_unit::{ProcCode, Unit, UnitDecl, params_in};
 use icn_value::Cset;
 use indexmap::{IndexMap, IndexSet};
 use std::alloc::{AllocError, Global};
 
-const MOST_BYTES: u64 = 1073741824;
+const MOST_BYTES: u64 = MOST_BYTES_OF_IMAGE;
 
 /// The joined code of units: their procedures, records and globals, with each name resolved over all units.
 ///
@@ -84,7 +86,7 @@ fn join_with(
     requires tables { gathered_seen tables.now ≡ all_mentions (decls_seen decls.now) (procs_seen procs.now) }
     requires decls { list_all is_joinable_decl (decls_seen decls.now) ≡ true }
     requires procs { list_all is_joinable_proc (procs_seen procs.now) ≡ true }
-    requires instrs { over 16777216 (sum_by size_of (procs_seen procs.now) ∷ []) ≡ None }
+    requires instrs { over most_instructions (sum_by size_of (procs_seen procs.now) ∷ []) ≡ None }
     ensures joined { IfOk result
         (λ code. tables_of code ≡ joined_of (decls_seen decls.now) (procs_seen procs.now)) }
     ensures fits { OnOk result (too_large_of (decls_seen decls.now) (procs_seen procs.now) ≡ None) }
@@ -102,9 +104,9 @@ fn join_with(
 
 // Refuses a code whose image is too long.
 fn check_image(code: &Code) -> Result<(), LinkFault>
-    ensures none { OnOk result (over 1073741824 (length (image_of (tables_of code.now)) ∷ []) ≡ None) }
+    ensures none { OnOk result (over most_bytes_of_image (length (image_of (tables_of code.now)) ∷ []) ≡ None) }
     ensures fault { IfErr result
-        (λ fault. over 1073741824 (length (image_of (tables_of code.now)) ∷ []) ≡ Some fault) }
+        (λ fault. over most_bytes_of_image (length (image_of (tables_of code.now)) ∷ []) ≡ Some fault) }
 {
     check_count(image_size(code), MOST_BYTES)
 }
@@ -179,7 +181,7 @@ fn put_bit(bits: &mut [u8; 32], byte: u8)
 
 // Where texts stand in a table.
 fn places(alloc: Global, table: &IndexSet<&[u8]>, texts: &[&[u8]]) -> Result<Vec<u32>, AllocError>
-    requires few { length (texts_seen table.now.keys) ≤ 65535 }
+    requires few { length (texts_seen table.now.keys) ≤ most_entries }
     ensures { IfOk result
         (λ places. places.items ≡ map (text_place (texts_seen table.now.keys)) (texts_seen texts.now)) }
 {
@@ -251,7 +253,7 @@ fn field_places(
     table: &IndexSet<&[u8]>,
     fields: &[Bytes],
 ) -> Result<Vec<u32>, AllocError>
-    requires few { length (texts_seen table.now.keys) ≤ 65535 }
+    requires few { length (texts_seen table.now.keys) ≤ most_entries }
     ensures { IfOk result (λ places. places.items ≡ map (text_place (texts_seen table.now.keys)) fields.now) }
 {
     let mut places = Vec::new(alloc);
@@ -270,8 +272,8 @@ fn globals(
     procs: &[&ProcCode],
 ) -> Result<Vec<Variable>, AllocError>
     requires few { AreFew (gathered_seen tables.now) }
-    requires records { length (record_names (decls_seen decls.now)) ≤ 65535 }
-    requires procs { length (proc_names (procs_seen procs.now)) ≤ 65535 }
+    requires records { length (record_names (decls_seen decls.now)) ≤ most_entries }
+    requires procs { length (proc_names (procs_seen procs.now)) ≤ most_entries }
     ensures { IfOk result (λ globals. globals.items ≡ map (global_entry (gathered_seen tables.now) (proc_names
         (procs_seen procs.now)) (record_names (decls_seen decls.now))) (gathered_seen tables.now).globals) }
 {
@@ -355,7 +357,7 @@ fn first_places<'a>(
     alloc: Global,
     names: &[&'a [u8]],
 ) -> Result<IndexMap<&'a [u8], u32>, AllocError>
-    requires few { length (texts_seen names.now) ≤ 65535 }
+    requires few { length (texts_seen names.now) ≤ most_entries }
     ensures { IfOk result
         (λ places. (name : List ℕ) → places_in places name ≡ place_of (texts_seen names.now) name) }
 {
@@ -421,11 +423,11 @@ fn entries(
     procs: &[&ProcCode],
 ) -> Result<Vec<Procedure>, AllocError>
     requires few { AreFew (gathered_seen tables.now) }
-    requires sizes { list_all (λ proc. nat_le (size_of proc) 16777216) (procs_seen procs.now) ≡ true }
+    requires sizes { list_all (λ proc. nat_le (size_of proc) most_instructions) (procs_seen procs.now) ≡ true }
     requires locals { list_all (λ proc. nat_le (locals_in (gathered_seen tables.now).globals proc.names)
-        65535) (procs_seen procs.now) ≡ true }
+        most_entries) (procs_seen procs.now) ≡ true }
     requires statics { list_all (λ proc. nat_le (statics_in (gathered_seen tables.now).globals proc.names)
-        65535) (procs_seen procs.now) ≡ true }
+        most_entries) (procs_seen procs.now) ≡ true }
     ensures { IfOk result (λ entries. procs_of entries.items
         ≡ map (proc_entry (gathered_seen tables.now)) (procs_seen procs.now)) }
 {
@@ -443,9 +445,9 @@ fn put_entry(
     proc: &ProcCode,
 ) -> Result<(), AllocError>
     requires few { AreFew (gathered_seen tables.now) }
-    requires size { count_by is_instruction proc.now.instrs.items ≤ 16777216 }
-    requires locals { locals_in (gathered_seen tables.now).globals proc.now.names.items ≤ 65535 }
-    requires statics { statics_in (gathered_seen tables.now).globals proc.now.names.items ≤ 65535 }
+    requires size { count_by is_instruction proc.now.instrs.items ≤ most_instructions }
+    requires locals { locals_in (gathered_seen tables.now).globals proc.now.names.items ≤ most_entries }
+    requires statics { statics_in (gathered_seen tables.now).globals proc.now.names.items ≤ most_entries }
     ensures { OnOk result (procs_of entries.new.items ≡ procs_of entries.old.items
         ++ proc_entry (gathered_seen tables.now) (proc_seen proc.now) ∷ []) }
 {
@@ -456,9 +458,9 @@ fn put_entry(
 
 fn entry(alloc: Global, tables: &Gathered<'_>, proc: &ProcCode) -> Result<Procedure, AllocError>
     requires few { AreFew (gathered_seen tables.now) }
-    requires size { count_by is_instruction proc.now.instrs.items ≤ 16777216 }
-    requires locals { locals_in (gathered_seen tables.now).globals proc.now.names.items ≤ 65535 }
-    requires statics { statics_in (gathered_seen tables.now).globals proc.now.names.items ≤ 65535 }
+    requires size { count_by is_instruction proc.now.instrs.items ≤ most_instructions }
+    requires locals { locals_in (gathered_seen tables.now).globals proc.now.names.items ≤ most_entries }
+    requires statics { statics_in (gathered_seen tables.now).globals proc.now.names.items ≤ most_entries }
     ensures { IfOk result
         (λ entry. proc_of entry ≡ proc_entry (gathered_seen tables.now) (proc_seen proc.now)) }
 {

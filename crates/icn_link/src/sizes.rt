@@ -1,6 +1,7 @@
 // Programs that are too large.
 ghost use Rattle.std.specs.Prelude.{◌≡◌, ◌≤◌, ◌∷◌, ◌++◌, [], List, ℕ, None, IfErr, IfOk, OnOk, length, map, count_by};
 ghost use Rattle.std.specs.List.{flat_map, sum_by};
+ghost use Rattle.icn_profile.specs.Numbers.{most_entries, most_instructions};
 ghost use Rattle.icn_unit.specs.PlainUnits.{Decl};
 ghost use Rattle.icn_unit.specs.UnitViews.{decl_seen, proc_seen};
 ghost use Rattle.icn_link.specs.declared.fault.LinkFault.TheVariants.{K3};
@@ -13,12 +14,11 @@ use crate::gathered::Gathered;
 use crate::labels::place_of;
 use crate::mention::{Mention, mention_of};
 use crate::variable::{locals_in, statics_in};
+use icn_profile::{MOST_ENTRIES, MOST_INSTRUCTIONS};
 use icn_unit::{ProcCode, UnitDecl, UnitInstr};
 use indexmap::IndexSet;
 
-const MOST_INSTRS: u64 = 16777216;
-
-const MOST_ENTRIES: u64 = 65535;
+const MOST_INSTRS: u64 = MOST_INSTRUCTIONS;
 
 /// Refuses a number above a bound.
 pub fn check_count(count: u64, most: u64) -> Result<(), LinkFault>
@@ -33,9 +33,9 @@ pub fn check_count(count: u64, most: u64) -> Result<(), LinkFault>
 
 /// Refuses procedures of too many instructions.
 pub fn check_instrs(procs: &[&ProcCode]) -> Result<(), LinkFault>
-    ensures none { OnOk result (over 16777216 (sum_by size_of (procs_seen procs.now) ∷ []) ≡ None) }
+    ensures none { OnOk result (over most_instructions (sum_by size_of (procs_seen procs.now) ∷ []) ≡ None) }
     ensures fault { IfErr result
-        (λ fault. over 16777216 (sum_by size_of (procs_seen procs.now) ∷ []) ≡ Some fault) }
+        (λ fault. over most_instructions (sum_by size_of (procs_seen procs.now) ∷ []) ≡ Some fault) }
 {
     check_count(instrs_in(procs), MOST_INSTRS)
 }
@@ -66,9 +66,9 @@ pub fn check_tables(
     decls: &[&UnitDecl],
     procs: &[&ProcCode],
 ) -> Result<(), LinkFault>
-    ensures none { OnOk result (over 65535
+    ensures none { OnOk result (over most_entries
         (table_sizes (gathered_seen tables.now) (decls_seen decls.now) (procs_seen procs.now)) ≡ None) }
-    ensures fault { IfErr result (λ fault. over 65535
+    ensures fault { IfErr result (λ fault. over most_entries
         (table_sizes (gathered_seen tables.now) (decls_seen decls.now) (procs_seen procs.now)) ≡ Some fault) }
 {
     let counts = [
@@ -84,8 +84,8 @@ pub fn check_tables(
 }
 
 fn check_counts(counts: &[u64]) -> Result<(), LinkFault>
-    ensures none { OnOk result (over 65535 counts.now ≡ None) }
-    ensures fault { IfErr result (λ fault. over 65535 counts.now ≡ Some fault) }
+    ensures none { OnOk result (over most_entries counts.now ≡ None) }
+    ensures fault { IfErr result (λ fault. over most_entries counts.now ≡ Some fault) }
 {
     for count in counts {
         check_count(*count, MOST_ENTRIES)?;
@@ -108,9 +108,9 @@ fn records_in(decls: &[&UnitDecl]) -> u64
 
 /// Refuses a call or a list of too many operands.
 pub fn check_operands(procs: &[&ProcCode]) -> Result<(), LinkFault>
-    ensures none { OnOk result (over 65535 (mentioned_by operands_in (procs_seen procs.now)) ≡ None) }
+    ensures none { OnOk result (over most_entries (mentioned_by operands_in (procs_seen procs.now)) ≡ None) }
     ensures fault { IfErr result
-        (λ fault. over 65535 (mentioned_by operands_in (procs_seen procs.now)) ≡ Some fault) }
+        (λ fault. over most_entries (mentioned_by operands_in (procs_seen procs.now)) ≡ Some fault) }
 {
     for proc in procs {
         check_operands_in(&proc.instrs)?;
@@ -119,10 +119,10 @@ pub fn check_operands(procs: &[&ProcCode]) -> Result<(), LinkFault>
 }
 
 fn check_operands_in(instrs: &[UnitInstr]) -> Result<(), LinkFault>
-    ensures none { OnOk result ((rest : List ℕ) → over 65535
-        (flat_map (λ instr. operands_in (mention_of instr)) instrs.now ++ rest) ≡ over 65535 rest) }
+    ensures none { OnOk result ((rest : List ℕ) → over most_entries
+        (flat_map (λ instr. operands_in (mention_of instr)) instrs.now ++ rest) ≡ over most_entries rest) }
     ensures fault { IfErr result (λ fault. (rest : List ℕ)
-        → over 65535 (flat_map (λ instr. operands_in (mention_of instr)) instrs.now ++ rest) ≡ Some fault) }
+        → over most_entries (flat_map (λ instr. operands_in (mention_of instr)) instrs.now ++ rest) ≡ Some fault) }
 {
     for instr in instrs {
         check_operands_of(instr)?;
@@ -132,9 +132,9 @@ fn check_operands_in(instrs: &[UnitInstr]) -> Result<(), LinkFault>
 
 fn check_operands_of(instr: &UnitInstr) -> Result<(), LinkFault>
     ensures none { OnOk result ((rest : List ℕ)
-        → over 65535 (operands_in (mention_of instr.now) ++ rest) ≡ over 65535 rest) }
+        → over most_entries (operands_in (mention_of instr.now) ++ rest) ≡ over most_entries rest) }
     ensures fault { IfErr result
-        (λ fault. (rest : List ℕ) → over 65535 (operands_in (mention_of instr.now) ++ rest) ≡ Some fault) }
+        (λ fault. (rest : List ℕ) → over most_entries (operands_in (mention_of instr.now) ++ rest) ≡ Some fault) }
 {
     match mention_of(instr) {
         Mention::Operands(count) => check_count(u64::from(count), MOST_ENTRIES),
@@ -148,8 +148,8 @@ fn check_operands_of(instr: &UnitInstr) -> Result<(), LinkFault>
 
 /// Refuses a record of too many fields.
 pub fn check_records(decls: &[&UnitDecl]) -> Result<(), LinkFault>
-    ensures none { OnOk result (over 65535 (record_sizes (decls_seen decls.now)) ≡ None) }
-    ensures fault { IfErr result (λ fault. over 65535 (record_sizes (decls_seen decls.now)) ≡ Some fault) }
+    ensures none { OnOk result (over most_entries (record_sizes (decls_seen decls.now)) ≡ None) }
+    ensures fault { IfErr result (λ fault. over most_entries (record_sizes (decls_seen decls.now)) ≡ Some fault) }
 {
     for decl in decls {
         check_record(decl)?;
@@ -159,9 +159,9 @@ pub fn check_records(decls: &[&UnitDecl]) -> Result<(), LinkFault>
 
 fn check_record(decl: &UnitDecl) -> Result<(), LinkFault>
     ensures none { OnOk result ((rest : List ℕ)
-        → over 65535 (field_counts (decl_seen decl.now) ++ rest) ≡ over 65535 rest) }
+        → over most_entries (field_counts (decl_seen decl.now) ++ rest) ≡ over most_entries rest) }
     ensures fault { IfErr result
-        (λ fault. (rest : List ℕ) → over 65535 (field_counts (decl_seen decl.now) ++ rest) ≡ Some fault) }
+        (λ fault. (rest : List ℕ) → over most_entries (field_counts (decl_seen decl.now) ++ rest) ≡ Some fault) }
 {
     match decl {
         UnitDecl::Record(_, fields) => check_count(fields.len() as u64, MOST_ENTRIES),
@@ -174,9 +174,9 @@ fn check_record(decl: &UnitDecl) -> Result<(), LinkFault>
 /// Refuses a procedure of too many parameters and other locals.
 pub fn check_locals(globals: &IndexSet<&[u8]>, procs: &[&ProcCode]) -> Result<(), LinkFault>
     ensures none { OnOk result
-        (over 65535 (local_counts (texts_seen globals.now.keys) (procs_seen procs.now)) ≡ None) }
+        (over most_entries (local_counts (texts_seen globals.now.keys) (procs_seen procs.now)) ≡ None) }
     ensures fault { IfErr result
-        (λ fault. over 65535 (local_counts (texts_seen globals.now.keys) (procs_seen procs.now)) ≡ Some fault) }
+        (λ fault. over most_entries (local_counts (texts_seen globals.now.keys) (procs_seen procs.now)) ≡ Some fault) }
 {
     for proc in procs {
         check_count(locals_in(globals, &proc.names), MOST_ENTRIES)?;
@@ -187,9 +187,9 @@ pub fn check_locals(globals: &IndexSet<&[u8]>, procs: &[&ProcCode]) -> Result<()
 /// Refuses a procedure of too many statics.
 pub fn check_statics(globals: &IndexSet<&[u8]>, procs: &[&ProcCode]) -> Result<(), LinkFault>
     ensures none { OnOk result
-        (over 65535 (static_counts (texts_seen globals.now.keys) (procs_seen procs.now)) ≡ None) }
+        (over most_entries (static_counts (texts_seen globals.now.keys) (procs_seen procs.now)) ≡ None) }
     ensures fault { IfErr result
-        (λ fault. over 65535 (static_counts (texts_seen globals.now.keys) (procs_seen procs.now)) ≡ Some fault) }
+        (λ fault. over most_entries (static_counts (texts_seen globals.now.keys) (procs_seen procs.now)) ≡ Some fault) }
 {
     for proc in procs {
         check_count(statics_in(globals, &proc.names), MOST_ENTRIES)?;

@@ -1,5 +1,6 @@
 // What the names of a procedure stand for.
 ghost use Rattle.std.specs.Prelude.{◌≡◌, ◌≤◌, ◌+◌, ◌++◌, ◌∷◌, List, length, IfOk, OnOk};
+ghost use Rattle.icn_profile.specs.Numbers.{most_entries};
 ghost use Rattle.icn_unit.specs.declared.unit.UnitName.{UnitName};
 ghost use Rattle.icn_link.specs.Joined.{locals_in, statics_in, variable_of, variables};
 ghost use Rattle.icn_link.specs.Views.{texts_seen};
@@ -42,9 +43,9 @@ pub fn variables(
     globals: &IndexSet<&[u8]>,
     names: &[UnitName],
 ) -> Result<Vec<Instr>, AllocError>
-    requires few { length (texts_seen globals.now.keys) ≤ 65535 }
-    requires locals { locals_in (texts_seen globals.now.keys) names.now ≤ 65535 }
-    requires statics { statics_in (texts_seen globals.now.keys) names.now ≤ 65535 }
+    requires few { length (texts_seen globals.now.keys) ≤ most_entries }
+    requires locals { locals_in (texts_seen globals.now.keys) names.now ≤ most_entries }
+    requires statics { statics_in (texts_seen globals.now.keys) names.now ≤ most_entries }
     ensures { IfOk result (λ instrs. instrs.items ≡ variables (texts_seen globals.now.keys) 0 0 names.now) }
 {
     let mut instrs = Vec::new(alloc);
@@ -64,9 +65,9 @@ fn put_variable(
     globals: &IndexSet<&[u8]>,
     entry: &UnitName,
 ) -> Result<(), AllocError>
-    requires few { length (texts_seen globals.now.keys) ≤ 65535 }
-    requires locals { locals.now ≤ 65535 }
-    requires statics { statics.now ≤ 65535 }
+    requires few { length (texts_seen globals.now.keys) ≤ most_entries }
+    requires locals { locals.now ≤ most_entries }
+    requires statics { statics.now ≤ most_entries }
     ensures locals { OnOk result ((rest : List UnitName) →
         locals.new + locals_in (texts_seen globals.now.keys) rest
         ≡ locals.old + locals_in (texts_seen globals.now.keys) (entry.now ∷ rest)) }

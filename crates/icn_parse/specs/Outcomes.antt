@@ -3,6 +3,7 @@ use Rattle.std.specs.Prelude.{◌≡◌, ℕ, Bool, nat_le, List, [], ◌∷◌,
 use Rattle.std.specs.List.{list_any}
 use Rattle.std.specs.Option.{option_map}
 use Rattle.std.specs.Str.{bytes_eq}
+use Rattle.icn_profile.specs.Numbers.{highest_tree}
 use Rattle.icn_tree.specs.declared.token.Token.{Token}
 use Rattle.icn_tree.specs.declared.tree.Place.{Place}
 use Rattle.icn_tree.specs.declared.tree.Name.{Name}
@@ -72,7 +73,7 @@ first_unknown (name ∷ names) = if is_known name.text then first_unknown names 
 abbrev pub first_too_high : List Declaration → Option Place
 first_too_high [] = None
 first_too_high (ProcedureOf p ∷ others) =
-    if nat_le (procedure_height p) 2000 then first_too_high others else Some p.name.place
+    if nat_le (procedure_height p) highest_tree then first_too_high others else Some p.name.place
 first_too_high (other ∷ others) = first_too_high others
 
 -- an unknown keyword, or a form that is not in this profile

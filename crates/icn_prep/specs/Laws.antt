@@ -1,5 +1,6 @@
 -- What the definition of the given lines means, in other words.
 use Rattle.std.specs.Prelude.{◌≡◌, ◌≤◌, ◌+◌, ℕ, true, List, [], ◌∷◌, length, Some, Result, Ok, Err}
+use Rattle.icn_profile.specs.Numbers.{most_bytes_of_source}
 use Rattle.icn_host.specs.FileMaps.{FileMap}
 use Rattle.icn_prep.specs.declared.fault.PrepFault.{PrepFault}
 use Rattle.icn_prep.specs.Answers.{IsTextFault}
@@ -18,7 +19,7 @@ OneOutcome = (files : FileMap) (name : List ℕ)
 
 -- a file without directives, in which no name can be defined, gives its own lines, numbered from 1
 abbrev pub OwnLines : Type 0
-OwnLines = (files : FileMap) (name bytes : List ℕ) → files name ≡ Some bytes → length bytes ≤ 16777216
+OwnLines = (files : FileMap) (name bytes : List ℕ) → files name ≡ Some bytes → length bytes ≤ most_bytes_of_source
     → has_no_directive (lines_of bytes) ≡ true
     → source_lines files name ≡ Ok (record { names = name ∷ []; lines = numbered_lines 0 1 (lines_of bytes) })
 

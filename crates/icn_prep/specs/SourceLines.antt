@@ -1,6 +1,7 @@
 -- The lines that a named file gives.
 use Rattle.std.specs.Prelude.{ℕ, zero, suc, Bool, true, false, List, [], ◌∷◌, ◌++◌, Option, None, Some, is_some, Result, Ok, Err, if◌then◌else◌, not, nat_lt, length, slice_index_or}
 use Rattle.std.specs.Str.{bytes_eq}
+use Rattle.icn_profile.specs.Numbers.{most_bytes_of_source}
 use Rattle.icn_host.specs.FileMaps.{FileMap}
 use Rattle.icn_tree.specs.SourceTexts.{joined_len}
 use Rattle.icn_tree.specs.declared.lines.SourceLine.{SourceLine}
@@ -57,7 +58,7 @@ refuse s place rule = Err (Broken rule (name_at s place.file) place.line)
 -- the lines given so far with one more, unless they are too long then
 abbrev pub given_more : State → LiteralState → List SourceLine → Outcome
 given_more s literal lines =
-    if nat_lt 16777216 (joined_len lines) then Err (Broken P9 (name_at s 0) 0)
+    if nat_lt most_bytes_of_source (joined_len lines) then Err (Broken P9 (name_at s 0) 0)
     else Ok (record s { lines = lines; literal = literal })
 
 -- one line more is given, of these bytes, with its file and number; the next one begins in this literal state
@@ -178,7 +179,7 @@ file_read includes name s bytes = lines_read includes (record s { names = s.name
 
 -- unless the file is too long
 abbrev pub unless_long : List ℕ → List ℕ → Outcome → Outcome
-unless_long name bytes outcome = if nat_lt 16777216 (length bytes) then Err (Broken P9 name 0) else outcome
+unless_long name bytes outcome = if nat_lt most_bytes_of_source (length bytes) then Err (Broken P9 name 0) else outcome
 
 -- the line that includes a file is left empty, and the lines of the file stand behind it
 abbrev pub include_read : IncludeStep → List ℕ → State → Place → List ℕ → Outcome

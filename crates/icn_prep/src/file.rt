@@ -1,6 +1,7 @@
 // Reading the lines of a file.
 ghost use Rattle.std.specs.Prelude.{◌≡◌, ◌≤◌, ◌<◌, ◌+◌, ◌-◌, Ok, length, drop, vec_len, slice_get, string_bytes, IfOk, IfSome, OnOk, IfErr, MatchResult};
 ghost use Rattle.std.specs.Option.{option_map};
+ghost use Rattle.icn_profile.specs.Numbers.{greatest_line, most_bytes_of_source};
 ghost use Rattle.icn_prep.specs.FileLines.{lines_of};
 ghost use Rattle.icn_prep.specs.PlaceViews.{place_of};
 ghost use Rattle.icn_prep.specs.Refusals.{Refuses, IsOfText, rest_of_lines};
@@ -25,8 +26,8 @@ pub fn read_lines(
 ) -> Result<Option<(String, usize)>, PrepFault>
     requires within { from ≤ length content.now }
     requires named { place.old.file < vec_len reading.old.names }
-    requires short { length content.now ≤ 16777216 }
-    requires numbered { place.old.line + (length content.now - from) ≤ 1016777216 }
+    requires short { length content.now ≤ most_bytes_of_source }
+    requires numbered { place.old.line + (length content.now - from) ≤ greatest_line }
     ensures exact { (includes : IncludeStep) → let outcome = lines_read includes (state_of reading.old)
         (place_of place.old) (lines_of (drop from content.now)) in
         MatchResult result
@@ -37,7 +38,7 @@ pub fn read_lines(
     ensures named { IfOk result (λ stop. IfSome stop (λ _. place.new.file < vec_len reading.new.names)) }
     ensures behind { IfOk result (λ stop. IfSome stop (λ s. s.1 ≤ length content.now)) }
     ensures numbered { IfOk result
-        (λ stop. IfSome stop (λ s. place.new.line + 1 + (length content.now - s.1) ≤ 1016777216)) }
+        (λ stop. IfSome stop (λ s. place.new.line + 1 + (length content.now - s.1) ≤ greatest_line)) }
     ensures first { OnOk result (slice_get reading.new.names.items 0 ≡ slice_get reading.old.names.items 0) }
     ensures kept { OnOk result (vec_len reading.old.names ≤ vec_len reading.new.names) }
     ensures longer { OnOk result (reading.old.size ≤ reading.new.size) }

@@ -14,11 +14,12 @@ use crate::literal::LiteralState;
 use crate::place::Place;
 use crate::reading::Reading;
 use crate::texts::Texts;
+use icn_profile::MOST_BYTES_OF_SOURCE;
 use icn_tree::{Bytes, Rule, SourceLine};
 use std::alloc::Global;
 
 /// How long a file, and all lines that a named file gives, joined by one newline, may be, in bytes.
-pub const LONGEST: usize = 16777216;
+pub const LONGEST: usize = MOST_BYTES_OF_SOURCE as usize;
 
 /// Nothing was read yet.
 pub fn start(alloc: Global) -> Reading

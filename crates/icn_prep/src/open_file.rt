@@ -1,5 +1,6 @@
 // A file that is read.
 ghost use Rattle.std.specs.Prelude.{◌≤◌, ◌+◌, ◌-◌, vec_len};
+ghost use Rattle.icn_profile.specs.Numbers.{greatest_line, most_bytes_of_source};
 
 use crate::place::Place;
 
@@ -12,7 +13,7 @@ pub struct OpenFile {
     pub at: usize,
     /// Where reading is.
     pub place: Place,
-    ghost short: { vec_len content ≤ 16777216 },
+    ghost short: { vec_len content ≤ most_bytes_of_source },
     ghost within: { at ≤ vec_len content },
-    ghost numbered: { place.line + (vec_len content - at) ≤ 1016777216 },
+    ghost numbered: { place.line + (vec_len content - at) ≤ greatest_line },
 }

@@ -1,5 +1,6 @@
 // What reading has come to.
 ghost use Rattle.std.specs.Prelude.{◌≡◌, ◌≤◌, ◌+◌, IsTrue, vec_len};
+ghost use Rattle.icn_profile.specs.Numbers.{most_bytes_of_source};
 ghost use Rattle.icn_tree.specs.SourceTexts.{names_files};
 ghost use Rattle.icn_prep.specs.Sizes.{ended_len};
 
@@ -24,7 +25,7 @@ pub struct Reading {
     /// How the next line begins.
     pub literal: LiteralState,
     ghost counted: { size ≡ ended_len lines.items },
-    ghost within: { size ≤ 16777217 },
+    ghost within: { size ≤ most_bytes_of_source + 1 },
     ghost few: { vec_len names ≤ size + 1 },
     ghost named: { IsTrue (names_files names.items lines.items) },
 }

@@ -1,5 +1,6 @@
 // The lines that a named file gives.
 ghost use Rattle.std.specs.Prelude.{◌≡◌, ◌⊎◌, ◌≤◌, ◌<◌, ◌-◌, ◌+◌, ◌++◌, ◌∷◌, [], Ok, Err, Some, length, vec_len, slice_get, IfSome, IfOk, IfErr, OnOk, IsErrOf, MatchResult};
+ghost use Rattle.icn_profile.specs.Numbers.{most_bytes_of_source};
 ghost use Rattle.icn_host.specs.Counts.{CountsOnce, HasCause};
 ghost use Rattle.icn_prep.specs.declared.fault.PrepFault.TheVariants.{Broken, FileFault, NoMemory};
 ghost use Rattle.icn_prep.specs.Answers.{IsOutside, IsAbsence, IsAnswer, outcome_of};
@@ -66,7 +67,7 @@ pub fn preprocess<F: Files>(alloc: Global, name: &str, files: &mut F) -> Result<
 
 // A file from its first line on.
 fn begin_file(reading: &mut Reading, name: &str, content: Vec<u8>) -> Result<OpenFile, PrepFault>
-    requires short { vec_len content ≤ 16777216 }
+    requires short { vec_len content ≤ most_bytes_of_source }
     requires few { vec_len reading.old.names ≤ reading.old.size }
     ensures place { IfOk result (λ file. place_of file.place ≡ start_of (length reading.old.names.items)) }
     ensures content { IfOk result (λ file. file.content.items ≡ content.items) }
@@ -100,7 +101,7 @@ fn named_content<F: Files>(alloc: Global, name: &str, files: &mut F) -> Result<V
     ensures exact { IfSome (F.held files.old) (λ held. MatchResult result
         (λ content. held name.now ≡ Some content.items)
         (IsAnswer (named_file held name.now (held name.now)))) }
-    ensures short { IfOk result (λ content. vec_len content ≤ 16777216) }
+    ensures short { IfOk result (λ content. vec_len content ≤ most_bytes_of_source) }
     ensures file_fault { CountsOnce (F.faults files.old) (F.faults files.new) (IsErrOf result FileFault) }
     ensures absence { HasCause (F.absences files.old) (F.absences files.new) (IsAbsence result) }
     ensures same { F.held files.new ≡ F.held files.old }
@@ -126,7 +127,7 @@ fn included_content<F: Files>(
         (λ content. held name.now ≡ Some content.items)
         (IsAnswer (include_file held (32 - depth) name.now (state_of reading.now) (place_of place.now)))) }
     ensures deep { OnOk result (depth < 32) }
-    ensures short { IfOk result (λ content. vec_len content ≤ 16777216) }
+    ensures short { IfOk result (λ content. vec_len content ≤ most_bytes_of_source) }
     ensures file_fault { CountsOnce (F.faults files.old) (F.faults files.new) (IsErrOf result FileFault) }
     ensures absence { HasCause (F.absences files.old) (F.absences files.new) (IsAbsence result) }
     ensures same { F.held files.new ≡ F.held files.old }
@@ -143,9 +144,9 @@ fn included_content<F: Files>(
 
 // The content of a file, unless it is too long.
 fn not_longer(alloc: Global, name: &str, content: Vec<u8>) -> Result<Vec<u8>, PrepFault>
-    ensures ok { IfOk result (λ whole. (whole.items ≡ content.items) × (length content.items ≤ 16777216)) }
+    ensures ok { IfOk result (λ whole. (whole.items ≡ content.items) × (length content.items ≤ most_bytes_of_source)) }
     ensures err { IfErr result (λ fault. (fault ≡ NoMemory)
-        ⊎ ((16777216 < length content.items) × (fault ≡ Broken Rule.P9 name.now 0))) }
+        ⊎ ((most_bytes_of_source < length content.items) × (fault ≡ Broken Rule.P9 name.now 0))) }
 {
     if content.len() > LONGEST {
         return Err(broken(alloc, Rule::P9, name.as_bytes(), 0));

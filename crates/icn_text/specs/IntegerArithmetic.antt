@@ -2,12 +2,13 @@
 use Rattle.std.specs.Prelude.{ℕ, ℤ, pos, negsuc, ◌+◌, ◌+ℤ◌, ◌-ℤ◌, ◌*ℤ◌, ◌&&◌, int_le, int_div, int_rem, Bool, Option, None, Some, Result, Ok, Err, ok_or, if◌then◌else◌}
 use Rattle.std.specs.Int.{int_pow}
 use Rattle.std.specs.Ordering.{int_eq}
+use Rattle.icn_profile.specs.Numbers.{greatest_integer}
 use Rattle.icn_text.specs.declared.arithmetic.Arith.{Arith}
 use Rattle.icn_text.specs.declared.arithmetic.Arith.TheVariants.{Overflow, DivideByZero, RemainderByZero}
 
 -- whether 64 bits hold it
 abbrev pub fits : ℤ → Bool
-fits n = int_le (negsuc 9223372036854775807) n && int_le n (pos 9223372036854775807)
+fits n = int_le (negsuc greatest_integer) n && int_le n (pos greatest_integer)
 
 -- an integer that 64 bits hold
 abbrev pub fitting : ℤ → Option ℤ

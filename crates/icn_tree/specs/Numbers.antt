@@ -1,6 +1,7 @@
 -- Integer literals.
 use Rattle.std.specs.Prelude.{◌==◌, ℕ, ◌+◌, ◌*◌, pos, Bool, true, false, ◌&&◌, ◌||◌, not, nat_le, nat_lt, List, [], ◌∷◌, ◌++◌, length, take, drop, Option, Some, None, Result, Ok, Err, if◌then◌else◌}
 use Rattle.std.specs.List.{prefix_len, list_all}
+use Rattle.icn_profile.specs.Numbers.{greatest_integer, most_bytes_of_name}
 use Rattle.icn_tree.specs.declared.rule.Rule.{Rule}
 use Rattle.icn_tree.specs.declared.rule.Rule.TheVariants.{L4, L5, L6, L7}
 use Rattle.icn_tree.specs.declared.token.Kind.{Kind}
@@ -31,11 +32,11 @@ is_real_mark b = b == 46 || b == 101 || b == 69
 
 -- a text that is not too long for a literal has this sense
 abbrev pub within_size : List ℕ → Result Kind Rule → Result Kind Rule
-within_size text sense = if nat_le (length text) 65535 then sense else Err L7
+within_size text sense = if nat_le (length text) most_bytes_of_name then sense else Err L7
 
 -- an integer literal of this value, or the rule that it breaks where it is too large
 abbrev pub integer_kind : ℕ → Result Kind Rule
-integer_kind n = if nat_le n 9223372036854775807 then Ok (Integer (pos n)) else Err L4
+integer_kind n = if nat_le n greatest_integer then Ok (Integer (pos n)) else Err L4
 
 -- there are digits, and each is below the radix
 abbrev pub are_digits : ℕ → List ℕ → Bool

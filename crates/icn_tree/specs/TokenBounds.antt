@@ -1,6 +1,7 @@
 -- What the tokens of lines keep within, and the rules that lines can break.
 use Rattle.std.specs.Prelude.{◌≡◌, ℕ, pos, negsuc, ◌≤◌, Bool, true, false, ◌&&◌, nat_lt, List, [], ◌∷◌, length, None}
 use Rattle.std.specs.List.{list_all}
+use Rattle.icn_profile.specs.Numbers.{greatest_integer, most_bytes_of_name}
 use Rattle.icn_tree.specs.Characters.{begins_identifier, continues_identifier}
 use Rattle.icn_tree.specs.declared.rule.Rule.{Rule}
 use Rattle.icn_tree.specs.declared.rule.Rule.TheVariants.{L1, L2, L3, L4, L5, L6, L7}
@@ -23,10 +24,10 @@ IsScanRule _ = ⊥
 
 -- an identifier has 1 to 65535 bytes, an integer is from 0 to 9223372036854775807, and a string has at most 65535 bytes
 abbrev pub IsSized : Kind → Type 0
-IsSized (Identifier name) = (1 ≤ length name) × (length name ≤ 65535)
-IsSized (Integer (pos n)) = n ≤ 9223372036854775807
+IsSized (Identifier name) = (1 ≤ length name) × (length name ≤ most_bytes_of_name)
+IsSized (Integer (pos n)) = n ≤ greatest_integer
 IsSized (Integer (negsuc n)) = ⊥
-IsSized (Text bytes) = length bytes ≤ 65535
+IsSized (Text bytes) = length bytes ≤ most_bytes_of_name
 IsSized _ = Unit {0}
 
 -- a letter or an underscore, and letters, digits and underscores behind it

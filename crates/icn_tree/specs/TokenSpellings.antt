@@ -1,5 +1,6 @@
 -- Texts that spell tokens again.
 use Rattle.std.specs.Prelude.{◌==◌, ◌≡◌, ◌≤◌, ℕ, Bool, ◌||◌, List, [], ◌∷◌, ◌++◌, length, Some, Ok, if◌then◌else◌}
+use Rattle.icn_profile.specs.Numbers.{most_bytes_of_name}
 use Rattle.icn_tree.specs.declared.token.Kind.{Kind}
 use Rattle.icn_tree.specs.declared.token.Kind.TheVariants.{Text, Cset}
 use Rattle.icn_tree.specs.ByteSets.{members_of}
@@ -17,8 +18,8 @@ with_backslashes (b ∷ rest) = (if is_special b then 92 ∷ b ∷ [] else b ∷
 -- a text of one token
 pub data Spells : Kind → List ℕ → Type 0 where
   bare : (kind : Kind) (text : List ℕ) → one_token text ≡ Some (Ok kind) → Spells kind text
-  string : (bytes : List ℕ) → length bytes ≤ 65535 → Spells (Text bytes) (34 ∷ (with_backslashes bytes ++ 34 ∷ []))
-  cset : (bytes : List ℕ) → length bytes ≤ 65535
+  string : (bytes : List ℕ) → length bytes ≤ most_bytes_of_name → Spells (Text bytes) (34 ∷ (with_backslashes bytes ++ 34 ∷ []))
+  cset : (bytes : List ℕ) → length bytes ≤ most_bytes_of_name
       → Spells (Cset (members_of bytes)) (39 ∷ (with_backslashes bytes ++ 39 ∷ []))
 
 -- texts of tokens with one blank behind each but the last

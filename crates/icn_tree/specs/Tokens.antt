@@ -2,6 +2,7 @@
 use Rattle.std.specs.Prelude.{◌==◌, ℕ, ◌-◌, zero, suc, Bool, true, false, ◌&&◌, nat_le, List, [], ◌∷◌, length, take, drop, Option, Some, None, Result, Ok, Err, if◌then◌else◌}
 use Rattle.std.specs.List.{list_all, prefix_len}
 use Rattle.std.specs.Option.{option_map}
+use Rattle.icn_profile.specs.Numbers.{most_bytes_of_name}
 use Rattle.icn_tree.specs.declared.lines.SourceLine.{SourceLine}
 use Rattle.icn_tree.specs.declared.rule.Rule.{Rule}
 use Rattle.icn_tree.specs.declared.rule.Rule.TheVariants.{L1, L2, L3, L6, L7}
@@ -101,7 +102,7 @@ literal_piece literal = record {
 
 -- a literal at its closing quote, and what the bytes behind it give
 abbrev pub closed_then : Literal → Scan → Scan
-closed_then literal later = if nat_le (length literal.bytes) 65535 then before (literal_piece literal) later
+closed_then literal later = if nat_le (length literal.bytes) most_bytes_of_name then before (literal_piece literal) later
     else Broken L7 literal.line literal.file
 
 -- an escape by the bytes behind its backslash, and what the bytes behind it give

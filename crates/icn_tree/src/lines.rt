@@ -1,5 +1,6 @@
 // The lines of a program text.
 ghost use Rattle.std.specs.Prelude.{◌≤◌, IsTrue};
+ghost use Rattle.icn_profile.specs.Numbers.{most_bytes_of_source};
 ghost use Rattle.icn_tree.specs.SourceTexts.{joined_len, names_files};
 
 use crate::bytes::Bytes;
@@ -23,6 +24,6 @@ pub struct Lines {
     pub names: Vec<Bytes>,
     /// The lines in their order.
     pub lines: Vec<SourceLine>,
-    ghost within: { joined_len lines.items ≤ 16777216 },
+    ghost within: { joined_len lines.items ≤ most_bytes_of_source },
     ghost named: { IsTrue (names_files names.items lines.items) },
 }

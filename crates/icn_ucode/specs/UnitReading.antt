@@ -2,6 +2,7 @@
 use Rattle.std.specs.Prelude.{◌==◌, ℕ, ◌-◌, pos, Bool, true, false, ◌&&◌, ◌||◌, not, nat_le, nat_lt, List, [], ◌∷◌, ◌++◌, length, slice_get, codes, Option, Some, None, Result, Ok, Err, if◌then◌else◌}
 use Rattle.std.specs.Option.{option_map, option_and_then, option_map_or}
 use Rattle.std.specs.Str.{bytes_eq}
+use Rattle.icn_profile.specs.Numbers.{greatest_integer, greatest_number}
 use Rattle.icn_defs.specs.Numbers.{op_of}
 use Rattle.icn_tree.specs.declared.rule.Rule.{Rule}
 use Rattle.icn_tree.specs.declared.rule.Rule.TheVariants.{U1, U2, U3, U4, U5, U6, U7}
@@ -47,18 +48,18 @@ or_bad (Some value) more = more value
 
 -- the instruction of a word before an operand, in a procedure of so many names
 abbrev pub operand_instr : InstrWord → List ℕ → ℕ → Option UnitInstr
-operand_instr WordInt text names = option_map (λ n. Int (pos n)) (number_of 9223372036854775807 text)
+operand_instr WordInt text names = option_map (λ n. Int (pos n)) (number_of greatest_integer text)
 operand_instr WordStr text names = option_map (λ bytes. Str bytes) (bytes_of text)
 operand_instr WordCset text names =
     option_and_then (λ bytes. if ascends bytes then Some (Cset (members_of bytes)) else None) (bytes_of text)
 operand_instr WordVar text names =
-    option_and_then (λ n. if nat_lt n names then Some (Var n) else None) (number_of 4294967295 text)
+    option_and_then (λ n. if nat_lt n names then Some (Var n) else None) (number_of greatest_number text)
 operand_instr WordKeywd text names = option_map (λ keyword. Keywd keyword) (keyword_of text)
 operand_instr WordOp text names =
-    option_and_then (λ n. option_map (λ op. Op op) (op_of n)) (number_of 4294967295 text)
+    option_and_then (λ n. option_map (λ op. Op op) (op_of n)) (number_of greatest_number text)
 operand_instr WordField text names = if is_name text then Some (Field text) else None
-operand_instr WordLlist text names = option_map (λ n. Llist n) (number_of 4294967295 text)
-operand_instr WordInvoke text names = option_map (λ n. Invoke n) (number_of 4294967295 text)
+operand_instr WordLlist text names = option_map (λ n. Llist n) (number_of greatest_number text)
+operand_instr WordInvoke text names = option_map (λ n. Invoke n) (number_of greatest_number text)
 operand_instr word text names = option_and_then (λ label. labelled_of word label) (label_of text)
 
 -- the instruction of a word and its operand, if they make one, where a procedure has so many names
@@ -91,7 +92,7 @@ abbrev pub collects_read : List ℕ → List ℕ → Option (List ℕ) → Optio
 collects_read name params None = None
 collects_read name params (Some collects) =
     option_and_then (λ p. option_and_then (λ c. head_by name p c) (flag_of collects))
-    (number_of 4294967295 params)
+    (number_of greatest_number params)
 
 abbrev pub params_read : List ℕ → Option (List ℕ) → Option Head
 params_read name None = None

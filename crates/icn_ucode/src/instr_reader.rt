@@ -5,6 +5,7 @@ ghost use Rattle.icn_ucode.specs.UnitReading.{instr_of, operand_instr};
 ghost use Rattle.icn_ucode.specs.UnitViews.{label_read};
 
 use icn_defs::op_numbered;
+use icn_profile::GREATEST_INTEGER;
 use icn_tree::{ByteSet, Bytes};
 use icn_unit::{
     InstrWord, UnitInstr, alone, ascends, byte_text, is_name, keyword, label, labelled, number,
@@ -52,7 +53,7 @@ fn operand_instr(
 fn int_instr(text: &[u8]) -> Option<UnitInstr>
     ensures { result ≡ operand_instr InstrWord.Int text.now 0 }
 {
-    let n = number(text, 9223372036854775807)?;
+    let n = number(text, GREATEST_INTEGER)?;
     Some(UnitInstr::Int(n as i64))
 }
 

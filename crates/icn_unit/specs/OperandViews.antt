@@ -1,5 +1,6 @@
 -- How contracts see the parts of operands.
 use Rattle.std.specs.Prelude.{◌==◌, ℕ, ◌+◌, ◌*◌, Bool, true, false, ◌&&◌, nat_le, nat_lt, List, [], ◌∷◌, Option, Some, None, if◌then◌else◌}
+use Rattle.icn_profile.specs.Numbers.{greatest_integer}
 use Rattle.icn_unit.specs.declared.fault.Stop.{Stop}
 use Rattle.icn_unit.specs.declared.fault.Stop.TheVariants.{Broken as StopBroken, NoMemory as StopNoMemory}
 use Rattle.icn_unit.specs.declared.fault.UcodeFault.{UcodeFault}
@@ -7,7 +8,7 @@ use Rattle.icn_unit.specs.declared.fault.UcodeFault.TheVariants.{Broken, NoMemor
 use Rattle.icn_unit.specs.UnitOperands.{value_from, is_hexadecimal, hexadecimal_value}
 
 abbrev pub within_limit : ℕ → Option ℕ
-within_limit n = if nat_le n 9223372036854775807 then Some n else None
+within_limit n = if nat_le n greatest_integer then Some n else None
 
 abbrev pub value_limited : List ℕ → Option ℕ
 value_limited text = within_limit (value_from 0 text)

@@ -4,6 +4,7 @@ use Rattle.std.specs.Fmt.{decimal}
 use Rattle.std.specs.List.{prefix_len, list_all}
 use Rattle.std.specs.Option.{option_map}
 use Rattle.std.specs.Str.{bytes_eq}
+use Rattle.icn_profile.specs.Numbers.{greatest_number}
 use Rattle.icn_text.specs.declared.keyword.Keyword.{Keyword}
 use Rattle.icn_text.specs.declared.keyword.Keyword.TheVariants.{Ascii, Cset, Current, Digits, Errout, Fail, Input, Lcase, Letters, Level, Main, Null, Output, Pos, Random, Source, Subject, Ucase}
 use Rattle.icn_text.specs.Keywords.{keyword_name}
@@ -36,7 +37,7 @@ number_of greatest text =
 -- `L` and the number of a label
 abbrev pub label_of : List ℕ → Option ℕ
 label_of [] = None
-label_of (b ∷ rest) = if b == 76 then number_of 4294967295 rest else None
+label_of (b ∷ rest) = if b == 76 then number_of greatest_number rest else None
 
 -- a letter or an underscore, and letters, underscores and digits
 abbrev pub is_name : List ℕ → Bool

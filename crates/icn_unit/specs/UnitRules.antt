@@ -3,6 +3,7 @@ use Rattle.std.specs.Prelude.{ℕ, ℤ, pos, negsuc, Bool, true, false, ◌&&◌
 use Rattle.std.specs.List.{list_all, list_any, flat_map}
 use Rattle.std.specs.Option.{option_map_or}
 use Rattle.std.specs.Str.{bytes_eq}
+use Rattle.icn_profile.specs.Numbers.{greatest_integer, greatest_number, most_bytes_of_name}
 use Rattle.icn_unit.specs.declared.unit.NameKind.{NameKind}
 use Rattle.icn_unit.specs.declared.unit.NameKind.TheVariants.{Parameter, Local, Static, Undeclared}
 use Rattle.icn_unit.specs.declared.unit.UnitInstr.{UnitInstr}
@@ -18,15 +19,15 @@ is_byte b = nat_lt b 256
 
 -- at most 65535 bytes
 abbrev pub is_byte_text : List ℕ → Bool
-is_byte_text bytes = list_all is_byte bytes && nat_le (length bytes) 65535
+is_byte_text bytes = list_all is_byte bytes && nat_le (length bytes) most_bytes_of_name
 
 abbrev pub is_integer : ℤ → Bool
-is_integer (pos n) = nat_le n 9223372036854775807
+is_integer (pos n) = nat_le n greatest_integer
 is_integer (negsuc n) = false
 
 -- every number but an integer's
 abbrev pub is_number : ℕ → Bool
-is_number n = nat_le n 4294967295
+is_number n = nat_le n greatest_number
 
 -- Names and labels that differ
 

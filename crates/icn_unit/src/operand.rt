@@ -2,10 +2,12 @@
 ghost use Rattle.std.specs.Prelude.{◌≡◌, ◌≤◌, ◌+◌, ◌-◌, ◌*◌, length, take, drop, IfOk, IfSome, true};
 ghost use Rattle.std.specs.List.{prefix_len, list_all};
 ghost use Rattle.std.specs.Option.{option_copied, option_map};
+ghost use Rattle.icn_profile.specs.Numbers.{greatest_integer, greatest_number};
 ghost use Rattle.icn_tree.specs.Characters.{begins_identifier, continues_identifier};
 ghost use Rattle.icn_unit.specs.UnitOperands.{ascends, behind, bytes_of, first_field, hexadecimal_bytes, hexadecimal_value, is_hexadecimal, is_inside, is_name, keyword_of, label_of, number_of};
 ghost use Rattle.icn_unit.specs.OperandViews.{below_first, byte_item, is_in_line, within_limit, value_limited};
 
+use icn_profile::{GREATEST_INTEGER, GREATEST_NUMBER};
 use icn_text::{Keyword, decimal, keyword_named};
 use std::alloc::{AllocError, Global};
 
@@ -31,7 +33,7 @@ fn inside_len(text: &[u8]) -> usize
 
 /// The number of a decimal without leading zeros, up to a greatest one.
 pub fn number(text: &[u8], greatest: u64) -> Option<u64>
-    requires { greatest ≤ 9223372036854775807 }
+    requires { greatest ≤ greatest_integer }
     ensures found { result ≡ number_of greatest text.now }
     ensures within { IfSome result (λ n. n ≤ greatest) }
 {
@@ -46,7 +48,7 @@ pub fn number(text: &[u8], greatest: u64) -> Option<u64>
 // The number that digits write, where it has 63 bits.
 fn value(text: &[u8]) -> Option<u64>
     ensures found { result ≡ value_limited text.now }
-    ensures within { IfSome result (λ n. n ≤ 9223372036854775807) }
+    ensures within { IfSome result (λ n. n ≤ greatest_integer) }
 {
     let mut value = 0;
     for byte in text {
@@ -61,7 +63,7 @@ fn with_digit(value: u64, byte: u8) -> Option<u64>
     let longer = value
         .checked_mul(10)?
         .checked_add(u64::from(byte.saturating_sub(b'0')))?;
-    if longer <= 9223372036854775807 {
+    if longer <= GREATEST_INTEGER {
         Some(longer)
     } else {
         None
@@ -70,9 +72,9 @@ fn with_digit(value: u64, byte: u8) -> Option<u64>
 
 /// The number of 32 bits of a decimal without leading zeros.
 pub fn small_number(text: &[u8]) -> Option<u32>
-    ensures { result ≡ number_of 4294967295 text.now }
+    ensures { result ≡ number_of greatest_number text.now }
 {
-    let n = number(text, 4294967295)?;
+    let n = number(text, GREATEST_NUMBER)?;
     Some(n as u32)
 }
 

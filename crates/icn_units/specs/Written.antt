@@ -1,6 +1,7 @@
 -- What the names and the literals of a text keep, as a unit asks it of them.
 use Rattle.std.specs.Prelude.{◌≡◌, ℕ, Bool, true, not, ◌&&◌, ◌||◌, nat_le, nat_lt, List, length}
 use Rattle.std.specs.List.{list_all}
+use Rattle.icn_profile.specs.Numbers.{most_bytes_of_name}
 use Rattle.icn_tree.specs.declared.token.Kind.{Kind}
 use Rattle.icn_tree.specs.declared.token.Kind.TheVariants.{Text as TextToken}
 use Rattle.icn_tree.specs.declared.tree.Literal.{Literal}
@@ -20,7 +21,7 @@ name_fits name = is_name name.text
 -- Texts are told apart by a test that is asked of them: that they are short, as a token's size says, or that they are short and their
 -- bytes are bytes (`is_byte_text`), which is so of the tokens of files.
 abbrev pub is_short : List ℕ → Bool
-is_short bytes = nat_le (length bytes) 65535
+is_short bytes = nat_le (length bytes) most_bytes_of_name
 
 -- an integer, a text that passes the test, and a set of bytes
 abbrev pub literal_fits : (List ℕ → Bool) → Literal → Bool

@@ -1,5 +1,6 @@
 -- The limits of a run, as definitions and laws see them.
 use Rattle.std.specs.Prelude.{ℕ, ◌≤◌, ◌-◌, ◌^◌}
+use Rattle.icn_profile.specs.Numbers.{default_cells, default_levels, default_strings, most_cells, most_levels}
 use Rattle.icn_value.specs.declared.limits.Limits.{Limits}
 
 -- the limits of a run: its turns, the string bytes and the cells that it may be charged, and how deep procedures call
@@ -18,11 +19,11 @@ limits_of limits =
 pub record AreLimits (bounds : Bounds) : Type 0 where
   pub turns : bounds.turns ≤ 2 ^ 64 - 1
   pub strings : bounds.strings ≤ 2 ^ 40
-  pub cells : bounds.cells ≤ 4294967295
+  pub cells : bounds.cells ≤ most_cells
   pub some_levels : 1 ≤ bounds.levels
-  pub levels : bounds.levels ≤ 4294967295
+  pub levels : bounds.levels ≤ most_levels
 
 -- the limits of a run for which the command sets none
 abbrev pub default_limits : Bounds
 default_limits =
-    record { turns = 18446744073709551615; strings = 268435456; cells = 16777216; levels = 20000 }
+    record { turns = 18446744073709551615; strings = default_strings; cells = default_cells; levels = default_levels }

@@ -1,5 +1,8 @@
 // The limits of a run.
 ghost use Rattle.std.specs.Prelude.{◌≡◌, ◌≤◌, ◌^◌};
+ghost use Rattle.icn_profile.specs.Numbers.{most_cells, most_levels};
+
+use icn_profile::{DEFAULT_CELLS, DEFAULT_LEVELS, DEFAULT_STRINGS};
 
 /// What a run may use.
 #[derive(Clone, Copy, Debug, PartialEq, Eq)]
@@ -13,9 +16,9 @@ pub struct Limits {
     /// How deep procedures may call one another, from 1 to 2 ^ 32 - 1.
     pub levels: u64,
     ghost few_strings: { strings ≤ 2 ^ 40 },
-    ghost few_cells: { cells ≤ 4294967295 },
+    ghost few_cells: { cells ≤ most_cells },
     ghost some_levels: { 1 ≤ levels },
-    ghost few_levels: { levels ≤ 4294967295 },
+    ghost few_levels: { levels ≤ most_levels },
 }
 
 impl Limits {
@@ -27,9 +30,9 @@ impl Limits {
     {
         Limits {
             turns: u64::MAX,
-            strings: 268435456,
-            cells: 16777216,
-            levels: 20000,
+            strings: DEFAULT_STRINGS,
+            cells: DEFAULT_CELLS,
+            levels: DEFAULT_LEVELS,
         }
     }
 }

@@ -2,6 +2,7 @@
 use Rattle.std.specs.Prelude.{◌≡◌, ◌⊎◌, ◌≤◌, ℕ, List, [], ◌∷◌, ◌++◌, Option, Some, All, Ok, Err, length, take}
 use Rattle.std.specs.Map.{update}
 use Rattle.std.specs.Str.{bytes_eq}
+use Rattle.icn_profile.specs.Numbers.{most_bytes_of_image}
 use Rattle.icn_host.specs.FileMaps.{FileMap, Follows, IsLeftBehind}
 use Rattle.icn_host.specs.Puts.{BreaksOff, Puts, RunsShort}
 use Rattle.icn_host.specs.Sinks.{Gains, SinkState}
@@ -219,7 +220,7 @@ IsComplete words files answer =
 -- program is: what its files mean, where all are sources.
 pub record IsImage (members : List Member) (bytes : List ℕ) : Type 0 where
   pub tables : Tables
-  pub within : length bytes ≤ 1073741824
+  pub within : length bytes ≤ most_bytes_of_image
   pub read : image_read bytes ≡ Ok tables
   pub verified : IsVerified tables
   pub runs : (launch : Launch) (seen : Observation) → (Behaves members launch seen → RunsFlat tables launch seen)

@@ -1,5 +1,6 @@
 -- Units that were written as ucode and are linked from it.
 use Rattle.std.specs.Prelude.{◌≡◌, ◌≤◌, ℕ, false, All, List, length, map, Option, Some, Ok}
+use Rattle.icn_profile.specs.Numbers.{most_bytes_of_ucode}
 use Rattle.icn_host.specs.FileMaps.{FileMap}
 use Rattle.icn_unit.specs.PlainUnits.{UnitRead}
 use Rattle.icn_unit.specs.UnitTexts.{decls_text, procs_text}
@@ -11,8 +12,8 @@ use Rattle.icont_top.specs.Programs.{Links}
 
 -- Neither text of the unit is too long to be read again.
 pub record FitsTexts (unit : UnitRead) : Type 0 where
-  pub first : length (procs_text unit.procs) ≤ 268435456
-  pub second : length (decls_text unit.decls) ≤ 268435456
+  pub first : length (procs_text unit.procs) ≤ most_bytes_of_ucode
+  pub second : length (decls_text unit.decls) ≤ most_bytes_of_ucode
 
 -- no text of these units is too long to be read again
 abbrev pub AllFit : List Member → Type 0

@@ -2,6 +2,7 @@
 use Rattle.std.specs.Prelude.{◌≡◌, ◌⊎◌, ℕ, ◌+◌, true, List, [], ◌∷◌, ◌++◌, map, take, if◌then◌else◌, Option, Some, None, Result, Ok, Err, IfOk, Vec}
 use Rattle.std.specs.List.{list_any}
 use Rattle.std.specs.Str.{bytes_eq, is_utf8}
+use Rattle.icn_profile.specs.Numbers.{most_bytes_of_ucode}
 use Rattle.icn_host.specs.FileMaps.{FileMap}
 use Rattle.icn_tree.specs.TreeOf.{declarations_of}
 use Rattle.icn_tree.specs.declared.rule.Rule.{Rule}
@@ -55,7 +56,7 @@ AreFile scan (Err answer) = (answer ≡ NoMemory)
 
 -- the first bytes of a text, one more than it may have: their number tells whether it has more
 abbrev pub first_bytes : List ℕ → List ℕ
-first_bytes text = take (268435456 + 1) text
+first_bytes text = take (most_bytes_of_ucode + 1) text
 
 -- the text of this name has these first bytes, or it is not there, or a fault
 abbrev pub IsText : {Z : Type 0} → Option (List ℕ) → List ℕ → Result (Vec ℕ Z) Answer → Type 0

@@ -2,6 +2,7 @@
 use Rattle.std.specs.Prelude.{◌≡◌, ◌≤◌, ◌<◌, ℕ, Bool, true, false, List, [], ◌∷◌, ◌++◌, map, nat_lt, length, slice_index_or, Option, None, Some, Result, Ok, Err, if◌then◌else◌}
 use Rattle.std.specs.List.{flat_map, list_any}
 use Rattle.std.specs.Str.{bytes_eq, is_utf8}
+use Rattle.icn_profile.specs.Numbers.{most_bytes_of_ucode}
 use Rattle.icn_host.specs.FileMaps.{FileMap}
 use Rattle.icn_tree.specs.declared.rule.Rule.{Rule}
 use Rattle.icn_tree.specs.declared.rule.Rule.TheVariants.{U8}
@@ -56,15 +57,15 @@ unit_found base (Whole unit) = Ok unit
 unit_found base (Faulty rule second) = Err (BadUcode (faulty_name base second) rule)
 
 abbrev pub is_too_long : List ℕ → Bool
-is_too_long text = nat_lt 268435456 (length text)
+is_too_long text = nat_lt most_bytes_of_ucode (length text)
 
 -- What two texts come to. Neither has over 268435456 bytes, which is looked at before both are read.
 pub data AreJudged (base first second : List ℕ) : Result UnitRead Answer → Type 0 where
-  first_too_long : 268435456 < length first
+  first_too_long : most_bytes_of_ucode < length first
       → AreJudged base first second (Err (BadUcode (first_name base) U8))
-  second_too_long : length first ≤ 268435456 → 268435456 < length second
+  second_too_long : length first ≤ most_bytes_of_ucode → most_bytes_of_ucode < length second
       → AreJudged base first second (Err (BadUcode (second_name base) U8))
-  read : length first ≤ 268435456 → length second ≤ 268435456
+  read : length first ≤ most_bytes_of_ucode → length second ≤ most_bytes_of_ucode
       → AreJudged base first second (unit_found base (unit_read base first second))
 
 -- Files that are named

@@ -9,13 +9,14 @@ ghost use Rattle.icont_units.specs.Units.{faulty_name, is_too_long, texts_held};
 use crate::files::name_with;
 use icn_host::{Files, Look};
 use icn_lines::Answer;
+use icn_profile::MOST_BYTES_OF_UCODE;
 use icn_tree::{Bytes, Rule};
 use icn_ucode::read_unit;
 use icn_unit::{UcodeFault, Unit};
 use std::alloc::Global;
 
 /// How many bytes a text of a unit may have.
-const LONGEST: u64 = 268_435_456;
+const LONGEST: u64 = MOST_BYTES_OF_UCODE;
 
 /// The two texts of a unit: of each so many bytes that one too many is seen.
 #[derive(Drop)]

@@ -2,6 +2,7 @@
 use Rattle.std.specs.Prelude.{◌≡◌, ◌≢◌, ℕ, ◌==◌, ◌||◌, ◌&&◌, ◌≤◌, Bool, true, false, not, is_some, List, [], ◌∷◌, map, length, Option, None, Some, if◌then◌else◌, codes, unwrap_or, count_by}
 use Rattle.std.specs.Option.{option_map, option_and_then, option_map_or}
 use Rattle.std.specs.Str.{bytes_eq}
+use Rattle.icn_profile.specs.Numbers.{greatest_program}
 use Rattle.icn_words.specs.Numbers.{number_within}
 
 -- Pieces
@@ -140,7 +141,7 @@ abbrev pub most_turns : ℕ
 most_turns = 18446744073709551615
 
 abbrev pub number_of : List ℕ → Option ℕ
-number_of text = number_within 1 2000 text
+number_of text = number_within 1 greatest_program text
 
 abbrev pub is_wrong : (List ℕ → Option ℕ) → Option (List ℕ) → Bool
 is_wrong read None = false

@@ -1,6 +1,7 @@
 // What the words say together, and the task that it makes.
 ghost use Rattle.std.specs.Prelude.{◌≡◌, List, [], map, string_bytes, unwrap_or, IfOk, codes, option_and_then};
 ghost use Rattle.std.specs.Option.{option_map};
+ghost use Rattle.icn_profile.specs.Numbers.{greatest_program};
 ghost use Rattle.clap.specs.Words.{all_of, found_of, rows_of};
 ghost use Rattle.icn_words.specs.Numbers.{number_within};
 ghost use Rattle.icn_words.specs.Texts.{texts};
@@ -22,12 +23,13 @@ ghost use Rattle.icont_words.specs.Matched.{Holds, order_seen, text_of};
 
 use crate::words::{Run, Task};
 use clap::ArgMatches;
+use icn_profile::GREATEST_PROGRAM;
 use icn_words::number_within;
 use std::alloc::{AllocError, Global};
 
 const MOST_TURNS: u64 = u64::MAX;
 
-const MOST_NUMBER: u64 = 2000;
+const MOST_NUMBER: u64 = GREATEST_PROGRAM;
 
 // What is said: whether units are asked for, the texts of the options, the names of files, and the arguments of a run.
 #[derive(Drop)]
@@ -123,7 +125,7 @@ pub fn task_of(order: Order<'_>) -> Task<'_>
 }
 
 fn number_of(text: Option<&str>) -> Option<u16>
-    ensures { result ≡ option_and_then (number_within 1 2000) (text_of text.entry) }
+    ensures { result ≡ option_and_then (number_within 1 greatest_program) (text_of text.entry) }
 {
     let number = number_within(text?.as_bytes(), 1, MOST_NUMBER)?;
     u16::try_from(number).ok()

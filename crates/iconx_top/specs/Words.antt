@@ -2,6 +2,7 @@
 use Rattle.std.specs.Prelude.{ℕ, Bool, false, List, [], ◌∷◌, codes, ◌==◌, Option, None, Some, if◌then◌else◌}
 use Rattle.std.specs.Option.{option_map}
 use Rattle.std.specs.Str.{bytes_eq}
+use Rattle.icn_profile.specs.Numbers.{most_cells, most_levels, most_strings}
 use Rattle.icn_value.specs.Limited.{Bounds, default_limits}
 use Rattle.iconx_top.specs.declared.words.Limit.{Limit}
 use Rattle.iconx_top.specs.declared.words.Limit.TheVariants.{Turns, Strings, Cells, Levels}
@@ -24,10 +25,10 @@ abbrev pub with_limit : Limit → Bounds → List ℕ → Option Bounds
 with_limit Turns bounds text =
     option_map (λ n. record bounds { turns = n }) (number_within 0 18446744073709551615 text)
 with_limit Strings bounds text =
-    option_map (λ n. record bounds { strings = n }) (number_within 0 1099511627776 text)
-with_limit Cells bounds text = option_map (λ n. record bounds { cells = n }) (number_within 0 4294967295 text)
+    option_map (λ n. record bounds { strings = n }) (number_within 0 most_strings text)
+with_limit Cells bounds text = option_map (λ n. record bounds { cells = n }) (number_within 0 most_cells text)
 with_limit Levels bounds text =
-    option_map (λ n. record bounds { levels = n }) (number_within 1 4294967295 text)
+    option_map (λ n. record bounds { levels = n }) (number_within 1 most_levels text)
 
 abbrev pub is_dashed : List ℕ → Bool
 is_dashed [] = false

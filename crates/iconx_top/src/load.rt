@@ -9,12 +9,13 @@ use icn_code::Code;
 use icn_host::{Files, Look};
 use icn_image::{ImageFault, read_image};
 use icn_lines::Answer;
+use icn_profile::MOST_BYTES_OF_IMAGE;
 use icn_tree::{Bytes, Rule};
 use icn_verify::{Verified, VerifyFault, verify};
 use std::alloc::Global;
 
 // The greatest length of an image.
-const LONGEST: u64 = 1073741824;
+const LONGEST: u64 = MOST_BYTES_OF_IMAGE;
 
 /// The code of the image of this name, or the answer where there is none.
 pub fn load<F: Files>(alloc: Global, name: &str, files: &mut F) -> Result<Verified, Answer>

@@ -5,6 +5,7 @@ ghost use Rattle.icn_value.specs.Limited.{default_limits, limits_of};
 ghost use Rattle.iconx_top.specs.Words.{words_reading, image_asked, is_dashed, with_limit, option_of, options};
 ghost use Rattle.iconx_top.specs.Asking.{reading_of};
 
+use icn_profile::{MOST_CELLS, MOST_LEVELS, MOST_STRINGS};
 use icn_value::Limits;
 use icn_words::number_within;
 
@@ -115,21 +116,21 @@ fn limited(option: Limit, limits: Limits, value: &str) -> Option<Limits>
         }),
         Limit::Strings => Some(Limits {
             turns: limits.turns,
-            strings: number_within(text, 0, 1099511627776)?,
+            strings: number_within(text, 0, MOST_STRINGS)?,
             cells: limits.cells,
             levels: limits.levels,
         }),
         Limit::Cells => Some(Limits {
             turns: limits.turns,
             strings: limits.strings,
-            cells: number_within(text, 0, 4294967295)?,
+            cells: number_within(text, 0, MOST_CELLS)?,
             levels: limits.levels,
         }),
         Limit::Levels => Some(Limits {
             turns: limits.turns,
             strings: limits.strings,
             cells: limits.cells,
-            levels: number_within(text, 1, 4294967295)?,
+            levels: number_within(text, 1, MOST_LEVELS)?,
         }),
     }
 }

@@ -1,6 +1,7 @@
 // Laws of what is resumed with nothing done between: the next result comes, in order, and then none.
 ghost use Rattle.std.specs.Prelude.{◌≡◌, ◌≤◌, ◌+◌, ◌-◌, ℕ, List, map};
 ghost use Rattle.std.specs.List.{range_with_len};
+ghost use Rattle.icn_profile.specs.Numbers.{greatest_integer};
 ghost use Rattle.icn_defs.specs.Conversions.{contains};
 ghost use Rattle.icn_defs.specs.Elements.{element_item, field_item};
 ghost use Rattle.icn_defs.specs.Scanning.{among_from, byte_behind, found_from, stands};
@@ -10,7 +11,7 @@ ghost use Rattle.row_laws.specs.Results.{byte_item, counts, GivesAll, integer_it
 
 /// `i to j` gives i, i + 1 and so on up to j.
 pub fn counting_goes_in_order()
-    ensures { (first last : ℕ) (at : Setting) → first ≤ last + 1 → last ≤ 9223372036854775807
+    ensures { (first last : ℕ) (at : Setting) → first ≤ last + 1 → last ≤ greatest_integer
         → GivesAll (counts first last) at (map integer_item (range_with_len first (last + 1 - first))) }
 {}
 

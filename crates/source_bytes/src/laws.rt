@@ -1,5 +1,6 @@
 // From files that hold bytes to the texts of their trees.
 ghost use Rattle.std.specs.Prelude.{◌≡◌, ◌≤◌, ℕ, List, true, Ok};
+ghost use Rattle.icn_profile.specs.Numbers.{most_bytes_of_source};
 ghost use Rattle.icn_host.specs.FileMaps.{FileMap, HoldBytes};
 ghost use Rattle.icn_tree.specs.declared.lines.SourceLine.{SourceLine};
 ghost use Rattle.icn_tree.specs.declared.token.Token.{Token};
@@ -28,7 +29,7 @@ pub fn tokens_of_bytes()
 /// Where lines are bytes, and no more than a named file may give, so are the literals of what is parsed, and the names that it links.
 pub fn texts_of_bytes()
     ensures { (lines : List SourceLine) (tokens : List Token) (file : List Declaration)
-        → joined_len lines ≤ 16777216
+        → joined_len lines ≤ most_bytes_of_source
         → lines_are_of_bytes lines ≡ true → tokens_of lines ≡ Scanned tokens → IsOutcome tokens (IsTree file)
         → file_fits is_byte_text file ≡ true }
 {}

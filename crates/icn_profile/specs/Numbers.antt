@@ -1,0 +1,73 @@
+-- The numbers of the profile.
+use Rattle.std.specs.Prelude.{ℕ}
+
+-- Source
+
+-- how many bytes a file of a program has at most, and so have all lines that a named file gives
+abbrev pub most_bytes_of_source : ℕ
+most_bytes_of_source = 16777216
+
+-- the greatest number of a line of a file: 999999999, which `$line` can set, and as many lines as a file has bytes
+abbrev pub greatest_line : ℕ
+greatest_line = 1016777216
+
+-- how many bytes a name or a literal has at most
+abbrev pub most_bytes_of_name : ℕ
+most_bytes_of_name = 65535
+
+-- the greatest integer
+abbrev pub greatest_integer : ℕ
+greatest_integer = 9223372036854775807
+
+-- how high a tree is at most
+abbrev pub highest_tree : ℕ
+highest_tree = 2000
+
+-- Code
+
+-- how many entries a table has at most, and how many other things that are counted there are: operands, parameters with locals
+abbrev pub most_entries : ℕ
+most_entries = 65535
+
+-- how many instructions a linked program has at most
+abbrev pub most_instructions : ℕ
+most_instructions = 16777216
+
+-- how many bytes each of the two texts of a unit has at most
+abbrev pub most_bytes_of_ucode : ℕ
+most_bytes_of_ucode = 268435456
+
+-- the greatest number in ucode
+abbrev pub greatest_number : ℕ
+greatest_number = 4294967295
+
+-- how many bytes an image has at most
+abbrev pub most_bytes_of_image : ℕ
+most_bytes_of_image = 1073741824
+
+-- Runs
+
+-- how many bytes of strings a run may be allowed, and how many it is where nothing is said
+abbrev pub most_strings : ℕ
+most_strings = 1099511627776
+
+abbrev pub default_strings : ℕ
+default_strings = 268435456
+
+-- how many cells of structures a run may be allowed, and how many it is where nothing is said
+abbrev pub most_cells : ℕ
+most_cells = 4294967295
+
+abbrev pub default_cells : ℕ
+default_cells = 16777216
+
+-- how deep calls may be allowed to be, and how deep they may be where nothing is said
+abbrev pub most_levels : ℕ
+most_levels = 4294967295
+
+abbrev pub default_levels : ℕ
+default_levels = 20000
+
+-- the greatest number of a program that is made by its number
+abbrev pub greatest_program : ℕ
+greatest_program = 2000
