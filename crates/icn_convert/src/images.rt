@@ -20,6 +20,7 @@ use crate::names::{Names, ProcKind};
 use crate::order::record_name;
 use crate::quotes::push_quoted;
 use icn_heap::Heap;
+use icn_profile::{DOUBLE_QUOTE, SINGLE_QUOTE};
 use icn_text::decimal;
 use icn_value::{Cset, File, Val};
 use std::alloc::{AllocError, Global};
@@ -57,7 +58,7 @@ fn push_image<N: Names>(
     match val {
         Val::Null => push(out, b"&null"),
         Val::Integer(n) => push(out, decimal(n).as_bytes()),
-        Val::Text(span) => push_quoted(out, b'"', heap.bytes(span)),
+        Val::Text(span) => push_quoted(out, DOUBLE_QUOTE, heap.bytes(span)),
         Val::Chars(cset) => push_cset(out, &cset),
         Val::Std(file) => push(out, file_name(file)),
         Val::Proc(number) => push_procedure(out, names, number),
@@ -176,7 +177,7 @@ fn push_cset(out: &mut Vec<u8>, cset: &Cset) -> Result<(), AllocError>
     let members = text_of_cset(cset);
     match keyword_cset(members.as_bytes()) {
         Some(name) => push(out, name),
-        None => push_quoted(out, b'\'', members.as_bytes()),
+        None => push_quoted(out, SINGLE_QUOTE, members.as_bytes()),
     }
 }
 

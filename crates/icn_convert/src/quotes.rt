@@ -3,6 +3,7 @@ ghost use Rattle.std.specs.Prelude.{◌≡◌, ◌++◌, ◌<◌, false, OnOk, f
 ghost use Rattle.icn_defs.specs.Images.{letter_of, plain_or_hex, escape_of, in_quotes, cset_image};
 ghost use Rattle.std.specs.Fmt.{digit_glyph};
 
+use icn_profile::BACKSLASH;
 use std::alloc::AllocError;
 
 // Appends a text between quotes, with what needs it escaped.
@@ -28,9 +29,9 @@ fn push_escaped(out: &mut Vec<u8>, quote: u8, byte: u8) -> Result<(), AllocError
     ensures { OnOk result (out.new.items ≡ out.old.items ++ escape_of quote byte) }
 {
     if byte == quote {
-        out.extend_from_slice(&[b'\\', quote])
+        out.extend_from_slice(&[BACKSLASH, quote])
     } else if let Some(letter) = letter_of(byte) {
-        out.extend_from_slice(&[b'\\', letter])
+        out.extend_from_slice(&[BACKSLASH, letter])
     } else {
         push_plain_or_hex(out, byte)
     }
@@ -42,7 +43,7 @@ fn push_plain_or_hex(out: &mut Vec<u8>, byte: u8) -> Result<(), AllocError>
     if (b' '..=b'~').contains(&byte) {
         out.extend_from_slice(&[byte])
     } else {
-        out.extend_from_slice(&[b'\\', b'x', hex_digit(byte / 16), hex_digit(byte % 16)])
+        out.extend_from_slice(&[BACKSLASH, b'x', hex_digit(byte / 16), hex_digit(byte % 16)])
     }
 }
 
@@ -59,7 +60,7 @@ fn letter_of(byte: u8) -> Option<u8>
         13 => Some(b'r'),
         27 => Some(b'e'),
         127 => Some(b'd'),
-        b'\\' => Some(b'\\'),
+        BACKSLASH => Some(BACKSLASH),
         _ => None,
     }
 }

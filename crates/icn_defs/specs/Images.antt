@@ -6,6 +6,7 @@ use Rattle.std.specs.Fmt.{signed_decimal, digit_glyph}
 use Rattle.std.specs.Str.{bytes_eq}
 use Rattle.std.specs.Map.{lookup}
 use Rattle.std.specs.declared.cmp.Ordering.{Ordering}
+use Rattle.icn_profile.specs.Bytes.{backslash, double_quote, single_quote}
 use Rattle.icn_text.specs.declared.func.Func.{Func}
 use Rattle.icn_text.specs.declared.func.Func.TheVariants.{Abs, Any, Bal, Center, Char, Copy, Cset, Delete, Exit, Find, Get, Iand, Icom, Image, Insert, Integer as IntegerF, Ior, Ishift, Ixor, Key, Left, List as ListF, Many, Map, Match, Member, Move, Numeric, Ord, Pop, Pos, Pull, Push, Put, Read, Reads, Repl, Reverse, Right, Seq, Set, Sort, Stop, String, Tab, Table, Trim, TypeOf, Upto, Write, Writes}
 use Rattle.icn_text.specs.Funcs.{func_name}
@@ -59,19 +60,19 @@ type_name names heap (ACoexp id) = codes "co-expression"
 abbrev pub letter_of : ℕ → Option ℕ
 letter_of byte =
     lookup (λ other. other == byte) ((8, 98) ∷ (127, 100) ∷ (27, 101) ∷ (12, 102) ∷ (10, 110) ∷ (13, 114)
-    ∷ (9, 116) ∷ (11, 118) ∷ (92, 92) ∷ [])
+    ∷ (9, 116) ∷ (11, 118) ∷ (backslash, backslash) ∷ [])
 
 -- a byte as it is, or in hexadecimal where it is no printable one
 abbrev pub plain_or_hex : ℕ → List ℕ
 plain_or_hex byte =
     if nat_le 32 byte && nat_le byte 126 then byte ∷ []
-    else 92 ∷ 120 ∷ digit_glyph false (byte / 16) ∷ digit_glyph false (byte % 16) ∷ []
+    else backslash ∷ 120 ∷ digit_glyph false (byte / 16) ∷ digit_glyph false (byte % 16) ∷ []
 
 -- a byte between such quotes
 abbrev pub escape_of : ℕ → ℕ → List ℕ
 escape_of quote byte =
-    if byte == quote then 92 ∷ quote ∷ []
-    else option_map_or (λ letter. 92 ∷ letter ∷ []) (letter_of byte) (plain_or_hex byte)
+    if byte == quote then backslash ∷ quote ∷ []
+    else option_map_or (λ letter. backslash ∷ letter ∷ []) (letter_of byte) (plain_or_hex byte)
 
 -- a text in quotes
 abbrev pub in_quotes : ℕ → List ℕ → List ℕ
@@ -102,7 +103,7 @@ keyword_csets =
 
 -- the image of a cset
 abbrev pub cset_image : List ℕ → List ℕ
-cset_image bytes = unwrap_or (lookup (bytes_eq bytes) keyword_csets) (in_quotes 39 bytes)
+cset_image bytes = unwrap_or (lookup (bytes_eq bytes) keyword_csets) (in_quotes single_quote bytes)
 
 -- Images
 
@@ -131,7 +132,7 @@ numbered_image name number size =
 abbrev pub image : Names → Heap → Value → List ℕ
 image names heap Null = codes "&null"
 image names heap (Integer n) = signed_decimal n
-image names heap (Text bytes) = in_quotes 34 bytes
+image names heap (Text bytes) = in_quotes double_quote bytes
 image names heap (Chars bytes) = cset_image bytes
 image names heap (Std file) = file_name file
 image names heap (Procedure number) = procedure_image names number

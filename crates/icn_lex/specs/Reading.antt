@@ -2,6 +2,7 @@
 use Rattle.std.specs.Prelude.{◌==◌, ℕ, ◌+◌, ◌-◌, pos, nat_eq, nat_le, List, [], ◌∷◌, length, take, drop, slice_get, Option, Some, None, Result, Ok, Err, unwrap_or, if◌then◌else◌}
 use Rattle.std.specs.List.{prefix_len, starts_with}
 use Rattle.std.specs.Option.{option_map, option_map_or, ok_or}
+use Rattle.icn_profile.specs.Bytes.{full_stop}
 use Rattle.icn_profile.specs.Numbers.{greatest_integer, most_bytes_of_name}
 use Rattle.icn_tree.specs.declared.rule.Rule.{Rule}
 use Rattle.icn_tree.specs.declared.rule.Rule.TheVariants.{L1, L4, L6, L7}
@@ -64,7 +65,7 @@ dot_read (b ∷ rest) = if is_digit b then Err L6 else Ok (Operator Dot, 1)
 -- the token that bytes begin with, where that is no word or identifier
 abbrev pub bare_read : ℕ → List ℕ → List ℕ → Result (Kind × ℕ) Rule
 bare_read first bytes rest = if is_digit first then number_read bytes
-    else (if first == 46 then dot_read rest else ok_or (first_match (marks_of first) bytes) L1)
+    else (if first == full_stop then dot_read rest else ok_or (first_match (marks_of first) bytes) L1)
 
 -- the word or identifier that a name is, by its first byte
 abbrev pub name_by : ℕ → List ℕ → Kind

@@ -4,6 +4,7 @@ ghost use Rattle.icn_lex.specs.Reading.{byte_in};
 ghost use Rattle.icn_tree.specs.Literals.{escape_of, octal_escape, hexadecimal_escape, control_escape, escaped_byte};
 
 use crate::numbers::value;
+use icn_profile::CARET;
 use icn_tree::characters::{hexadecimal_len, is_octal, octal_len};
 
 // The byte that an escape means, by the bytes behind its backslash, and how many of these it has.
@@ -17,7 +18,7 @@ pub fn escape(bytes: &[u8]) -> Option<(u8, usize)>
         octal_escape(bytes)
     } else if *first == b'x' {
         hexadecimal_escape(rest)
-    } else if *first == b'^' {
+    } else if *first == CARET {
         control_escape(rest)
     } else {
         Some((escaped_byte(*first), 1))

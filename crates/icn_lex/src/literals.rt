@@ -6,7 +6,7 @@ ghost use Rattle.icn_lex.specs.Literals.{literal_of, scan_escape, scan_inside};
 
 use crate::escapes::escape;
 use crate::fault::LexFault;
-use icn_profile::MOST_BYTES_OF_NAME;
+use icn_profile::{BACKSLASH, MOST_BYTES_OF_NAME, SINGLE_QUOTE, UNDERSCORE};
 use icn_tree::{ByteSet, Bytes, Kind, Rule, SourceLine, Token};
 use std::alloc::Global;
 
@@ -94,7 +94,7 @@ fn read_step<'a>(
 {
     if first == opening.quote {
         Ok(Step::Closed(others))
-    } else if first == b'\\' {
+    } else if first == BACKSLASH {
         escape_step(opening, bytes, line, others)
     } else if is_continued(first, others) {
         Ok(Step::Continued)
@@ -108,7 +108,7 @@ fn read_step<'a>(
 fn is_continued(first: u8, others: &[u8]) -> bool
     ensures { result ≡ (first == 95 && is_nothing others.now) }
 {
-    first == b'_' && is_nothing(others)
+    first == UNDERSCORE && is_nothing(others)
 }
 
 fn is_nothing(bytes: &[u8]) -> bool
@@ -145,7 +145,7 @@ pub fn close(alloc: Global, opening: Opening, bytes: Vec<u8>) -> Result<Token, L
     if bytes.len() > MOST_BYTES_OF_NAME as usize {
         return Err(opening.fault(Rule::L7));
     }
-    let kind = if opening.quote == b'\'' {
+    let kind = if opening.quote == SINGLE_QUOTE {
         Kind::Cset(ByteSet::from_slice(alloc, &bytes)?)
     } else {
         Kind::Text(Bytes::new(bytes))

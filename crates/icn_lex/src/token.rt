@@ -7,7 +7,7 @@ use crate::fault::LexFault;
 use crate::marks::mark;
 use crate::numbers::integer_literal;
 use crate::words::reserved_word;
-use icn_profile::MOST_BYTES_OF_NAME;
+use icn_profile::{FULL_STOP, MOST_BYTES_OF_NAME};
 use icn_tree::characters::{begins_identifier, identifier_len, is_digit};
 use icn_tree::{Bytes, Kind, Operator, Rule, SourceLine};
 use std::alloc::{AllocError, Global};
@@ -46,7 +46,7 @@ fn bare_token(first: u8, bytes: &[u8], rest: &[u8]) -> Result<(Kind, usize), Rul
 {
     if is_digit(first) {
         integer_literal(bytes)
-    } else if first == b'.' {
+    } else if first == FULL_STOP {
         dot(rest)
     } else {
         mark(first, bytes).ok_or(Rule::L1)

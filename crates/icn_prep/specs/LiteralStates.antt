@@ -1,5 +1,6 @@
 -- How the bytes of a line stand to literals and comments.
 use Rattle.std.specs.Prelude.{ℕ, Bool, if◌then◌else◌, ◌==◌, ◌||◌}
+use Rattle.icn_profile.specs.Bytes.{backslash, caret, double_quote, number_sign, single_quote, underscore}
 use Rattle.icn_prep.specs.declared.literal.LiteralState.{LiteralState}
 use Rattle.icn_prep.specs.declared.literal.LiteralState.TheVariants.{Outside, Inside, Joining, Escape, Control, Comment}
 
@@ -7,14 +8,14 @@ use Rattle.icn_prep.specs.declared.literal.LiteralState.TheVariants.{Outside, In
 abbrev pub after_in_literal : ℕ → ℕ → LiteralState
 after_in_literal quote b =
     if b == quote then Outside
-    else (if b == 92 then Escape quote else (if b == 95 then Joining quote else Inside quote))
+    else (if b == backslash then Escape quote else (if b == underscore then Joining quote else Inside quote))
 
 -- behind a byte
 abbrev pub after : LiteralState → ℕ → LiteralState
-after Outside b = if b == 35 then Comment else (if (b == 34) || (b == 39) then Inside b else Outside)
+after Outside b = if b == number_sign then Comment else (if (b == double_quote) || (b == single_quote) then Inside b else Outside)
 after (Inside quote) b = after_in_literal quote b
 after (Joining quote) b = after_in_literal quote b
-after (Escape quote) b = if b == 94 then Control quote else Inside quote
+after (Escape quote) b = if b == caret then Control quote else Inside quote
 after (Control quote) b = Inside quote
 after Comment b = Comment
 

@@ -2,6 +2,7 @@
 use Rattle.std.specs.Prelude.{ℕ, ◌+◌, ◌-◌, ◌*◌, Bool, true, false, List, [], ◌∷◌, Option, None, Some, if◌then◌else◌, ◌==◌, ◌&&◌, not, nat_le, take, drop, fold, option_and_then}
 use Rattle.std.specs.Str.{is_utf8}
 use Rattle.std.specs.List.{prefix_len, list_any}
+use Rattle.icn_profile.specs.Bytes.{double_quote}
 use Rattle.icn_prep.specs.FileLines.{begins_with}
 use Rattle.icn_tree.specs.Characters.{is_digit, is_blank}
 use Rattle.icn_tree.specs.TokenBounds.{is_name}
@@ -24,19 +25,19 @@ define_operand operand =
 
 -- a byte that may stand inside a quoted name: any but the quote
 abbrev pub is_unquoted : ℕ → Bool
-is_unquoted b = not (b == 34)
+is_unquoted b = not (b == double_quote)
 
 -- a double quote, and nothing behind it
 abbrev pub is_quote_alone : List ℕ → Bool
 is_quote_alone [] = false
-is_quote_alone (b ∷ []) = b == 34
+is_quote_alone (b ∷ []) = b == double_quote
 is_quote_alone (b ∷ c ∷ rest) = false
 
 -- what stands in double quotes, up to the next one, where nothing stands behind it
 abbrev pub text_in_quotes : List ℕ → Option (List ℕ)
 text_in_quotes [] = None
 text_in_quotes (b ∷ rest) =
-    if (b == 34) && is_quote_alone (drop (prefix_len is_unquoted rest) rest)
+    if (b == double_quote) && is_quote_alone (drop (prefix_len is_unquoted rest) rest)
     then Some (take (prefix_len is_unquoted rest) rest)
     else None
 
@@ -51,7 +52,7 @@ file_name name = if not (is_empty name) && is_utf8 name then Some name else None
 -- the name of a file, in double quotes or as a run of bytes that begins with none
 abbrev pub file_operand : List ℕ → Option (List ℕ)
 file_operand operand =
-    option_and_then file_name (if begins_with 34 operand then text_in_quotes operand else plain_run operand)
+    option_and_then file_name (if begins_with double_quote operand then text_in_quotes operand else plain_run operand)
 
 -- the number that digits write
 abbrev pub number_of : List ℕ → ℕ

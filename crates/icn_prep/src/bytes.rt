@@ -6,6 +6,7 @@ ghost use Rattle.icn_tree.specs.TokenBounds.{is_name};
 ghost use Rattle.icn_prep.specs.Words.{trimmed_start, trimmed_end, trim};
 ghost use Rattle.icn_prep.specs.Operands.{is_unquoted};
 
+use icn_profile::DOUBLE_QUOTE;
 use icn_tree::characters::{begins_identifier, blanks_len, continues_identifier, is_blank};
 
 // How many bytes stand before the first double quote.
@@ -13,7 +14,7 @@ pub fn unquoted_len(bytes: &[u8]) -> usize
     ensures counted { result ≡ prefix_len is_unquoted bytes.now }
     ensures within { result ≤ length bytes.now }
 {
-    bytes.iter().take_while(|b| **b != b'"').count()
+    bytes.iter().take_while(|b| **b != DOUBLE_QUOTE).count()
 }
 
 // Whether the bytes are a name: a letter or an underscore, and then letters, digits and underscores.

@@ -2,6 +2,8 @@
 ghost use Rattle.std.specs.Prelude.{◌≡◌};
 ghost use Rattle.icn_prep.specs.LiteralStates.{after_in_literal, after, after_in, next_line_state, without_escape};
 
+use icn_profile::{BACKSLASH, CARET, DOUBLE_QUOTE, NUMBER_SIGN, SINGLE_QUOTE, UNDERSCORE};
+
 /// How a byte stands to literals and comments. A literal goes by its quote.
 #[derive(Clone, Copy, Debug, PartialEq, Eq)]
 pub enum LiteralState {
@@ -26,12 +28,12 @@ impl LiteralState {
     {
         match self {
             LiteralState::Outside => match byte {
-                b'#' => LiteralState::Comment,
-                b'"' | b'\'' => LiteralState::Inside(byte),
+                NUMBER_SIGN => LiteralState::Comment,
+                DOUBLE_QUOTE | SINGLE_QUOTE => LiteralState::Inside(byte),
                 _ => LiteralState::Outside,
             },
             LiteralState::Inside(quote) | LiteralState::Joining(quote) => within(quote, byte),
-            LiteralState::Escape(quote) if byte == b'^' => LiteralState::Control(quote),
+            LiteralState::Escape(quote) if byte == CARET => LiteralState::Control(quote),
             LiteralState::Escape(quote) | LiteralState::Control(quote) => {
                 LiteralState::Inside(quote)
             }
@@ -74,9 +76,9 @@ fn within(quote: u8, byte: u8) -> LiteralState
 {
     if byte == quote {
         LiteralState::Outside
-    } else if byte == b'\\' {
+    } else if byte == BACKSLASH {
         LiteralState::Escape(quote)
-    } else if byte == b'_' {
+    } else if byte == UNDERSCORE {
         LiteralState::Joining(quote)
     } else {
         LiteralState::Inside(quote)

@@ -7,6 +7,7 @@ ghost use Rattle.icn_prep.specs.Operands.{name_operand, define_operand, text_in_
 ghost use Rattle.icn_tree.specs.Characters.{is_digit};
 
 use crate::bytes::{has_blank, is_name, trimmed, trimmed_start, unquoted_len};
+use icn_profile::DOUBLE_QUOTE;
 use icn_tree::characters::{begins_identifier, digits_len, identifier_len};
 
 // One name.
@@ -45,7 +46,7 @@ fn begins_with(byte: u8, bytes: &[u8]) -> bool
 pub fn file_operand(operand: &[u8]) -> Option<&str>
     ensures { option_map (λ name. name.now) result ≡ file_operand operand.now }
 {
-    if begins_with(b'"', operand) {
+    if begins_with(DOUBLE_QUOTE, operand) {
         let name = quoted(operand)?;
         file_name(name)
     } else {
@@ -84,7 +85,7 @@ fn quoted(operand: &[u8]) -> Option<&[u8]>
 {
     let (first, rest) = operand.split_first()?;
     let (name, end) = rest.split_at(unquoted_len(rest));
-    if *first == b'"' && is_quote_alone(end) {
+    if *first == DOUBLE_QUOTE && is_quote_alone(end) {
         Some(name)
     } else {
         None
@@ -95,7 +96,7 @@ fn is_quote_alone(bytes: &[u8]) -> bool
     ensures { result ≡ is_quote_alone bytes.now }
 {
     match bytes {
-        [only] => *only == b'"',
+        [only] => *only == DOUBLE_QUOTE,
         _ => false,
     }
 }

@@ -1,5 +1,6 @@
 -- The bytes of a source text by what they can be part of.
 use Rattle.std.specs.Prelude.{◌==◌, ℕ, ◌-◌, Bool, ◌&&◌, ◌||◌, nat_le, if◌then◌else◌}
+use Rattle.icn_profile.specs.Bytes.{double_quote, number_sign, single_quote, underscore}
 
 -- a byte from one to another, both included
 abbrev pub is_between : ℕ → ℕ → ℕ → Bool
@@ -15,11 +16,11 @@ is_blank b = b == 9 || b == 32
 
 -- `#`
 abbrev pub begins_comment : ℕ → Bool
-begins_comment b = b == 35
+begins_comment b = b == number_sign
 
 -- a letter or an underscore
 abbrev pub begins_identifier : ℕ → Bool
-begins_identifier b = is_between 65 90 b || is_between 97 122 b || b == 95
+begins_identifier b = is_between 65 90 b || is_between 97 122 b || b == underscore
 
 -- a decimal digit
 abbrev pub is_digit : ℕ → Bool
@@ -47,4 +48,4 @@ digit_value b = if is_digit b then b - 48 else (if is_between 97 122 b then b - 
 
 -- `"` or `'`
 abbrev pub is_quote : ℕ → Bool
-is_quote b = b == 34 || b == 39
+is_quote b = b == double_quote || b == single_quote

@@ -1,6 +1,7 @@
 -- String and cset literals.
 use Rattle.std.specs.Prelude.{◌==◌, ℕ, ◌+◌, ◌%◌, min, Bool, nat_le, nat_lt, List, [], ◌∷◌, ◌++◌, take, Option, Some, None, if◌then◌else◌}
 use Rattle.std.specs.List.{prefix_len}
+use Rattle.icn_profile.specs.Bytes.{caret, single_quote}
 use Rattle.icn_tree.specs.declared.token.Kind.{Kind}
 use Rattle.icn_tree.specs.declared.token.Kind.TheVariants.{Text, Cset}
 use Rattle.icn_tree.specs.ByteSets.{members_of}
@@ -22,7 +23,7 @@ with_byte literal b = record literal { bytes = literal.bytes ++ b ∷ [] }
 
 -- what it is, once it is closed
 abbrev pub literal_kind : ℕ → List ℕ → Kind
-literal_kind quote bytes = if quote == 39 then Cset (members_of bytes) else Text bytes
+literal_kind quote bytes = if quote == single_quote then Cset (members_of bytes) else Text bytes
 
 -- Escapes, by the bytes behind the backslash: the byte that is meant, and how many of these bytes the escape has
 
@@ -54,4 +55,4 @@ unfoldable pub escape_of : List ℕ → Option (ℕ × ℕ)
 escape_of [] = None
 escape_of (b ∷ rest) =
     if is_octal b then octal_escape (b ∷ rest) else (if b == 120 then hexadecimal_escape rest
-    else (if b == 94 then control_escape rest else Some (escaped_byte b, 1)))
+    else (if b == caret then control_escape rest else Some (escaped_byte b, 1)))

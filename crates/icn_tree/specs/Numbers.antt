@@ -1,6 +1,7 @@
 -- Integer literals.
 use Rattle.std.specs.Prelude.{◌==◌, ℕ, ◌+◌, ◌*◌, pos, Bool, true, false, ◌&&◌, ◌||◌, not, nat_le, nat_lt, List, [], ◌∷◌, ◌++◌, length, take, drop, Option, Some, None, Result, Ok, Err, if◌then◌else◌}
 use Rattle.std.specs.List.{prefix_len, list_all}
+use Rattle.icn_profile.specs.Bytes.{full_stop}
 use Rattle.icn_profile.specs.Numbers.{greatest_integer, most_bytes_of_name}
 use Rattle.icn_tree.specs.declared.rule.Rule.{Rule}
 use Rattle.icn_tree.specs.declared.rule.Rule.TheVariants.{L4, L5, L6, L7}
@@ -28,7 +29,7 @@ is_radix_mark b = b == 114 || b == 82
 
 -- `.`, `e` or `E`, which make digits before them a number that is not whole
 abbrev pub is_real_mark : ℕ → Bool
-is_real_mark b = b == 46 || b == 101 || b == 69
+is_real_mark b = b == full_stop || b == 101 || b == 69
 
 -- a text that is not too long for a literal has this sense
 abbrev pub within_size : List ℕ → Result Kind Rule → Result Kind Rule

@@ -2,6 +2,7 @@
 use Rattle.std.specs.Prelude.{◌==◌, ℕ, ◌-◌, zero, suc, Bool, true, false, ◌&&◌, nat_le, List, [], ◌∷◌, length, take, drop, Option, Some, None, Result, Ok, Err, if◌then◌else◌}
 use Rattle.std.specs.List.{list_all, prefix_len}
 use Rattle.std.specs.Option.{option_map}
+use Rattle.icn_profile.specs.Bytes.{backslash, full_stop, underscore}
 use Rattle.icn_profile.specs.Numbers.{most_bytes_of_name}
 use Rattle.icn_tree.specs.declared.lines.SourceLine.{SourceLine}
 use Rattle.icn_tree.specs.declared.rule.Rule.{Rule}
@@ -38,7 +39,7 @@ unfoldable pub one_token : List ℕ → Option (Result Kind Rule)
 one_token [] = None
 one_token (b ∷ rest) =
     if begins_identifier b then name b rest
-    else (if is_digit b then number (b ∷ rest) else (if b == 46 then dot_number rest else mark b rest))
+    else (if is_digit b then number (b ∷ rest) else (if b == full_stop then dot_number rest else mark b rest))
 
 -- this one where it is there, with its length; else the shorter one
 abbrev pub longer : Option (Result Kind Rule) → ℕ → Option (Result Kind Rule × ℕ)
@@ -134,9 +135,9 @@ bytes_from later line (Between is_first) zero (b ∷ rest) =
     (λ count. bytes_from later line (Between false) (count - 1) rest)))
 bytes_from later line (Inside literal) zero (b ∷ rest) =
     if b == literal.quote then closed_then literal (bytes_from later line (Between false) zero rest)
-    else (if b == 92 then escape_then line literal rest
+    else (if b == backslash then escape_then line literal rest
     (λ byte count. bytes_from later line (Inside (with_byte literal byte)) count rest)
-    else (if b == 95 && is_nothing rest then later (Some literal)
+    else (if b == underscore && is_nothing rest then later (Some literal)
     else bytes_from later line (Inside (with_byte literal b)) zero rest))
 
 -- what stands behind the blanks at the start

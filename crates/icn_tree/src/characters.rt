@@ -3,6 +3,8 @@ ghost use Rattle.std.specs.Prelude.{◌≡◌, ◌≤◌, length};
 ghost use Rattle.std.specs.List.{prefix_len};
 ghost use Rattle.icn_tree.specs.Characters.{is_space, is_blank, begins_comment, begins_identifier, is_digit, continues_identifier, is_alphanumeric, is_octal, is_hexadecimal, digit_value, is_quote};
 
+use icn_profile::{DOUBLE_QUOTE, NUMBER_SIGN, SINGLE_QUOTE, UNDERSCORE};
+
 /// A tab, a vertical tab, a form feed, a carriage return or a blank.
 pub fn is_space(byte: u8) -> bool
     ensures { result ≡ is_space byte }
@@ -21,14 +23,14 @@ pub fn is_blank(byte: u8) -> bool
 pub fn begins_comment(byte: u8) -> bool
     ensures { result ≡ begins_comment byte }
 {
-    byte == b'#'
+    byte == NUMBER_SIGN
 }
 
 /// A letter or an underscore.
 pub fn begins_identifier(byte: u8) -> bool
     ensures { result ≡ begins_identifier byte }
 {
-    matches!(byte, b'A'..=b'Z' | b'a'..=b'z' | b'_')
+    matches!(byte, b'A'..=b'Z' | b'a'..=b'z' | UNDERSCORE)
 }
 
 /// A decimal digit.
@@ -70,7 +72,7 @@ pub fn is_hexadecimal(byte: u8) -> bool
 pub fn is_quote(byte: u8) -> bool
     ensures { result ≡ is_quote byte }
 {
-    matches!(byte, b'"' | b'\'')
+    matches!(byte, DOUBLE_QUOTE | SINGLE_QUOTE)
 }
 
 /// What a digit counts, where letters in either case stand for 10 to 35.

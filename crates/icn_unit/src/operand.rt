@@ -7,7 +7,7 @@ ghost use Rattle.icn_tree.specs.Characters.{begins_identifier, continues_identif
 ghost use Rattle.icn_unit.specs.UnitOperands.{ascends, behind, bytes_of, first_field, hexadecimal_bytes, hexadecimal_value, is_hexadecimal, is_inside, is_name, keyword_of, label_of, number_of};
 ghost use Rattle.icn_unit.specs.OperandViews.{below_first, byte_item, is_in_line, within_limit, value_limited};
 
-use icn_profile::{GREATEST_INTEGER, GREATEST_NUMBER};
+use icn_profile::{GREATEST_INTEGER, GREATEST_NUMBER, UNDERSCORE};
 use icn_text::{Keyword, decimal, keyword_named};
 use std::alloc::{AllocError, Global};
 
@@ -107,7 +107,7 @@ fn continues(text: &[u8]) -> bool
 fn begins_identifier(byte: u8) -> bool
     ensures { result ≡ begins_identifier byte }
 {
-    matches!(byte, b'A'..=b'Z' | b'a'..=b'z' | b'_')
+    matches!(byte, b'A'..=b'Z' | b'a'..=b'z' | UNDERSCORE)
 }
 
 fn continues_identifier(byte: u8) -> bool
