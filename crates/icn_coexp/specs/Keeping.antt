@@ -26,7 +26,7 @@ coexp_seen entry = record {
   activator = entry.activator;
   values = entry.values.items;
   proc = entry.proc;
-  place = entry.place;
+  address = entry.place;
 }
 
 abbrev pub running_seen : {K : Type 0} → Running K → Option FlatStack

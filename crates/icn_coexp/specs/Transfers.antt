@@ -16,7 +16,7 @@ pub record Coexp : Type 0 where
   pub activator : ℕ
   pub values : List Val
   pub proc : ℕ
-  pub place : ℕ
+  pub address : ℕ
 
 -- All co-expressions by their numbers, `&main` first; the active one, with the stack that runs. Where a hop is due no stack runs, and the active one
 -- is the exhausted one that was reached.
@@ -37,7 +37,7 @@ with_stack stacks stack =
 
 -- as a run begins
 abbrev pub main_coexp : Coexp
-main_coexp = record { status = Active; activator = 0; values = []; proc = 0; place = 0 }
+main_coexp = record { status = Active; activator = 0; values = []; proc = 0; address = 0 }
 
 -- the co-expressions as a run begins: `&main` alone, with this stack
 abbrev pub first_table : FlatStack → Table
@@ -91,13 +91,13 @@ with_activator n activator coexps = with_activator_in n activator coexps (slice_
 -- one more, made with these values for this procedure, to begin at this place
 abbrev pub with_new : List Val → ℕ → ℕ → Table → Table
 with_new values proc place t = record t {
-  coexps = t.coexps ++ record { status = Fresh; activator = 0; values = values; proc = proc; place = place }
+  coexps = t.coexps ++ record { status = Fresh; activator = 0; values = values; proc = proc; address = place }
       ∷ [];
 }
 
 -- one more, made as another one was
 abbrev pub with_copy : Table → Option Coexp → Table
-with_copy t (Some coexp) = with_new coexp.values coexp.proc coexp.place t
+with_copy t (Some coexp) = with_new coexp.values coexp.proc coexp.address t
 with_copy t None = t
 
 -- Entering
@@ -111,7 +111,7 @@ abbrev pub hop_to : ℕ → Table → Table
 hop_to n t = record t { active = n; running = None }
 
 abbrev pub begin_by : ℕ → Table → Option Coexp → Table
-begin_by n t (Some coexp) = on_stack n (flat.begin coexp.proc coexp.values coexp.place) t
+begin_by n t (Some coexp) = on_stack n (flat.begin coexp.proc coexp.values coexp.address) t
 begin_by n t None = t
 
 -- A co-expression is entered with a value: a fresh one begins, a waiting one gets the value as an operand, an exhausted one passes on.

@@ -96,12 +96,12 @@ more_activator (y ∷ cs) x (suc i) e = more_activator cs x i e
 
 pub new_others : (tab : Table) (values : List Val) (proc place : ℕ) → EnterOthers tab.coexps → EnterOthers (with_new values proc place tab).coexps
 new_others tab values proc place k i p = λ e.
-    let new : Coexp = record { status = Fresh; activator = 0; values = values; proc = proc; place = place } in
+    let new : Coexp = record { status = Fresh; activator = 0; values = values; proc = proc; address = place } in
     k i p (sym (more_activator tab.coexps new i refl) ∙ e)
 
 pub copy_others : (tab : Table) (o : Option Coexp) → EnterOthers tab.coexps → EnterOthers (with_copy tab o).coexps
 copy_others tab None k = k
-copy_others tab (Some c) k = new_others tab c.values c.proc c.place k
+copy_others tab (Some c) k = new_others tab c.values c.proc c.address k
 
 -- the active one after a transfer
 

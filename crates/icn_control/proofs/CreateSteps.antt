@@ -95,34 +95,34 @@ pub create_goes : (t tables : Tables) (w v : World) (m : FlatStack) (label : ℕ
     → AllLive t (reach_of w []) table.coexps
     → instruction flat tables (Instrs.Create label) (stack_in (extent_of w.heap) (running_of table.running))
     (store_in names outside (world_of w) turns begun (extent_of w.heap) table)
-    ≡ charged_and_made (beside_in names outside w (suc turns) begun v) (length (held.locals m)) table (with_new (held.locals m) (held.proc m) m.place table)
+    ≡ charged_and_made (beside_in names outside w (suc turns) begun v) (length (held.locals m)) table (with_new (held.locals m) (held.proc m) m.address table)
     (stack_in (extent_of v.heap) (held.go label m))
 create_goes t tables w v m label names outside turns begun table e b keeps live all =
     let st : Store Frames = store_in names outside (world_of w) turns begun (extent_of w.heap) table in
     let M : Frames = stack_in (extent_of w.heap) m in
-    let event : Store Frames → State Frames Frames = coexp_made flat (flat.locals M) (flat.proc M) (flat.place M) (flat.go label M) in
+    let event : Store Frames → State Frames Frames = coexp_made flat (flat.locals M) (flat.proc M) (flat.address M) (flat.go label M) in
     let next : Store Frames = store_in names outside (world_of w) (suc turns) begun (extent_of w.heap) table in
     let beside : Beside = beside_in names outside w (suc turns) begun v in
     ap (λ (o : Option FlatStack). instruction flat tables (Instrs.Create label) (stack_in (extent_of w.heap) (running_of o)) st) e
     ∙ ap (λ (x : Bool). turn_if x st event) b
-    ∙ ap (λ (x : Frames). coexp_made flat (flat.locals x) (flat.proc x) (flat.place x) (flat.go label x) next)
+    ∙ ap (λ (x : Frames). coexp_made flat (flat.locals x) (flat.proc x) (flat.address x) (flat.go label x) next)
     (sym (stack_same t (reach_of w []) (reach_of v []) m keeps live))
-    ∙ ap (coexp_made flat (flat.locals (stack_in (extent_of v.heap) m)) (flat.proc (stack_in (extent_of v.heap) m)) m.place
+    ∙ ap (coexp_made flat (flat.locals (stack_in (extent_of v.heap) m)) (flat.proc (stack_in (extent_of v.heap) m)) m.address
     (stack_in (extent_of v.heap) (held.go label m)))
     (sym (store_same names outside (world_of w) (suc turns) begun t (reach_of w []) (reach_of v []) table keeps all))
     ∙ (creations_are beside table (stack_in (extent_of v.heap) (held.go label m))).creates m
 
 -- what is created, by its number
 pub created_is : (table u : Table) (m : FlatStack) (label number : ℕ) → table.running ≡ Some m → u ≡ create_entry label table → number ≡ length table.coexps
-    → record (with_new (held.locals m) (held.proc m) m.place table) { running = Some (held.push (HeldVal (HeldCoexp number)) (held.go label m)) } ≡ u
+    → record (with_new (held.locals m) (held.proc m) m.address table) { running = Some (held.push (HeldVal (HeldCoexp number)) (held.go label m)) } ≡ u
 created_is table u m label number e c n =
     let F : ℕ
-    → Table = λ k. record (with_new (held.locals m) (held.proc m) m.place table) { running = Some (held.push (HeldVal (HeldCoexp k)) (held.go label m)) } in
+    → Table = λ k. record (with_new (held.locals m) (held.proc m) m.address table) { running = Some (held.push (HeldVal (HeldCoexp k)) (held.go label m)) } in
     ap F n ∙ sym (ap (created_on label table) e) ∙ sym c
 
 -- what the table comes to whose stack was read, then grew, and went on
 pub adds_here : (table t u : Table) (f e k n : FlatStack) (values : List Val) (proc place id label : ℕ) → table.running ≡ Some f → e ≡ f
-    → values ≡ held.locals f → proc ≡ held.proc f → place ≡ f.place
+    → values ≡ held.locals f → proc ≡ held.proc f → place ≡ f.address
     → t ≡ with_new values proc place (record table { running = Some e }) → id ≡ length table.coexps → t.running ≡ Some k
     → n ≡ held.push (HeldVal (HeldCoexp id)) (held.go label k) → u ≡ record t { running = Some n }
     → u ≡ create_entry label table
@@ -135,7 +135,7 @@ adds_here table t u f e k n values proc place id label r same v p q made i g pus
     ∙ ap (λ (a : List Val). G a proc place) v
     ∙ ap (λ (b : ℕ). G (held.locals f) b place) p
     ∙ ap (G (held.locals f) (held.proc f)) q
-    ∙ ap (F (with_new (held.locals f) (held.proc f) f.place table)) (push ∙ ap (λ (x : FlatStack). held.push (HeldVal (HeldCoexp id)) (held.go label x)) back
+    ∙ ap (F (with_new (held.locals f) (held.proc f) f.address table)) (push ∙ ap (λ (x : FlatStack). held.push (HeldVal (HeldCoexp id)) (held.go label x)) back
     ∙ ap (λ (x : ℕ). held.push (HeldVal (HeldCoexp x)) (held.go label f)) i)
     ∙ sym (ap (created_on label table) r)
 
@@ -168,7 +168,7 @@ pub create_runs : (t tables : Tables) (w v : World) (m : FlatStack) (label count
     (store_in names outside (world_of w) turns begun (extent_of w.heap) table)
     ≡ running (stack_in (extent_of v.heap) (running_of u.running)) (store_in names outside (world_of v) more begun (extent_of v.heap) u)
 create_runs t tables w v m label count number names outside turns more begun table u e b keeps live all same c row n made k =
-    let after : Table = with_new (held.locals m) (held.proc m) m.place table in
+    let after : Table = with_new (held.locals m) (held.proc m) m.address table in
     let F : ℕ → Table → State Frames Frames = λ x y. running (stack_in (extent_of v.heap) (running_of y.running))
     (store_in names outside (world_of v) x begun (extent_of v.heap) y) in
     create_goes t tables w v m label names outside turns begun table e b keeps live all
@@ -189,7 +189,7 @@ pub create_errs : (t tables : Tables) (w v : World) (m : FlatStack) (label count
     (store_in names outside (world_of w) turns begun (extent_of w.heap) table)
     ≡ errs number (option_map (value_in (extent_of v.heap)) offending) (store_in names outside (world_of v) more begun (extent_of v.heap) other)
 create_errs t tables w v m label count number offending stop names outside turns more begun table other e b keeps live all c row s =
-    let after : Table = with_new (held.locals m) (held.proc m) m.place table in
+    let after : Table = with_new (held.locals m) (held.proc m) m.address table in
     let halts : HaltsRow (extent_of v.heap) (coexpression_row (length (held.locals m))) (setting_of outside w (held.locals m))
     (setting_of outside v (held.locals m)) (halt_of stop)
     = subst (λ (x : ℕ). HaltsRow (extent_of v.heap) (coexpression_row x) (setting_of outside w (held.locals m)) (setting_of outside v (held.locals m))

@@ -23,10 +23,10 @@ use Rattle.icn_control.specs.Creations.{with_coexps, charged_and_made, Creations
 
 -- the new one stands behind the others
 added_is : (beside : Beside) (t : Table) (values : List Val) (proc place : ℕ)
-    → map (coexp_in beside.all) t.coexps ++ record { status = Fresh; activator = 0; values = map (value_in beside.all) values; proc = proc; place = place } ∷ []
+    → map (coexp_in beside.all) t.coexps ++ record { status = Fresh; activator = 0; values = map (value_in beside.all) values; proc = proc; address = place } ∷ []
     ≡ map (coexp_in beside.all) (with_new values proc place t).coexps
 added_is beside t values proc place =
-    let new : Coexp = record { status = Fresh; activator = 0; values = values; proc = proc; place = place } in
+    let new : Coexp = record { status = Fresh; activator = 0; values = values; proc = proc; address = place } in
     sym (map-append (coexp_in beside.all) t.coexps (new ∷ []))
 
 -- whatever the charge comes to
@@ -58,17 +58,17 @@ refreshed_is : (beside : Beside) (t : Table) (n : Frames) (o : Option Coexp) (c 
     → refreshed_from flat (option_map (coexp_in beside.all) o) n (store_with beside t) ≡ charged_and_made beside (length (values_in o)) t (with_copy t o) n
 refreshed_is beside t n o c e =
     ap (λ (w : Option Coexp). refreshed_from flat (option_map (coexp_in beside.all) w) n (store_with beside t)) e
-    ∙ adds beside t c.values c.proc c.place n
+    ∙ adds beside t c.values c.proc c.address n
     ∙ ap (λ (w : Option Coexp). charged_and_made beside (length (values_in w)) t (with_copy t w) n) (sym e)
 
 pub creations_are : (beside : Beside) (t : Table) (n : Frames) → CreationsAreRead beside t n
 creations_are beside t n = record {
   creates = λ m.
-      ap (λ (values : List Value). coexp_made flat values (flat.proc (stack_in beside.all m)) m.place n (store_with beside t))
+      ap (λ (values : List Value). coexp_made flat values (flat.proc (stack_in beside.all m)) m.address n (store_with beside t))
       (locals_read (reading_of beside.all) m)
-      ∙ ap (λ (proc : ℕ). coexp_made flat (map (value_in beside.all) (held.locals m)) proc m.place n (store_with beside t))
+      ∙ ap (λ (proc : ℕ). coexp_made flat (map (value_in beside.all) (held.locals m)) proc m.address n (store_with beside t))
       (proc_read (reading_of beside.all) m)
-      ∙ adds beside t (held.locals m) (held.proc m) m.place n;
+      ∙ adds beside t (held.locals m) (held.proc m) m.address n;
   refreshes = λ k l.
       let c = live_entry Coexp t.coexps (suc k) l in
       ap (λ (o : Option (code.Coexp Frames)). refreshed_from flat o n (store_with beside t)) (slice_get-map (coexp_in beside.all) t.coexps (suc k))

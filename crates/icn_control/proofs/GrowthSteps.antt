@@ -53,7 +53,7 @@ coexp_same : (t : Tables) (old new : Reach) (c : Coexp) → KeepsItems old new �
     → coexp_in new.extent c ≡ coexp_in old.extent c
 coexp_same t old new c k s v =
     let F : Status Frames → List Value
-    → code.Coexp Frames = λ x xs. record { status = x; activator = c.activator; values = xs; proc = c.proc; place = c.place } in
+    → code.Coexp Frames = λ x xs. record { status = x; activator = c.activator; values = xs; proc = c.proc; address = c.address } in
     ap (λ (x : Status Frames). F x (map (value_in new.extent) c.values)) (status_same t old new c.status k s)
     ∙ ap (F (status_in old.extent c.status)) (values_same old.extent new.extent k.extent c.values v)
 

@@ -213,5 +213,5 @@ stack_stays t old new m k l = record { root = l.root; cells = cells_stay t old n
 
 pub stack_same : (t : Tables) (old new : Reach) (m : FlatStack) → KeepsItems old new → IsLiveStack t old m → stack_in new.extent m ≡ stack_in old.extent m
 stack_same t old new m k l =
-    let F : List code.Cell → code.Frames = λ w. record { cells = w; registers = registers_read m.registers; place = m.place } in
+    let F : List code.Cell → code.Frames = λ w. record { cells = w; registers = registers_read m.registers; address = m.address } in
     ap F (cells_same t old new (locals_at m.registers m.cells) m.cells k l.cells)

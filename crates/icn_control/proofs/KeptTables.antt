@@ -25,7 +25,7 @@ status_same t old new Exhausted k l = refl
 coexp_same : (t : Tables) (old new : Reach) (n : ℕ) (c : Coexp) → KeepsItems old new → IsLiveCoexp t old n c → coexp_in new.extent c ≡ coexp_in old.extent c
 coexp_same t old new n c k l =
     let F : Status Frames → List Value
-    → code.Coexp Frames = λ s v. record { status = s; activator = c.activator; values = v; proc = c.proc; place = c.place } in
+    → code.Coexp Frames = λ s v. record { status = s; activator = c.activator; values = v; proc = c.proc; address = c.address } in
     ap (λ (s : Status Frames). F s (map (value_in new.extent) c.values)) (status_same t old new c.status k l.status)
     ∙ ap (F (status_in old.extent c.status)) (values_kept k.extent c.values l.values)
 

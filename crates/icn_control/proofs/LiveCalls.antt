@@ -141,11 +141,11 @@ live_unmark t reach m n pair e k = by_cells (cut m.registers.mark m.cells) refl 
 pub live_suspend : (t : Tables) (reach : Reach) (m : FlatStack) (why : Why) → IsLiveStack t reach m → IsLiveWhy (with_locals (own m) reach) why
     → IsLiveStack t reach (suspend why m)
 live_suspend t reach m why k w =
-    let onto : List Cell = Suspension why m.registers m.place ∷ m.cells in
-    let under : IsRooted m.registers onto = rooted_on (Suspension why m.registers m.place) m.cells m.registers k.root in
+    let onto : List Cell = Suspension why m.registers m.address ∷ m.cells in
+    let under : IsRooted m.registers onto = rooted_on (Suspension why m.registers m.address) m.cells m.registers k.root in
     let root : IsRooted m.registers (copy_up m.cells onto) = rooted_copy m.cells onto m.registers under in
     let same : own m ≡ locals_at m.registers (copy_up m.cells onto)
-    = sym (owner_copy m.cells onto m.registers under ∙ owner_on (Suspension why m.registers m.place) m.cells m.registers k.root) in
+    = sym (owner_copy m.cells onto m.registers under ∙ owner_on (Suspension why m.registers m.address) m.cells m.registers k.root) in
     let live : AreLive t reach (own m) onto = (w, (k.root, k.cells)) in
     record {
       root = record { within = root.within; frame = root.frame; mark_within = root.mark_within; mark = root.mark };
@@ -154,7 +154,7 @@ live_suspend t reach m why k w =
 
 pub suspend_owner : (m : FlatStack) (why : Why) → IsRooted m.registers m.cells → own (suspend why m) ≡ own m
 suspend_owner m why k =
-    let x : Cell = Suspension why m.registers m.place in
+    let x : Cell = Suspension why m.registers m.address in
     owner_copy m.cells (x ∷ m.cells) m.registers (rooted_on x m.cells m.registers k) ∙ owner_on x m.cells m.registers k
 
 -- what is left suspended with the operands of lower cells
@@ -167,12 +167,12 @@ pub live_onto : (t : Tables) (reach : Reach) (m : FlatStack) (why : Why) (i : �
     → IsLiveWhy (with_locals (own m) reach) why → IsRooted r below → AreLive t reach (locals_at r below) below
     → LeavesLive t reach (locals_at r below) (suspend_onto why m below r place)
 live_onto t reach m why i x below r place c k w rooted cells =
-    let onto : List Cell = Suspension why m.registers m.place ∷ m.cells in
+    let onto : List Cell = Suspension why m.registers m.address ∷ m.cells in
     let above : IsRooted r m.cells = rooted_above i m.cells x below r c rooted in
-    let under : IsRooted r onto = rooted_on (Suspension why m.registers m.place) m.cells r above in
+    let under : IsRooted r onto = rooted_on (Suspension why m.registers m.address) m.cells r above in
     let root : IsRooted r (copy_up below onto) = rooted_copy below onto r under in
     let same : locals_at r (copy_up below onto) ≡ locals_at r below
-    = owner_copy below onto r under ∙ owner_on (Suspension why m.registers m.place) m.cells r above ∙ owner_above i m.cells x below r c rooted in
+    = owner_copy below onto r under ∙ owner_on (Suspension why m.registers m.address) m.cells r above ∙ owner_above i m.cells x below r c rooted in
     let live : AreLive t reach (locals_at r below) onto = (w, (k.root, k.cells)) in
     record {
       rest = record {
@@ -187,10 +187,10 @@ live_suspend_mark t reach m n e k = by_cells (cut m.registers.mark m.cells) refl
   where
     made : (x : Cell) (below : List Cell) (r : Registers) → cut m.registers.mark m.cells ≡ x ∷ below → IsRooted r below
         → AreLive t reach (locals_at r below) below → r.base ≡ m.registers.base
-        → LeavesLive t reach (own m) (suspend_onto Alt m below r m.place)
+        → LeavesLive t reach (own m) (suspend_onto Alt m below r m.address)
     made x below r c root cells same =
-        subst (λ (count : ℕ). LeavesLive t reach count (suspend_onto Alt m below r m.place)) (outside_owner m x below r c root same)
-        (live_onto t reach m Alt (length m.cells - m.registers.mark) x below r m.place c k tt root cells)
+        subst (λ (count : ℕ). LeavesLive t reach count (suspend_onto Alt m below r m.address)) (outside_owner m x below r c root same)
+        (live_onto t reach m Alt (length m.cells - m.registers.mark) x below r m.address c k tt root cells)
 
     by_cells : (s : List Cell) → cut m.registers.mark m.cells ≡ s → suspend_mark_from m s ≡ Some n → LeavesLive t reach (own m) n
     by_cells (Mark label changed r ∷ below) c q =

@@ -34,7 +34,7 @@ live_resume t reach m n why e k = by_height m.registers.newest e
     by_cells : (h : ℕ) (s : List Cell) → cut h m.cells ≡ s → resume_from s ≡ Some (why, n) → ResumesLive t reach why n
     by_cells h (Suspension reason r place ∷ below) c q =
         let l = live_cut t reach (length m.cells - h) (own m) m.cells (Suspension reason r place) below c k.cells in
-        let made : ResumesLive t reach reason (record { cells = below; registers = r; place = place }) =
+        let made : ResumesLive t reach reason (record { cells = below; registers = r; address = place }) =
         record { why_live = l.1.0; rest = record { root = l.1.1.0; cells = l.1.1.1 } } in
         subst (λ (w : Why × FlatStack). ResumesLive t reach w.0 w.1) (same_Some _ _ q) made
     by_cells h [] c q = cc
@@ -177,7 +177,7 @@ pub live_enter : (t : Tables) (reach : Reach) (m : FlatStack) (proc : ℕ) (valu
     → suc (level m) ≤ 4294967295 → All (IsLive reach.extent) values → IsLiveStack t reach m
     → IsLiveStack t reach (enter proc values place m)
 live_enter t reach m proc values place c d a k =
-    let x : Cell = Call proc (length values) (suc (level m)) m.registers m.place in
+    let x : Cell = Call proc (length values) (suc (level m)) m.registers m.address in
     let base : AreLive t reach (length values) (x ∷ m.cells) = (c, (d, (k.root, k.cells))) in
     record {
       root = frame_rooted values x m.cells tt tt;
@@ -191,7 +191,7 @@ live_leave t reach m n e k = by_cells (cut m.registers.base m.cells) refl e
     by_cells : (s : List Cell) → cut m.registers.base m.cells ≡ s → leave_from s ≡ Some n → IsLiveStack t reach n
     by_cells (Call proc locals level r place ∷ below) c q =
         let l = live_cut t reach (length m.cells - m.registers.base) (own m) m.cells (Call proc locals level r place) below c k.cells in
-        let made : IsLiveStack t reach (record { cells = below; registers = r; place = place }) = record { root = l.1.1.1.0; cells = l.1.1.1.1 } in
+        let made : IsLiveStack t reach (record { cells = below; registers = r; address = place }) = record { root = l.1.1.1.0; cells = l.1.1.1.1 } in
         subst (λ (w : FlatStack). IsLiveStack t reach w) (same_Some _ _ q) made
     by_cells [] c q = cc
     by_cells (Operand item ∷ below) c q = cc

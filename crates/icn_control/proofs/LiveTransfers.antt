@@ -59,8 +59,8 @@ begins_live : (t : Tables) (r : Reach) (tab u : Table) (n : ℕ) (o : Option Coe
 begins_live t r tab u n None g f p e k = cc
 begins_live t r tab u n (Some c) g f p e k =
     let l = k n c g in
-    let made : AreLiveStacks t r (table.on_stack n (held.begin c.proc c.values c.place) tab)
-    = record { runs = live_begin t r c.proc c.values c.place (l.count p) l.values; coexps = live_put t r tab.coexps n Active k tt } in
+    let made : AreLiveStacks t r (table.on_stack n (held.begin c.proc c.values c.address) tab)
+    = record { runs = live_begin t r c.proc c.values c.address (l.count p) l.values; coexps = live_put t r tab.coexps n Active k tt } in
     subst (λ (w : Table). AreLiveStacks t r w) (same_Some _ _ e) made
 
 gives_live : (t : Tables) (r : Reach) (tab u : Table) (n : ℕ) (v : Val) (s : Status FlatStack) → table.status_of n tab ≡ s → (s ≡ Fresh → 0 < n)
@@ -186,23 +186,23 @@ one_more P (y ∷ cs) x all one (suc n) c q = one_more (λ k. P (suc k)) cs x (�
 pub new_live : (t : Tables) (r : Reach) (tab : Table) (values : List Val) (proc place : ℕ) → All (IsLive r.extent) values
     → length values ≡ variable_count t proc → AllLive t r tab.coexps → AllLive t r (with_new values proc place tab).coexps
 new_live t r tab values proc place a c k =
-    let new : Coexp = record { status = Fresh; activator = 0; values = values; proc = proc; place = place } in
+    let new : Coexp = record { status = Fresh; activator = 0; values = values; proc = proc; address = place } in
     let live : IsLiveCoexp t r (length tab.coexps) new = record { status = tt; values = a; count = λ p. c } in
     one_more (IsLiveCoexp t r) tab.coexps new k live
 
 pub new_length : (tab : Table) (values : List Val) (proc place : ℕ) → length (with_new values proc place tab).coexps ≡ suc (length tab.coexps)
 new_length tab values proc place =
-    let new : Coexp = record { status = Fresh; activator = 0; values = values; proc = proc; place = place } in
+    let new : Coexp = record { status = Fresh; activator = 0; values = values; proc = proc; address = place } in
     let l : length (tab.coexps ++ new ∷ []) ≡ length tab.coexps + 1 = length-append tab.coexps (new ∷ []) in
     omega (arith, l)
 
 pub copy_live : (t : Tables) (r : Reach) (tab : Table) (n : ℕ) (o : Option Coexp) → slice_get tab.coexps n ≡ o → 0 < n → AllLive t r tab.coexps
     → AllLive t r (with_copy tab o).coexps
 copy_live t r tab n None g p k = k
-copy_live t r tab n (Some c) g p k = let l = k n c g in new_live t r tab c.values c.proc c.place l.values (l.count p) k
+copy_live t r tab n (Some c) g p k = let l = k n c g in new_live t r tab c.values c.proc c.address l.values (l.count p) k
 
 pub copy_length : (tab : Table) (o : Option Coexp) (c : Coexp) → o ≡ Some c → length (with_copy tab o).coexps ≡ suc (length tab.coexps)
-copy_length tab o c e = ap (λ (w : Option Coexp). length (with_copy tab w).coexps) e ∙ new_length tab c.values c.proc c.place
+copy_length tab o c e = ap (λ (w : Option Coexp). length (with_copy tab w).coexps) e ∙ new_length tab c.values c.proc c.address
 
 -- what is created
 pub created_live : (t : Tables) (old new : Reach) (tab u : Table) (m : FlatStack) (label : ℕ) → tab.running ≡ Some m → u ≡ create_entry label tab
@@ -216,13 +216,13 @@ created_live t old new tab u m label e c keeps count value k =
     let made : AreLiveStacks t new (created_on label tab (Some m))
     = record {
       runs = live_push t new (held.go label m) (HeldVal (HeldCoexp (length tab.coexps))) after item;
-      coexps = new_live t new tab (held.locals m) (held.proc m) m.place values (sym count ∙ own_count t old m live)
+      coexps = new_live t new tab (held.locals m) (held.proc m) m.address values (sym count ∙ own_count t old m live)
           (coexps_stay t old new tab.coexps keeps k.coexps);
     } in
     subst (λ (w : Table). AreLiveStacks t new w) (sym (c ∙ ap (created_on label tab) e)) made
 
 pub created_length : (tab u : Table) (m : FlatStack) (label : ℕ) → tab.running ≡ Some m → u ≡ create_entry label tab → length u.coexps ≡ suc (length tab.coexps)
-created_length tab u m label e c = ap (λ (w : Table). length w.coexps) (c ∙ ap (created_on label tab) e) ∙ new_length tab (held.locals m) (held.proc m) m.place
+created_length tab u m label e c = ap (λ (w : Table). length w.coexps) (c ∙ ap (created_on label tab) e) ∙ new_length tab (held.locals m) (held.proc m) m.address
 
 -- what is copied
 pub copied_live : (t : Tables) (old new : Reach) (tab u : Table) (m : FlatStack) (id : ℕ) → tab.running ≡ Some m → u ≡ copy_entry id tab → 0 < id

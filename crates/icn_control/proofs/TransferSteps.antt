@@ -19,7 +19,7 @@ use Rattle.icn_control.specs.Landing.{Beside, store_with, land, TransfersAreRead
 
 -- where no co-expression is, an exhausted one
 abbrev absent : code.Coexp Frames
-absent = record { status = Exhausted; activator = zero; values = []; proc = zero; place = zero }
+absent = record { status = Exhausted; activator = zero; values = []; proc = zero; address = zero }
 
 pub status_at : (all : Extent) (cs : List Coexp) (n : ℕ)
     → (slice_index_or (map (coexp_in all) cs) n absent).status ≡ status_in all (table.status_in (slice_get cs n))
@@ -102,9 +102,9 @@ begins_by : (beside : Beside) (t : Table) (n : ℕ) (m : Frames) (u : Table) (o 
     → give_by flat Fresh n (rows.Null) m (store_with beside t) ≡ land beside running m u u.running
 begins_by beside t n m u (Some c) g e d p =
     let all : Extent = beside.all in
-    let began : FlatStack = held.begin c.proc c.values c.place in
-    ap (λ (x : code.Coexp Frames). running (flat.begin x.proc x.values x.place m) (make_active n (store_with beside t))) (there_at all t.coexps n c g)
-    ∙ ap (λ (x : Frames). running x (make_active n (store_with beside t))) (begin_read (reading_of all) c.proc c.values c.place m)
+    let began : FlatStack = held.begin c.proc c.values c.address in
+    ap (λ (x : code.Coexp Frames). running (flat.begin x.proc x.values x.address m) (make_active n (store_with beside t))) (there_at all t.coexps n c g)
+    ∙ ap (λ (x : Frames). running x (make_active n (store_with beside t))) (begin_read (reading_of all) c.proc c.values c.address m)
     ∙ ap (running (stack_in all began)) (active_put beside t n began)
     ∙ ap (λ (w : Table). land beside running m w w.running) (same_Some _ _ e)
 begins_by beside t n m u None g e d p = cc

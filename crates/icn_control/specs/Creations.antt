@@ -38,9 +38,9 @@ charged_and_made beside count before after n = with_made flat
 pub record CreationsAreRead (beside : Beside) (t : Table) (n : Frames) : Type 0 where
   pub creates : (m : FlatStack)
       → coexp_made flat (flat.locals (stack_in beside.all m)) (flat.proc (stack_in beside.all m))
-      (flat.place (stack_in beside.all m)) n (store_with beside t)
+      (flat.address (stack_in beside.all m)) n (store_with beside t)
       ≡ charged_and_made beside (length (held.locals m)) t
-      (with_new (held.locals m) (held.proc m) m.place t) n
+      (with_new (held.locals m) (held.proc m) m.address t) n
   pub refreshes : (k : ℕ) → suc k < length t.coexps
       → refresh flat (ACoexp (suc k)) n (store_with beside t)
       ≡ charged_and_made beside (length (values_of (suc k) t)) t (with_copy t (slice_get t.coexps (suc k))) n
@@ -49,7 +49,7 @@ pub record CreationsAreRead (beside : Beside) (t : Table) (n : Frames) : Type 0 
 
 abbrev pub created_on : ℕ → Table → Option FlatStack → Table
 created_on label t (Some m) =
-    record (with_new (held.locals m) (held.proc m) m.place t)
+    record (with_new (held.locals m) (held.proc m) m.address t)
     { running = Some (held.push (HeldVal (HeldCoexp (length t.coexps))) (held.go label m)) }
 created_on label t None = t
 

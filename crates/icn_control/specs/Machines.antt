@@ -39,7 +39,7 @@ coexp_in all coexp = record {
   activator = coexp.activator;
   values = map (value_in all) coexp.values;
   proc = coexp.proc;
-  place = coexp.place;
+  address = coexp.address;
 }
 
 -- the store of these things

@@ -63,14 +63,14 @@ pub scan_lower : (why : Why) (s : List Cell) (to place : ℕ) (r r0 : Registers)
 scan_lower why s to place r r0 t = maybe_on IsScan (shape (Suspension why r place)) (map shape s) r0.scan (leads_lower s to r0 t.stands.leads).scan
 
 pub given_is : (given : Option Item) (cells s' : List Cell) (r : Registers) (place : ℕ) → s' ≡ with_given given cells
-    → given_to given (Some (record { cells = cells; registers = r; place = place })) ≡ Some (record { cells = s'; registers = r; place = place })
-given_is None cells s' r place e = let F : List Cell → Option FlatStack = λ w. Some (record { cells = w; registers = r; place = place }) in ap F (sym e)
-given_is (Some x) cells s' r place e = let F : List Cell → Option FlatStack = λ w. Some (record { cells = w; registers = r; place = place }) in ap F (sym e)
+    → given_to given (Some (record { cells = cells; registers = r; address = place })) ≡ Some (record { cells = s'; registers = r; address = place })
+given_is None cells s' r place e = let F : List Cell → Option FlatStack = λ w. Some (record { cells = w; registers = r; address = place }) in ap F (sym e)
+given_is (Some x) cells s' r place e = let F : List Cell → Option FlatStack = λ w. Some (record { cells = w; registers = r; address = place }) in ap F (sym e)
 
 -- a mark
 
 pub mark_suspended_is : (m : FlatStack) (x : Cell) (below : List Cell) (r : Registers) → shape x ≡ AMark r
-    → suspend_mark_from m (x ∷ below) ≡ Some (suspend_onto Alt m below r m.place)
+    → suspend_mark_from m (x ∷ below) ≡ Some (suspend_onto Alt m below r m.address)
 mark_suspended_is m (Mark label changed registers) below r e =
     let k : registers ≡ r = cc in ap (λ (w : Registers). suspend_mark_from m (Mark label changed w ∷ below)) k
 mark_suspended_is m (Limit count registers) below r e = let k : registers ≡ r = cc in ap (λ (w : Registers). suspend_mark_from m (Limit count w ∷ below)) k
@@ -89,22 +89,22 @@ marked_kind s r x t e k =
 pub suspend_mark_is : (m : FlatStack) (x : Cell) (s' : List Cell) (r0 : Registers) (n from : ℕ) (given : Option Item) → Sound m.cells m.registers
     → cell_at (m.registers.mark - 1 + 1) m.cells ≡ Some x → shape x ≡ AMark r0 → Sound (cut (m.registers.mark - 1) m.cells) r0
     → from ≡ bottom (map shape m.cells) r0 → n ≡ length m.cells + 1
-    → s' ≡ with_given given (with_copy from (m.registers.mark - 1) (Suspension Alt m.registers m.place ∷ m.cells))
-    → given_to given (suspend_mark m) ≡ Some (record { cells = s'; registers = record r0 { newest = Some n }; place = m.place })
+    → s' ≡ with_given given (with_copy from (m.registers.mark - 1) (Suspension Alt m.registers m.address ∷ m.cells))
+    → given_to given (suspend_mark m) ≡ Some (record { cells = s'; registers = record r0 { newest = Some n }; address = m.address })
 suspend_mark_is m x s' r0 n from given t k e u f h b =
     let h1 : 1 ≤ m.registers.mark = t.stands.leads.mark.from in
     let h2 : m.registers.mark ≤ length m.cells = within m.cells m.registers.mark t.stands.leads.mark.to in
     let h3 : m.registers.mark - 1 ≤ length m.cells = omega arith in
     let F : ℕ → Option FlatStack = λ w. given_to given (Some (record {
-      cells = copy_up (cut (m.registers.mark - 1) m.cells) (Suspension Alt m.registers m.place ∷ m.cells);
+      cells = copy_up (cut (m.registers.mark - 1) m.cells) (Suspension Alt m.registers m.address ∷ m.cells);
       registers = record r0 { newest = Some w };
-      place = m.place;
+      address = m.address;
     })) in
     ap (λ (w : List Cell). given_to given (suspend_mark_from m w)) (cut_at m.cells m.registers.mark x h1 h2 k)
     ∙ ap (given_to given) (mark_suspended_is m x (cut (m.registers.mark - 1) m.cells) r0 e)
     ∙ ap F (sym (h ∙ add-one (length m.cells)))
-    ∙ given_is given (copy_up (cut (m.registers.mark - 1) m.cells) (Suspension Alt m.registers m.place ∷ m.cells)) s' (record r0 { newest = Some n }) m.place
-    (hung_is (Suspension Alt m.registers m.place) m.cells s' r0 from (m.registers.mark - 1) given u h3 f b)
+    ∙ given_is given (copy_up (cut (m.registers.mark - 1) m.cells) (Suspension Alt m.registers m.address ∷ m.cells)) s' (record r0 { newest = Some n }) m.address
+    (hung_is (Suspension Alt m.registers m.address) m.cells s' r0 from (m.registers.mark - 1) given u h3 f b)
 
 -- a procedure
 
@@ -112,21 +112,21 @@ pub suspend_proc_is : (m : FlatStack) (proc locals level place : ℕ) (s' : List
     → Sound m.cells m.registers
     → cell_at (m.registers.base - 1 + 1) m.cells ≡ Some (Call proc locals level r0 place) → Sound (cut (m.registers.base - 1) m.cells) r0
     → from ≡ bottom (map shape m.cells) r0 → n ≡ length m.cells + 1
-    → s' ≡ with_given given (with_copy from (m.registers.base - 1) (Suspension Proc m.registers m.place ∷ m.cells))
-    → given_to given (suspend_proc m) ≡ Some (record { cells = s'; registers = record r0 { newest = Some n }; place = place })
+    → s' ≡ with_given given (with_copy from (m.registers.base - 1) (Suspension Proc m.registers m.address ∷ m.cells))
+    → given_to given (suspend_proc m) ≡ Some (record { cells = s'; registers = record r0 { newest = Some n }; address = place })
 suspend_proc_is m proc locals level place s' r0 n from given t k u f h b =
     let h1 : 1 ≤ m.registers.base = t.stands.leads.base.from in
     let h2 : m.registers.base ≤ length m.cells = within m.cells m.registers.base (base_within (map shape m.cells) m.registers.base t.stands.leads.base) in
     let h3 : m.registers.base - 1 ≤ length m.cells = omega arith in
     let F : ℕ → Option FlatStack = λ w. given_to given (Some (record {
-      cells = copy_up (cut (m.registers.base - 1) m.cells) (Suspension Proc m.registers m.place ∷ m.cells);
+      cells = copy_up (cut (m.registers.base - 1) m.cells) (Suspension Proc m.registers m.address ∷ m.cells);
       registers = record r0 { newest = Some w };
-      place = place;
+      address = place;
     })) in
     ap (λ (w : List Cell). given_to given (suspend_proc_from m w)) (cut_at m.cells m.registers.base (Call proc locals level r0 place) h1 h2 k)
     ∙ ap F (sym (h ∙ add-one (length m.cells)))
-    ∙ given_is given (copy_up (cut (m.registers.base - 1) m.cells) (Suspension Proc m.registers m.place ∷ m.cells)) s' (record r0 { newest = Some n }) place
-    (hung_is (Suspension Proc m.registers m.place) m.cells s' r0 from (m.registers.base - 1) given u h3 f b)
+    ∙ given_is given (copy_up (cut (m.registers.base - 1) m.cells) (Suspension Proc m.registers m.address ∷ m.cells)) s' (record r0 { newest = Some n }) place
+    (hung_is (Suspension Proc m.registers m.address) m.cells s' r0 from (m.registers.base - 1) given u h3 f b)
 
 -- the innermost mark goes on
 
@@ -135,21 +135,21 @@ sound_all s r t = subst (λ (w : List Cell). Sound w r) (sym (cut_all s)) t
 
 pub suspend_is : (m : FlatStack) (why : Why) (s' : List Cell) (scan : Option ℕ) (n from : ℕ) (given : Option Item) → Sound m.cells m.registers
     → from ≡ bottom (map shape m.cells) m.registers → n ≡ length m.cells + 1 → scan ≡ scan_by why n (older_scan m.cells m.registers.scan) m.registers.scan
-    → s' ≡ with_given given (with_copy from (length m.cells) (Suspension why m.registers m.place ∷ m.cells))
-    → given_to given (Some (suspend why m)) ≡ Some (record { cells = s'; registers = record m.registers { newest = Some n; scan = scan }; place = m.place })
+    → s' ≡ with_given given (with_copy from (length m.cells) (Suspension why m.registers m.address ∷ m.cells))
+    → given_to given (Some (suspend why m)) ≡ Some (record { cells = s'; registers = record m.registers { newest = Some n; scan = scan }; address = m.address })
 suspend_is m why s' scan n from given t f h q b =
     let p : length m.cells ≤ length m.cells = omega arith in
     let F : List Cell → ℕ → Option FlatStack = λ v w. given_to given (Some (record {
-      cells = copy_up v (Suspension why m.registers m.place ∷ m.cells);
+      cells = copy_up v (Suspension why m.registers m.address ∷ m.cells);
       registers = record m.registers { newest = Some w; scan = scan_by why w (older_scan m.cells m.registers.scan) m.registers.scan };
-      place = m.place;
+      address = m.address;
     })) in
-    let G : Option ℕ → Option FlatStack = λ w. Some (record { cells = s'; registers = record m.registers { newest = Some n; scan = w }; place = m.place }) in
+    let G : Option ℕ → Option FlatStack = λ w. Some (record { cells = s'; registers = record m.registers { newest = Some n; scan = w }; address = m.address }) in
     ap (λ (w : ℕ). F m.cells w) (sym (h ∙ add-one (length m.cells)))
     ∙ ap (λ (v : List Cell). F v n) (sym (cut_all m.cells))
-    ∙ given_is given (copy_up (cut (length m.cells) m.cells) (Suspension why m.registers m.place ∷ m.cells)) s'
-    (record m.registers { newest = Some n; scan = scan_by why n (older_scan m.cells m.registers.scan) m.registers.scan }) m.place
-    (hung_is (Suspension why m.registers m.place) m.cells s' m.registers from (length m.cells) given (sound_all m.cells m.registers t) p f b)
+    ∙ given_is given (copy_up (cut (length m.cells) m.cells) (Suspension why m.registers m.address ∷ m.cells)) s'
+    (record m.registers { newest = Some n; scan = scan_by why n (older_scan m.cells m.registers.scan) m.registers.scan }) m.address
+    (hung_is (Suspension why m.registers m.address) m.cells s' m.registers from (length m.cells) given (sound_all m.cells m.registers t) p f b)
     ∙ ap G (sym q)
 
 -- the scans that are open

@@ -15,7 +15,7 @@ use Rattle.icn_frames.specs.declared.layout.Cell.TheVariants.{Base, Call, Local,
 pub record FlatStack : Type 0 where
   pub cells : List Cell
   pub registers : Registers
-  pub place : ℕ
+  pub address : ℕ
 
 -- locals above some cells, the first one lowest
 abbrev pub put_above : List Val → List Cell → List Cell
@@ -32,7 +32,7 @@ begin proc values place =
     record {
       cells = put_above values (Base proc (length values) ∷ []);
       registers = registers_at 1;
-      place = place;
+      address = place;
     }
 
 -- the procedure
@@ -257,7 +257,7 @@ scan_after why height m = scan_by why height (older_scan m.cells m.registers.sca
 -- suspends in the innermost mark
 abbrev pub suspend : Why → FlatStack → FlatStack
 suspend why m = let height = suc (length m.cells) in record m {
-  cells = copy_up m.cells (Suspension why m.registers m.place ∷ m.cells);
+  cells = copy_up m.cells (Suspension why m.registers m.address ∷ m.cells);
   registers = record m.registers { newest = Some height; scan = scan_after why height m };
 }
 
@@ -265,15 +265,15 @@ suspend why m = let height = suc (length m.cells) in record m {
 abbrev pub suspend_onto : Why → FlatStack → List Cell → Registers → ℕ → FlatStack
 suspend_onto why m cells registers place =
     record {
-      cells = copy_up cells (Suspension why m.registers m.place ∷ m.cells);
+      cells = copy_up cells (Suspension why m.registers m.address ∷ m.cells);
       registers = record registers { newest = Some (suc (length m.cells)) };
-      place = place;
+      address = place;
     }
 
 -- from the mark's cell downward
 abbrev pub suspend_mark_from : FlatStack → List Cell → Option FlatStack
-suspend_mark_from m (Mark label changed registers ∷ cells) = Some (suspend_onto Alt m cells registers m.place)
-suspend_mark_from m (Limit count registers ∷ cells) = Some (suspend_onto Alt m cells registers m.place)
+suspend_mark_from m (Mark label changed registers ∷ cells) = Some (suspend_onto Alt m cells registers m.address)
+suspend_mark_from m (Limit count registers ∷ cells) = Some (suspend_onto Alt m cells registers m.address)
 suspend_mark_from m cells = None
 
 -- leaves the innermost mark suspended
@@ -315,7 +315,7 @@ given_to given m = m
 -- from the suspension frame downward
 abbrev pub resume_from : List Cell → Option (Why × FlatStack)
 resume_from (Suspension why registers place ∷ cells) =
-    Some (why, record { cells = cells; registers = registers; place = place })
+    Some (why, record { cells = cells; registers = registers; address = place })
 resume_from cells = None
 
 -- the newest suspension of the innermost mark comes back
@@ -327,15 +327,15 @@ resume m = option_and_then (λ height. resume_from (cut height m.cells)) m.regis
 -- a procedure's frame with its locals, and the place where it begins
 abbrev pub enter : ℕ → List Val → ℕ → FlatStack → FlatStack
 enter proc values place m = let height = suc (length m.cells) in record {
-  cells = put_above values (Call proc (length values) (suc (level m)) m.registers m.place ∷ m.cells);
+  cells = put_above values (Call proc (length values) (suc (level m)) m.registers m.address ∷ m.cells);
   registers = registers_at height;
-  place = place;
+  address = place;
 }
 
 -- from the procedure's frame downward
 abbrev pub leave_from : List Cell → Option FlatStack
 leave_from (Call proc locals level registers place ∷ cells) =
-    Some (record { cells = cells; registers = registers; place = place })
+    Some (record { cells = cells; registers = registers; address = place })
 leave_from cells = None
 
 -- back to the caller
@@ -369,7 +369,7 @@ scan_chosen false m = m.registers.scan
 pub record SwapsAt (height : ℕ) (pair : Pair) (cells : List Cell) (old : Pair)
     (after : List Cell) : Type 0 where
   pub registers : Registers
-  pub place : ℕ
+  pub address : ℕ
   pub was : cell_at height cells ≡ Some (Suspension (Scan old) registers place)
   pub is : after ≡ set_cell height (Suspension (Scan pair) registers place) cells
 

@@ -31,7 +31,7 @@ impl<K: Stack<Cell> + Drop> Model for Frames<K> {
     ghost Value = { SeenStack };
 
     ghost view = { λ m. record {
-      flat = record { cells = K.cells m.cells; registers = m.registers; place = m.place };
+      flat = record { cells = K.cells m.cells; registers = m.registers; address = m.place };
       spare = K.spare m.cells;
     } };
 
@@ -126,7 +126,7 @@ impl<K: Stack<Cell> + Drop> Frames<K> {
 
     /// The place in the code.
     pub fn place(&self) -> u32
-        ensures { result ≡ self.now.flat.place }
+        ensures { result ≡ self.now.flat.address }
     {
         self.place
     }

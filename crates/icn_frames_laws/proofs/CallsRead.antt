@@ -18,7 +18,7 @@ use Rattle.icn_frames_laws.proofs.CellsRead.{cut_read, at_read, set_read, above_
 pub begin_read : (read : Interpretation) (proc : ℕ) (values : List Val) (place : ℕ) (m : code.Frames)
     → code.begin proc (map read.value values) place m ≡ stack_read read (flat.begin proc values place)
 begin_read read proc values place m =
-    let F : List code.Cell → code.Frames = λ cells. record { cells = cells; registers = registers_read (flat.registers_at 1); place = place } in
+    let F : List code.Cell → code.Frames = λ cells. record { cells = cells; registers = registers_read (flat.registers_at 1); address = place } in
     ap (λ (n : ℕ). F (code.put_above (map read.value values) (code.base proc n ∷ []))) (length-map values read.value)
     ∙ ap F (above_read read values (Base proc (length values) ∷ []))
 

@@ -153,27 +153,27 @@ pub suspend_read : (read : Interpretation) (why : Why) (m : FlatStack)
     → code.suspend (why_read read why) (stack_read read m) ≡ stack_read read (flat.suspend why m)
 suspend_read read why m =
     let F : List code.Cell → ℕ → Option ℕ → code.Frames = λ cells h scan.
-    record { cells = cells; registers = record (registers_read m.registers) { newest = Some h; scan = scan }; place = m.place } in
+    record { cells = cells; registers = record (registers_read m.registers) { newest = Some h; scan = scan }; address = m.address } in
     let h : ℕ = suc (length m.cells) in
-    let s : List code.Cell = code.copy_up (map (cell_read read) m.cells) (map (cell_read read) (Suspension why m.registers m.place ∷ m.cells)) in
+    let s : List code.Cell = code.copy_up (map (cell_read read) m.cells) (map (cell_read read) (Suspension why m.registers m.address ∷ m.cells)) in
     ap (λ (n : ℕ). F s (suc n) (code.scan_after (why_read read why) (suc n) (stack_read read m))) (length-map m.cells (cell_read read))
     ∙ ap (F s h) (scan_after_read read why h m)
-    ∙ ap (λ (w : List code.Cell). F w h (flat.scan_after why h m)) (copy_read read m.cells (Suspension why m.registers m.place ∷ m.cells))
+    ∙ ap (λ (w : List code.Cell). F w h (flat.scan_after why h m)) (copy_read read m.cells (Suspension why m.registers m.address ∷ m.cells))
 
 onto_read : (read : Interpretation) (why : Why) (m : FlatStack) (s : List Cell) (r : Registers) (place : ℕ)
     → code.suspended_onto (why_read read why) (stack_read read m) (map (cell_read read) s) (registers_read r) place
     ≡ stack_read read (flat.suspend_onto why m s r place)
 onto_read read why m s r place =
     let F : List code.Cell → ℕ
-    → code.Frames = λ cells n. record { cells = cells; registers = record (registers_read r) { newest = Some (suc n) }; place = place } in
-    let t : List code.Cell = code.copy_up (map (cell_read read) s) (map (cell_read read) (Suspension why m.registers m.place ∷ m.cells)) in
+    → code.Frames = λ cells n. record { cells = cells; registers = record (registers_read r) { newest = Some (suc n) }; address = place } in
+    let t : List code.Cell = code.copy_up (map (cell_read read) s) (map (cell_read read) (Suspension why m.registers m.address ∷ m.cells)) in
     ap (F t) (length-map m.cells (cell_read read))
-    ∙ ap (λ (w : List code.Cell). F w (length m.cells)) (copy_read read s (Suspension why m.registers m.place ∷ m.cells))
+    ∙ ap (λ (w : List code.Cell). F w (length m.cells)) (copy_read read s (Suspension why m.registers m.address ∷ m.cells))
 
 mark_from_read : (read : Interpretation) (m : FlatStack) (s : List Cell)
     → code.mark_suspended (stack_read read m) (map (cell_read read) s) ≡ option_map (stack_read read) (flat.suspend_mark_from m s)
-mark_from_read read m (Mark label changed registers ∷ s) = ap (λ (w : code.Frames). Some w) (onto_read read Alt m s registers m.place)
-mark_from_read read m (Limit count registers ∷ s) = ap (λ (w : code.Frames). Some w) (onto_read read Alt m s registers m.place)
+mark_from_read read m (Mark label changed registers ∷ s) = ap (λ (w : code.Frames). Some w) (onto_read read Alt m s registers m.address)
+mark_from_read read m (Limit count registers ∷ s) = ap (λ (w : code.Frames). Some w) (onto_read read Alt m s registers m.address)
 mark_from_read read m [] = refl
 mark_from_read read m (Base proc locals ∷ s) = refl
 mark_from_read read m (Call proc locals level registers place ∷ s) = refl
@@ -225,13 +225,13 @@ pub enter_read : (read : Interpretation) (proc : ℕ) (values : List Val) (m : F
     → code.enter proc (map read.value values) (stack_read read m) ≡ stack_read read (flat.enter proc values 0 m)
 enter_read read proc values m =
     let s : List code.Cell = map (cell_read read) m.cells in
-    let F : List code.Cell → ℕ → code.Frames = λ cells n. record { cells = cells; registers = registers_read (flat.registers_at (suc n)); place = 0 } in
+    let F : List code.Cell → ℕ → code.Frames = λ cells n. record { cells = cells; registers = registers_read (flat.registers_at (suc n)); address = 0 } in
     let A : ℕ → ℕ
-    → List code.Cell = λ count level. code.put_above (map read.value values) (code.call proc count (suc level) (registers_read m.registers) m.place ∷ s) in
+    → List code.Cell = λ count level. code.put_above (map read.value values) (code.call proc count (suc level) (registers_read m.registers) m.address ∷ s) in
     ap (λ (n : ℕ). F (A n (code.level (stack_read read m))) (length s)) (length-map values read.value)
     ∙ ap (λ (n : ℕ). F (A (length values) n) (length s)) (level_read read m)
     ∙ ap (F (A (length values) (flat.level m))) (length-map m.cells (cell_read read))
-    ∙ ap (λ (w : List code.Cell). F w (length m.cells)) (above_read read values (Call proc (length values) (suc (flat.level m)) m.registers m.place ∷ m.cells))
+    ∙ ap (λ (w : List code.Cell). F w (length m.cells)) (above_read read values (Call proc (length values) (suc (flat.level m)) m.registers m.address ∷ m.cells))
 
 leave_from_read : (read : Interpretation) (s : List Cell) → code.leave_from (map (cell_read read) s) ≡ option_map (stack_read read) (flat.leave_from s)
 leave_from_read read (Call proc locals level registers place ∷ s) = refl

@@ -49,11 +49,11 @@ pub record Moves {K : Type 0} (m n : Machine K) (f : FlatStack) : Type 0 where
   pub turns : n.turns ≡ m.turns
   pub begun : n.begun.items ≡ m.begun.items
   pub limits : n.limits ≡ m.limits
-  pub table : n.stacks.table ≡ record m.stacks.table { running = Some (held.go (suc f.place) f) }
+  pub table : n.stacks.table ≡ record m.stacks.table { running = Some (held.go (suc f.address) f) }
 
 module _ {K : Type 0} (m n : Machine K) (f : FlatStack) (moves : Moves m n f) where
   abbrev there : FlatStack
-  there = held.go (suc f.place) f
+  there = held.go (suc f.address) f
 
   was_stack : stack_seen m ≡ stack_in (extent_of m.world.heap) f
   was_stack = ap (λ (o : Option FlatStack). stack_in (extent_of m.world.heap) (running_of o)) moves.runs
@@ -61,11 +61,11 @@ module _ {K : Type 0} (m n : Machine K) (f : FlatStack) (moves : Moves m n f) wh
   now_stack : stack_of n ≡ there
   now_stack = ap (λ (t : Table). running_of t.running) moves.table
 
-  pub moved_stack : stack_seen n ≡ flat.go (suc (flat.place (stack_seen m))) (stack_seen m)
+  pub moved_stack : stack_seen n ≡ flat.go (suc (flat.address (stack_seen m))) (stack_seen m)
   moved_stack =
       ap (λ (w : World). stack_in (extent_of w.heap) (stack_of n)) moves.world
       ∙ ap (λ (s : FlatStack). stack_in (extent_of m.world.heap) s) now_stack
-      ∙ sym (ap (λ (s : Frames). flat.go (suc s.place) s) was_stack)
+      ∙ sym (ap (λ (s : Frames). flat.go (suc s.address) s) was_stack)
 
   pub moved_store : (tables : Tables) (outside : Outside) → store_seen tables outside n ≡ store_seen tables outside m
   moved_store tables outside =
@@ -78,7 +78,7 @@ module _ {K : Type 0} (m n : Machine K) (f : FlatStack) (moves : Moves m n f) wh
   moved_sound tables k = record {
     stacks = subst (λ (w : World). AreLiveStacks tables (reach_of w []) n.stacks.table) (sym moves.world)
         (subst (λ (t : Table). AreLiveStacks tables (reach_of m.world []) t) (sym moves.table)
-        (stacks_on tables (reach_of m.world []) m.stacks.table f there moves.runs (λ l. live_go tables (reach_of m.world []) f (suc f.place) l) k.stacks));
+        (stacks_on tables (reach_of m.world []) m.stacks.table f there moves.runs (λ l. live_go tables (reach_of m.world []) f (suc f.address) l) k.stacks));
     bounds = ap (λ (w : World). (heap_of w.heap).bounds) moves.world ∙ k.bounds ∙ sym (ap limits_of moves.limits);
     counts = ap (λ (w : World). length (heap_of w.heap).coexps) moves.world ∙ k.counts ∙ sym (ap (λ (t : Table). length t.coexps) moves.table);
     counted = record {
@@ -89,7 +89,7 @@ module _ {K : Type 0} (m n : Machine K) (f : FlatStack) (moves : Moves m n f) wh
     };
   }
 
-  module _ (tables : Tables) (instr : Instr) (stands : slice_get (instrs_of tables (held.proc f)) f.place ≡ Some instr) where
+  module _ (tables : Tables) (instr : Instr) (stands : slice_get (instrs_of tables (held.proc f)) f.address ≡ Some instr) where
     pub instr_here : instruction_at flat tables (stack_seen m) ≡ Some instr
     instr_here = ap (λ (s : Frames). instruction_at flat tables s) was_stack ∙ read_instr tables (extent_of m.world.heap) f instr stands
 
@@ -97,7 +97,7 @@ module _ {K : Type 0} (m n : Machine K) (f : FlatStack) (moves : Moves m n f) wh
     step_here outside =
         step_does tables (stack_seen m) instr (store_seen tables outside m) instr_here
         ∙ sym (ap (λ (s : Frames). instruction flat tables instr s (store_seen tables outside n)) moved_stack
-        ∙ ap (λ (st : Store Frames). instruction flat tables instr (flat.go (suc (flat.place (stack_seen m))) (stack_seen m)) st) (moved_store tables outside))
+        ∙ ap (λ (st : Store Frames). instruction flat tables instr (flat.go (suc (flat.address (stack_seen m))) (stack_seen m)) st) (moved_store tables outside))
 
     pub doing_here : keeps_rules tables ≡ true → IsReady tables m Stages.Runs → IsDoing tables n instr
     doing_here rules ready = record {
@@ -110,7 +110,7 @@ module _ {K : Type 0} (m n : Machine K) (f : FlatStack) (moves : Moves m n f) wh
           λ outside. subst (λ (st : Store Frames). HasVariables tables st) (sym (moved_store tables outside))
           ((kept_running tables m ready.kept outside).always []).variables;
       in_range =
-          subst (λ (s : FlatStack). IsInRange tables (held.proc s) instr) (sym now_stack) (instr_in_range tables (held.proc f) f.place instr rules stands);
+          subst (λ (s : FlatStack). IsInRange tables (held.proc s) instr) (sym now_stack) (instr_in_range tables (held.proc f) f.address instr rules stands);
       mark =
           subst (λ (s : Frames). HasCaseMark instr s) (sym moved_stack) (((kept_running tables m ready.kept (outside_of [])).always []).mark instr instr_here);
       stack_named =

@@ -157,7 +157,7 @@ module _ (tables : Tables) (m : Frames) (st : Store Frames) where
 
   drops : (s : List Cell) → cut m.registers.mark m.cells ≡ s → Goal (mark_dropped flat tables m st (drop_from m s))
   drops (mark (Some label) false r ∷ below) c = tt
-  drops (mark (Some label) true r ∷ below) c = turned tables st (running (record { cells = below; registers = r; place = label })) (length m.cells) tt
+  drops (mark (Some label) true r ∷ below) c = turned tables st (running (record { cells = below; registers = r; address = label })) (length m.cells) tt
   drops (mark None changed r ∷ below) c = inr (refl, cut_short m.registers.mark m.cells (mark None changed r) below c)
   drops (limit count r ∷ below) c = inr (refl, cut_short m.registers.mark m.cells (limit count r) below c)
   drops [] c = without (is_create_body flat m st)

@@ -43,24 +43,24 @@ use Rattle.icn_machine.proofs.KeptSteps.{always_next, kept_at, kept_over, next_l
 
 -- it stands in the procedure, as else the step would be stuck
 pub instr_within : (tables : Tables) (all : Extent) (f : FlatStack) (st : Store Frames) → step flat tables (running (stack_in all f) st) ≢ stuck
-    → f.place < length (instrs_of tables (held.proc f))
-instr_within tables all f st d = by_instr (slice_get (instrs_of tables (flat.proc (stack_in all f))) f.place) refl
+    → f.address < length (instrs_of tables (held.proc f))
+instr_within tables all f st d = by_instr (slice_get (instrs_of tables (flat.proc (stack_in all f))) f.address) refl
   where
-    by_instr : (o : Option Instr) → slice_get (instrs_of tables (flat.proc (stack_in all f))) f.place ≡ o → f.place < length (instrs_of tables (held.proc f))
+    by_instr : (o : Option Instr) → slice_get (instrs_of tables (flat.proc (stack_in all f))) f.address ≡ o → f.address < length (instrs_of tables (held.proc f))
     by_instr (Some instr) e =
-        subst (λ (p : ℕ). f.place < length (instrs_of tables p)) (proc_read (reading_of all) f)
-        (slice_get_within (instrs_of tables (flat.proc (stack_in all f))) f.place instr e)
+        subst (λ (p : ℕ). f.address < length (instrs_of tables p)) (proc_read (reading_of all) f)
+        (slice_get_within (instrs_of tables (flat.proc (stack_in all f))) f.address instr e)
     by_instr None e =
-        absurd (d (ap (λ (o : Option Instr). with_found o (λ instr. instruction flat tables instr (flat.go (suc f.place) (stack_in all f)) st)) e))
+        absurd (d (ap (λ (o : Option Instr). with_found o (λ instr. instruction flat tables instr (flat.go (suc f.address) (stack_in all f)) st)) e))
 
-pub read_instr : (tables : Tables) (all : Extent) (f : FlatStack) (instr : Instr) → slice_get (instrs_of tables (held.proc f)) f.place ≡ Some instr
+pub read_instr : (tables : Tables) (all : Extent) (f : FlatStack) (instr : Instr) → slice_get (instrs_of tables (held.proc f)) f.address ≡ Some instr
     → instruction_at flat tables (stack_in all f) ≡ Some instr
-read_instr tables all f instr e = ap (λ (p : ℕ). slice_get (instrs_of tables p) f.place) (proc_read (reading_of all) f) ∙ e
+read_instr tables all f instr e = ap (λ (p : ℕ). slice_get (instrs_of tables p) f.address) (proc_read (reading_of all) f) ∙ e
 
 -- what the step does is what the instruction does at the next place
 pub step_does : (tables : Tables) (m : Frames) (instr : Instr) (st : Store Frames) → instruction_at flat tables m ≡ Some instr
-    → step flat tables (running m st) ≡ instruction flat tables instr (flat.go (suc m.place) m) st
-step_does tables m instr st e = ap (λ (o : Option Instr). with_found o (λ instr. instruction flat tables instr (flat.go (suc m.place) m) st)) e
+    → step flat tables (running m st) ≡ instruction flat tables instr (flat.go (suc m.address) m) st
+step_does tables m instr st e = ap (λ (o : Option Instr). with_found o (λ instr. instruction flat tables instr (flat.go (suc m.address) m) st)) e
 
 -- the state is kept over every outside
 pub kept_running : {K : Type 0} (tables : Tables) (m : Machine K) → KeepsState tables m Stages.Runs → (outside : Outside)
@@ -73,7 +73,7 @@ pub never_running : {K : Type 0} (tables : Tables) (m : Machine K) → KeepsStat
 never_running tables m k outside = next_lacks_nothing tables (running (stack_seen m) (store_seen tables outside m)) (kept_running tables m k outside)
 
 pub always_doing : (tables : Tables) (m : Frames) (instr : Instr) (st : Store Frames) → instruction_at flat tables m ≡ Some instr
-    → IsKept tables (running m st) → AlwaysOver tables (LacksNothing tables) (instruction flat tables instr (flat.go (suc m.place) m) st)
+    → IsKept tables (running m st) → AlwaysOver tables (LacksNothing tables) (instruction flat tables instr (flat.go (suc m.address) m) st)
 always_doing tables m instr st e k =
     subst (λ (s : State Frames Frames). AlwaysOver tables (LacksNothing tables) s) (step_does tables m instr st e)
     (always_next tables (LacksNothing tables) (running m st) k.always)

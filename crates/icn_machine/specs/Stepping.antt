@@ -40,7 +40,7 @@ FindsVariables tables stuck = ⊤
 -- where a case is due, a mark of its own is open
 abbrev pub FindsMark : Tables → State Frames Frames → Type 0
 FindsMark tables (running m st) = (instr : Instr) → instruction_at flat tables m ≡ Some instr
-    → HasCaseMark instr (flat.go (suc (flat.place m)) m)
+    → HasCaseMark instr (flat.go (suc (flat.address m)) m)
 FindsMark tables (failing m st) = ⊤
 FindsMark tables (hopping m st) = ⊤
 FindsMark tables (over ending outside) = ⊤

@@ -64,11 +64,11 @@ fn instrs_at(code: &Code, proc: u32) -> &[Instr]
 
 // The instruction that is due, and the next one is gone to.
 fn take_instr<K: Stack<Cell> + Drop>(frames: &mut Frames<K>, code: &Code) -> Instr
-    requires there { frames.old.flat.place
+    requires there { frames.old.flat.address
         < length (instrs_of (tables_of code.now) (flat.proc frames.old.flat)) }
     ensures instr { slice_get (instrs_of (tables_of code.now) (flat.proc frames.old.flat))
-        frames.old.flat.place ≡ Some result }
-    ensures flat { frames.new.flat ≡ flat.go (suc frames.old.flat.place) frames.old.flat }
+        frames.old.flat.address ≡ Some result }
+    ensures flat { frames.new.flat ≡ flat.go (suc frames.old.flat.address) frames.old.flat }
 {
     let instrs = instrs_at(code, frames.proc());
     let place = frames.place();

@@ -32,7 +32,7 @@ pub record Calls (K M : Type 0) : Type 0 where
   pub is_base : M → Bool
   pub locals : M → List Value
   pub set_locals : List Value → M → M
-  pub place : M → ℕ
+  pub address : M → ℕ
   pub go : ℕ → M → M
   -- operands of the innermost mark
   pub push : Item → M → M

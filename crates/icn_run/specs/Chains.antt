@@ -36,13 +36,13 @@ mutual
 -- a stack that waits: its chain, with its place
 pub record WaitingChain : Type 0 where
   pub chain : Chain
-  pub place : ℕ
+  pub address : ℕ
 
 -- The chain that runs with its place; and what changes, each in the list of its type at its number: the locals of each activation; of each repeated
 -- alternation whether it had a result; other labels that marks got; the results that each limit leaves; and saved pairs.
 pub record LinkedStack : Type 0 where
   pub chain : Chain
-  pub place : ℕ
+  pub address : ℕ
   pub activations : List (List Value)
   pub flags : List Bool
   pub relabels : List (ℕ × ℕ)
@@ -85,7 +85,7 @@ with_saved n pair m = record m { saved = slice_set m.saved n pair }
 abbrev pub begin : ℕ → List Value → ℕ → LinkedStack → LinkedStack
 begin proc values place m = record m {
   chain = chain [] none [] (base proc (length m.activations));
-  place = place;
+  address = place;
   activations = m.activations ++ values ∷ [];
 }
 
@@ -173,8 +173,8 @@ push_mark label m = with_chain (chain [] none (scans_of m.chain) (mark label m.c
 
 -- a mark is opened; where it repeats, it has a cell that tells whether there was a result
 abbrev pub open_mark : (ℕ → ℕ → Bool) → Option ℕ → LinkedStack → LinkedStack
-open_mark repeats label m = if repeats (proc_of (frame m)) (pred m.place)
-    then record (push_mark (flagged label (length m.flags) (pred m.place))
+open_mark repeats label m = if repeats (proc_of (frame m)) (pred m.address)
+    then record (push_mark (flagged label (length m.flags) (pred m.address))
     m) { flags = m.flags ++ false ∷ [] }
     else push_mark (fixed label) m
 
@@ -289,12 +289,12 @@ unmark m = unmark_from m (outer_of m.chain)
 
 -- to the label, or to what fails next outside
 abbrev pub dropped_to : LinkedStack → Chain → Option ℕ → MarkDrop LinkedStack
-dropped_to m outside (Some label) = Goes (record m { chain = outside; place = label })
+dropped_to m outside (Some label) = Goes (record m { chain = outside; address = label })
 dropped_to m outside None = Outside (with_chain outside m)
 
 -- one that got another label is gone to it
 abbrev pub dropped_by : LinkedStack → Chain → Option ℕ → Option ℕ → MarkDrop LinkedStack
-dropped_by m outside label (Some other) = Repeats (record m { chain = outside; place = other })
+dropped_by m outside label (Some other) = Repeats (record m { chain = outside; address = other })
 dropped_by m outside label None = dropped_to m outside label
 
 -- where the flag is up it is put down, and the repeated alternation begins again behind its mark
@@ -302,7 +302,7 @@ abbrev pub repeat_mark : Option ℕ → ℕ → ℕ → Chain → LinkedStack �
 repeat_mark label flag place outside m true =
     Repeats (record m {
       chain = chain [] none (scans_of outside) (mark (flagged label flag place) outside);
-      place = suc place;
+      address = suc place;
       flags = slice_set m.flags flag false;
     })
 repeat_mark label flag place outside m false = dropped_by m outside label (label_of flag m.relabels)
@@ -338,19 +338,19 @@ with_scan n (chain items s scans outer) = chain items s (n ∷ scans) outer
 abbrev pub suspend : Why → LinkedStack → LinkedStack
 suspend (Scan pair) m = let n = length m.saved in
     record m {
-      chain = with_scan n (suspend_in (suspension (scanning n) m.place m.chain) m.chain);
+      chain = with_scan n (suspend_in (suspension (scanning n) m.address m.chain) m.chain);
       saved = m.saved ++ pair ∷ [];
     }
 suspend Escan m =
-    with_chain (without_scan (suspend_in (suspension (because Escan) m.place m.chain) m.chain)) m
-suspend why m = with_chain (suspend_in (suspension (because why) m.place m.chain) m.chain) m
+    with_chain (without_scan (suspend_in (suspension (because Escan) m.address m.chain) m.chain)) m
+suspend why m = with_chain (suspend_in (suspension (because why) m.address m.chain) m.chain) m
 
 -- the innermost mark is left suspended in the one outside, if it is there
 abbrev pub suspend_outer : LinkedStack → Outer → Option LinkedStack
 suspend_outer m (mark label outside) =
-    Some (with_chain (suspend_in (suspension (because Alt) m.place m.chain) outside) m)
+    Some (with_chain (suspend_in (suspension (because Alt) m.address m.chain) outside) m)
 suspend_outer m (limit n outside) =
-    Some (with_chain (suspend_in (suspension (because Alt) m.place m.chain) outside) m)
+    Some (with_chain (suspend_in (suspension (because Alt) m.address m.chain) outside) m)
 suspend_outer m outer = None
 
 -- the innermost mark is left suspended in the one outside
@@ -361,7 +361,7 @@ suspend_mark m = suspend_outer m (outer_of m.chain)
 abbrev pub suspend_frame : LinkedStack → Frame → Option LinkedStack
 suspend_frame m (at_base proc activation) = None
 suspend_frame m (in_call proc activation level place caller) =
-    Some (record m { chain = suspend_in (suspension (because Proc) m.place m.chain) caller; place = place })
+    Some (record m { chain = suspend_in (suspension (because Proc) m.address m.chain) caller; address = place })
 
 -- the procedure is left suspended in its caller
 abbrev pub suspend_proc : LinkedStack → Option LinkedStack
@@ -376,7 +376,7 @@ why_of (scanning n) m = Scan (saved_at m n)
 abbrev pub resume_from : LinkedStack → Chain → Option (Why × LinkedStack)
 resume_from m (chain items none scans outer) = None
 resume_from m (chain items (suspension reason place inside) scans outer) =
-    Some (why_of reason m, record m { chain = inside; place = place })
+    Some (why_of reason m, record m { chain = inside; address = place })
 
 -- the newest suspension of the innermost mark comes back
 abbrev pub resume : LinkedStack → Option (Why × LinkedStack)
@@ -387,15 +387,15 @@ resume m = resume_from m m.chain
 -- a procedure is entered, with the way back to its caller
 abbrev pub enter : ℕ → List Value → LinkedStack → LinkedStack
 enter proc values m = record m {
-  chain = chain [] none [] (call proc (length m.activations) (suc (level_of (frame m))) m.place m.chain);
-  place = 0;
+  chain = chain [] none [] (call proc (length m.activations) (suc (level_of (frame m))) m.address m.chain);
+  address = 0;
   activations = m.activations ++ values ∷ [];
 }
 
 -- the way back to the caller, if there is one
 abbrev pub leave_frame : LinkedStack → Frame → Option LinkedStack
 leave_frame m (at_base proc activation) = None
-leave_frame m (in_call proc activation level place caller) = Some (record m { chain = caller; place = place })
+leave_frame m (in_call proc activation level place caller) = Some (record m { chain = caller; address = place })
 
 -- the procedure ends and its caller goes on
 abbrev pub leave : LinkedStack → Option LinkedStack
@@ -405,7 +405,7 @@ leave m = leave_frame m (frame m)
 abbrev pub empty : LinkedStack
 empty = record {
   chain = chain [] none [] (base 0 0);
-  place = 0;
+  address = 0;
   activations = [];
   flags = [];
   relabels = [];
@@ -417,16 +417,16 @@ empty = record {
 -- repeated alternations begin, and then the cells are those of the meaning; where it is said of all places, no code lacks a cell.
 abbrev pub linked_calls : (ℕ → ℕ → Bool) → Calls WaitingChain LinkedStack
 linked_calls repeats = record {
-  kept = λ m. record { chain = m.chain; place = m.place };
-  taken_up = λ k m. record m { chain = k.chain; place = k.place };
+  kept = λ m. record { chain = m.chain; address = m.address };
+  taken_up = λ k m. record m { chain = k.chain; address = k.address };
   begin = begin;
   proc = λ m. proc_of (frame m);
   level = λ m. level_of (frame m);
   is_base = λ m. is_base_frame (frame m);
   locals = locals;
   set_locals = set_locals;
-  place = λ m. m.place;
-  go = λ place m. record m { place = place };
+  address = λ m. m.address;
+  go = λ place m. record m { address = place };
   push = push;
   pop = pop;
   take = take_items;

@@ -30,7 +30,7 @@ pub data Cell : Type 0 where
 pub record Frames : Type 0 where
   pub cells : List Cell
   pub registers : Registers
-  pub place : ℕ
+  pub address : ℕ
 
 -- the lowest cells, up to a height
 abbrev pub cut : ℕ → List Cell → List Cell
@@ -55,7 +55,7 @@ begin proc values place m =
     record {
       cells = put_above values (base proc (length values) ∷ []);
       registers = record { base = 1; mark = 1; newest = None; scan = None };
-      place = place;
+      address = place;
     }
 
 -- the procedure
@@ -125,7 +125,7 @@ set_locals values m = record m { cells = set_from m.registers.base values m.cell
 
 -- the code goes on at this place
 abbrev pub go : ℕ → Frames → Frames
-go place m = record m { place = place }
+go place m = record m { address = place }
 
 -- operands
 
@@ -278,9 +278,9 @@ unmark m = unmark_in m (cut m.registers.mark m.cells)
 -- where failing goes on once the mark on top is dropped
 abbrev pub drop_from : Frames → List Cell → MarkDrop Frames
 drop_from m (mark (Some label) false registers ∷ cells) =
-    Goes (record { cells = cells; registers = registers; place = label })
+    Goes (record { cells = cells; registers = registers; address = label })
 drop_from m (mark (Some label) true registers ∷ cells) =
-    Repeats (record { cells = cells; registers = registers; place = label })
+    Repeats (record { cells = cells; registers = registers; address = label })
 drop_from m (mark None changed registers ∷ cells) =
     Outside (record m { cells = cells; registers = registers })
 drop_from m (limit count registers ∷ cells) = Outside (record m { cells = cells; registers = registers })
@@ -301,7 +301,7 @@ scan_after why height m = m.registers.scan
 -- something is suspended in the innermost mark, whose operands are copied above it
 abbrev pub suspend : Why → Frames → Frames
 suspend why m = let height = suc (length m.cells) in record m {
-  cells = copy_up m.cells (suspension why m.registers m.place ∷ m.cells);
+  cells = copy_up m.cells (suspension why m.registers m.address ∷ m.cells);
   registers = record m.registers { newest = Some height; scan = scan_after why height m };
 }
 
@@ -309,15 +309,15 @@ suspend why m = let height = suc (length m.cells) in record m {
 abbrev pub suspended_onto : Why → Frames → List Cell → Registers → ℕ → Frames
 suspended_onto why m cells registers place =
     record {
-      cells = copy_up cells (suspension why m.registers m.place ∷ m.cells);
+      cells = copy_up cells (suspension why m.registers m.address ∷ m.cells);
       registers = record registers { newest = Some (suc (length m.cells)) };
-      place = place;
+      address = place;
     }
 
 -- from the mark's cell downward
 abbrev pub mark_suspended : Frames → List Cell → Option Frames
-mark_suspended m (mark label changed registers ∷ cells) = Some (suspended_onto Alt m cells registers m.place)
-mark_suspended m (limit count registers ∷ cells) = Some (suspended_onto Alt m cells registers m.place)
+mark_suspended m (mark label changed registers ∷ cells) = Some (suspended_onto Alt m cells registers m.address)
+mark_suspended m (limit count registers ∷ cells) = Some (suspended_onto Alt m cells registers m.address)
 mark_suspended m cells = None
 
 -- the innermost mark is left suspended in the one outside
@@ -337,7 +337,7 @@ suspend_proc m = proc_suspended m (cut m.registers.base m.cells)
 -- from the suspension frame downward
 abbrev pub resume_from : List Cell → Option (Why × Frames)
 resume_from (suspension why registers place ∷ cells) =
-    Some (why, record { cells = cells; registers = registers; place = place })
+    Some (why, record { cells = cells; registers = registers; address = place })
 resume_from cells = None
 
 -- the newest suspension of the innermost mark comes back
@@ -349,15 +349,15 @@ resume m = option_and_then (λ height. resume_from (cut height m.cells)) m.regis
 -- a procedure is entered, with the way back to its caller
 abbrev pub enter : ℕ → List Value → Frames → Frames
 enter proc values m = let height = suc (length m.cells) in record {
-  cells = put_above values (call proc (length values) (suc (level m)) m.registers m.place ∷ m.cells);
+  cells = put_above values (call proc (length values) (suc (level m)) m.registers m.address ∷ m.cells);
   registers = record { base = height; mark = height; newest = None; scan = None };
-  place = 0;
+  address = 0;
 }
 
 -- from the procedure's frame downward
 abbrev pub leave_from : List Cell → Option Frames
 leave_from (call proc locals level registers place ∷ cells) =
-    Some (record { cells = cells; registers = registers; place = place })
+    Some (record { cells = cells; registers = registers; address = place })
 leave_from cells = None
 
 -- the procedure ends and its caller goes on
@@ -367,7 +367,7 @@ leave m = leave_from (cut m.registers.base m.cells)
 -- no stack yet
 abbrev pub empty : Frames
 empty =
-    record { cells = []; registers = record { base = 0; mark = 0; newest = None; scan = None }; place = 0 }
+    record { cells = []; registers = record { base = 0; mark = 0; newest = None; scan = None }; address = 0 }
 
 -- the calls of a stack, as a flat stack answers them
 abbrev pub flat : Calls Frames Frames
@@ -380,7 +380,7 @@ flat = record {
   is_base = is_base;
   locals = locals;
   set_locals = set_locals;
-  place = λ m. m.place;
+  address = λ m. m.address;
   go = go;
   push = push;
   pop = pop;

@@ -42,7 +42,7 @@ pub record Coexp (K : Type 0) : Type 0 where
   pub activator : ℕ
   pub values : List Value
   pub proc : ℕ
-  pub place : ℕ
+  pub address : ℕ
 
 -- All but the stack that runs: `&main` is the first of the co-expressions, and `begun` tells which procedures did `initial`.
 pub record Store (K : Type 0) : Type 0 where
@@ -202,7 +202,7 @@ all_left C m st = swapped_back (C.swap_oldest (pair_now st) m) st
 -- the co-expression of this number; where there is none, an exhausted one
 abbrev pub coexp_at : {K : Type 0} → ℕ → Store K → Coexp K
 coexp_at n st = slice_index_or st.coexps n
-    (record { status = Exhausted; activator = zero; values = []; proc = zero; place = zero })
+    (record { status = Exhausted; activator = zero; values = []; proc = zero; address = zero })
 
 -- whether a co-expression has begun, is active, waits or is exhausted
 abbrev pub status_of : {K : Type 0} → ℕ → Store K → Status K
@@ -242,7 +242,7 @@ passed_failure C n m st = fail_by C (status_of n st) n m st
 
 -- a fresh co-expression begins
 abbrev pub begun_by : {K M : Type 0} → Calls K M → Coexp K → M → Store K → State K M
-begun_by C coexp m st = running (C.begin coexp.proc coexp.values coexp.place m) st
+begun_by C coexp m st = running (C.begin coexp.proc coexp.values coexp.address m) st
 
 -- a co-expression is entered with a value, by its status
 abbrev pub give_by : {K M : Type 0} → Calls K M → Status K → ℕ → Value → M → Store K → State K M
@@ -289,7 +289,7 @@ is_create_body C m st = C.is_base m && not (is_main st.active)
 abbrev pub with_new : {K : Type 0} → List Value → ℕ → ℕ → Store K → Store K
 with_new values proc place st = record st {
   coexps = st.coexps
-      ++ record { status = Fresh; activator = zero; values = values; proc = proc; place = place } ∷ [];
+      ++ record { status = Fresh; activator = zero; values = values; proc = proc; address = place } ∷ [];
 }
 
 -- a new one is charged and made
@@ -299,7 +299,7 @@ coexp_made C values proc place m st = with_made C (coexpression_row (length valu
 
 -- a new co-expression, made as this one was
 abbrev pub refreshed_from : {K M : Type 0} → Calls K M → Option (Coexp K) → M → Store K → State K M
-refreshed_from C (Some coexp) m st = coexp_made C coexp.values coexp.proc coexp.place m st
+refreshed_from C (Some coexp) m st = coexp_made C coexp.values coexp.proc coexp.address m st
 refreshed_from C None m st = stuck
 
 -- a copy of a co-expression that has not begun; `&main` has none
@@ -647,21 +647,21 @@ instruction C P Instrs.Pret m st = with_popped C m (λ item m.
     with_result C item m st (λ result. return_to (C.leave m) (push_item C result) (all_left C m st)))
 instruction C P Instrs.Pfail m st = if is_create_body C m st then stuck else proc_fails C m st
 instruction C P (Instrs.Create l) m st =
-    turn P st (coexp_made C (C.locals m) (C.proc m) (C.place m) (C.go l m))
+    turn P st (coexp_made C (C.locals m) (C.proc m) (C.address m) (C.go l m))
 instruction C P Instrs.Coact m st = with_taken C 2 m (λ items m. turn P st (activation_of C items m))
 instruction C P Instrs.Coret m st = coexp_result C P m st
 instruction C P Instrs.Cofail m st = if is_create_body C m st then exhaust_active C P m st else stuck
 
 -- the instruction that is due, if there is one
 abbrev pub instruction_at : {K M : Type 0} → Calls K M → Program → M → Option Instr
-instruction_at C P m = slice_get (instrs_of P (C.proc m)) (C.place m)
+instruction_at C P m = slice_get (instrs_of P (C.proc m)) (C.address m)
 
 -- Steps
 
 -- one step: the instruction that is due, failing, or passing failure on; what is over stays
 abbrev pub step : {K M : Type 0} → Calls K M → Program → State K M → State K M
 step C P (running m st) =
-    with_found (instruction_at C P m) (λ instr. instruction C P instr (C.go (suc (C.place m)) m) st)
+    with_found (instruction_at C P m) (λ instr. instruction C P instr (C.go (suc (C.address m)) m) st)
 step C P (failing m st) = fails C P m st
 step C P (hopping m st) = hop C P m st
 step C P (over ending outside) = over ending outside
@@ -720,7 +720,7 @@ first_store P launch = record {
   outside = launch.outside;
   turns = 0;
   begun = replicate (length P.procs) false;
-  coexps = record { status = Active; activator = zero; values = []; proc = zero; place = zero } ∷ [];
+  coexps = record { status = Active; activator = zero; values = []; proc = zero; address = zero } ∷ [];
   active = 0;
   names = all_names P;
 }

@@ -87,23 +87,23 @@ module _ (tables : Tables) (have : HaveShapes tables) (ok : TablesOk tables) (ke
   -- Where nothing leads back
 
   forward_near : (m : Frames) (st : Store Frames) → IsNear (running m st) → (instr : Instr) → instruction_at flat tables m ≡ Some instr
-      → IsForward m.place instr
+      → IsForward m.address instr
   forward_near m st x instr e =
       let shaped : IsFlatShapedAt tables (shapes_of tables have) m st = shaped_in tables have ok keep x.state (running m st) x.same x.safe in
       let same : instr ≡ shaped.fine.instr = some_inj (sym e ∙ shaped.fine.stands) in
-      subst (IsForward m.place) (sym same)
-      (goes_forward shaped.fine.instr shaped.shape m.place (λ to. shapes_of tables have (flat.proc m) to.0 ≡ Some to.1) shaped.fine.onward)
+      subst (IsForward m.address) (sym same)
+      (goes_forward shaped.fine.instr shaped.shape m.address (λ to. shapes_of tables have (flat.proc m) to.0 ≡ Some to.1) shaped.fine.onward)
 
   -- nothing leads back, or a turn more was made
   abbrev Settled : ℕ → State Frames Frames → Type 0
-  Settled n (running m st) = (backward_worth N m.place (instruction_at flat tables m) ≡ 0) ⊎ (st.turns ≡ suc n)
+  Settled n (running m st) = (backward_worth N m.address (instruction_at flat tables m) ≡ 0) ⊎ (st.turns ≡ suc n)
   Settled n (failing m st) = Unit {0}
   Settled n (hopping m st) = Unit {0}
   Settled n (over ending outside) = Unit {0}
   Settled n stuck = Unit {0}
 
   near_settled : (n : ℕ) (s : State Frames Frames) → IsNear s → Settled n s
-  near_settled n (running m st) x = inl (backward_none N m.place (instruction_at flat tables m) (forward_near m st x))
+  near_settled n (running m st) x = inl (backward_none N m.address (instruction_at flat tables m) (forward_near m st x))
   near_settled n (failing m st) x = tt
   near_settled n (hopping m st) x = tt
   near_settled n (over ending outside) x = tt
@@ -134,7 +134,7 @@ module _ (tables : Tables) (have : HaveShapes tables) (ok : TablesOk tables) (ke
 
   running_falls : (n w : ℕ) (before : State Frames Frames) (m : Frames) (st : Store Frames) (f : Fits flat N B W m) → turns_of before ≡ n
       → w ≤ left_of tables before
-      → TurnedOrLighter flat N B W st.turns (worth N m.place + f.0) n w → Settled n (running m st) → Falls tables B before (running m st)
+      → TurnedOrLighter flat N B W st.turns (worth N m.address + f.0) n w → Settled n (running m st) → Falls tables B before (running m st)
   running_falls n w before m st f e le (inl turn) settled = let a = turn.0 in let b = turn.1 in turn_made (omega (arith, b, e)) (omega (arith, a, e))
   running_falls n w before m st f e le (inr less) (inl none) =
       let a = less.0 in let b = less.1 in let c = weighs_least m f in lighter (omega (arith, a, e)) (omega (arith, b, c, none, le))
@@ -160,26 +160,26 @@ module _ (tables : Tables) (have : HaveShapes tables) (ok : TablesOk tables) (ke
   few_after n w turns less few (inr same) = let a = same.0 in omega (arith, a, few)
 
   later_sound : (n w : ℕ) (s : State Frames Frames) → n ≤ B → Later flat N B W n w s → IsSound s
-  later_sound n w (running m st) few l = (l.0, l.1, few_after n w st.turns (worth N m.place + l.0.0) few l.2)
+  later_sound n w (running m st) few l = (l.0, l.1, few_after n w st.turns (worth N m.address + l.0.0) few l.2)
   later_sound n w (failing m st) few l = (l.0, l.1, few_after n w st.turns l.0.0 few l.2)
   later_sound n w (hopping m st) few l = let a = l.1.0 in let b = l.1.1 in (l.0, omega (arith, a, b))
   later_sound n w (over ending outside) few l = tt
   later_sound n w stuck few l = tt
 
   at_instruction : (m : Frames) (st : Store Frames) (h : IsSound (running m st))
-      → ((instr : Instr) → instruction_at flat tables m ≡ Some instr → IsForward m.place instr) → (o : Option Instr) → instruction_at flat tables m ≡ o
-      → Later flat N B W st.turns (worth N m.place + stack_weight N m) (with_found o (λ instr. instruction flat tables instr (flat.go (suc m.place) m) st))
+      → ((instr : Instr) → instruction_at flat tables m ≡ Some instr → IsForward m.address instr) → (o : Option Instr) → instruction_at flat tables m ≡ o
+      → Later flat N B W st.turns (worth N m.address + stack_weight N m) (with_found o (λ instr. instruction flat tables instr (flat.go (suc m.address) m) st))
   at_instruction m st h forward None e = tt
   at_instruction m st h forward (Some i) e =
-      let y = worth_next N m.place (place_within tables.procs (flat.proc m) m.place i e) in
+      let y = worth_next N m.address (place_within tables.procs (flat.proc m) m.address i e) in
       let f = least_fits m h.0 in
-      l_instruction flat N W tables B st.turns (worth N m.place + stack_weight N m) h.2 (flat.go (suc m.place) m) (f.0, W.go (suc m.place) m f.0 f.1)
+      l_instruction flat N W tables B st.turns (worth N m.address + stack_weight N m) h.2 (flat.go (suc m.address) m) (f.0, W.go (suc m.address) m f.0 f.1)
       (omega (arith, y)) i st
-      (behind m.place i (forward i e)) (record { fit = h.1; turns = refl })
+      (behind m.address i (forward i e)) (record { fit = h.1; turns = refl })
 
   -- what is left of a state, but for a label that leads back
   abbrev weight_left : State Frames Frames → ℕ
-  weight_left (running m st) = worth N m.place + stack_weight N m
+  weight_left (running m st) = worth N m.address + stack_weight N m
   weight_left (failing m st) = stack_weight N m
   weight_left (hopping m st) = 0
   weight_left (over ending outside) = 0
@@ -230,24 +230,24 @@ module _ (tables : Tables) (have : HaveShapes tables) (ok : TablesOk tables) (ke
           let less = worth_less N (suc place) label (omega (arith, front)) in omega (arith, y, one, le, less)
 
   abbrev opened : Option ℕ → Frames → Frames
-  opened label m = flat.mark label (flat.go (suc m.place) m)
+  opened label m = flat.mark label (flat.go (suc m.address) m)
 
   due_falls : (m : Frames) (st : Store Frames) (label : Option ℕ) → instruction_at flat tables m ≡ Some (mark_of label) → IsSound (running m st)
       → IsNear (running (opened label m) st) → Falls tables B (running m st) (running (opened label m) st)
   due_falls m st label stands h near =
       let f = least_fits m h.0 in
-      let stays = W.mark label (flat.go (suc m.place) m) (f.0, W.go (suc m.place) m f.0 f.1) in
+      let stays = W.mark label (flat.go (suc m.address) m) (f.0, W.go (suc m.address) m f.0 f.1) in
       let most = stays.weighs in
       let weighs = weighs_least (opened label m) stays.fits in
-      let none = backward_none N (suc m.place) (instruction_at flat tables (opened label m)) (forward_near (opened label m) st near) in
-      let low = place_within tables.procs (flat.proc m) m.place (mark_of label) stands in
-      let less = mark_lighter m.place (suc (worth_of N label)) label low (omega arith) in
-      let there : backward_worth N m.place (instruction_at flat tables m)
-      ≡ backward_worth N m.place (Some (mark_of label)) = ap (backward_worth N m.place) stands in
+      let none = backward_none N (suc m.address) (instruction_at flat tables (opened label m)) (forward_near (opened label m) st near) in
+      let low = place_within tables.procs (flat.proc m) m.address (mark_of label) stands in
+      let less = mark_lighter m.address (suc (worth_of N label)) label low (omega arith) in
+      let there : backward_worth N m.address (instruction_at flat tables m)
+      ≡ backward_worth N m.address (Some (mark_of label)) = ap (backward_worth N m.address) stands in
       lighter refl (omega (arith, most, weighs, none, less, there))
 
   due_sound : (m : Frames) (st : Store Frames) (label : Option ℕ) → IsSound (running m st) → IsSound (running (opened label m) st)
-  due_sound m st label h = let f = least_fits m h.0 in ((W.mark label (flat.go (suc m.place) m) (f.0, W.go (suc m.place) m f.0 f.1)).fits, h.1, h.2)
+  due_sound m st label h = let f = least_fits m h.0 in ((W.mark label (flat.go (suc m.address) m) (f.0, W.go (suc m.address) m f.0 f.1)).fits, h.1, h.2)
 
   -- All steps
 

@@ -24,7 +24,7 @@ backward_worth N place instr = 0
 -- what is left to do before the next turn, at most
 abbrev pub left_of : Tables → State Frames Frames → ℕ
 left_of tables (running m st) = let N = instr_count tables.procs in
-    worth N m.place + stack_weight N m + backward_worth N m.place (instruction_at flat tables m)
+    worth N m.address + stack_weight N m + backward_worth N m.address (instruction_at flat tables m)
 left_of tables (failing m st) = stack_weight (instr_count tables.procs) m
 left_of tables (hopping m st) = 0
 left_of tables (over ending outside) = 0

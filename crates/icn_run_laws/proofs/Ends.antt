@@ -22,13 +22,13 @@ behind p next e _ h = tt
 -- what a run keeps from state to state, and where it goes forward
 pub record GoesForward {K M : Type 0} (C : Calls K M) (N : ℕ) (P : Program) (Kept : State K M → Type 0) : Type 0 where
   pub on : (s : State K M) → Kept s → Kept (step C P s)
-  pub within : (m : M) (st : Store K) → Kept (running m st) → (instr : Instr) → instruction_at C P m ≡ Some instr → C.place m < N
-  pub forward : (m : M) (st : Store K) → Kept (running m st) → (instr : Instr) → instruction_at C P m ≡ Some instr → IsForward (C.place m) instr
+  pub within : (m : M) (st : Store K) → Kept (running m st) → (instr : Instr) → instruction_at C P m ≡ Some instr → C.address m < N
+  pub forward : (m : M) (st : Store K) → Kept (running m st) → (instr : Instr) → instruction_at C P m ≡ Some instr → IsForward (C.address m) instr
 
 module _ {K M : Type 0} (C : Calls K M) (N : ℕ) (W : Weighs C N) (P : Program) (B : ℕ) (Kept : State K M → Type 0) (code : GoesForward C N P Kept) where
   -- what is left in a state, and the turns that it made
   abbrev left : (s : State K M) → Sound C N B W s → ℕ
-  left (running m st) h = worth N (C.place m) + h.0.0
+  left (running m st) h = worth N (C.address m) + h.0.0
   left (failing m st) h = h.0.0
   left (hopping m st) h = 0
   left (over ending outside) h = 0
@@ -42,14 +42,14 @@ module _ {K M : Type 0} (C : Calls K M) (N : ℕ) (W : Weighs C N) (P : Program)
 
   at_instruction : (m : M) (st : Store K) (o : Option Instr) → instruction_at C P m ≡ o → Kept (running m st) → (f : Fits C N B W m) → Held C N B W st
       → (few : st.turns ≤ B)
-      → Later C N B W st.turns (worth N (C.place m) + f.0) (with_found o (λ instr. instruction C P instr (C.go (suc (C.place m)) m) st))
+      → Later C N B W st.turns (worth N (C.address m) + f.0) (with_found o (λ instr. instruction C P instr (C.go (suc (C.address m)) m) st))
   at_instruction m st None q kept f g few = tt
   at_instruction m st (Some i) q kept f g few =
-      let p = C.place m in let stands = W.go_stands (suc p) m in
-      let e : worth N (C.place (C.go (suc p) m)) ≡ worth N (suc p) = ap (worth N) stands in
+      let p = C.address m in let stands = W.go_stands (suc p) m in
+      let e : worth N (C.address (C.go (suc p) m)) ≡ worth N (suc p) = ap (worth N) stands in
       let y = worth_next N p (code.within m st kept i q) in
       l_instruction C N W P B st.turns (worth N p + f.0) few (C.go (suc p) m) (f.0, W.go (suc p) m f.0 f.1) (omega arith) i st
-      (behind p (C.place (C.go (suc p) m)) stands i (code.forward m st kept i q)) (record { fit = g; turns = refl })
+      (behind p (C.address (C.go (suc p) m)) stands i (code.forward m st kept i q)) (record { fit = g; turns = refl })
 
   -- a step is a turn, or what is left becomes less
   pub falls : (s : State K M) (h : Sound C N B W s) → Kept s → Later C N B W (turns_of s) (left s h) (step C P s)
@@ -77,7 +77,7 @@ module _ {K M : Type 0} (C : Calls K M) (N : ℕ) (W : Weighs C N) (P : Program)
       → EndsFrom C P t
   on_next k w n v fewer lighter e le (running m st) kept l = on_falls k w n fewer lighter (running m st) (l.0, l.1, few l.2) kept e v le l.2
     where
-      few : Falls C N B W st.turns (worth N (C.place m) + l.0.0) n v → st.turns ≤ B
+      few : Falls C N B W st.turns (worth N (C.address m) + l.0.0) n v → st.turns ≤ B
       few (inl turn) = let a = turn.0 in let b = turn.1 in omega arith
       few (inr less) = let a = less.0 in omega arith
   on_next k w n v fewer lighter e le (failing m st) kept l = on_falls k w n fewer lighter (failing m st) (l.0, l.1, few l.2) kept e v le l.2
@@ -152,6 +152,6 @@ pub ends : {K M : Type 0} (C : Calls K M) (N : ℕ) (W : Weighs C N) (P : Progra
     → EndsFrom C P (start C m P launch)
 ends C N W P B code m launch e = ends_by C N W P B (λ s. Unit {0}) (record {
   on = λ s kept. tt;
-  within = λ m st kept i q. code.within (C.proc m) (C.place m) i q;
-  forward = λ m st kept i q. code.forward (C.proc m) (C.place m) i q;
+  within = λ m st kept i q. code.within (C.proc m) (C.address m) i q;
+  forward = λ m st kept i q. code.forward (C.proc m) (C.address m) i q;
 }) m launch e tt

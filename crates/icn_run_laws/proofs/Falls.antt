@@ -146,7 +146,7 @@ module _ {K M : Type 0} (C : Calls K M) (N : ℕ) (W : Weighs C N) (P : Program)
       → ((v : Value) (a : M) (st' : Store K) → Ready a st' → A (next v a st')) → A (list_made C values m st next)
   a_list values m st next h f = a_made (list_row values (here C m st)) m st next (rows_keep.listed values (here C m st)) h f
 
-  a_maybe : (v : ℕ) (o : Option (Pair × M)) (m : M) (st : Store K) → IfThere o (λ swap. Stays W.Bounded C.place 0 v m swap.1) → Ready m st
+  a_maybe : (v : ℕ) (o : Option (Pair × M)) (m : M) (st : Store K) → IfThere o (λ swap. Stays W.Bounded C.address 0 v m swap.1) → Ready m st
       → A (maybe_exchanged o m st running)
   a_maybe v None m st i h = h
   a_maybe v (Some swap) m st i h = (i.fits, h.1, h.2)
@@ -154,7 +154,7 @@ module _ {K M : Type 0} (C : Calls K M) (N : ℕ) (W : Weighs C N) (P : Program)
   -- co-expressions
 
   status_fits : (k : ℕ) (st : Store K) → Holds st → FitsStatus W.FitsAway (status_of k st)
-  status_fits k st h = fit_at W.FitsAway st.coexps k (record { status = Exhausted; activator = zero; values = []; proc = zero; place = zero }) tt h.0
+  status_fits k st h = fit_at W.FitsAway st.coexps k (record { status = Exhausted; activator = zero; values = []; proc = zero; address = zero }) tt h.0
 
   a_fail_by : (s : Status K) (k : ℕ) (m : M) (st : Store K) → Rest st → FitsStatus W.FitsAway s → A (fail_by C s k m st)
   a_fail_by Fresh k m st h f = tt
@@ -194,13 +194,13 @@ module _ {K M : Type 0} (C : Calls K M) (N : ℕ) (W : Weighs C N) (P : Program)
       (λ value m st. push_item C (Val value) m (with_new values proc place st)) (rows_keep.created (length values) (here C m st)) h
       (λ v a st' h'. (
         (W.push (Val v) a h'.0).fits,
-        (fit_more W.FitsAway st'.coexps (record { status = Fresh; activator = 0; values = values; proc = proc; place = place }) tt h'.1.0, h'.1.1),
+        (fit_more W.FitsAway st'.coexps (record { status = Fresh; activator = 0; values = values; proc = proc; address = place }) tt h'.1.0, h'.1.1),
         h'.2,
       ))
 
   a_refreshed_from : (o : Option (Coexp K)) (m : M) (st : Store K) → Ready m st → A (refreshed_from C o m st)
   a_refreshed_from None m st h = tt
-  a_refreshed_from (Some c) m st h = a_new c.values c.proc c.place m st h
+  a_refreshed_from (Some c) m st h = a_new c.values c.proc c.address m st h
 
   a_refresh : (v : Value) (m : M) (st : Store K) → Ready m st → A (refresh C v m st)
   a_refresh (ACoexp zero) m st h = tt
@@ -343,52 +343,52 @@ module _ {K M : Type 0} (C : Calls K M) (N : ℕ) (W : Weighs C N) (P : Program)
   ready m st f s = let e = s.turns in (f, s.fit, omega arith)
 
   -- the place is that of the next instruction
-  module _ (m : M) (fits : Fits C N B W m) (bound : worth N (C.place m) + worth N (C.place m) + worth N (C.place m) + worth N (C.place m) + fits.0 ≤ w) where
-    go_on : (k : ℕ) (after : M) (st : Store K) → Stays W.Bounded C.place k fits.0 m after → k ≤ suc (worth N (C.place m)) → Same st → Lt (running after st)
+  module _ (m : M) (fits : Fits C N B W m) (bound : worth N (C.address m) + worth N (C.address m) + worth N (C.address m) + worth N (C.address m) + fits.0 ≤ w) where
+    go_on : (k : ℕ) (after : M) (st : Store K) → Stays W.Bounded C.address k fits.0 m after → k ≤ suc (worth N (C.address m)) → Same st → Lt (running after st)
     go_on k after st s le g =
-        let more = s.weighs in let e : worth N (C.place after) ≡ worth N (C.place m) = ap (worth N) s.stands in let one = cost_some (N - C.place m) in
+        let more = s.weighs in let e : worth N (C.address after) ≡ worth N (C.address m) = ap (worth N) s.stands in let one = cost_some (N - C.address m) in
         (s.fits, g.fit, inr (g.turns, omega arith))
 
-    fail_on : (k : ℕ) (after : M) (st : Store K) → Stays W.Bounded C.place k fits.0 m after → k ≤ suc (worth N (C.place m)) → Same st → Lt (failing after st)
-    fail_on k after st s le g = let more = s.weighs in let one = cost_some (N - C.place m) in (s.fits, g.fit, inr (g.turns, omega arith))
+    fail_on : (k : ℕ) (after : M) (st : Store K) → Stays W.Bounded C.address k fits.0 m after → k ≤ suc (worth N (C.address m)) → Same st → Lt (failing after st)
+    fail_on k after st s le g = let more = s.weighs in let one = cost_some (N - C.address m) in (s.fits, g.fit, inr (g.turns, omega arith))
 
-    abbrev stay : Stays W.Bounded C.place 0 fits.0 m m
+    abbrev stay : Stays W.Bounded C.address 0 fits.0 m m
     stay = record { fits = fits; weighs = omega arith; stands = refl }
 
-    andthen : (j k : ℕ) (a b : M) → (s : Stays W.Bounded C.place j fits.0 m a) → Stays W.Bounded C.place k s.fits.0 a b
-        → Stays W.Bounded C.place (k + j) fits.0 m b
+    andthen : (j k : ℕ) (a b : M) → (s : Stays W.Bounded C.address j fits.0 m a) → Stays W.Bounded C.address k s.fits.0 a b
+        → Stays W.Bounded C.address (k + j) fits.0 m b
     andthen j k a b s t = let x = s.weighs in let y = t.weighs in record { fits = t.fits; weighs = omega arith; stands = t.stands ∙ s.stands }
 
-    then_same : (k : ℕ) (a b : M) → (s : Stays W.Bounded C.place k fits.0 m a) → Stays W.Bounded C.place 0 s.fits.0 a b → Stays W.Bounded C.place k fits.0 m b
+    then_same : (k : ℕ) (a b : M) → (s : Stays W.Bounded C.address k fits.0 m a) → Stays W.Bounded C.address 0 s.fits.0 a b → Stays W.Bounded C.address k fits.0 m b
     then_same k a b s t = let x = s.weighs in let y = t.weighs in record { fits = t.fits; weighs = omega arith; stands = t.stands ∙ s.stands }
 
     -- a call that the weight paid for
-    paid_on : (k : ℕ) (a after : M) (st : Store K) → (s : Stays W.Bounded C.place k fits.0 m a) → k ≤ suc (worth N (C.place m))
-        → Pays W.Bounded C.place N s.fits.0 after → Same st → Lt (running after st)
-    paid_on k a after st s le p g = let x = s.weighs in let y = p.weighs in let one = cost_some (N - C.place m) in (p.fits, g.fit, inr (g.turns, omega arith))
+    paid_on : (k : ℕ) (a after : M) (st : Store K) → (s : Stays W.Bounded C.address k fits.0 m a) → k ≤ suc (worth N (C.address m))
+        → Pays W.Bounded C.address N s.fits.0 after → Same st → Lt (running after st)
+    paid_on k a after st s le p g = let x = s.weighs in let y = p.weighs in let one = cost_some (N - C.address m) in (p.fits, g.fit, inr (g.turns, omega arith))
 
-    paid_push : (k : ℕ) (a after : M) (item : Item) (st : Store K) → (s : Stays W.Bounded C.place k fits.0 m a) → k ≤ suc (worth N (C.place m))
-        → Pays W.Bounded C.place N s.fits.0 after → Same st → Lt (push_item C item after st)
+    paid_push : (k : ℕ) (a after : M) (item : Item) (st : Store K) → (s : Stays W.Bounded C.address k fits.0 m a) → k ≤ suc (worth N (C.address m))
+        → Pays W.Bounded C.address N s.fits.0 after → Same st → Lt (push_item C item after st)
     paid_push k a after item st s le p g =
-        let t = W.push item after p.fits in let x = s.weighs in let y = p.weighs in let z = t.weighs in let one = cost_some (N - C.place m) in
-        let e : worth N (C.place (C.push item after)) ≡ worth N (C.place after) = ap (worth N) t.stands in
+        let t = W.push item after p.fits in let x = s.weighs in let y = p.weighs in let z = t.weighs in let one = cost_some (N - C.address m) in
+        let e : worth N (C.address (C.push item after)) ≡ worth N (C.address after) = ap (worth N) t.stands in
         (t.fits, g.fit, inr (g.turns, omega arith))
 
-    paid_fail : (k : ℕ) (a after : M) (st : Store K) → (s : Stays W.Bounded C.place k fits.0 m a) → k ≤ suc (worth N (C.place m))
-        → Pays W.Bounded C.place N s.fits.0 after → Same st → Lt (failing after st)
-    paid_fail k a after st s le p g = let x = s.weighs in let y = p.weighs in let one = cost_some (N - C.place m) in (p.fits, g.fit, inr (g.turns, omega arith))
+    paid_fail : (k : ℕ) (a after : M) (st : Store K) → (s : Stays W.Bounded C.address k fits.0 m a) → k ≤ suc (worth N (C.address m))
+        → Pays W.Bounded C.address N s.fits.0 after → Same st → Lt (failing after st)
+    paid_fail k a after st s le p g = let x = s.weighs in let y = p.weighs in let one = cost_some (N - C.address m) in (p.fits, g.fit, inr (g.turns, omega arith))
 
     -- a label behind the instruction
-    jump : (label : ℕ) (st : Store K) → C.place m ≤ label → Same st → Lt (running (C.go label m) st)
+    jump : (label : ℕ) (st : Store K) → C.address m ≤ label → Same st → Lt (running (C.go label m) st)
     jump label st le g =
-        let e : worth N (C.place (C.go label m)) ≡ worth N label = ap (worth N) (W.go_stands label m) in let y = worth_less N (C.place m) label le in
-        let one = cost_some (N - C.place m) in ((fits.0, W.go label m fits.0 fits.1), g.fit, inr (g.turns, omega arith))
+        let e : worth N (C.address (C.go label m)) ≡ worth N label = ap (worth N) (W.go_stands label m) in let y = worth_less N (C.address m) label le in
+        let one = cost_some (N - C.address m) in ((fits.0, W.go label m fits.0 fits.1), g.fit, inr (g.turns, omega arith))
 
-    push_on : (k : ℕ) (a : M) (item : Item) (st : Store K) → Stays W.Bounded C.place k fits.0 m a → k ≤ suc (worth N (C.place m)) → Same st
+    push_on : (k : ℕ) (a : M) (item : Item) (st : Store K) → Stays W.Bounded C.address k fits.0 m a → k ≤ suc (worth N (C.address m)) → Same st
         → Lt (push_item C item a st)
     push_on k a item st s le g = go_on (0 + k) (C.push item a) st (andthen k 0 a (C.push item a) s (W.push item a s.fits)) (omega arith) g
 
-    lt_valued : (o : Outcome) (a : M) (st : Store K) (next : Value → State K M) → Stays W.Bounded C.place 0 fits.0 m a → Same st → ((v : Value) → Lt (next v))
+    lt_valued : (o : Outcome) (a : M) (st : Store K) (next : Value → State K M) → Stays W.Bounded C.address 0 fits.0 m a → Same st → ((v : Value) → Lt (next v))
         → Lt (with_given o a st next)
     lt_valued (Gives (Val v) seen) a st next s g f = f v
     lt_valued (Gives (Var v) seen) a st next s g f = fail_on 0 a st s (omega arith) g
@@ -397,12 +397,12 @@ module _ {K M : Type 0} (C : Calls K M) (N : ℕ) (W : Weighs C N) (P : Program)
     lt_valued (Suspends item r seen) a st next s g f = fail_on 0 a st s (omega arith) g
     lt_valued (Ends j seen) a st next s g f = fail_on 0 a st s (omega arith) g
 
-    lt_value : (item : Item) (a : M) (st : Store K) (next : Value → State K M) → Stays W.Bounded C.place 0 fits.0 m a → Same st → ((v : Value) → Lt (next v))
+    lt_value : (item : Item) (a : M) (st : Store K) (next : Value → State K M) → Stays W.Bounded C.address 0 fits.0 m a → Same st → ((v : Value) → Lt (next v))
         → Lt (with_value C item a st next)
     lt_value item a st next s g f = lt_valued (value_row item (here C a st)) a st next s g f
 
-    lt_made : (o : Outcome) (a : M) (st : Store K) (next : Value → M → Store K → State K M) → KeepsIn (here C a st) o → Stays W.Bounded C.place 0 fits.0 m a
-        → Same st → ((v : Value) (b : M) (st' : Store K) → Stays W.Bounded C.place 0 fits.0 m b → Same st' → Lt (next v b st')) → Lt (with_made C o a st next)
+    lt_made : (o : Outcome) (a : M) (st : Store K) (next : Value → M → Store K → State K M) → KeepsIn (here C a st) o → Stays W.Bounded C.address 0 fits.0 m a
+        → Same st → ((v : Value) (b : M) (st' : Store K) → Stays W.Bounded C.address 0 fits.0 m b → Same st' → Lt (next v b st')) → Lt (with_made C o a st next)
     lt_made (Gives (Val v) seen) a st next k s g f =
         f v (C.set_locals seen.locals a) (with_at seen st) (then_same 0 a (C.set_locals seen.locals a) s (W.set_locals seen.locals a s.fits))
         (record { fit = (g.fit.0, ap (λ b. b.turns) k.bounds ∙ g.fit.1); turns = g.turns })
@@ -412,70 +412,70 @@ module _ {K M : Type 0} (C : Calls K M) (N : ℕ) (W : Weighs C N) (P : Program)
     lt_made (Suspends item r seen) a st next k s g f = fail_on 0 a st s (omega arith) g
     lt_made (Ends j seen) a st next k s g f = fail_on 0 a st s (omega arith) g
 
-    popping : (next : Item → M → State K M) → ((item : Item) (a : M) → Stays W.Bounded C.place 0 fits.0 m a → Lt (next item a)) → Lt (with_popped C m next)
-    popping next f = when_found Lt lt_allowed (λ top. Stays W.Bounded C.place 0 fits.0 m top.1) (C.pop m) _ (W.pop m fits) (λ top s. f top.0 top.1 s)
+    popping : (next : Item → M → State K M) → ((item : Item) (a : M) → Stays W.Bounded C.address 0 fits.0 m a → Lt (next item a)) → Lt (with_popped C m next)
+    popping next f = when_found Lt lt_allowed (λ top. Stays W.Bounded C.address 0 fits.0 m top.1) (C.pop m) _ (W.pop m fits) (λ top s. f top.0 top.1 s)
 
-    taking : (k : ℕ) (next : List Item → M → State K M) → ((items : List Item) (a : M) → Stays W.Bounded C.place 0 fits.0 m a → Lt (next items a))
+    taking : (k : ℕ) (next : List Item → M → State K M) → ((items : List Item) (a : M) → Stays W.Bounded C.address 0 fits.0 m a → Lt (next items a))
         → Lt (with_taken C k m next)
     taking k next f =
-        when_found Lt lt_allowed (λ tops. Stays W.Bounded C.place 0 fits.0 m tops.1) (C.take k m) _ (W.take k m fits) (λ tops s. f tops.0 tops.1 s)
+        when_found Lt lt_allowed (λ tops. Stays W.Bounded C.address 0 fits.0 m tops.1) (C.take k m) _ (W.take k m fits) (λ tops s. f tops.0 tops.1 s)
 
-    unmarking : (k : ℕ) (a : M) (st : Store K) (next : M → Store K → State K M) → Stays W.Bounded C.place k fits.0 m a → Same st
-        → ((b : M) (st' : Store K) → Stays W.Bounded C.place k fits.0 m b → Same st' → Lt (next b st')) → Lt (unmark_then C a st next)
-    unmarking k a st next s g f = when_found Lt lt_allowed (λ outside. Stays W.Bounded C.place 0 s.fits.0 a outside.0) (C.unmark a) _ (W.unmark a s.fits)
+    unmarking : (k : ℕ) (a : M) (st : Store K) (next : M → Store K → State K M) → Stays W.Bounded C.address k fits.0 m a → Same st
+        → ((b : M) (st' : Store K) → Stays W.Bounded C.address k fits.0 m b → Same st' → Lt (next b st')) → Lt (unmark_then C a st next)
+    unmarking k a st next s g f = when_found Lt lt_allowed (λ outside. Stays W.Bounded C.address 0 s.fits.0 a outside.0) (C.unmark a) _ (W.unmark a s.fits)
         (λ outside t. f outside.0 (scans_left outside.1 st) (then_same k a outside.0 s t) (same_left outside.1 st g))
 
-    exchanging_at : (a : M) → (s : Stays W.Bounded C.place 0 fits.0 m a) → (o : Option (Pair × M)) (next : M → Store K → State K M) (st : Store K)
-        → IfThere o (λ swap. Stays W.Bounded C.place 0 s.fits.0 a swap.1) → Same st
-        → ((b : M) (st' : Store K) → Stays W.Bounded C.place 0 fits.0 m b → Same st' → Lt (next b st')) → Lt (with_exchange o next st)
+    exchanging_at : (a : M) → (s : Stays W.Bounded C.address 0 fits.0 m a) → (o : Option (Pair × M)) (next : M → Store K → State K M) (st : Store K)
+        → IfThere o (λ swap. Stays W.Bounded C.address 0 s.fits.0 a swap.1) → Same st
+        → ((b : M) (st' : Store K) → Stays W.Bounded C.address 0 fits.0 m b → Same st' → Lt (next b st')) → Lt (with_exchange o next st)
     exchanging_at a s None next st i g f = tt
     exchanging_at a s (Some swap) next st i g f = f swap.1 (with_pair swap.0 st) (then_same 0 a swap.1 s i) (record { fit = g.fit; turns = g.turns })
 
-    exchanging : (o : Option (Pair × M)) (next : M → Store K → State K M) (st : Store K) → IfThere o (λ swap. Stays W.Bounded C.place 0 fits.0 m swap.1)
+    exchanging : (o : Option (Pair × M)) (next : M → Store K → State K M) (st : Store K) → IfThere o (λ swap. Stays W.Bounded C.address 0 fits.0 m swap.1)
         → Same st
-        → ((b : M) (st' : Store K) → Stays W.Bounded C.place 0 fits.0 m b → Same st' → Lt (next b st')) → Lt (with_exchange o next st)
+        → ((b : M) (st' : Store K) → Stays W.Bounded C.address 0 fits.0 m b → Same st' → Lt (next b st')) → Lt (with_exchange o next st)
     exchanging None next st i g f = tt
     exchanging (Some swap) next st i g f = f swap.1 (with_pair swap.0 st) i (record { fit = g.fit; turns = g.turns })
 
-    maybe : (o : Option (Pair × M)) (next : M → Store K → State K M) (st : Store K) → IfThere o (λ swap. Stays W.Bounded C.place 0 fits.0 m swap.1) → Same st
-        → ((b : M) (st' : Store K) → Stays W.Bounded C.place 0 fits.0 m b → Same st' → Lt (next b st')) → Lt (maybe_exchanged o m st next)
+    maybe : (o : Option (Pair × M)) (next : M → Store K → State K M) (st : Store K) → IfThere o (λ swap. Stays W.Bounded C.address 0 fits.0 m swap.1) → Same st
+        → ((b : M) (st' : Store K) → Stays W.Bounded C.address 0 fits.0 m b → Same st' → Lt (next b st')) → Lt (maybe_exchanged o m st next)
     maybe None next st i g f = f m st stay g
     maybe (Some swap) next st i g f = f swap.1 (with_pair swap.0 st) i (record { fit = g.fit; turns = g.turns })
 
     -- back in the caller, or at the end of the run
-    returning : (k : ℕ) (a : M) (o : Option M) (next : M → Store K → State K M) (st : Store K) → (s : Stays W.Bounded C.place k fits.0 m a)
-        → k ≤ suc (worth N (C.place m))
-        → IfThere o (λ caller. Pays W.Bounded C.place N s.fits.0 caller) → Same st
-        → ((caller : M) → Pays W.Bounded C.place N s.fits.0 caller → Lt (next caller st)) → Lt (return_to o next st)
+    returning : (k : ℕ) (a : M) (o : Option M) (next : M → Store K → State K M) (st : Store K) → (s : Stays W.Bounded C.address k fits.0 m a)
+        → k ≤ suc (worth N (C.address m))
+        → IfThere o (λ caller. Pays W.Bounded C.address N s.fits.0 caller) → Same st
+        → ((caller : M) → Pays W.Bounded C.address N s.fits.0 caller → Lt (next caller st)) → Lt (return_to o next st)
     returning k a None next st s le i g f = either_way Lt (is_main st.active) _ _ tt tt
     returning k a (Some caller) next st s le i g f = f caller i
 
-    resulting_at : (a : M) (item : Item) (st : Store K) (next : Item → State K M) → Stays W.Bounded C.place 0 fits.0 m a → Same st → ((x : Item) → Lt (next x))
+    resulting_at : (a : M) (item : Item) (st : Store K) (next : Item → State K M) → Stays W.Bounded C.address 0 fits.0 m a → Same st → ((x : Item) → Lt (next x))
         → Lt (with_result C item a st next)
     resulting_at a (Var (Whole (Local k))) st next s g f = lt_value (Var (Whole (Local k))) a st (λ value. next (Val value)) s g (λ v. f (Val v))
     resulting_at a (Var (Part (Local k) place size)) st next s g f =
         lt_value (Var (Part (Local k) place size)) a st (λ value. next (Val value)) s g (λ v. f (Val v))
     resulting_at a item st next s g f = f item
 
-    l_limited : (a : M) (v : Value) (o : Option ℤ) (st : Store K) → Stays W.Bounded C.place 0 fits.0 m a → Same st → Lt (limit_results C v o a st)
+    l_limited : (a : M) (v : Value) (o : Option ℤ) (st : Store K) → Stays W.Bounded C.address 0 fits.0 m a → Same st → Lt (limit_results C v o a st)
     l_limited a v None st s g = tt
     l_limited a v (Some (negsuc k)) st s g = tt
     l_limited a v (Some (pos zero)) st s g = fail_on 0 a st s (omega arith) g
     l_limited a v (Some (pos (suc k))) st s g =
         go_on (1 + 0) (C.limit (suc k) a) st (andthen 0 1 a (C.limit (suc k) a) s (W.limit (suc k) a s.fits)) (omega arith) g
 
-    l_limited_result : (item : Item) (k : ℕ) (a : M) (st : Store K) → Stays W.Bounded C.place 0 fits.0 m a → Same st → Lt (limited_result C item k a st)
+    l_limited_result : (item : Item) (k : ℕ) (a : M) (st : Store K) → Stays W.Bounded C.address 0 fits.0 m a → Same st → Lt (limited_result C item k a st)
     l_limited_result item zero a st s g = unmarking 0 a st (push_item C item) s g (λ b st' t g'. push_on 0 b item st' t (omega arith) g')
     l_limited_result item (suc k) a st s g =
-        when_found Lt lt_allowed (λ b. Stays W.Bounded C.place 1 s.fits.0 a b) (C.suspend_mark a) _ (W.suspend_mark a s.fits)
+        when_found Lt lt_allowed (λ b. Stays W.Bounded C.address 1 s.fits.0 a b) (C.suspend_mark a) _ (W.suspend_mark a s.fits)
         (λ b t. push_on (1 + 0) b item st (andthen 0 1 a b s t) (omega arith) g)
 
-    l_scan : (v : Value) (a : M) (st : Store K) → Stays W.Bounded C.place 0 fits.0 m a → Same st → Lt (scan_opened C v a st)
+    l_scan : (v : Value) (a : M) (st : Store K) → Stays W.Bounded C.address 0 fits.0 m a → Same st → Lt (scan_opened C v a st)
     l_scan (Text text) a st s g = go_on (1 + 0) (C.suspend (Scan (pair_now st)) a) (with_pair (record { subject = text; position = 1 }) st) (andthen 0 1 a
         (C.suspend (Scan (pair_now st)) a) s (W.suspend (Scan (pair_now st)) a tt s.fits)) (omega arith) (record { fit = g.fit; turns = g.turns })
     l_scan _ a st s g = fail_on 0 a st s (omega arith) g
 
-    l_init_if : (b : Bool) (label : ℕ) (st : Store K) → C.place m ≤ label → Same st → Lt (initial_if C b label m st)
+    l_init_if : (b : Bool) (label : ℕ) (st : Store K) → C.address m ≤ label → Same st → Lt (initial_if C b label m st)
     l_init_if true label st le g = jump label st le g
     l_init_if false label st le g =
         go_on 0 m (record st { begun = slice_set st.begun (C.proc m) true }) stay (omega arith) (record { fit = g.fit; turns = g.turns })
@@ -485,7 +485,7 @@ module _ {K M : Type 0} (C : Calls K M) (N : ℕ) (W : Weighs C N) (P : Program)
     l_or_fails None st g = fail_on 0 m st stay (omega arith) g
 
     -- an instruction is a turn, or what is left becomes lighter
-    pub l_instruction : (i : Instr) (st : Store K) → IsForward' (C.place m) i → Same st → Lt (instruction C P i m st)
+    pub l_instruction : (i : Instr) (st : Store K) → IsForward' (C.address m) i → Same st → Lt (instruction C P i m st)
     l_instruction I.Pnull st le g = push_on 0 m (Val Null) st stay (omega arith) g
     l_instruction (I.Int k) st le g =
         when_found Lt lt_allowed (λ x. Unit {0}) (slice_get P.integers k) _ (there _) (λ x _. push_on 0 m (Val (Integer x)) st stay (omega arith) g)
@@ -512,18 +512,18 @@ module _ {K M : Type 0} (C : Calls K M) (N : ℕ) (W : Weighs C N) (P : Program)
     l_instruction I.Appl st le g =
         taking 2 _ (λ items a s. turned st (applied_to_elements C P items a) g (a_applied C N W P B n items a (TurnOf st) (ready a st s.fits g)))
     l_instruction (I.Mark l) st le g =
-        let y = worth_less N (C.place m) l le in go_on (suc (worth N l)) (C.mark (Some l) m) st (W.mark (Some l) m fits) (omega arith) g
+        let y = worth_less N (C.address m) l le in go_on (suc (worth N l)) (C.mark (Some l) m) st (W.mark (Some l) m fits) (omega arith) g
     l_instruction I.Mark0 st le g = go_on 1 (C.mark None m) st (W.mark None m fits) (omega arith) g
     l_instruction I.Unmark st le g = unmarking 0 m st running stay g (λ b st' s g'. go_on 0 b st' s (omega arith) g')
     l_instruction I.Eret st le g = popping _ (λ item a s.
         lt_value item a st _ s g (λ v. unmarking 0 a st (push_item C (Val v)) s g (λ b st' t g'. push_on 0 b (Val v) st' t (omega arith) g')))
-    l_instruction I.Esusp st le g = popping _ (λ item a s. when_found Lt lt_allowed (λ b. Stays W.Bounded C.place 1 s.fits.0 a b)
+    l_instruction I.Esusp st le g = popping _ (λ item a s. when_found Lt lt_allowed (λ b. Stays W.Bounded C.address 1 s.fits.0 a b)
         (C.suspend_mark a) _ (W.suspend_mark a s.fits) (λ b t. push_on (1 + 0) b item st (andthen 0 1 a b s t) (omega arith) g))
     l_instruction I.Limit st le g = popping _ (λ item a s. lt_value item a st _ s g (λ v. l_limited a v (integer_of v) st s g))
-    l_instruction I.Lsusp st le g = popping _ (λ item a s. when_found Lt lt_allowed (λ count. Stays W.Bounded C.place 0 s.fits.0 a count.1)
+    l_instruction I.Lsusp st le g = popping _ (λ item a s. when_found Lt lt_allowed (λ count. Stays W.Bounded C.address 0 s.fits.0 a count.1)
         (C.count_down a) _ (W.count_down a s.fits) (λ count t. l_limited_result item count.0 count.1 st (then_same 0 a count.1 s t) g))
     l_instruction I.Efail st le g = fail_on 0 m st stay (omega arith) g
-    l_instruction (I.Chfail l) st le g = when_found Lt lt_allowed (λ after. Stays W.Bounded C.place 0 fits.0 m after) (C.relabel l m) _ (W.relabel l m fits)
+    l_instruction (I.Chfail l) st le g = when_found Lt lt_allowed (λ after. Stays W.Bounded C.address 0 fits.0 m after) (C.relabel l m) _ (W.relabel l m fits)
         (λ after s. go_on 0 after st s (omega arith) g)
     l_instruction (I.Goto l) st le g = jump l st le g
     l_instruction (I.Loop l) st le g = turned st (running (C.go l m)) g (ready (C.go l m) st ((fits.0, W.go l m fits.0 fits.1)) g)
@@ -543,8 +543,8 @@ module _ {K M : Type 0} (C : Calls K M) (N : ℕ) (W : Weighs C N) (P : Program)
     l_instruction I.Pfail st le g =
         either_way Lt (is_create_body C m st) _ _ tt (returning 0 m (C.leave m) failing (all_left C m st) stay (omega arith) (W.leave m fits) (same_back _ st g)
         (λ caller p. paid_fail 0 m caller (all_left C m st) stay (omega arith) p (same_back _ st g)))
-    l_instruction (I.Create l) st le g = turned st (coexp_made C (C.locals m) (C.proc m) (C.place m) (C.go l m)) g
-        (a_new C N W P B n (C.locals m) (C.proc m) (C.place m) (C.go l m) (TurnOf st) (ready (C.go l m) st ((fits.0, W.go l m fits.0 fits.1)) g))
+    l_instruction (I.Create l) st le g = turned st (coexp_made C (C.locals m) (C.proc m) (C.address m) (C.go l m)) g
+        (a_new C N W P B n (C.locals m) (C.proc m) (C.address m) (C.go l m) (TurnOf st) (ready (C.go l m) st ((fits.0, W.go l m fits.0 fits.1)) g))
     l_instruction I.Coact st le g =
         taking 2 _ (λ items a s. turned st (activation_of C items a) g (a_activation_of C N W P B n items a (TurnOf st) (ready a st s.fits g)))
     l_instruction I.Coret st le g =
@@ -562,7 +562,7 @@ module _ {K M : Type 0} (C : Calls K M) (N : ℕ) (W : Weighs C N) (P : Program)
   lighter : (after : M) (st : Store K) → Lightens W.Bounded fits.0 after → Same C N W P B n w few st → L (failing after st)
   lighter after st l g = let x = l.weighs in (l.fits, g.fit, inr (g.turns, omega arith))
 
-  f_returned : (o : Option M) (st : Store K) → IfThere o (λ caller. Pays W.Bounded C.place N fits.0 caller) → Same C N W P B n w few st
+  f_returned : (o : Option M) (st : Store K) → IfThere o (λ caller. Pays W.Bounded C.address N fits.0 caller) → Same C N W P B n w few st
       → L (return_to o failing st)
   f_returned None st i g = either_way L (is_main st.active) _ _ tt tt
   f_returned (Some caller) st i g = let x = i.weighs in (i.fits, g.fit, inr (g.turns, omega arith))
@@ -575,14 +575,14 @@ module _ {K M : Type 0} (C : Calls K M) (N : ℕ) (W : Weighs C N) (P : Program)
   f_without st g = either_way L (is_create_body C m st) _ _ (f_exhausted st g)
       (f_returned (C.leave m) (all_left C m st) (W.leave m fits) (same_back C N W P B n w few _ st g))
 
-  f_dropped : (d : MarkDrop M) (st : Store K) → DropsWell W.Bounded C.place N fits.0 d → Same C N W P B n w few st → L (mark_dropped C P m st d)
+  f_dropped : (d : MarkDrop M) (st : Store K) → DropsWell W.Bounded C.address N fits.0 d → Same C N W P B n w few st → L (mark_dropped C P m st d)
   f_dropped NoMark st i g = f_without st g
   f_dropped (Goes after) st i g = let x = i.weighs in (i.fits, g.fit, inr (g.turns, omega arith))
   f_dropped (Repeats after) st i g = turned C N W P B n w few st (running after) g (ready C N W P B n w few after st i g)
   f_dropped (WithoutLabel after) st i g = lighter after st i g
 
   f_escan : (after : M) (o : Option (Pair × M)) (st : Store K) → (l : Lightens W.Bounded fits.0 after)
-      → IfThere o (λ swap. Stays W.Bounded C.place 0 l.fits.0 after swap.1) → Same C N W P B n w few st → L (with_exchange o failing st)
+      → IfThere o (λ swap. Stays W.Bounded C.address 0 l.fits.0 after swap.1) → Same C N W P B n w few st → L (with_exchange o failing st)
   f_escan after None st l i g = tt
   f_escan after (Some swap) st l i g = let x = l.weighs in let y = i.weighs in (i.fits, g.fit, inr (g.turns, omega arith))
 

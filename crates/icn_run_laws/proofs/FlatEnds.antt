@@ -264,7 +264,7 @@ module _ (N : ℕ) where
   Fits m = (v : ℕ) × Bounded m v
 
   abbrev place : Frames → ℕ
-  place m = m.place
+  place m = m.address
 
   outer_from : {cells : List Cell} {r : Registers} {s o : ℕ} → F cells r s o → Outer N cells r.mark r.base o
   outer_from (fit nw ot) = ot
@@ -272,7 +272,7 @@ module _ (N : ℕ) where
   newest_from : {cells : List Cell} {r : Registers} {s o : ℕ} → F cells r s o → Newest N cells r.newest s o
   newest_from (fit nw ot) = nw
 
-  keeps : (m after : Frames) (f : Fits m) → F after.cells after.registers f.1.0 f.1.1 → after.place ≡ m.place → Stays Bounded place 0 f.0 m after
+  keeps : (m after : Frames) (f : Fits m) → F after.cells after.registers f.1.0 f.1.1 → after.address ≡ m.address → Stays Bounded place 0 f.0 m after
   keeps m after f g e = record { fits = (f.0, (f.1.0, f.1.1, g, f.1.3)); weighs = omega arith; stands = e }
 
   set_like : (m : Frames) (h : ℕ) (x y : Cell) → cell_at h m.cells ≡ Some x → Like x y → (f : Fits m) → F (set_cell h y m.cells) m.registers f.1.0 f.1.1
@@ -377,14 +377,14 @@ module _ (N : ℕ) where
 
   suspend_law : (why : Why) (m : Frames) → IsInside why → (f : Fits m) → Stays Bounded place 1 f.0 m (suspend why m)
   suspend_law why m i f = let s = f.1.0 in let o = f.1.1 in let x = f.1.3 in
-      let frame_cell = suspension why m.registers m.place in
+      let frame_cell = suspension why m.registers m.address in
       record {
         fits = (
           suc s + o,
           (
             suc s,
             o,
-            fit (newest_at (suc (length m.cells)) why m.registers m.place m.cells s o refl (copy_cut m.cells frame_cell m.cells) refl f.1.2
+            fit (newest_at (suc (length m.cells)) why m.registers m.address m.cells s o refl (copy_cut m.cells frame_cell m.cells) refl f.1.2
                 (inside_back why s o i))
                 (outer_above m.cells _ m.registers.mark m.registers.base o (copy_above m.cells frame_cell m.cells) (outer_from f.1.2)),
             omega arith,
@@ -399,8 +399,8 @@ module _ (N : ℕ) where
       → suc (length below) ≡ h → F below r s' o'
       → Back why (f.1.0 + f.1.1) (s2 + o') → F (suspended_onto why m below r q).cells (suspended_onto why m below r q).registers s2 o'
   onto_fits why m f h x below r q s' o' s2 c n g b =
-      let frame_cell = suspension why m.registers m.place in let top = height m.cells h x below c n in
-      fit (newest_at (suc (length m.cells)) why m.registers m.place m.cells f.1.0 f.1.1 refl (copy_cut below frame_cell m.cells) refl f.1.2 b)
+      let frame_cell = suspension why m.registers m.address in let top = height m.cells h x below c n in
+      fit (newest_at (suc (length m.cells)) why m.registers m.address m.cells f.1.0 f.1.1 refl (copy_cut below frame_cell m.cells) refl f.1.2 b)
       (outer_above below _ r.mark r.base o' (λ k le. copy_above below frame_cell m.cells k (omega arith) ∙ cut_cut m.cells h k x below c n le) (outer_from g))
 
   abbrev Leaves : (m : Frames) → ℕ → List Cell → Type 0
@@ -409,13 +409,13 @@ module _ (N : ℕ) where
   suspend_mark_law : (m : Frames) (f : Fits m) → Outer N m.cells m.registers.mark m.registers.base f.1.1 → Leaves m f.0 (cut m.registers.mark m.cells)
   suspend_mark_law m f (at_mark label ch r below l s' o' c n w g e z) = let x = f.1.3 in let s2 = suc (f.1.0 + (suc l + s')) in
       subst (Leaves m f.0) (sym c) (record {
-        fits = (s2 + o', (s2, o', onto_fits Alt m f m.registers.mark _ below r m.place s' o' s2 c n g (omega arith), omega arith));
+        fits = (s2 + o', (s2, o', onto_fits Alt m f m.registers.mark _ below r m.address s' o' s2 c n g (omega arith), omega arith));
         weighs = omega arith;
         stands = refl;
       })
   suspend_mark_law m f (at_limit k r below s' o' c n g e z) = let x = f.1.3 in let s2 = suc (f.1.0 + suc s') in
       subst (Leaves m f.0) (sym c) (record {
-        fits = (s2 + o', (s2, o', onto_fits Alt m f m.registers.mark _ below r m.place s' o' s2 c n g (omega arith), omega arith));
+        fits = (s2 + o', (s2, o', onto_fits Alt m f m.registers.mark _ below r m.address s' o' s2 c n g (omega arith), omega arith));
         weighs = omega arith;
         stands = refl;
       })
@@ -442,7 +442,7 @@ module _ (N : ℕ) where
   -- resuming
 
   back_law : (why : Why) (v : ℕ) (below : List Cell) (r : Registers) (q s' o' here : ℕ) → F below r s' o' → Back why (s' + o') here → here ≤ v
-      → ResumesWell Bounded v why (record { cells = below; registers = r; place = q })
+      → ResumesWell Bounded v why (record { cells = below; registers = r; address = q })
   back_law Alt v below r q s' o' here f b le = record { fits = (s' + o', (s', o', f, omega arith)); weighs = omega arith }
   back_law (Op x) v below r q s' o' here f b le = (s' + o', (s', o', f, omega arith))
   back_law (Scan pair) v below r q s' o' here f b le = record { fits = (s' + o', (s', o', f, omega arith)); weighs = omega arith }
@@ -497,15 +497,15 @@ module _ (N : ℕ) where
       }
 
   enter_law : (p : ℕ) (values : List Value) (m : Frames) (f : Fits m) → Fits (enter p values m)
-  enter_law p values m f = let s = f.1.0 in let o = f.1.1 in let total = suc (worth N m.place) + (s + o) in
-      let frame_cell = call p (length values) (suc (level m)) m.registers m.place in (
+  enter_law p values m f = let s = f.1.0 in let o = f.1.1 in let total = suc (worth N m.address) + (s + o) in
+      let frame_cell = call p (length values) (suc (level m)) m.registers m.address in (
         total,
         (
           0,
           total,
           fit_locals values (frame_cell ∷ m.cells) _ 0 total
               (fit (nothing refl)
-              (at_call p (length values) (suc (level m)) m.registers m.place m.cells s o (cut_top frame_cell m.cells) refl f.1.2 refl refl)),
+              (at_call p (length values) (suc (level m)) m.registers m.address m.cells s o (cut_top frame_cell m.cells) refl f.1.2 refl refl)),
           omega arith,
         ),
       )

@@ -47,13 +47,13 @@ module _ (repeats : ℕ → ℕ → Bool) (N : ℕ) where
   weight m = weight_of N m.chain
 
   abbrev place : LinkedStack → ℕ
-  place m = m.place
+  place m = m.address
 
   abbrev St : ℕ → LinkedStack → LinkedStack → Type 0
   St k m after = Growing F weight place k m after
 
   -- the same chain
-  same : (m after : LinkedStack) → F m → after.chain ≡ m.chain → after.place ≡ m.place → St 0 m after
+  same : (m after : LinkedStack) → F m → after.chain ≡ m.chain → after.address ≡ m.address → St 0 m after
   same m after f e p = record { fits = subst (Fit N) (sym e) f; weighs = let w = ap (weight_of N) e in omega arith; stands = p }
 
   -- chains
@@ -73,7 +73,7 @@ module _ (repeats : ℕ → ℕ → Bool) (N : ℕ) where
 
   -- after a call that leaves the place: it is well formed, and weighs so much more than a chain at most
   abbrev Over : ℕ → Chain → LinkedStack → LinkedStack → Type 0
-  Over k c m after = F after × (weight after ≤ k + weight_of N c) × (after.place ≡ m.place)
+  Over k c m after = F after × (weight after ≤ k + weight_of N c) × (after.address ≡ m.address)
 
   to_stays : (k : ℕ) (m after : LinkedStack) → Over k m.chain m after → St k m after
   to_stays k m after h = record { fits = h.0; weighs = h.1; stands = h.2 }
@@ -114,7 +114,7 @@ module _ (repeats : ℕ → ℕ → Bool) (N : ℕ) where
   count_over m (call p a l q c) f = tt
 
   unmark_over : (m : LinkedStack) (o : Outer) → FitOuter N o
-      → IfThere (unmark_from m o) (λ outside. F outside.0 × (weight outside.0 ≤ outer_weight N o) × (outside.0.place ≡ m.place))
+      → IfThere (unmark_from m o) (λ outside. F outside.0 × (weight outside.0 ≤ outer_weight N o) × (outside.0.address ≡ m.address))
   unmark_over m (mark label c) f = (f, omega arith, refl)
   unmark_over m (limit n c) f = (f, omega arith, refl)
   unmark_over m (base p a) f = tt
@@ -137,7 +137,7 @@ module _ (repeats : ℕ → ℕ → Bool) (N : ℕ) where
   opened_over m c label f = ((tt, f), omega arith, refl)
 
   mark_stays : (label : Option ℕ) (m : LinkedStack) → F m → St (suc (worth_of N label)) m (open_mark repeats label m)
-  mark_stays label m f = either_way (St (suc (worth_of N label)) m) (repeats (proc_of (frame m)) (pred m.place)) _ _
+  mark_stays label m f = either_way (St (suc (worth_of N label)) m) (repeats (proc_of (frame m)) (pred m.address)) _ _
       (record { fits = (tt, f); weighs = omega arith; stands = refl }) (record { fits = (tt, f); weighs = omega arith; stands = refl })
 
   dropped_to_well : (m : LinkedStack) (c : Chain) (l : Option ℕ) (o : Outer) → Fit N c → F m → suc (worth_of N l) + weight_of N c ≤ weight m
@@ -179,9 +179,9 @@ module _ (repeats : ℕ → ℕ → Bool) (N : ℕ) where
   op_grows r p (chain items s scans o) f = (((f, tt), f.1), omega arith)
 
   suspend_stays : (why : Why) (m : LinkedStack) → IsInside why → F m → St 1 m (suspend why m)
-  suspend_stays (Scan pair) m i f = let g = scan_grows (length m.saved) m.place m.chain f in record { fits = g.0; weighs = g.1; stands = refl }
-  suspend_stays Escan m i f = let g = escan_grows m.place m.chain f in record { fits = g.0; weighs = g.1; stands = refl }
-  suspend_stays (Op r) m i f = let g = op_grows r m.place m.chain f in record { fits = g.0; weighs = g.1; stands = refl }
+  suspend_stays (Scan pair) m i f = let g = scan_grows (length m.saved) m.address m.chain f in record { fits = g.0; weighs = g.1; stands = refl }
+  suspend_stays Escan m i f = let g = escan_grows m.address m.chain f in record { fits = g.0; weighs = g.1; stands = refl }
+  suspend_stays (Op r) m i f = let g = op_grows r m.address m.chain f in record { fits = g.0; weighs = g.1; stands = refl }
   suspend_stays Alt m i f = absurd i
   suspend_stays Proc m i f = absurd i
 
@@ -196,8 +196,8 @@ module _ (repeats : ℕ → ℕ → Bool) (N : ℕ) where
 
   suspend_outer_over : (m : LinkedStack) (c : Chain) → m.chain ≡ c → Fit N c
       → IfThere (suspend_outer (record m { chain = c }) (outer_of c)) (λ after. Over 1 c m after)
-  suspend_outer_over m (chain items s scans (mark label c)) e f = let g = alt_grows m.place items s scans label c f in (g.0, g.1, refl)
-  suspend_outer_over m (chain items s scans (limit n c)) e f = let g = limit_grows m.place items s scans n c f in (g.0, g.1, refl)
+  suspend_outer_over m (chain items s scans (mark label c)) e f = let g = alt_grows m.address items s scans label c f in (g.0, g.1, refl)
+  suspend_outer_over m (chain items s scans (limit n c)) e f = let g = limit_grows m.address items s scans n c f in (g.0, g.1, refl)
   suspend_outer_over m (chain items s scans (base p a)) e f = tt
   suspend_outer_over m (chain items s scans (call p a l q c)) e f = tt
 
@@ -231,7 +231,7 @@ module _ (repeats : ℕ → ℕ → Bool) (N : ℕ) where
   suspend_pays : (m : LinkedStack) (fr : Frame) → F m → FramePays fr (weight m) → IfThere (suspend_frame m fr) (λ after. Paying F weight place N m after)
   suspend_pays m (at_base p a) f h = tt
   suspend_pays m (in_call p a l q c) f h =
-      let x = h.1 in let g = proc_lighter m.place m.chain c f h.0 in let y = g.1 in record { fits = g.0; weighs = omega arith }
+      let x = h.1 in let g = proc_lighter m.address m.chain c f h.0 in let y = g.1 in record { fits = g.0; weighs = omega arith }
 
   -- what comes back
 

@@ -17,7 +17,7 @@ abbrev pub Li : World → Chain → ℕ → LinkedStack
 Li w c q = linked_with w.kept c q
 
 abbrev pub Fr : World → List NCell → Registers → ℕ → Frames
-Fr w cells r q = record { cells = render w.kept cells; registers = r; place = q }
+Fr w cells r q = record { cells = render w.kept cells; registers = r; address = q }
 
 pub idle : (s : ℕ) (w : World) → Next s w w
 idle s w t n h k d o = o
@@ -35,8 +35,8 @@ module _ (repeats : ℕ → ℕ → Bool) (Opens : ℕ → ℕ → Option ℕ �
   -- cells that are shown so
   pub now_as : (w : World) (s : ℕ) (c : Chain) (q : ℕ) (r : Registers) (shows : List Cell) (cells : List NCell) → shows ≡ render w.kept cells
       → IsFlat repeats Opens c cells r → AllOk w s cells
-      → N w s (linked_with w.kept c q) (record { cells = shows; registers = r; place = q })
-  now_as w s c q r shows cells e f o = subst (λ l. N w s (linked_with w.kept c q) (record { cells = l; registers = r; place = q })) (sym e) (now cells f o)
+      → N w s (linked_with w.kept c q) (record { cells = shows; registers = r; address = q })
+  now_as w s c q r shows cells e f o = subst (λ l. N w s (linked_with w.kept c q) (record { cells = l; registers = r; address = q })) (sym e) (now cells f o)
 
   -- What stands at the innermost mark
 
@@ -69,13 +69,13 @@ module _ (repeats : ℕ → ℕ → Bool) (Opens : ℕ → ℕ → Option ℕ �
   pub on_base : (w : World) (s : ℕ) (m' : LinkedStack) (m : Frames) → N w s m' m → L.is_base_frame (L.frame m') ≡ S.is_base m
   on_base w s m' m (now cells f o) = same_base repeats Opens w.kept (found repeats Opens f)
 
-  pub on_place : (w : World) (s : ℕ) (m' : LinkedStack) (m : Frames) → N w s m' m → m'.place ≡ m.place
+  pub on_place : (w : World) (s : ℕ) (m' : LinkedStack) (m : Frames) → N w s m' m → m'.address ≡ m.address
   on_place w s m' m (now cells f o) = refl
 
   pub on_below : (w : World) (s : ℕ) (m' : LinkedStack) (m : Frames) → N w s m' m → L.below m' ≡ S.below m
   on_below w s m' m (now cells (f_chain {items = items} z e b out su sc) o) = same_below repeats Opens w.kept (map n_operand items) e out
 
-  pub on_go : (q : ℕ) (w : World) (s : ℕ) (m' : LinkedStack) (m : Frames) → N w s m' m → T w s (record m' { place = q }) (S.go q m)
+  pub on_go : (q : ℕ) (w : World) (s : ℕ) (m' : LinkedStack) (m : Frames) → N w s m' m → T w s (record m' { address = q }) (S.go q m)
   on_go q w s m' m (now cells f o) = (w, idle s w, now cells f o)
 
   -- Operands
@@ -86,7 +86,7 @@ module _ (repeats : ℕ → ℕ → Bool) (Opens : ℕ → ℕ → Option ℕ �
 
   module _ (w : World) (s q : ℕ) (r : Registers) (su : Suspensions) (scans : List ℕ) (outer : Outer) (z : List NCell) (b : Bare z)
       (out : FlatOuter repeats Opens outer z r.mark r.base) (fs : FlatSusps repeats Opens su z r.newest) (sc : FlatScans scans z r.scan) where
-    pop_items : (m' : LinkedStack) (m : Frames) → m'.place ≡ q → memory_of m' ≡ w.kept → m.registers ≡ r → m.place ≡ q → (items : List Item)
+    pop_items : (m' : LinkedStack) (m : Frames) → m'.address ≡ q → memory_of m' ≡ w.kept → m.registers ≡ r → m.address ≡ q → (items : List Item)
         → AllOk w s (map n_operand items ++ z)
         → Both ⊥ (WithT w s) (L.pop_from (Li w (chain items su scans outer) q) (chain items su scans outer))
         (S.pop_from (Fr w (map n_operand items ++ z) r q) (render w.kept (map n_operand items ++ z)))
@@ -148,7 +148,7 @@ module _ (repeats : ℕ → ℕ → Bool) (Opens : ℕ → ℕ → Option ℕ �
   pub scans_all : {c : Chain} {cells : List NCell} {r : Registers} → IsFlat repeats Opens c cells r → FlatScans (L.scans_of c) cells r.scan
   scans_all (f_chain {items = items} z e b out su sc) = raise_scans (map n_operand items) e sc
 
-  pub on_mark : (label : Option ℕ) (w : World) (s : ℕ) (m' : LinkedStack) (m : Frames) → N w s m' m → Opens (S.proc m) (pred m.place) label
+  pub on_mark : (label : Option ℕ) (w : World) (s : ℕ) (m' : LinkedStack) (m : Frames) → N w s m' m → Opens (S.proc m) (pred m.address) label
       → T w s (L.open_mark repeats label m') (S.open_mark label m)
   on_mark label w s m' m (now {c = c} {q = q} {r = r} cells f o) opens =
       mark_if label w s q r c cells f (scans_all f) o (subst (λ p. Opens p (pred q) label) (sym (same_proc repeats Opens w.kept (found repeats Opens f))) opens)

@@ -195,7 +195,7 @@ module _ (repeats : ℕ → ℕ → Bool) (Opens : ℕ → ℕ → Option ℕ �
         (record {
           cells = S.copy_up (render w.kept cells) (S.suspension why r q ∷ render w.kept cells);
           registers = record { base = r.base; mark = r.mark; newest = Some hh; scan = x };
-          place = q;
+          address = q;
         })
     suspend_as why scans' x sc =
         let top = n_suspension (because why) r q in (

@@ -40,15 +40,15 @@ module _ (repeats : ℕ → ℕ → Bool) (Opens : ℕ → ℕ → Option ℕ �
   on_stays : (w w' : World) (s t : ℕ) (k' : WaitingChain) (k : Frames) → Next s w w' → t ≢ s → Aw w t k' k → Aw w' t k' k
   on_stays w w' s t k' k next d (away {c} {q} {r} cells f o) =
       let moves : Moves (λ n. Unit {0}) t w w' = λ (n : Name) (h : ℕ) (k : Content) (u : Unit {0}) (p : IsOwned w n t h k). next t n h k d p in
-      subst (λ l. Aw w' t (record { chain = c; place = q }) (record { cells = l; registers = r; place = q }))
+      subst (λ l. Aw w' t (record { chain = c; address = q }) (record { cells = l; registers = r; address = q }))
       (render_moves (λ n. Unit {0}) t w w' moves cells (use_all cells) o)
       (away cells f (all_moves (λ n. Unit {0}) t w w' moves cells (use_all cells) o))
 
-  on_kept : (w : World) (s : ℕ) (m' : LinkedStack) (m : Frames) → Nw w s m' m → Aw w s (record { chain = m'.chain; place = m'.place }) m
+  on_kept : (w : World) (s : ℕ) (m' : LinkedStack) (m : Frames) → Nw w s m' m → Aw w s (record { chain = m'.chain; address = m'.address }) m
   on_kept w s m' m (now cells f o) = away cells f o
 
   on_taken_up : (w : World) (s : ℕ) (k' : WaitingChain) (k : Frames) (m' : LinkedStack) (m : Frames) → Aw w s k' k → Holds w m'
-      → Nw w s (record m' { chain = k'.chain; place = k'.place }) k
+      → Nw w s (record m' { chain = k'.chain; address = k'.address }) k
   on_taken_up w s k' k m' m (away {c} {q} {r} cells f o) e = subst (λ F. Nw w s (linked_with F c q) (Fr w cells r q)) (sym e) (now cells f o)
 
   on_begin : (p : ℕ) (values : List Value) (q : ℕ) (w : World) (s : ℕ) (m' : LinkedStack) (m : Frames) → Holds w m'
@@ -56,7 +56,7 @@ module _ (repeats : ℕ → ℕ → Bool) (Opens : ℕ → ℕ → Option ℕ �
   on_begin p values q w s m' m e =
       let w2 = made_locals w s 1 values in let d = locals_made w s 1 values in let a = length w.kept.activations in let n = length values in
       let owned = d.new in let top = n_base p a n in
-      subst (λ F. Tn w s (L.begin p values q (linked_with F m'.chain m'.place)) (S.begin p values q m)) (sym e) (
+      subst (λ F. Tn w s (L.begin p values q (linked_with F m'.chain m'.address)) (S.begin p values q m)) (sym e) (
         w2,
         made_next d,
         now_as repeats Opens w2 s (chain [] none [] (L.base p a)) q (record { base = 1; mark = 1; newest = None; scan = None })
@@ -131,7 +131,7 @@ module _ (repeats : ℕ → ℕ → Bool) (Opens : ℕ → ℕ → Option ℕ �
     level = on_level repeats Opens;
     is_base = on_base repeats Opens;
     locals = on_locals;
-    place = on_place repeats Opens;
+    address = on_place repeats Opens;
     below = on_below repeats Opens;
     set_locals = on_set_locals;
     go = on_go repeats Opens;

@@ -67,7 +67,7 @@ module _ (repeats : ℕ → ℕ → Bool) (Opens : ℕ → ℕ → Option ℕ �
     relabel_to : {w' : World} (label : ℕ) (l : Option ℕ) (flag p : ℕ) (r' : Registers) (above below : List NCell)
         → cells ≡ above ++ n_mark (flagged l flag p) r' ∷ below → r.mark ≡ suc (length below) → (old k : Content) → IsFlag old → IsFlag k
         → IsOwned w (flag_name flag) s r.mark old → Change w w' (flag_name flag) old k → shown_label (Some k) l p r' ≡ S.mark (Some label) true r'
-        → Tn w s (Li w' c q) (record { cells = S.set_cell r.mark (S.mark (Some label) true r') (render w.kept cells); registers = r; place = q })
+        → Tn w s (Li w' c q) (record { cells = S.set_cell r.mark (S.mark (Some label) true r') (render w.kept cells); registers = r; address = q })
     relabel_to {w'} label l flag p r' above below e g old k y z owned d shows =
         let there = d.itself s r.mark owned in
         let a = changed_at s r.mark (n_mark (flagged l flag p) r') (S.mark (Some label) true r') above below cells e g d owned (flag_not_locals old y)
@@ -80,7 +80,7 @@ module _ (repeats : ℕ → ℕ → Bool) (Opens : ℕ → ℕ → Option ℕ �
     relabel_flagged : (label : ℕ) (l : Option ℕ) (flag p : ℕ) (r' : Registers) (above below : List NCell)
         → cells ≡ above ++ n_mark (flagged l flag p) r' ∷ below → r.mark ≡ suc (length below) → (t : Bool) → (label == p) ≡ t
         → Tn w s (L.relabelled_if t label flag (Li w c q))
-        (record { cells = S.set_cell r.mark (S.mark (Some label) true r') (render w.kept cells); registers = r; place = q })
+        (record { cells = S.set_cell r.mark (S.mark (Some label) true r') (render w.kept cells); registers = r; address = q })
     relabel_flagged label l flag p r' above below e g true te =
         let x = (ok_sub w s above (n_mark (flagged l flag p) r' ∷ below) e o).0 in
         let b = flag_there w.kept flag x.0 (flag_at w.kept flag x.0 x.1.holds) in
@@ -155,7 +155,7 @@ module _ (repeats : ℕ → ℕ → Bool) (Opens : ℕ → ℕ → Option ℕ �
 
       unmark_to : (outside : Chain) (r' : Registers) (xs below : List NCell) → cells ≡ xs ++ below → IsFlat repeats Opens outside below r'
           → Left (L.with_chain outside (Li w c q), L.pair_at (Li w c q) (L.oldest (L.first_scan (L.scans_of outside)) (L.scans_of c)))
-          (record { cells = render w.kept below; registers = r'; place = q }, S.pair_at (render w.kept cells) (S.oldest r'.scan (Fr w cells r q)))
+          (record { cells = render w.kept below; registers = r'; address = q }, S.pair_at (render w.kept cells) (S.oldest r'.scan (Fr w cells r q)))
       unmark_to outside r' xs below e i = (
         (w, idle s w, now below i (ok_sub w s xs below e o)),
         same_pair w s cells o (Li w c q) refl (oldest_at w s cells o (first_at (raise_scans xs e (scans_all repeats Opens i))) r q sc),

@@ -102,7 +102,7 @@ oldest_from_at w s cells o {n = n} {u = u} a (suc fuel) (f_scan {n = m} {h = h} 
 
 pub oldest_at : (w : World) (s : ℕ) (cells : List NCell) → AllOk w s cells → {n u : Option ℕ} → ScanAt cells n u → {scans : List ℕ} (r : Registers) (q : ℕ)
     → FlatScans scans cells r.scan
-    → ScanAt cells (L.oldest n scans) (S.oldest u (record { cells = render w.kept cells; registers = r; place = q }))
+    → ScanAt cells (L.oldest n scans) (S.oldest u (record { cells = render w.kept cells; registers = r; address = q }))
 oldest_at w s cells o {n = n} {u = u} a {scans = scans} r q k =
     chosen (S.is_same r.scan u) (L.is_same (L.first_scan scans) n) (same_as w s cells o (first_at k) a) no_scan
     (oldest_from_at w s cells o a (length (render w.kept cells)) k

@@ -76,7 +76,7 @@ module _ {K M K' M' : Type 0} (C' : Calls K' M') (C : Calls K M) (P : Program) (
       → Rd s (C'.limit count m') (C.limit count m) ks' ks
   r_limit count s m' m ks' ks h = r_then s _ _ ks' ks h.world h.rests (G.limit count h.world s m' m h.here)
 
-  r_mark : (label : Option ℕ) (s : ℕ) (m' : M') (m : M) (ks' : List (Coexp K')) (ks : List (Coexp K)) → Opens P (C.proc m) (pred (C.place m)) label
+  r_mark : (label : Option ℕ) (s : ℕ) (m' : M') (m : M) (ks' : List (Coexp K')) (ks : List (Coexp K)) → Opens P (C.proc m) (pred (C.address m)) label
       → Rd s m' m ks' ks → Rd s (C'.mark label m') (C.mark label m) ks' ks
   r_mark label s m' m ks' ks e h = r_then s _ _ ks' ks h.world h.rests (G.mark label h.world s m' m h.here e)
 
@@ -687,17 +687,17 @@ module _ {K M K' M' : Type 0} (C' : Calls K' M') (C : Calls K M) (P : Program) (
       (λ b' b q. p_push result b' b (with_world w st) ks' q))
 
   l_create : (label : ℕ) (m' : M') (m : M) (st : Store K) (ks' : List (Coexp K')) → Rd st.active m' m ks' st.coexps
-      → Sm (turn P (lift st ks') (coexp_made C' (C'.locals m') (C'.proc m') (C'.place m') (C'.go label m')))
-      (turn P st (coexp_made C (C.locals m) (C.proc m) (C.place m) (C.go label m)))
+      → Sm (turn P (lift st ks') (coexp_made C' (C'.locals m') (C'.proc m') (C'.address m') (C'.go label m')))
+      (turn P st (coexp_made C (C.locals m) (C.proc m) (C.address m) (C.go label m)))
   l_create label m' m st ks' h =
-      subst (λ l. Sm (turn P (lift st ks') (coexp_made C' l (C'.proc m') (C'.place m') (C'.go label m')))
-      (turn P st (coexp_made C (C.locals m) (C.proc m) (C.place m) (C.go label m)))) (sym (locals_eq st.active m' m ks' st.coexps h))
-      (subst (λ p. Sm (turn P (lift st ks') (coexp_made C' (C.locals m) p (C'.place m') (C'.go label m')))
-      (turn P st (coexp_made C (C.locals m) (C.proc m) (C.place m) (C.go label m)))) (sym (G.proc h.world st.active m' m h.here))
+      subst (λ l. Sm (turn P (lift st ks') (coexp_made C' l (C'.proc m') (C'.address m') (C'.go label m')))
+      (turn P st (coexp_made C (C.locals m) (C.proc m) (C.address m) (C.go label m)))) (sym (locals_eq st.active m' m ks' st.coexps h))
+      (subst (λ p. Sm (turn P (lift st ks') (coexp_made C' (C.locals m) p (C'.address m') (C'.go label m')))
+      (turn P st (coexp_made C (C.locals m) (C.proc m) (C.address m) (C.go label m)))) (sym (G.proc h.world st.active m' m h.here))
       (subst (λ p. Sm (turn P (lift st ks') (coexp_made C' (C.locals m) (C.proc m) p (C'.go label m')))
-      (turn P st (coexp_made C (C.locals m) (C.proc m) (C.place m) (C.go label m)))) (sym (G.place h.world st.active m' m h.here))
-      (w_turn st ks' (coexp_made C' (C.locals m) (C.proc m) (C.place m) (C'.go label m')) (coexp_made C (C.locals m) (C.proc m) (C.place m) (C.go label m))
-      (c_made (C.locals m) (C.proc m) (C.place m) (C'.go label m') (C.go label m) (TurnOf st) ks' (r_go label st.active m' m ks' st.coexps h)))))
+      (turn P st (coexp_made C (C.locals m) (C.proc m) (C.address m) (C.go label m)))) (sym (G.address h.world st.active m' m h.here))
+      (w_turn st ks' (coexp_made C' (C.locals m) (C.proc m) (C.address m) (C'.go label m')) (coexp_made C (C.locals m) (C.proc m) (C.address m) (C.go label m))
+      (c_made (C.locals m) (C.proc m) (C.address m) (C'.go label m') (C.go label m) (TurnOf st) ks' (r_go label st.active m' m ks' st.coexps h)))))
 
   l_below : (m' : M') (m : M) (st : Store K) (ks' : List (Coexp K')) → Rd st.active m' m ks' st.coexps
       → Sm (with_found (C'.below m') (λ item. push_item C' item m' (lift st ks'))) (with_found (C.below m) (λ item. push_item C item m st))
@@ -711,7 +711,7 @@ module _ {K M K' M' : Type 0} (C' : Calls K' M') (C : Calls K M) (P : Program) (
       (sym (G.proc h.world st.active m' m h.here)) (p_push _ m' m st ks' h)
 
   -- the place is that of the next instruction
-  pub l_instruction : (i : Instr) (m' : M') (m : M) (st : Store K) (ks' : List (Coexp K')) → slice_get (instrs_of P (C.proc m)) (pred (C.place m)) ≡ Some i
+  pub l_instruction : (i : Instr) (m' : M') (m : M) (st : Store K) (ks' : List (Coexp K')) → slice_get (instrs_of P (C.proc m)) (pred (C.address m)) ≡ Some i
       → Rd st.active m' m ks' st.coexps → ((label : ℕ) → i ≡ I.Chfail label → Lacks m' → Lost)
       → Sm (instruction C' P i m' (lift st ks')) (instruction C P i m st)
   l_instruction I.Pnull m' m st ks' e h d = p_push (Val Null) m' m st ks' h
@@ -829,7 +829,7 @@ module _ {K M K' M' : Type 0} (C' : Calls K' M') (C : Calls K M) (P : Program) (
 
   -- a mark is due that may be reached again
   abbrev pub IsAtMark : State K M → Type 0
-  IsAtMark (running m st) = (label : Option ℕ) × Opens P (C.proc m) (C.place m) label
+  IsAtMark (running m st) = (label : Option ℕ) × Opens P (C.proc m) (C.address m) label
   IsAtMark state = ⊥
 
   -- the first machine's state, and that of the second; or, after one turn more than so many, the one after its next step, which opens a mark
@@ -843,19 +843,19 @@ module _ {K M K' M' : Type 0} (C' : Calls K' M') (C : Calls K M) (P : Program) (
 
   -- the mark is opened again
   open_label : (label : Option ℕ) (m' : M') (m : M) (st : Store K) (ks' : List (Coexp K'))
-      → Rd st.active m' (C.mark label (C.go (suc (C.place m)) m)) ks' st.coexps
-      → Sm (running m' (lift st ks')) (instruction C P (mark_of label) (C.go (suc (C.place m)) m) st)
+      → Rd st.active m' (C.mark label (C.go (suc (C.address m)) m)) ks' st.coexps
+      → Sm (running m' (lift st ks')) (instruction C P (mark_of label) (C.go (suc (C.address m)) m) st)
   open_label (Some l) m' m st ks' h = same_running st ks' h
   open_label None m' m st ks' h = same_running st ks' h
 
-  f_reopened : (label : Option ℕ) (m' : M') (m : M) (st : Store K) (ks' : List (Coexp K')) → Opens P (C.proc m) (C.place m) label
-      → Rd st.active m' (C.mark label (C.go (suc (C.place m)) m)) ks' st.coexps
+  f_reopened : (label : Option ℕ) (m' : M') (m : M) (st : Store K) (ks' : List (Coexp K')) → Opens P (C.proc m) (C.address m) label
+      → Rd st.active m' (C.mark label (C.go (suc (C.address m)) m)) ks' st.coexps
       → Sm (running m' (lift st ks')) (step C P (running m st))
-  f_reopened label m' m st ks' e h = subst (λ o. Sm (running m' (lift st ks')) (with_found o (λ instr. instruction C P instr (C.go (suc (C.place m)) m) st)))
+  f_reopened label m' m st ks' e h = subst (λ o. Sm (running m' (lift st ks')) (with_found o (λ instr. instruction C P instr (C.go (suc (C.address m)) m) st)))
       (sym e) (open_label label m' m st ks' h)
 
-  f_again : (b : Bool) (label : Option ℕ) (m' : M') (m : M) (st : Store K) (ks' : List (Coexp K')) → Opens P (C.proc m) (C.place m) label
-      → Rd st.active m' (C.mark label (C.go (suc (C.place m)) m)) ks' st.coexps
+  f_again : (b : Bool) (label : Option ℕ) (m' : M') (m : M) (st : Store K) (ks' : List (Coexp K')) → Opens P (C.proc m) (C.address m) label
+      → Rd st.active m' (C.mark label (C.go (suc (C.address m)) m)) ks' st.coexps
       → Reaches st.turns (turn_if b (lift st ks') (running m')) (turn_if b st (running m))
   f_again false label m' m st ks' e h = inl same_over
   f_again true label m' m st ks' e h = inr ((label, e), (f_reopened label m' m (TurnOf st) ks' e h, refl))
@@ -868,7 +868,7 @@ module _ {K M K' M' : Type 0} (C' : Calls K' M') (C : Calls K M) (P : Program) (
   f_dropped m' m st ks' h (Repeats a') (Repeats a) (inl x) =
       inl (w_turn st ks' (running a') (running a) (same_running (TurnOf st) ks' (r_then st.active a' a ks' st.coexps h.world h.rests x)))
   f_dropped m' m st ks' h (Repeats a') (Repeats a) (inr x) = (f_again (nat_lt st.turns st.world.heap.bounds.turns) x.0 a' a st ks' x.1
-      (r_then st.active a' (C.mark x.0 (C.go (suc (C.place a)) a)) ks' st.coexps h.world h.rests x.2))
+      (r_then st.active a' (C.mark x.0 (C.go (suc (C.address a)) a)) ks' st.coexps h.world h.rests x.2))
   f_dropped m' m st ks' h NoMark (Goes a) x = absurd x
   f_dropped m' m st ks' h NoMark (Repeats a) x = absurd x
   f_dropped m' m st ks' h NoMark (WithoutLabel a) x = absurd x
@@ -912,28 +912,28 @@ module _ {K M K' M' : Type 0} (C' : Calls K' M') (C : Calls K M) (P : Program) (
   -- Steps
 
   at_instruction : (m' : M') (m : M) (st : Store K) (ks' : List (Coexp K')) → Rd st.active m' m ks' st.coexps
-      → ((label : ℕ) → slice_get (instrs_of P (C.proc m)) (C.place m) ≡ Some (I.Chfail label) → Lacks (C'.go (suc (C.place m)) m') → Lost)
-      → (o : Option Instr) → slice_get (instrs_of P (C.proc m)) (C.place m) ≡ o
-      → Sm (with_found o (λ instr. instruction C' P instr (C'.go (suc (C.place m)) m') (lift st ks')))
-      (with_found o (λ instr. instruction C P instr (C.go (suc (C.place m)) m) st))
+      → ((label : ℕ) → slice_get (instrs_of P (C.proc m)) (C.address m) ≡ Some (I.Chfail label) → Lacks (C'.go (suc (C.address m)) m') → Lost)
+      → (o : Option Instr) → slice_get (instrs_of P (C.proc m)) (C.address m) ≡ o
+      → Sm (with_found o (λ instr. instruction C' P instr (C'.go (suc (C.address m)) m') (lift st ks')))
+      (with_found o (λ instr. instruction C P instr (C.go (suc (C.address m)) m) st))
   at_instruction m' m st ks' h d None e = same_stuck
-  at_instruction m' m st ks' h d (Some i) e = l_instruction i (C'.go (suc (C.place m)) m') (C.go (suc (C.place m)) m) st ks'
-      (ap (λ p. slice_get (instrs_of P p) (pred (C.place (C.go (suc (C.place m)) m)))) (G.go_proc (suc (C.place m)) m)
-      ∙ ap (λ q. slice_get (instrs_of P (C.proc m)) (pred q)) (G.go_place (suc (C.place m)) m) ∙ e)
-      (r_go (suc (C.place m)) st.active m' m ks' st.coexps h) (λ label is. d label (e ∙ ap Some is))
+  at_instruction m' m st ks' h d (Some i) e = l_instruction i (C'.go (suc (C.address m)) m') (C.go (suc (C.address m)) m) st ks'
+      (ap (λ p. slice_get (instrs_of P p) (pred (C.address (C.go (suc (C.address m)) m)))) (G.go_proc (suc (C.address m)) m)
+      ∙ ap (λ q. slice_get (instrs_of P (C.proc m)) (pred q)) (G.go_place (suc (C.address m)) m) ∙ e)
+      (r_go (suc (C.address m)) st.active m' m ks' st.coexps h) (λ label is. d label (e ∙ ap Some is))
 
   s_running : (m' : M') (m : M) (st : Store K) (ks' : List (Coexp K')) → Rd st.active m' m ks' st.coexps
       → (IsLacking C' P Lacks (running m' (lift st ks')) → Lost) → Sm (step C' P (running m' (lift st ks'))) (step C P (running m st))
   s_running m' m st ks' h d =
       let proc : C'.proc m' ≡ C.proc m = G.proc h.world st.active m' m h.here in
-      let place : C'.place m' ≡ C.place m = G.place h.world st.active m' m h.here in
-      subst (λ p. Sm (with_found (slice_get (instrs_of P p) (C'.place m')) (λ instr. instruction C' P instr (C'.go (suc (C'.place m')) m') (lift st ks')))
+      let place : C'.address m' ≡ C.address m = G.address h.world st.active m' m h.here in
+      subst (λ p. Sm (with_found (slice_get (instrs_of P p) (C'.address m')) (λ instr. instruction C' P instr (C'.go (suc (C'.address m')) m') (lift st ks')))
       (step C P (running m st))) (sym proc)
       (subst (λ q. Sm (with_found (slice_get (instrs_of P (C.proc m)) q) (λ instr. instruction C' P instr (C'.go (suc q) m') (lift st ks')))
       (step C P (running m st))) (sym place)
       (at_instruction m' m st ks' h (λ label is lacks. d (
         label,
-        ap (λ p. slice_get (instrs_of P p) (C'.place m')) proc ∙ ap (slice_get (instrs_of P (C.proc m))) place ∙ is,
+        ap (λ p. slice_get (instrs_of P p) (C'.address m')) proc ∙ ap (slice_get (instrs_of P (C.proc m))) place ∙ is,
         subst (λ q. Lacks (C'.go (suc q) m')) (sym place) lacks,
       )) (instruction_at C P m) refl))
 
@@ -1014,7 +1014,7 @@ module _ {K M K' M' : Type 0} (C' : Calls K' M') (C : Calls K M) (P : Program) (
 
     pub same_start : (launch : Launch) (m' : M') (m : M) → Blank m' m → Sm (start C' m' P launch) (start C m P launch)
     same_start launch m' m h = s_start launch.words m' m (first_store P launch)
-        (record { status = Active; activator = 0; values = []; proc = 0; place = 0 } ∷ []) h (alike Active Active 0 [] 0 0 tt, tt) (main_of P)
+        (record { status = Active; activator = 0; values = []; proc = 0; address = 0 } ∷ []) h (alike Active Active 0 [] 0 0 tt, tt) (main_of P)
 
   -- Runs
 

@@ -153,7 +153,7 @@ module _ {K M : Type 0} (C : Calls K M) (P : Program) (IsAdded : Coexp K → Typ
       → Q (coexp_made C values proc place m st)
   q_new values proc place m st h added =
       q_made (coexpression_row (length values) (here C m st)) m st (λ value m st. push_item C (Val value) m (with_new values proc place st)) h (λ v a st' h'.
-      let new : Coexp K = record { status = Fresh; activator = zero; values = values; proc = proc; place = place } in
+      let new : Coexp K = record { status = Fresh; activator = zero; values = values; proc = proc; address = place } in
       record { active = h'.active; coexps = inr (new, added new refl, ap (λ x. x ++ new ∷ []) h'.coexps) })
 
   -- one that is made again from one that is there
@@ -162,7 +162,7 @@ module _ {K M : Type 0} (C : Calls K M) (P : Program) (IsAdded : Coexp K → Typ
 
   q_refreshed_from : (n : ℕ) (o : Option (Coexp K)) (m : M) (st : Store K) → slice_get st.coexps n ≡ o → Same st → AddsAgain
       → Q (refreshed_from C o m st)
-  q_refreshed_from n (Some c) m st e h added = q_new c.values c.proc c.place m st h (λ new is. added new (record {
+  q_refreshed_from n (Some c) m st e h added = q_new c.values c.proc c.address m st h (λ new is. added new (record {
     number = n;
     old = c;
     there = ap (λ (l : List (Coexp K)). slice_get l n) (sym h.coexps) ∙ e;
@@ -311,7 +311,7 @@ module _ {K M : Type 0} (C : Calls K M) (P : Program) (IsAdded : Coexp K → Typ
       (λ st' h'. q_returned (C.leave x.1) (push_item C result) st' h' (λ b. stay st' h'))))
   q_instruction I.Pfail m st h d added = q_if (is_create_body C m st) _ _ tt (q_proc_fails m st h)
   q_instruction (I.Create l) m st h d added =
-      q_turn st (coexp_made C (C.locals m) (C.proc m) (C.place m) (C.go l m)) h (λ st' h'. q_new (C.locals m) (C.proc m) (C.place m) (C.go l m) st' h' added)
+      q_turn st (coexp_made C (C.locals m) (C.proc m) (C.address m) (C.go l m)) h (λ st' h'. q_new (C.locals m) (C.proc m) (C.address m) (C.go l m) st' h' added)
   q_instruction I.Coact m st h d added = absurd (cc)
   q_instruction I.Coret m st h d added = absurd (cc)
   q_instruction I.Cofail m st h d added = absurd (cc)
@@ -343,7 +343,7 @@ module _ {K M : Type 0} (C : Calls K M) (P : Program) (IsAdded : Coexp K → Typ
 
 pub others_stay : {K M : Type 0} (C : Calls K M) (P : Program) → OthersStay C P
 others_stay C P = record {
-  instructions = λ m st instr e d. rw e (q_instruction C P (Adds C instr (C.go (suc (C.place m)) m) st) st instr (C.go (suc (C.place m)) m) st
+  instructions = λ m st instr e d. rw e (q_instruction C P (Adds C instr (C.go (suc (C.address m)) m) st) st instr (C.go (suc (C.address m)) m) st
       (record { active = refl; coexps = refl }) d (λ new is. is));
   failure = λ m st d. q_back C P AddsNone st (C.resume m) m st (λ a b c. d (record { nothing_comes_back = a; no_mark = b; in_body = c }))
       (record { active = refl; coexps = refl });

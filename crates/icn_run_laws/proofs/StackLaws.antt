@@ -66,11 +66,11 @@ kept_below cells above below cell e height some low =
 -- Suspending
 
 suspended_by : (why : Why) (before : Frames) (outside : Registers) (place : ℕ) (items : List Item) (result : Item) (after : Frames)
-    → after.cells ≡ operand result ∷ (map operand items ++ suspension why before.registers before.place ∷ before.cells)
-    → after.registers ≡ record outside { newest = Some (suc (length before.cells)) } → after.place ≡ place
+    → after.cells ≡ operand result ∷ (map operand items ++ suspension why before.registers before.address ∷ before.cells)
+    → after.registers ≡ record outside { newest = Some (suc (length before.cells)) } → after.address ≡ place
     → SuspendsTo why before outside place items result after
 suspended_by why before outside place items result after e n at =
-    let frame : Cell = suspension why before.registers before.place in
+    let frame : Cell = suspension why before.registers before.address in
     let above : List Cell = operand result ∷ (map operand items ++ frame ∷ []) in
     let whole : after.cells ≡ above ++ before.cells = e ∙ ap (λ l. operand result ∷ l) (sym (joined (map operand items) frame before.cells)) in
     record {
@@ -78,7 +78,7 @@ suspended_by why before outside place items result after e n at =
       frame = ap (cell_at (suc (length before.cells))) e ∙ at_top (operand result ∷ map operand items) before.cells frame;
       above = e;
       registers = n;
-      place = at;
+      address = at;
     }
   where
     joined : (xs : List Cell) (y : Cell) (ys : List Cell) → (xs ++ y ∷ []) ++ ys ≡ xs ++ y ∷ ys
@@ -86,33 +86,33 @@ suspended_by why before outside place items result after e n at =
     joined (x ∷ xs) y ys = ap (λ l. x ∷ l) (joined xs y ys)
 
 suspends_in_mark : (why : Why) (m : Frames) (items : List Item) (result : Item) → AreOnTop items m.cells
-    → SuspendsTo why m (registers_within why m) m.place items result (push result (suspend why m))
+    → SuspendsTo why m (registers_within why m) m.address items result (push result (suspend why m))
 suspends_in_mark why m items result h =
-    suspended_by why m (registers_within why m) m.place items result (push result (suspend why m))
-    (ap (λ l. operand result ∷ l) (copied items m.cells (suspension why m.registers m.place ∷ m.cells) h)) refl refl
+    suspended_by why m (registers_within why m) m.address items result (push result (suspend why m))
+    (ap (λ l. operand result ∷ l) (copied items m.cells (suspension why m.registers m.address ∷ m.cells) h)) refl refl
 
 -- what goes on outside, with these registers and at this place
 outside_by : (why : Why) (m after : Frames) (outside : List Cell) (registers : Registers) (place : ℕ) (items : List Item) (result : Item)
     → record {
-      cells = copy_up outside (suspension why m.registers m.place ∷ m.cells);
+      cells = copy_up outside (suspension why m.registers m.address ∷ m.cells);
       registers = record registers { newest = Some (suc (length m.cells)) };
-      place = place;
+      address = place;
     } ≡ after
     → AreOnTop items outside → SuspendsTo why m registers place items result (push result after)
 outside_by why m after outside registers place items result e h =
     suspended_by why m registers place items result (push result after)
     (ap (λ (x : Frames). operand result ∷ x.cells) (sym e)
-    ∙ ap (λ l. operand result ∷ l) (copied items outside (suspension why m.registers m.place ∷ m.cells) h))
-    (ap (λ (x : Frames). x.registers) (sym e)) (ap (λ (x : Frames). x.place) (sym e))
+    ∙ ap (λ l. operand result ∷ l) (copied items outside (suspension why m.registers m.address ∷ m.cells) h))
+    (ap (λ (x : Frames). x.registers) (sym e)) (ap (λ (x : Frames). x.address) (sym e))
 
 mark_by : (m : Frames) (cell : Cell) (outside : List Cell) (registers : Registers) (items : List Item) (result : Item) (after : Frames)
     → mark_suspended m (cell ∷ outside) ≡ Some after → IsMarkOn registers cell → AreOnTop items outside
-    → SuspendsTo Alt m registers m.place items result (push result after)
+    → SuspendsTo Alt m registers m.address items result (push result after)
 mark_by m (mark l c r) outside registers items result after e is h =
-    subst (λ (kept : Registers). SuspendsTo Alt m kept m.place items result (push result after))
-    is (outside_by Alt m after outside r m.place items result (some_inj e) h)
-mark_by m (limit n r) outside registers items result after e is h = subst (λ (kept : Registers). SuspendsTo Alt m kept m.place items result (push result after))
-    is (outside_by Alt m after outside r m.place items result (some_inj e) h)
+    subst (λ (kept : Registers). SuspendsTo Alt m kept m.address items result (push result after))
+    is (outside_by Alt m after outside r m.address items result (some_inj e) h)
+mark_by m (limit n r) outside registers items result after e is h = subst (λ (kept : Registers). SuspendsTo Alt m kept m.address items result (push result after))
+    is (outside_by Alt m after outside r m.address items result (some_inj e) h)
 mark_by m (base p n) outside registers items result after e is h = no_some after e
 mark_by m (call p n l r q) outside registers items result after e is h = no_some after e
 mark_by m (local v) outside registers items result after e is h = no_some after e
@@ -145,7 +145,7 @@ suspends = record {
 resumed_by : (m : Frames) (height : ℕ) (why : Why) (after : Frames) (cells : List Cell) → m.registers.newest ≡ Some height → cut height m.cells ≡ cells
     → resume_from cells ≡ Some (why, after) → ResumesTo m why after
 resumed_by m height why after (suspension w r q ∷ below) n c e =
-    let e' : (w, record { cells = below; registers = r; place = q }) ≡ (why, after) = some_inj e in
+    let e' : (w, record { cells = below; registers = r; address = q }) ≡ (why, after) = some_inj e in
     let o = split (length m.cells - height) m.cells (suspension w r q) below c in
     subst (λ (back : Why × Frames). ResumesTo m back.0 back.1) e' (record {
       height = height;
@@ -185,7 +185,7 @@ unmarked_by m after cell registers below pair is c e f =
       cells = o.1;
       start = start_at m.registers.mark m.cells o.0 below cell o.1 o.2;
       kept = kept_below m.cells o.0 below cell o.1;
-      place = refl;
+      address = refl;
       saved = sym f;
     })
 

@@ -22,8 +22,8 @@ With Next Now w s x y = (x.0 ≡ y.0) × Then Next Now w s x.1 y.1
 -- a mark that may be reached again stands where the second machine goes on, and the first one has opened it
 abbrev pub OpensAgain : {K W M' M : Type 0} → Calls K M → (ℕ → ℕ → Option ℕ → Type 0) → (ℕ → W → W → Type 0)
     → (W → ℕ → M' → M → Type 0) → W → ℕ → M' → M → Type 0
-OpensAgain C Opens Next Now w s m' m = (label : Option ℕ) × Opens (C.proc m) (C.place m) label
-    × Then Next Now w s m' (C.mark label (C.go (suc (C.place m)) m))
+OpensAgain C Opens Next Now w s m' m = (label : Option ℕ) × Opens (C.proc m) (C.address m) label
+    × Then Next Now w s m' (C.mark label (C.go (suc (C.address m)) m))
 
 abbrev pub SameDropped : {K W M' M : Type 0} → Calls K M → (ℕ → ℕ → Option ℕ → Type 0) → (ℕ → W → W → Type 0)
     → (W → ℕ → M' → M → Type 0) → W → ℕ → MarkDrop M' → MarkDrop M → Type 0
@@ -53,14 +53,14 @@ pub record Agrees {K M K' M' : Type 0} (C' : Calls K' M') (C : Calls K M) (Opens
   pub level : (w : W) (s : ℕ) (m' : M') (m : M) → Now w s m' m → C'.level m' ≡ C.level m
   pub is_base : (w : W) (s : ℕ) (m' : M') (m : M) → Now w s m' m → C'.is_base m' ≡ C.is_base m
   pub locals : (w : W) (s : ℕ) (m' : M') (m : M) → Now w s m' m → C'.locals m' ≡ C.locals m
-  pub place : (w : W) (s : ℕ) (m' : M') (m : M) → Now w s m' m → C'.place m' ≡ C.place m
+  pub address : (w : W) (s : ℕ) (m' : M') (m : M) → Now w s m' m → C'.address m' ≡ C.address m
   pub below : (w : W) (s : ℕ) (m' : M') (m : M) → Now w s m' m → C'.below m' ≡ C.below m
   pub set_locals : (values : List Value) (w : W) (s : ℕ) (m' : M') (m : M)
       → Now w s m' m → length values ≡ length (C.locals m)
       → Then Next Now w s (C'.set_locals values m') (C.set_locals values m)
   pub go : (q : ℕ) (w : W) (s : ℕ) (m' : M') (m : M) → Now w s m' m
       → Then Next Now w s (C'.go q m') (C.go q m)
-  pub go_place : (q : ℕ) (m : M) → C.place (C.go q m) ≡ q
+  pub go_place : (q : ℕ) (m : M) → C.address (C.go q m) ≡ q
   pub go_proc : (q : ℕ) (m : M) → C.proc (C.go q m) ≡ C.proc m
   pub push : (item : Item) (w : W) (s : ℕ) (m' : M') (m : M) → Now w s m' m
       → Then Next Now w s (C'.push item m') (C.push item m)
@@ -69,7 +69,7 @@ pub record Agrees {K M K' M' : Type 0} (C' : Calls K' M') (C : Calls K M) (Opens
   pub take : (n : ℕ) (w : W) (s : ℕ) (m' : M') (m : M) → Now w s m' m
       → Both ⊥ (With Next Now w s) (C'.take n m') (C.take n m)
   pub mark : (label : Option ℕ) (w : W) (s : ℕ) (m' : M') (m : M) → Now w s m' m
-      → Opens (C.proc m) (pred (C.place m)) label → Then Next Now w s (C'.mark label m') (C.mark label m)
+      → Opens (C.proc m) (pred (C.address m)) label → Then Next Now w s (C'.mark label m') (C.mark label m)
   pub limit : (count : ℕ) (w : W) (s : ℕ) (m' : M') (m : M) → Now w s m' m
       → Then Next Now w s (C'.limit count m') (C.limit count m)
   pub relabel : (label : ℕ) (w : W) (s : ℕ) (m' : M') (m : M) → Now w s m' m

@@ -74,41 +74,41 @@ pub record Weighs {K M : Type 0} (C : Calls K M) (N : ℕ) : Type 1 where
   pub begin : (proc : ℕ) (values : List Value) (place : ℕ) (m : M)
       → (v : ℕ) × Bounded (C.begin proc values place m) v
   pub set_locals : (values : List Value) (m : M) (f : (v : ℕ) × Bounded m v)
-      → Stays Bounded C.place 0 f.0 m (C.set_locals values m)
+      → Stays Bounded C.address 0 f.0 m (C.set_locals values m)
   pub go : (place : ℕ) (m : M) (v : ℕ) → Bounded m v → Bounded (C.go place m) v
-  pub go_stands : (place : ℕ) (m : M) → C.place (C.go place m) ≡ place
-  pub push : (item : Item) (m : M) (f : (v : ℕ) × Bounded m v) → Stays Bounded C.place 0 f.0 m (C.push item m)
+  pub go_stands : (place : ℕ) (m : M) → C.address (C.go place m) ≡ place
+  pub push : (item : Item) (m : M) (f : (v : ℕ) × Bounded m v) → Stays Bounded C.address 0 f.0 m (C.push item m)
   pub pop : (m : M) (f : (v : ℕ) × Bounded m v)
-      → IfThere (C.pop m) (λ top. Stays Bounded C.place 0 f.0 m top.1)
+      → IfThere (C.pop m) (λ top. Stays Bounded C.address 0 f.0 m top.1)
   pub take : (n : ℕ) (m : M) (f : (v : ℕ) × Bounded m v)
-      → IfThere (C.take n m) (λ tops. Stays Bounded C.place 0 f.0 m tops.1)
+      → IfThere (C.take n m) (λ tops. Stays Bounded C.address 0 f.0 m tops.1)
   pub mark : (label : Option ℕ) (m : M) (f : (v : ℕ) × Bounded m v)
-      → Stays Bounded C.place (suc (worth_of N label)) f.0 m (C.mark label m)
+      → Stays Bounded C.address (suc (worth_of N label)) f.0 m (C.mark label m)
   pub limit : (count : ℕ) (m : M) (f : (v : ℕ) × Bounded m v)
-      → Stays Bounded C.place 1 f.0 m (C.limit count m)
+      → Stays Bounded C.address 1 f.0 m (C.limit count m)
   pub relabel : (label : ℕ) (m : M) (f : (v : ℕ) × Bounded m v)
-      → IfThere (C.relabel label m) (λ after. Stays Bounded C.place 0 f.0 m after)
+      → IfThere (C.relabel label m) (λ after. Stays Bounded C.address 0 f.0 m after)
   pub count_down : (m : M) (f : (v : ℕ) × Bounded m v)
-      → IfThere (C.count_down m) (λ count. Stays Bounded C.place 0 f.0 m count.1)
+      → IfThere (C.count_down m) (λ count. Stays Bounded C.address 0 f.0 m count.1)
   pub unmark : (m : M) (f : (v : ℕ) × Bounded m v)
-      → IfThere (C.unmark m) (λ outside. Stays Bounded C.place 0 f.0 m outside.0)
-  pub drop_mark : (m : M) (f : (v : ℕ) × Bounded m v) → DropsWell Bounded C.place N f.0 (C.drop_mark m)
+      → IfThere (C.unmark m) (λ outside. Stays Bounded C.address 0 f.0 m outside.0)
+  pub drop_mark : (m : M) (f : (v : ℕ) × Bounded m v) → DropsWell Bounded C.address N f.0 (C.drop_mark m)
   pub suspend : (why : Why) (m : M) → IsInside why → (f : (v : ℕ) × Bounded m v)
-      → Stays Bounded C.place 1 f.0 m (C.suspend why m)
+      → Stays Bounded C.address 1 f.0 m (C.suspend why m)
   pub suspend_mark : (m : M) (f : (v : ℕ) × Bounded m v)
-      → IfThere (C.suspend_mark m) (λ after. Stays Bounded C.place 1 f.0 m after)
+      → IfThere (C.suspend_mark m) (λ after. Stays Bounded C.address 1 f.0 m after)
   pub suspend_proc : (m : M) (f : (v : ℕ) × Bounded m v)
-      → IfThere (C.suspend_proc m) (λ after. Pays Bounded C.place N f.0 after)
+      → IfThere (C.suspend_proc m) (λ after. Pays Bounded C.address N f.0 after)
   pub resume : (m : M) (f : (v : ℕ) × Bounded m v)
       → IfThere (C.resume m) (λ back. ResumesWell Bounded f.0 back.0 back.1)
   pub swap_newest : (pair : Pair) (m : M) (f : (v : ℕ) × Bounded m v)
-      → IfThere (C.swap_newest pair m) (λ swap. Stays Bounded C.place 0 f.0 m swap.1)
+      → IfThere (C.swap_newest pair m) (λ swap. Stays Bounded C.address 0 f.0 m swap.1)
   pub swap_oldest : (pair : Pair) (m : M) (f : (v : ℕ) × Bounded m v)
-      → IfThere (C.swap_oldest pair m) (λ swap. Stays Bounded C.place 0 f.0 m swap.1)
+      → IfThere (C.swap_oldest pair m) (λ swap. Stays Bounded C.address 0 f.0 m swap.1)
   pub enter : (proc : ℕ) (values : List Value) (m : M) (f : (v : ℕ) × Bounded m v)
       → (v : ℕ) × Bounded (C.enter proc values m) v
   pub leave : (m : M) (f : (v : ℕ) × Bounded m v)
-      → IfThere (C.leave m) (λ caller. Pays Bounded C.place N f.0 caller)
+      → IfThere (C.leave m) (λ caller. Pays Bounded C.address N f.0 caller)
 
 -- labels of marks, `goto` and `init` lie behind their instruction
 abbrev pub IsForward : ℕ → Instr → Type 0
@@ -158,7 +158,7 @@ module _ {K M : Type 0} (C : Calls K M) (N B : ℕ) (W : Weighs C N) where
 
   -- a state after one turn more than n, or one that is lighter than w after n turns
   abbrev pub Later : (n w : ℕ) → State K M → Type 0
-  Later n w (running m st) = (f : Fits m) × Held st × Falls st.turns (worth N (C.place m) + f.0) n w
+  Later n w (running m st) = (f : Fits m) × Held st × Falls st.turns (worth N (C.address m) + f.0) n w
   Later n w (failing m st) = (f : Fits m) × Held st × Falls st.turns f.0 n w
   Later n w (hopping m st) = Held st × ((st.turns ≡ n + 1) × (n < B))
   Later n w (over ending outside) = Unit {0}

@@ -17,19 +17,19 @@ is_transfer instr = false
 -- a co-expression that was just made with these values, for this procedure and place, and that nothing has entered
 abbrev pub IsNew : {K : Type 0} → List Value → ℕ → ℕ → Coexp K → Type 0
 IsNew values proc place coexp =
-    coexp ≡ record { status = Fresh; activator = zero; values = values; proc = proc; place = place }
+    coexp ≡ record { status = Fresh; activator = zero; values = values; proc = proc; address = place }
 
 -- what is made again from one that is there: with the values, the procedure and the place of its creation
 pub record IsMadeAgain {K : Type 0} (coexps : List (Coexp K)) (new : Coexp K) : Type 0 where
   pub number : ℕ
   pub old : Coexp K
   pub there : slice_get coexps number ≡ Some old
-  pub again : IsNew old.values old.proc old.place new
+  pub again : IsNew old.values old.proc old.address new
 
 -- The co-expression that an instruction may add: `create` one with the present locals, at the place behind itself, refreshing one that is made again, and
 -- any other instruction none.
 abbrev pub Adds : {K M : Type 0} → Calls K M → Instr → M → Store K → Coexp K → Type 0
-Adds C (Instrs.Create label) m st new = IsNew (C.locals m) (C.proc m) (C.place m) new
+Adds C (Instrs.Create label) m st new = IsNew (C.locals m) (C.proc m) (C.address m) new
 Adds C (Instrs.Op Ops.Refresh) m st new = IsMadeAgain st.coexps new
 Adds C instr m st new = ⊥
 
@@ -68,5 +68,5 @@ pub record EndsBody {K M : Type 0} (C : Calls K M) (m : M) (st : Store K) : Type
 pub record OthersStay {K M : Type 0} (C : Calls K M) (P : Program) : Type 0 where
   pub instructions : (m : M) (st : Store K) (instr : Instr) → instruction_at C P m ≡ Some instr
       → is_transfer instr ≡ false
-      → StayIn (Adds C instr (C.go (suc (C.place m)) m) st) st (step C P (running m st))
+      → StayIn (Adds C instr (C.go (suc (C.address m)) m) st) st (step C P (running m st))
   pub failure : (m : M) (st : Store K) → (EndsBody C m st → ⊥) → StayIn AddsNone st (step C P (failing m st))

@@ -58,7 +58,7 @@ memory_of m = record {
 abbrev pub linked_with : Memory → Chain → ℕ → LinkedStack
 linked_with F c q = record {
   chain = c;
-  place = q;
+  address = q;
   activations = F.activations;
   flags = F.flags;
   relabels = F.relabels;
@@ -228,13 +228,13 @@ module _ (repeats : ℕ → ℕ → Bool) (Opens : ℕ → ℕ → Option ℕ �
   -- the stack that runs, as number s
   pub data Now (w : World) (s : ℕ) : LinkedStack → Frames → Type 0 where
     now : {c : Chain} {q : ℕ} {r : Registers} (cells : List NCell) → IsFlat c cells r → AllOk w s cells
-        → Now w s (linked_with w.kept c q) (record { cells = render w.kept cells; registers = r; place = q })
+        → Now w s (linked_with w.kept c q) (record { cells = render w.kept cells; registers = r; address = q })
 
   -- a stack that waits
   pub data Away (w : World) (s : ℕ) : WaitingChain → Frames → Type 0 where
     away : {c : Chain} {q : ℕ} {r : Registers} (cells : List NCell) → IsFlat c cells r → AllOk w s cells
-        → Away w s (record { chain = c; place = q })
-        (record { cells = render w.kept cells; registers = r; place = q })
+        → Away w s (record { chain = c; address = q })
+        (record { cells = render w.kept cells; registers = r; address = q })
 
 -- from a world to one where the numbers of other stacks than s hold what they held
 abbrev pub Next : ℕ → World → World → Type 0

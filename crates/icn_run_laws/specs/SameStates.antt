@@ -21,7 +21,7 @@ Opens P proc place label = slice_get (instrs_of P proc) place ≡ Some (mark_of 
 -- a label is to be set, and the stack lacks what that wants
 abbrev pub IsLacking : {K M : Type 0} → Calls K M → Program → (M → Type 0) → State K M → Type 0
 IsLacking C P Lacks (running m st) =
-    (label : ℕ) × (instruction_at C P m ≡ Some (Instrs.Chfail label)) × Lacks (C.go (suc (C.place m)) m)
+    (label : ℕ) × (instruction_at C P m ≡ Some (Instrs.Chfail label)) × Lacks (C.go (suc (C.address m)) m)
 IsLacking C P Lacks state = ⊥
 
 -- it gives a value, or is an error
@@ -52,8 +52,8 @@ SameStatus A s' s = ⊥
 
 pub data SameCoexp {K' K : Type 0} (A : K' → K → Type 0) : Coexp K' → Coexp K → Type 0 where
   alike : (s' : Status K') (s : Status K) (a : ℕ) (vs : List Value) (p q : ℕ) → SameStatus A s' s
-      → SameCoexp A (record { status = s'; activator = a; values = vs; proc = p; place = q })
-      (record { status = s; activator = a; values = vs; proc = p; place = q })
+      → SameCoexp A (record { status = s'; activator = a; values = vs; proc = p; address = q })
+      (record { status = s; activator = a; values = vs; proc = p; address = q })
 
 -- co-expressions one by one, by a relation of the stacks that wait for each number
 abbrev pub Rests : {K' K : Type 0} → (ℕ → K' → K → Type 0) → List (Coexp K') → List (Coexp K) → Type 0

@@ -39,11 +39,11 @@ pub record SuspendsTo (why : Why) (before : Frames) (outside : Registers) (back 
     (after : Frames) : Type 0 where
   pub below : SameUpTo (length before.cells) before.cells after.cells
   pub frame : cell_at (suc (length before.cells)) after.cells
-      ≡ Some (suspension why before.registers before.place)
+      ≡ Some (suspension why before.registers before.address)
   pub above : after.cells
-      ≡ operand result ∷ (map operand operands ++ suspension why before.registers before.place ∷ before.cells)
+      ≡ operand result ∷ (map operand operands ++ suspension why before.registers before.address ∷ before.cells)
   pub registers : after.registers ≡ record outside { newest = Some (suc (length before.cells)) }
-  pub place : after.place ≡ back
+  pub address : after.address ≡ back
 
 -- the registers of a mark in which a suspension is made: an opened scan is its newest, and one that was left is so no more
 abbrev pub registers_within : Why → Frames → Registers
@@ -53,12 +53,12 @@ registers_within why m = record m.registers { scan = scan_after why (suc (length
 -- it, or that of the caller.
 pub record Suspends : Type 0 where
   pub in_mark : (why : Why) (m : Frames) (operands : List Item) (result : Item) → AreOnTop operands m.cells
-      → SuspendsTo why m (registers_within why m) m.place operands result (push result (suspend why m))
+      → SuspendsTo why m (registers_within why m) m.address operands result (push result (suspend why m))
   pub mark : (m after : Frames) (cell : Cell) (outside : List Cell) (registers : Registers)
       (operands : List Item) (result : Item)
       → suspend_mark m ≡ Some after → cut m.registers.mark m.cells ≡ cell ∷ outside → IsMarkOn registers cell
       → AreOnTop operands outside
-      → SuspendsTo Alt m registers m.place operands result (push result after)
+      → SuspendsTo Alt m registers m.address operands result (push result after)
   pub proc : (m after : Frames) (cell : Cell) (outside : List Cell) (registers : Registers) (place : ℕ)
       (operands : List Item) (result : Item)
       → suspend_proc m ≡ Some after → cut m.registers.base m.cells ≡ cell ∷ outside
@@ -71,7 +71,7 @@ pub record ResumesTo (before : Frames) (why : Why) (after : Frames) : Type 0 whe
   pub height : ℕ
   pub newest : before.registers.newest ≡ Some height
   pub above : List Cell
-  pub cells : before.cells ≡ above ++ suspension why after.registers after.place ∷ after.cells
+  pub cells : before.cells ≡ above ++ suspension why after.registers after.address ∷ after.cells
   pub start : height ≤ length before.cells → height ≡ suc (length after.cells)
   pub kept : SameUpTo (length after.cells) before.cells after.cells
 
@@ -88,7 +88,7 @@ pub record UnmarksTo (before after : Frames) (pair : Option Pair) : Type 0 where
   pub cells : before.cells ≡ above ++ marks ∷ after.cells
   pub start : before.registers.mark ≤ length before.cells → before.registers.mark ≡ suc (length after.cells)
   pub kept : SameUpTo (length after.cells) before.cells after.cells
-  pub place : after.place ≡ before.place
+  pub address : after.address ≡ before.address
   pub saved : pair ≡ pair_at before.cells (oldest after.registers.scan before)
 
 -- the last result of a limit: the mark of the limit is gone, and the result stands on what was below

@@ -148,7 +148,7 @@ module _ (ns : Names) where
   begin p vs q m h = put_above vs (base p (length vs) ∷ []) h (tt, tt)
 
   pub enter : (p : ℕ) (vs : List Value) (m : Frames) → Each V vs → M m → M (S.enter p vs m)
-  enter p vs m h g = put_above vs (call p (length vs) (suc (S.level m)) m.registers m.place ∷ m.cells) h (tt, g)
+  enter p vs m h g = put_above vs (call p (length vs) (suc (S.level m)) m.registers m.address ∷ m.cells) h (tt, g)
 
   -- Operands
 
@@ -293,16 +293,16 @@ module _ (ns : Names) where
   -- Suspending
 
   pub suspend : (why : Why) (m : Frames) → WhyNamed ns why → M m → M (S.suspend why m)
-  suspend why m g h = copy_up m.cells (suspension why m.registers m.place ∷ m.cells) h (g, h)
+  suspend why m g h = copy_up m.cells (suspension why m.registers m.address ∷ m.cells) h (g, h)
 
   suspended_onto : (why : Why) (m : Frames) (cells : List Cell) (r : Registers) (p : ℕ) → WhyNamed ns why → M m → Cs cells
       → M (S.suspended_onto why m cells r p)
-  suspended_onto why m cells r p g h k = copy_up cells (suspension why m.registers m.place ∷ m.cells) k (g, h)
+  suspended_onto why m cells r p g h k = copy_up cells (suspension why m.registers m.address ∷ m.cells) k (g, h)
 
   mark_suspended : (m : Frames) (cells : List Cell) → M m → Cs cells → Maybe M (S.mark_suspended m cells)
   mark_suspended m [] h k = tt
-  mark_suspended m (mark l c r ∷ cells) h k = suspended_onto Alt m cells r m.place tt h k.1
-  mark_suspended m (limit n r ∷ cells) h k = suspended_onto Alt m cells r m.place tt h k.1
+  mark_suspended m (mark l c r ∷ cells) h k = suspended_onto Alt m cells r m.address tt h k.1
+  mark_suspended m (limit n r ∷ cells) h k = suspended_onto Alt m cells r m.address tt h k.1
   mark_suspended m (operand x ∷ cells) h k = tt
   mark_suspended m (base p l ∷ cells) h k = tt
   mark_suspended m (call p l n r q ∷ cells) h k = tt

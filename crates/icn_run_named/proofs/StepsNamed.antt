@@ -175,7 +175,7 @@ module _ (rows : RowsKeepNames) (P : Tables) where
   -- Co-expressions
 
   abbrev none : Coexp Frames
-  none = record { status = Exhausted; activator = zero; values = []; proc = zero; place = zero }
+  none = record { status = Exhausted; activator = zero; values = []; proc = zero; address = zero }
 
   none_named : CoexpNamed ns none
   none_named = record { status = tt; values = all_of V [] tt }
@@ -211,7 +211,7 @@ module _ (rows : RowsKeepNames) (P : Tables) where
   fail_by Exhausted n m st h k = active n st k
 
   begun_by : (co : Coexp Frames) (m : Frames) (st : Store Frames) → CoexpNamed ns co → K st → G (S.begun_by flat co m st)
-  begun_by co m st h k = (C.begin ns co.proc co.values co.place m (each_of V co.values h.values), k)
+  begun_by co m st h k = (C.begin ns co.proc co.values co.address m (each_of V co.values h.values), k)
 
   give_by : (u : Status Frames) (n : ℕ) (v : Value) (m : Frames) (st : Store Frames) → StatusNamed ns u → V v → K st → G (S.give_by flat u n v m st)
   give_by Fresh n v m st h a k = begun_by (S.coexp_at n st) m (S.make_active n st) (coexp_at n st k) (activated n st k)
@@ -254,13 +254,13 @@ module _ (rows : RowsKeepNames) (P : Tables) where
         (plain v n, h),
         record {
           world = k.world;
-          coexps = each_append (CoexpNamed ns) s.coexps (record { status = Fresh; activator = zero; values = vs; proc = proc; place = place } ∷ []) k.coexps
+          coexps = each_append (CoexpNamed ns) s.coexps (record { status = Fresh; activator = zero; values = vs; proc = proc; address = place } ∷ []) k.coexps
               (record { status = tt; values = all_of V vs a }, tt);
         },
       ))
 
   refreshed_from : (o : Option (Coexp Frames)) (m : Frames) (st : Store Frames) → Maybe (CoexpNamed ns) o → M m → K st → G (S.refreshed_from flat o m st)
-  refreshed_from (Some co) m st n h k = coexp_made co.values co.proc co.place m st (each_of V co.values n.values) h k
+  refreshed_from (Some co) m st n h k = coexp_made co.values co.proc co.address m st (each_of V co.values n.values) h k
   refreshed_from None m st n h k = tt
 
   refreshed : (v : Value) (m : Frames) (st : Store Frames) → M m → K st → G (S.refresh flat v m st)
@@ -664,8 +664,8 @@ module _ (rows : RowsKeepNames) (P : Tables) where
       (λ x m a h. result x m st (λ result. S.return_to (flats.leave m) (S.push_item flat result) (S.all_left flat m st)) a h k
       (λ x b. returned (flats.leave m) (S.push_item flat x) (S.all_left flat m st) (C.leave ns m h) (all_left m st k) (λ m s h k. ((b, h), k))))
   instruction I.Pfail m st d h k = either (S.is_create_body flat m st) stuck (S.proc_fails flat m st) tt (proc_fails m st h k)
-  instruction (I.Create l) m st d h k = turn st (S.coexp_made flat (flats.locals m) (flats.proc m) m.place (flats.go l m)) k
-      (λ st k. coexp_made (flats.locals m) (flats.proc m) m.place (flats.go l m) st (C.locals ns m h) h k)
+  instruction (I.Create l) m st d h k = turn st (S.coexp_made flat (flats.locals m) (flats.proc m) m.address (flats.go l m)) k
+      (λ st k. coexp_made (flats.locals m) (flats.proc m) m.address (flats.go l m) st (C.locals ns m h) h k)
   instruction I.Coact m st d h k = taken 2 m (λ items m. S.turn P st (S.activation_of flat items m)) h
       (λ xs m a h. turn st (S.activation_of flat xs m) k (λ st k. activation_of xs m st a h k))
   instruction I.Coret m st d h k = either (S.is_create_body flat m st)

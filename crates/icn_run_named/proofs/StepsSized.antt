@@ -153,7 +153,7 @@ module _ (rows : RowsKeepSizes) (P : Tables) where
       ((rows.coexpressions (field_count P) (length vs) (S.here flat m st)).fit k) k (λ v m s k. k)
 
   refreshed_from : (o : Option (Coexp Frames)) (m : Frames) (st : Store Frames) → K st → G (S.refreshed_from flat o m st)
-  refreshed_from (Some co) m st k = coexp_made co.values co.proc co.place m st k
+  refreshed_from (Some co) m st k = coexp_made co.values co.proc co.address m st k
   refreshed_from None m st k = tt
 
   refreshed : (v : Value) (m : Frames) (st : Store Frames) → K st → G (S.refresh flat v m st)
@@ -497,8 +497,8 @@ module _ (rows : RowsKeepSizes) (P : Tables) where
       (λ x m. result x m st (λ result. S.return_to (flats.leave m) (S.push_item flat result) (S.all_left flat m st)) k
       (λ x. returned (flats.leave m) (S.push_item flat x) (S.all_left flat m st) (all_left m st k) (λ m s k. k)))
   instruction I.Pfail m st d k = either (S.is_create_body flat m st) stuck (S.proc_fails flat m st) tt (proc_fails m st k)
-  instruction (I.Create l) m st d k = turn st (S.coexp_made flat (flats.locals m) (flats.proc m) m.place (flats.go l m)) k
-      (λ st k. coexp_made (flats.locals m) (flats.proc m) m.place (flats.go l m) st k)
+  instruction (I.Create l) m st d k = turn st (S.coexp_made flat (flats.locals m) (flats.proc m) m.address (flats.go l m)) k
+      (λ st k. coexp_made (flats.locals m) (flats.proc m) m.address (flats.go l m) st k)
   instruction I.Coact m st d k =
       taken 2 m (λ items m. S.turn P st (S.activation_of flat items m)) (λ xs m. turn st (S.activation_of flat xs m) k (λ st k. activation_of xs m st k))
   instruction I.Coret m st d k = either (S.is_create_body flat m st)

@@ -115,9 +115,9 @@ module _ (tables : Tables) (have : HaveShapes tables) (ok : TablesOk tables) (ke
 
   -- a mark is opened, whatever the outside
   pub opens_mark : (label : Option ℕ) (m : Frames) (st : Store Frames) → instruction_at flat tables m ≡ Some (mark_of label)
-      → step flat tables (running m st) ≡ running (flat.mark label (flat.go (suc (flat.place m)) m)) st
-  opens_mark None m st e = ap (λ o. with_found o (λ instr. instruction flat tables instr (flat.go (suc (flat.place m)) m) st)) e
-  opens_mark (Some label) m st e = ap (λ o. with_found o (λ instr. instruction flat tables instr (flat.go (suc (flat.place m)) m) st)) e
+      → step flat tables (running m st) ≡ running (flat.mark label (flat.go (suc (flat.address m)) m)) st
+  opens_mark None m st e = ap (λ o. with_found o (λ instr. instruction flat tables instr (flat.go (suc (flat.address m)) m) st)) e
+  opens_mark (Some label) m st e = ap (λ o. with_found o (λ instr. instruction flat tables instr (flat.go (suc (flat.address m)) m) st)) e
 
   pub due_over : (outside : Outside) (f : State Frames Frames) → IsDue tables have ok keep f → Near tables have ok keep (step flat tables f)
       → Follows tables have ok keep (over_outside outside f)

@@ -38,7 +38,7 @@ more_steps C tables (suc n) s = more_steps C tables n (step C tables s)
 
 -- where there is nothing it would be stuck
 goes_on : {K M : Type 0} (C : Calls K M) (tables : Tables) (m : M) (st : Store K) (o : Option Instr) → instruction_at C tables m ≡ o
-    → with_found o (λ instr. instruction C tables instr (C.go (suc (C.place m)) m) st) ≢ stuck → GoesOn C tables m st
+    → with_found o (λ instr. instruction C tables instr (C.go (suc (C.address m)) m) st) ≢ stuck → GoesOn C tables m st
 goes_on C tables m st None e d = absurd (d refl)
 goes_on C tables m st (Some instr) e d = record { instr = instr; stands = e; lacks_nothing = d }
 
@@ -68,11 +68,11 @@ module _ (tables : Tables) (have : HaveShapes tables) (ok : TablesOk tables) (ke
   abbrev facts_at : (m : LinkedStack) (st : Store WaitingChain) → Safe tables sh (running m st) → IsShapedAt tables sh m st
   facts_at m st h =
       let same = here_proc tables sh h.0 st.active h.1 h.2 m h.3 in
-      let there : sh (marks.proc m) m.place ≡ Some h.2 = ap (λ p. sh p m.place) same ∙ h.4 in
+      let there : sh (marks.proc m) m.address ≡ Some h.2 = ap (λ p. sh p m.address) same ∙ h.4 in
       record {
         shape = h.2;
         here = there;
-        fine = given.fine (marks.proc m) m.place h.2 there;
+        fine = given.fine (marks.proc m) m.address h.2 there;
         operands = operand_count h.0 st.active h.1 h.2 m.chain h.3.has;
         open_marks = all_marks h.0 st.active h.1 h.2 m.chain h.3.has;
         scans = scan_count h.0 st.active h.1 h.2 m.chain h.3.has;
@@ -154,12 +154,12 @@ module _ (tables : Tables) (have : HaveShapes tables) (ok : TablesOk tables) (ke
       let G = linked_agrees repeats_anywhere (Opens tables) in
       let facts = facts_at m' (lift st ks') safe in
       let proc = G.proc h.world st.active m' m h.here in
-      let place = G.place h.world st.active m' m h.here in
-      let there : sh (flat.proc m) m.place ≡ Some facts.shape = ap (λ p. sh p m.place) (sym proc) ∙ ap (sh (marks.proc m')) (sym place) ∙ facts.here in
+      let place = G.address h.world st.active m' m h.here in
+      let there : sh (flat.proc m) m.address ≡ Some facts.shape = ap (λ p. sh p m.address) (sym proc) ∙ ap (sh (marks.proc m')) (sym place) ∙ facts.here in
       record {
         shape = facts.shape;
         here = there;
-        fine = given.fine (flat.proc m) m.place facts.shape there;
+        fine = given.fine (flat.proc m) m.address facts.shape there;
         operands = λ n l. both_there _ (marks.take n m') (flat.take n m) (G.take n h.world st.active m' m h.here) (some_taken m' (lift st ks') safe n l);
         no_more = none_there _ (marks.take (suc facts.shape.inner.operands) m') (flat.take (suc facts.shape.inner.operands) m)
             (G.take (suc facts.shape.inner.operands) h.world st.active m' m h.here)

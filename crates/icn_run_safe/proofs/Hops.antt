@@ -93,10 +93,10 @@ module _ (P : Program) (sh : ℕ → ℕ → Option PlainShape) (given : KeepsSh
       → ValueWithin w.coexps value → (s : Status WaitingChain) → s ≡ c.status → StatusOk P sh w n s → Good (give_by M s n value m st)
   give_ok n value w m st c i e g Fresh q h =
       let o = i.store.coexps.each n c e in
-      subst (λ (x : Coexp WaitingChain). Good (running (C.begin x.proc x.values x.place m) (make_active n st))) (sym (read_coexp st n c e))
-      (ok_runs P sh given keep (with_activation w c.proc) c.proc (start_shape true) (C.begin c.proc c.values c.place m) (make_active n st)
+      subst (λ (x : Coexp WaitingChain). Good (running (C.begin x.proc x.values x.address m) (make_active n st))) (sym (read_coexp st n c e))
+      (ok_runs P sh given keep (with_activation w c.proc) c.proc (start_shape true) (C.begin c.proc c.values c.address m) (make_active n st)
       (record {
-        now = begin_ok P sh c.proc c.values c.place true w n m i.memory (o.values h) (not_first n h);
+        now = begin_ok P sh c.proc c.values c.address true w n m i.memory (o.values h) (not_first n h);
         store = grow_store P sh w (with_activation w c.proc) (λ i. i ≡ n) (make_active n st) refl (grow_activation w c.proc) (store_active w st n c i.store e);
       }) (o.origin h))
   give_ok n value w m st c i e g Active q h = absurd h
@@ -136,7 +136,7 @@ module _ (P : Program) (sh : ℕ → ℕ → Option PlainShape) (given : KeepsSh
       passed_failure_ok (activator_of a st') w m (with_status a Exhausted st') i
       (begun_then Exhausted w p S m st' r (λ z. z) (activator_of a st') (activator_begun w (λ i. i ≡ a) st' a r.store r.store.coexps.there)))
 
-  parked_ok : (w : Knowledge) (p : ℕ) (S : PlainShape) (m : LinkedStack) (st : Store WaitingChain) → Set w p S m st → sh p m.place ≡ Some (with_more 1 S)
+  parked_ok : (w : Knowledge) (p : ℕ) (S : PlainShape) (m : LinkedStack) (st : Store WaitingChain) → Set w p S m st → sh p m.address ≡ Some (with_more 1 S)
       → ParkedOk P sh w st.active (M.kept m)
   parked_ok w p S m st h e = record { proc = p; shape = S; has = h.now.has; goes = e }
 
@@ -160,7 +160,7 @@ module _ (P : Program) (sh : ℕ → ℕ → Option PlainShape) (given : KeepsSh
   }
 
   pub result_ok : (value : Value) (w : Knowledge) (p : ℕ) (S : PlainShape) (m : LinkedStack) (st : Store WaitingChain) → Set w p S m st → ValueWithin w.coexps value
-      → sh p m.place ≡ Some (with_more 1 S) → Good (result_given M value m st)
+      → sh p m.address ≡ Some (with_more 1 S) → Good (result_given M value m st)
   result_ok value w p S m st h g e =
       let n = activator_of st.active st in
       let s : Status WaitingChain = Waiting (M.kept m) in
@@ -180,7 +180,7 @@ module _ (P : Program) (sh : ℕ → ℕ → Option PlainShape) (given : KeepsSh
 
   entered_ok : (value : Value) (n : ℕ) (w : Knowledge) (p : ℕ) (S : PlainShape) (m : LinkedStack) (st : Store WaitingChain) → Set w p S m st
       → ValueWithin w.coexps value
-      → n < w.coexps → sh p m.place ≡ Some (with_more 1 S) → Good (entered_by M n value m st)
+      → n < w.coexps → sh p m.address ≡ Some (with_more 1 S) → Good (entered_by M n value m st)
   entered_ok value n w p S m st h g l e =
       let s : Status WaitingChain = Waiting (M.kept m) in
       let st1 : Store WaitingChain = with_status st.active s st in
@@ -195,7 +195,7 @@ module _ (P : Program) (sh : ℕ → ℕ → Option PlainShape) (given : KeepsSh
   -- a value is passed by the status of what is entered
   if_entered : (b : Bool) (s : Status WaitingChain) (n : ℕ) (value : Value) (w : Knowledge) (p : ℕ) (S : PlainShape) (m : LinkedStack) (st : Store WaitingChain)
       → Set w p S m st
-      → ValueWithin w.coexps value → n < w.coexps → sh p m.place ≡ Some (with_more 1 S) → Good (entered_if M b s n value m st)
+      → ValueWithin w.coexps value → n < w.coexps → sh p m.address ≡ Some (with_more 1 S) → Good (entered_if M b s n value m st)
   if_entered b Exhausted n value w p S m st h g l e = ok_fails P sh given keep w p S m st h
   if_entered true Fresh n value w p S m st h g l e = ok_push P sh given keep (Val value) w p S m st h g e
   if_entered true Active n value w p S m st h g l e = ok_push P sh given keep (Val value) w p S m st h g e
@@ -206,7 +206,7 @@ module _ (P : Program) (sh : ℕ → ℕ → Option PlainShape) (given : KeepsSh
 
   pub activation_ok : (value other : Value) (w : Knowledge) (p : ℕ) (S : PlainShape) (m : LinkedStack) (st : Store WaitingChain) → Set w p S m st
       → ValueWithin w.coexps value
-      → ValueWithin w.coexps other → sh p m.place ≡ Some (with_more 1 S) → Good (activation M value other m st)
+      → ValueWithin w.coexps other → sh p m.address ≡ Some (with_more 1 S) → Good (activation M value other m st)
   activation_ok value (ACoexp n) w p S m st h g l e = if_entered (n == st.active) (status_of n st) n value w p S m st h g l e
   activation_ok value Null w p S m st h g l e = tt
   activation_ok value (Integer x) w p S m st h g l e = tt
@@ -222,7 +222,7 @@ module _ (P : Program) (sh : ℕ → ℕ → Option PlainShape) (given : KeepsSh
   -- a new one is made
   created_ok : (o : Outcome) (values : List Value) (proc place : ℕ) (w : Knowledge) (p : ℕ) (S : PlainShape) (m : LinkedStack) (st : Store WaitingChain)
       → Set w p S m st
-      → CreatedWithin w.coexps (here M m st) o → LocalsOk P sh w proc values → sh proc place ≡ Some (start_shape true) → sh p m.place ≡ Some (with_more 1 S)
+      → CreatedWithin w.coexps (here M m st) o → LocalsOk P sh w proc values → sh proc place ≡ Some (start_shape true) → sh p m.address ≡ Some (with_more 1 S)
       → Good (with_made M o m st (λ value m st. push_item M (Val value) m (with_new values proc place st)))
   created_ok (Gives (Val v) seen) values proc place w p S m st h c g origin e =
       let locals = locals_ok P sh w st.active p S m h.now in
@@ -243,21 +243,21 @@ module _ (P : Program) (sh : ℕ → ℕ → Option PlainShape) (given : KeepsSh
   created_ok (Ends j seen) values proc place w p S m st h c g origin e = absurd c
 
   pub coexp_made_ok : (values : List Value) (proc place : ℕ) (w : Knowledge) (p : ℕ) (S : PlainShape) (m : LinkedStack) (st : Store WaitingChain) → Set w p S m st
-      → LocalsOk P sh w proc values → sh proc place ≡ Some (start_shape true) → sh p m.place ≡ Some (with_more 1 S)
+      → LocalsOk P sh w proc values → sh proc place ≡ Some (start_shape true) → sh p m.address ≡ Some (with_more 1 S)
       → Good (coexp_made M values proc place m st)
   coexp_made_ok values proc place w p S m st h g origin e =
       created_ok (coexpression_row (length values) (here M m st)) values proc place w p S m st h
       (keep.created w.coexps (length values) (here M m st) (here_within P sh given keep w p S m st h)) g origin e
 
   pub refreshed_ok : (v : Value) (w : Knowledge) (p : ℕ) (S : PlainShape) (m : LinkedStack) (st : Store WaitingChain) → Set w p S m st → ValueWithin w.coexps v
-      → sh p m.place ≡ Some (with_more 1 S) → Good (refresh M v m st)
+      → sh p m.address ≡ Some (with_more 1 S) → Good (refresh M v m st)
   refreshed_ok (ACoexp zero) w p S m st h g e = tt
   refreshed_ok (ACoexp (suc n)) w p S m st h g e =
       let count = h.store.coexps.count in
       let o = stands st.coexps (suc n) (omega (arith, g, count)) in
       let c = h.store.coexps.each (suc n) o.0 o.1 in
       let d : suc n ≢ 0 = λ q. omega (arith, q) in
-      subst (λ x. Good (refreshed_from M x m st)) (sym o.1) (coexp_made_ok o.0.values o.0.proc o.0.place w p S m st h (c.values d) (c.origin d) e)
+      subst (λ x. Good (refreshed_from M x m st)) (sym o.1) (coexp_made_ok o.0.values o.0.proc o.0.address w p S m st h (c.values d) (c.origin d) e)
   refreshed_ok Null w p S m st h g e = tt
   refreshed_ok (Integer x) w p S m st h g e = tt
   refreshed_ok (Text x) w p S m st h g e = tt
@@ -278,25 +278,25 @@ module _ (P : Program) (sh : ℕ → ℕ → Option PlainShape) (given : KeepsSh
 
   pub ok_maybe : (o : Option (Pair × LinkedStack)) (w : Knowledge) (p : ℕ) (S : PlainShape) (m : LinkedStack) (st : Store WaitingChain)
       (next : LinkedStack → Store WaitingChain → St P sh given keep) → Set w p S m st → IfThere (Swapped P sh w st.active p S m) o
-      → ((m' : LinkedStack) (st' : Store WaitingChain) → Set w p S m' st' → m'.place ≡ m.place → Good (next m' st')) → Good (maybe_exchanged o m st next)
+      → ((m' : LinkedStack) (st' : Store WaitingChain) → Set w p S m' st' → m'.address ≡ m.address → Good (next m' st')) → Good (maybe_exchanged o m st next)
   ok_maybe None w p S m st next h g f = f m st h refl
   ok_maybe (Some swap) w p S m st next h g f =
-      f swap.1 (with_pair swap.0 st) (ready_pair P sh given keep w p S swap.1 st swap.0 (record { now = g.now; store = h.store })) g.place
+      f swap.1 (with_pair swap.0 st) (ready_pair P sh given keep w p S swap.1 st swap.0 (record { now = g.now; store = h.store })) g.address
 
   pub ok_exchanged : (w : Knowledge) (p : ℕ) (S : PlainShape) (m : LinkedStack) (st : Store WaitingChain)
       (next : LinkedStack → Store WaitingChain → St P sh given keep) → Set w p S m st
       → 0 < S.inner.scans
-      → ((m' : LinkedStack) (st' : Store WaitingChain) → Set w p S m' st' → m'.place ≡ m.place → Good (next m' st'))
+      → ((m' : LinkedStack) (st' : Store WaitingChain) → Set w p S m' st' → m'.address ≡ m.address → Good (next m' st'))
       → Good (with_exchange (C.swap_newest (pair_now st) m) next st)
   ok_exchanged w p S m st next h l f = let o = swap_newest_ok P sh (pair_now st) w st.active p S m h.now l in
       subst (λ x. Good (with_exchange x next st)) (sym o.1)
-      (f o.0.1 (with_pair o.0.0 st) (ready_pair P sh given keep w p S o.0.1 st o.0.0 (record { now = o.2.now; store = h.store })) o.2.place)
+      (f o.0.1 (with_pair o.0.0 st) (ready_pair P sh given keep w p S o.0.1 st o.0.0 (record { now = o.2.now; store = h.store })) o.2.address)
 
   -- Back to the caller
 
   pub ok_returned : (o : Option LinkedStack) (w : Knowledge) (cr : Bool) (st : Store WaitingChain) (next : LinkedStack → Store WaitingChain → St P sh given keep)
       → StoreOk P sh w (λ i. i ≡ st.active) st → Left P sh w st.active cr o → cr ≡ false
-      → ((m : LinkedStack) (p : ℕ) (S : PlainShape) → Set w p S m st → sh p m.place ≡ Some (with_more 1 S) → Good (next m st)) → Good (return_to o next st)
+      → ((m : LinkedStack) (p : ℕ) (S : PlainShape) → Set w p S m st → sh p m.address ≡ Some (with_more 1 S) → Good (next m st)) → Good (return_to o next st)
   ok_returned None w cr st next h g e f =
       ok_if P sh given keep (is_main st.active) _ _ (λ q. tt) (λ q. let z : is_main st.active ≡ true = is_first st.active (sym e ∙ g) in not_true (sym q ∙ z))
   ok_returned (Some m) w cr st next h g e f = f m g.proc g.shape (record { now = g.now; store = h }) g.goes
@@ -332,7 +332,7 @@ module _ (P : Program) (sh : ℕ → ℕ → Option PlainShape) (given : KeepsSh
       (λ st' r. ok_runs P sh given keep w g.proc g.shape after st' r g.goes)
   dropped_ok w p S m st (WithoutLabel after) h g = ok_fails P sh given keep w g.0 g.1 after st (record { now = g.2; store = h.store })
 
-  resumed_ok : (why : Why) (w : Knowledge) (p : ℕ) (S : PlainShape) (m : LinkedStack) (st : Store WaitingChain) → Set w p S m st → WhyOk P sh w p S m.place why
+  resumed_ok : (why : Why) (w : Knowledge) (p : ℕ) (S : PlainShape) (m : LinkedStack) (st : Store WaitingChain) → Set w p S m st → WhyOk P sh w p S m.address why
       → Good (resume_by M P why m st)
   resumed_ok Alt w p S m st h g = ok_fails P sh given keep w p S m st h
   resumed_ok (Operation r) w p S m st h g = ok_turn P sh given keep w p S m st (λ st. outcome M (again r (here M m st)) m st) h (λ st' q.

@@ -73,7 +73,7 @@ module _ (P : Program) (sh : ℕ → ℕ → Option PlainShape) (given : KeepsSh
 
   -- the active co-expression, its activator and `&main` are there
   keyword_ok : (k : Keyword) (w : Knowledge) (p : ℕ) (S : PlainShape) (m : LinkedStack) (st : Store WaitingChain) → Set w p S m st
-      → sh p m.place ≡ Some (with_more 1 S)
+      → sh p m.address ≡ Some (with_more 1 S)
       → Good (pushed_or_fails M (keyword_item (standing_of M m st) k) m st)
   keyword_ok k w p S m st h e =
       let count = h.store.coexps.count in
@@ -89,7 +89,7 @@ module _ (P : Program) (sh : ℕ → ℕ → Option PlainShape) (given : KeepsSh
 
   -- operations
   operated_ok : (op : Op) (items : List Item) (w : Knowledge) (p : ℕ) (S : PlainShape) (m : LinkedStack) (st : Store WaitingChain) → Set w p S m st
-      → Each (ItemWithin w.coexps) items → sh p m.place ≡ Some (with_more 1 S) → Good (operate M op items m st)
+      → Each (ItemWithin w.coexps) items → sh p m.address ≡ Some (with_more 1 S) → Good (operate M op items m st)
   operated_ok Ops.Refresh (item ∷ items) w p S m st h g e =
       ok_value P sh given keep item w p S m st (λ value. refresh M value m st) h g.0 (λ v gv. refreshed_ok P sh given keep v w p S m st h gv e)
   operated_ok op items w p S m st h g e =
@@ -98,13 +98,13 @@ module _ (P : Program) (sh : ℕ → ℕ → Option PlainShape) (given : KeepsSh
 
   field_applied_ok : (k : ℕ) (items : List Item) (w : Knowledge) (p : ℕ) (S : PlainShape) (m : LinkedStack) (st : Store WaitingChain) → Set w p S m st
       → length items ≡ 1
-      → Each (ItemWithin w.coexps) items → sh p m.place ≡ Some (with_more 1 S) → Good (field_applied M P k items m st)
+      → Each (ItemWithin w.coexps) items → sh p m.address ≡ Some (with_more 1 S) → Good (field_applied M P k items m st)
   field_applied_ok k [] w p S m st h l g e = absurd (omega (arith, l))
   field_applied_ok k (item ∷ items) w p S m st h l g e =
       ok_value P sh given keep item w p S m st (λ value. field_of M P k value m st) h g.0 (λ v gv. ok_field P sh given keep k v w p S m st h e)
 
   activation_of_ok : (items : List Item) (w : Knowledge) (p : ℕ) (S : PlainShape) (m : LinkedStack) (st : Store WaitingChain) → Set w p S m st → length items ≡ 2
-      → Each (ItemWithin w.coexps) items → sh p m.place ≡ Some (with_more 1 S) → Good (activation_of M items m st)
+      → Each (ItemWithin w.coexps) items → sh p m.address ≡ Some (with_more 1 S) → Good (activation_of M items m st)
   activation_of_ok [] w p S m st h l g e = absurd (omega (arith, l))
   activation_of_ok (x ∷ []) w p S m st h l g e = absurd (omega (arith, l))
   activation_of_ok (x ∷ y ∷ []) w p S m st h l g e =
@@ -114,7 +114,7 @@ module _ (P : Program) (sh : ℕ → ℕ → Option PlainShape) (given : KeepsSh
 
   -- limits
   limited_ok : (v : Value) (o : Option ℤ) (w : Knowledge) (p : ℕ) (S : PlainShape) (m : LinkedStack) (st : Store WaitingChain) → Set w p S m st
-      → sh p m.place ≡ Some (with_mark Levels.Limit S) → Good (limit_results M v o m st)
+      → sh p m.address ≡ Some (with_mark Levels.Limit S) → Good (limit_results M v o m st)
   limited_ok v None w p S m st h e = tt
   limited_ok v (Some (negsuc n)) w p S m st h e = tt
   limited_ok v (Some (pos zero)) w p S m st h e = ok_fails P sh given keep w p S m st h
@@ -123,23 +123,23 @@ module _ (P : Program) (sh : ℕ → ℕ → Option PlainShape) (given : KeepsSh
 
   -- the innermost mark is suspended with its level, and the result stands on what is outside
   suspended_ok : (item : Item) (w : Knowledge) (p : ℕ) (S : PlainShape) (m : LinkedStack) (st : Store WaitingChain) → Set w p S m st → ItemWithin w.coexps item
-      → is_some (slice_get S.outer 0) ≡ true → ((S' : PlainShape) → before_mark S ≡ Some S' → sh p m.place ≡ Some (with_more 1 S'))
+      → is_some (slice_get S.outer 0) ≡ true → ((S' : PlainShape) → before_mark S ≡ Some S' → sh p m.address ≡ Some (with_more 1 S'))
       → Good (with_found (M.suspend_mark m) (λ m. push_item M item m st))
   suspended_ok item w p S m st h g l e = let o = outside_ok P sh w st.active p S m h.now l in
-      let m' : LinkedStack = with_chain (C.suspend_in (C.suspension (C.because Cs.Alt) m.place m.chain) o.chain) m in
+      let m' : LinkedStack = with_chain (C.suspend_in (C.suspension (C.because Cs.Alt) m.address m.chain) o.chain) m in
       ok_found P sh given keep (C.suspend_mark m) (λ m. push_item M item m st) m' o.suspend (ok_push P sh given keep item w p o.shape m' st
       (ready_at P sh given keep w p S m st o.shape m' h (suspend_alt P sh w st.active p S m h.now o)) g (e o.shape o.before))
 
   limited_result_ok : (item : Item) (n : ℕ) (w : Knowledge) (p : ℕ) (S : PlainShape) (m : LinkedStack) (st : Store WaitingChain) → Set w p S m st
       → ItemWithin w.coexps item
-      → is_some (slice_get S.outer 0) ≡ true → ((S' : PlainShape) → before_mark S ≡ Some S' → sh p m.place ≡ Some (with_more 1 S'))
+      → is_some (slice_get S.outer 0) ≡ true → ((S' : PlainShape) → before_mark S ≡ Some S' → sh p m.address ≡ Some (with_more 1 S'))
       → Good (limited_result M item n m st)
   limited_result_ok item zero w p S m st h g l e =
       ok_unmarked P sh given keep w p S m st (push_item M item) h l (λ c' S' st' q r. ok_push P sh given keep item w p S' (with_chain c' m) st' r g (e S' q))
   limited_result_ok item (suc n) w p S m st h g l e = suspended_ok item w p S m st h g l e
 
   -- scans
-  scan_ok : (v : Value) (w : Knowledge) (p : ℕ) (S : PlainShape) (m : LinkedStack) (st : Store WaitingChain) → Set w p S m st → sh p m.place ≡ Some (with_scan S)
+  scan_ok : (v : Value) (w : Knowledge) (p : ℕ) (S : PlainShape) (m : LinkedStack) (st : Store WaitingChain) → Set w p S m st → sh p m.address ≡ Some (with_scan S)
       → Good (scan_opened M v m st)
   scan_ok (Text text) w p S m st h e =
       let pair : Pair = record { subject = text; position = 1 } in
@@ -179,21 +179,21 @@ module _ (P : Program) (sh : ℕ → ℕ → Option PlainShape) (given : KeepsSh
   result_of (Var (Part (KeywordRoot k) a b)) w p S m st next h g f = f (Var (Part (KeywordRoot k) a b)) g
 
   -- An instruction stands at a place q of the procedure, and the next one is due.
-  module _ (w : Knowledge) (p : ℕ) (S : PlainShape) (m : LinkedStack) (q : ℕ) (st : Store WaitingChain) (h : Set w p S m st) (here_at : m.place ≡ suc q) where
+  module _ (w : Knowledge) (p : ℕ) (S : PlainShape) (m : LinkedStack) (q : ℕ) (st : Store WaitingChain) (h : Set w p S m st) (here_at : m.address ≡ suc q) where
     -- the shape at the next place
-    on_next : (S' : PlainShape) → sh p (q + 1) ≡ Some S' → sh p m.place ≡ Some S'
-    on_next S' e = let z : m.place ≡ q + 1 = here_at ∙ omega arith in ap (sh p) z ∙ e
+    on_next : (S' : PlainShape) → sh p (q + 1) ≡ Some S' → sh p m.address ≡ Some S'
+    on_next S' e = let z : m.address ≡ q + 1 = here_at ∙ omega arith in ap (sh p) z ∙ e
 
     -- where nothing is taken
-    pushes : sh p (q + 1) ≡ Some (with_more 1 (with_fewer 0 S)) → sh p m.place ≡ Some (with_more 1 S)
+    pushes : sh p (q + 1) ≡ Some (with_more 1 (with_fewer 0 S)) → sh p m.address ≡ Some (with_more 1 S)
     pushes e = on_next (with_more 1 (with_fewer 0 S)) e ∙ ap (λ x. Some (with_more 1 x)) (fewer_none S)
 
-    stays : sh p (q + 1) ≡ Some (with_more 0 (with_fewer 0 S)) → sh p m.place ≡ Some S
+    stays : sh p (q + 1) ≡ Some (with_more 0 (with_fewer 0 S)) → sh p m.address ≡ Some S
     stays e = on_next (with_more 0 (with_fewer 0 S)) e ∙ ap Some (more_none (with_fewer 0 S) ∙ fewer_none S)
 
     -- where a mark is dropped, and where besides so many results are put outside
     drops : (taken left : ℕ) → sh p (q + 1) ≡ Some (with_more left (unwrap_or (before_mark S) (with_fewer taken S))) → (S' : PlainShape)
-        → before_mark S ≡ Some S' → sh p m.place ≡ Some (with_more left S')
+        → before_mark S ≡ Some S' → sh p m.address ≡ Some (with_more left S')
     drops taken left e S' z =
         on_next (with_more left (unwrap_or (before_mark S) (with_fewer taken S))) e ∙ ap (λ x. Some (with_more left (unwrap_or x (with_fewer taken S)))) z
 
@@ -309,7 +309,7 @@ module _ (P : Program) (sh : ℕ → ℕ → Option PlainShape) (given : KeepsSh
         let o = count_ok P sh w st.active p (with_fewer 1 S) (with_chain c' m) r.now d.0 d.1 in
         ok_found P sh given keep (C.count_down (with_chain c' m)) (on_pair (λ count m. limited_result M item count m st)) o.0 o.1
         (limited_result_ok item o.0.0 w p (with_fewer 1 S) o.0.1 st (record { now = o.2.now; store = r.store }) g d.0
-        (λ S' e. ap (sh p) o.2.place ∙ drops 1 1 on S' e)))
+        (λ S' e. ap (sh p) o.2.address ∙ drops 1 1 on S' e)))
     instruction_ok Instrs.Efail fit on onward backward range = ok_fails P sh given keep w p S m st h
     instruction_ok (Instrs.Chfail l) fit on onward backward range =
         let f = (enough S.inner.operands 0 (is_some (slice_get S.outer 0) && same_kind S.inner.kind Levels.Plain) fit).1 in
@@ -318,7 +318,7 @@ module _ (P : Program) (sh : ℕ → ℕ → Option PlainShape) (given : KeepsSh
         → sh p l ≡ Some S' = λ S' e. (subst (λ x. IfSome (with_label l x) (λ to. (to.0 ≤ q) × (sh p to.0 ≡ Some to.1))) e backward).1 in
         let o = relabel_ok P sh l w st.active p S m h.now d.0 d.1 to in
         ok_found P sh given keep (C.relabel l m) (λ m. running m st) o.0 o.1
-        (ok_runs P sh given keep w p S o.0 st (record { now = o.2.now; store = h.store }) (ap (sh p) o.2.place ∙ stays on))
+        (ok_runs P sh given keep w p S o.0 st (record { now = o.2.now; store = h.store }) (ap (sh p) o.2.address ∙ stays on))
     instruction_ok (Instrs.Goto l) fit on onward backward range = goes l onward.1
     instruction_ok (Instrs.Loop l) fit on onward backward range =
         ok_turn P sh given keep w p S (M.go l m) st (running (M.go l m)) (record { now = record { has = h.now.has; memory = h.now.memory }; store = h.store })
@@ -372,10 +372,10 @@ module _ (P : Program) (sh : ℕ → ℕ → Option PlainShape) (given : KeepsSh
         ok_if P sh given keep (is_create_body M m st) _ _ (λ z. not_true (sym (in_create_body ∙ d) ∙ z)) (λ z. proc_fails_ok P sh given keep w p S m st h d)
     instruction_ok (Instrs.Create l) fit on onward backward range =
         let proc = here_proc P sh w st.active p S m h.now in
-        let origin : sh (M.proc m) m.place ≡ Some (start_shape true) = ap (λ x. sh x m.place) proc ∙ on_next (start_shape true) on in
+        let origin : sh (M.proc m) m.address ≡ Some (start_shape true) = ap (λ x. sh x m.address) proc ∙ on_next (start_shape true) on in
         let here : Set w p S (M.go l m) st = record { now = record { has = h.now.has; memory = h.now.memory }; store = h.store } in
-        ok_turn P sh given keep w p S (M.go l m) st (coexp_made M (M.locals m) (M.proc m) (M.place m) (M.go l m)) here (λ st' r.
-        coexp_made_ok P sh given keep (M.locals m) (M.proc m) (M.place m) w p S (M.go l m) st' r (subst (λ x. LocalsOk P sh w x (M.locals m)) (sym proc)
+        ok_turn P sh given keep w p S (M.go l m) st (coexp_made M (M.locals m) (M.proc m) (M.address m) (M.go l m)) here (λ st' r.
+        coexp_made_ok P sh given keep (M.locals m) (M.proc m) (M.address m) w p S (M.go l m) st' r (subst (λ x. LocalsOk P sh w x (M.locals m)) (sym proc)
         (locals_ok P sh w st.active p S m h.now)) origin (onward.1 ∙ ap (λ x. Some (with_more 1 x)) (fewer_none S)))
     instruction_ok Instrs.Coact fit on onward backward range =
         ok_taken P sh given keep 2 w p S m st (λ items m. turn P st (activation_of M items m)) h (enough S.inner.operands 2 true fit).0 (λ items c' l g r.

@@ -186,7 +186,7 @@ module _ (tables : Tables) (sh : ℕ → ℕ → Option PlainShape) where
   scans_count : (w : Knowledge) (s p : ℕ) (S : PlainShape) (c : Chain) → ChainOk tables sh w s p S c → S.inner.scans ≤ length (scans_of c)
   scans_count w s p S (chain items q scans o) h = h.2
 
-  pub mark_ok : (label : Option ℕ) (w : Knowledge) (s p : ℕ) (S : PlainShape) (m : LinkedStack) (q : ℕ) → Now tables sh w s p S m → m.place ≡ suc q
+  pub mark_ok : (label : Option ℕ) (w : Knowledge) (s p : ℕ) (S : PlainShape) (m : LinkedStack) (q : ℕ) → Now tables sh w s p S m → m.address ≡ suc q
       → LabelTo tables sh p S label → sh p (suc q) ≡ Some (with_mark Levels.Plain S)
       → Now tables sh (with_flag w p S) s p (with_mark Levels.Plain S) (C.open_mark repeats_anywhere label m)
   mark_ok label w s p S m q h at to e = record {

@@ -36,7 +36,7 @@ module _ (tables : Tables) (sh : ℕ → ℕ → Option PlainShape) where
     pub before : before_mark S ≡ Some shape
     pub has : ChainOk tables sh w s p shape chain
     pub unmark : C.unmark_from m o ≡ C.unmark_in m chain
-    pub suspend : C.suspend_outer m o ≡ Some (with_chain (C.suspend_in (suspension (because Alt) m.place m.chain) chain) m)
+    pub suspend : C.suspend_outer m o ≡ Some (with_chain (C.suspend_in (suspension (because Alt) m.address m.chain) chain) m)
 
   outside_by : (w : Knowledge) (s p : ℕ) (cr : Bool) (inner : Level) (ls : List Level) (m : LinkedStack) (o : Outer) → OuterOk tables sh w s p cr inner.kind ls o
       → is_some (slice_get ls 0) ≡ true → Outside w s p (record { in_create = cr; inner = inner; outer = ls }) m o
@@ -91,7 +91,7 @@ module _ (tables : Tables) (sh : ℕ → ℕ → Option PlainShape) where
   -- the same stack, but for flags and labels
   pub record Relabelled (w : Knowledge) (s p : ℕ) (S : PlainShape) (m m' : LinkedStack) : Type 0 where
     pub now : Now tables sh w s p S m'
-    pub place : m'.place ≡ m.place
+    pub address : m'.address ≡ m.address
 
   relabel_if : (b : Bool) (label flag : ℕ) (w : Knowledge) (s p : ℕ) (S : PlainShape) (m : LinkedStack) (S' : PlainShape) → Now tables sh w s p S m
       → IsBefore w flag p S' → sh p label ≡ Some S' → Relabelled w s p S m (C.relabelled_if b label flag m)
@@ -102,7 +102,7 @@ module _ (tables : Tables) (sh : ℕ → ℕ → Option PlainShape) where
           memory = memory_labels tables sh w m.activations m.flags m.relabels (C.forget_label flag m.relabels) flag true h.memory
               (forgotten_ok w flag m.relabels h.memory.labels);
         };
-        place = refl;
+        address = refl;
       }
   relabel_if false label flag w s p S m S' h i e = record {
     now = record {
@@ -110,7 +110,7 @@ module _ (tables : Tables) (sh : ℕ → ℕ → Option PlainShape) where
       memory = memory_labels tables sh w m.activations m.flags m.relabels ((flag, label) ∷ C.forget_label flag m.relabels) flag false h.memory
           ((p, S', i, e), forgotten_ok w flag m.relabels h.memory.labels);
     };
-    place = refl;
+    address = refl;
   }
 
   relabel_by : (label : ℕ) (w : Knowledge) (s p : ℕ) (S : PlainShape) (cr : Bool) (kind : LevelKind) (ls : List Level) (m : LinkedStack) (o : Outer)
@@ -137,14 +137,14 @@ module _ (tables : Tables) (sh : ℕ → ℕ → Option PlainShape) where
   -- Suspending
 
   pub suspend_op : (residual : Residual) (w : Knowledge) (s p : ℕ) (S : PlainShape) (m : LinkedStack) → Now tables sh w s p S m → ResidualWithin w.coexps residual
-      → sh p m.place ≡ Some (with_more 1 S) → Now tables sh w s p S (C.suspend (Op residual) m)
+      → sh p m.address ≡ Some (with_more 1 S) → Now tables sh w s p S (C.suspend (Op residual) m)
   suspend_op r w s p S m h g e =
-      record { has = suspended_ok w s p S (suspension (because (Op r)) m.place m.chain) m.chain (p, S, (g, e), h.has) h.has; memory = h.memory }
+      record { has = suspended_ok w s p S (suspension (because (Op r)) m.address m.chain) m.chain (p, S, (g, e), h.has) h.has; memory = h.memory }
 
   pub suspend_alt : (w : Knowledge) (s p : ℕ) (S : PlainShape) (m : LinkedStack) → (h : Now tables sh w s p S m) → (o : Outside w s p S m (outer_of m.chain))
-      → Now tables sh w s p o.shape (with_chain (C.suspend_in (suspension (because Alt) m.place m.chain) o.chain) m)
+      → Now tables sh w s p o.shape (with_chain (C.suspend_in (suspension (because Alt) m.address m.chain) o.chain) m)
   suspend_alt w s p S m h o =
-      record { has = suspended_ok w s p o.shape (suspension (because Alt) m.place m.chain) o.chain (p, S, tt, h.has) o.has; memory = h.memory }
+      record { has = suspended_ok w s p o.shape (suspension (because Alt) m.address m.chain) o.chain (p, S, tt, h.has) o.has; memory = h.memory }
 
   with_scan_ok : (w : Knowledge) (s p n : ℕ) (S : PlainShape) (c : Chain) → ChainOk tables sh w s p S c → ChainOk tables sh w s p (with_scan S) (C.with_scan n c)
   with_scan_ok w s p n S (chain items q scans o) h = let e = h.2 in (h.0, h.1, omega (arith, e), h.3, h.4)
@@ -157,16 +157,16 @@ module _ (tables : Tables) (sh : ℕ → ℕ → Option PlainShape) where
   pub suspend_scan : (pair : Pair) (w : Knowledge) (s p : ℕ) (S : PlainShape) (m : LinkedStack) → Now tables sh w s p S m
       → Now tables sh w s p (with_scan S) (C.suspend (Scan pair) m)
   suspend_scan pair w s p S m h = record {
-    has = with_scan_ok w s p (length m.saved) S (C.suspend_in (suspension (scanning (length m.saved)) m.place m.chain) m.chain)
-        (suspended_ok w s p S (suspension (scanning (length m.saved)) m.place m.chain) m.chain (p, S, tt, h.has) h.has);
+    has = with_scan_ok w s p (length m.saved) S (C.suspend_in (suspension (scanning (length m.saved)) m.address m.chain) m.chain)
+        (suspended_ok w s p S (suspension (scanning (length m.saved)) m.address m.chain) m.chain (p, S, tt, h.has) h.has);
     memory = h.memory;
   }
 
   pub suspend_escan : (w : Knowledge) (s p : ℕ) (S : PlainShape) (m : LinkedStack) → Now tables sh w s p S m → 0 < S.inner.scans
       → Now tables sh w s p (without_scan S) (C.suspend Escan m)
   suspend_escan w s p S m h l = record {
-    has = without_scan_ok w s p S (C.suspend_in (suspension (because Escan) m.place m.chain) m.chain)
-        (suspended_ok w s p S (suspension (because Escan) m.place m.chain) m.chain (p, S, l, h.has) h.has);
+    has = without_scan_ok w s p S (C.suspend_in (suspension (because Escan) m.address m.chain) m.chain)
+        (suspended_ok w s p S (suspension (because Escan) m.address m.chain) m.chain (p, S, l, h.has) h.has);
     memory = h.memory;
   }
 
@@ -174,12 +174,12 @@ module _ (tables : Tables) (sh : ℕ → ℕ → Option PlainShape) where
 
   pub record Swapped (w : Knowledge) (s p : ℕ) (S : PlainShape) (m : LinkedStack) (swap : Pair × LinkedStack) : Type 0 where
     pub now : Now tables sh w s p S swap.1
-    pub place : swap.1.place ≡ m.place
+    pub address : swap.1.address ≡ m.address
 
   swap_maybe : (pair : Pair) (w : Knowledge) (s p : ℕ) (S : PlainShape) (m : LinkedStack) (o : Option ℕ) → Now tables sh w s p S m
       → IfThere (Swapped w s p S m) (C.swap_at pair m o)
   swap_maybe pair w s p S m None h = tt
-  swap_maybe pair w s p S m (Some n) h = record { now = record { has = h.has; memory = h.memory }; place = refl }
+  swap_maybe pair w s p S m (Some n) h = record { now = record { has = h.has; memory = h.memory }; address = refl }
 
   pub swap_oldest_ok : (pair : Pair) (w : Knowledge) (s p : ℕ) (S : PlainShape) (m : LinkedStack) → Now tables sh w s p S m
       → IfThere (Swapped w s p S m) (C.swap_oldest pair m)
@@ -193,12 +193,12 @@ module _ (tables : Tables) (sh : ℕ → ℕ → Option PlainShape) where
   pub swap_newest_ok : (pair : Pair) (w : Knowledge) (s p : ℕ) (S : PlainShape) (m : LinkedStack) → Now tables sh w s p S m → 0 < S.inner.scans
       → (swap : Pair × LinkedStack) × (C.swap_newest pair m ≡ Some swap) × Swapped w s p S m swap
   swap_newest_ok pair w s p S m h l = let z = newest_of w s p S m.chain h.has l in
-      ((C.saved_at m z.0, C.with_saved z.0 pair m), ap (C.swap_at pair m) z.1, record { now = record { has = h.has; memory = h.memory }; place = refl })
+      ((C.saved_at m z.0, C.with_saved z.0 pair m), ap (C.swap_at pair m) z.1, record { now = record { has = h.has; memory = h.memory }; address = refl })
 
   -- Calls
 
   pub enter_ok : (proc : ℕ) (values : List Value) (w : Knowledge) (s p : ℕ) (S : PlainShape) (m : LinkedStack) → Now tables sh w s p S m
-      → LocalsOk tables sh w proc values → sh p m.place ≡ Some (with_more 1 S)
+      → LocalsOk tables sh w proc values → sh p m.address ≡ Some (with_more 1 S)
       → Now tables sh (with_activation w proc) s proc (start_shape false) (C.enter proc values m)
   enter_ok proc values w s p S m h g e = record {
     has = (
@@ -231,7 +231,7 @@ module _ (tables : Tables) (sh : ℕ → ℕ → Option PlainShape) where
     pub proc : ℕ
     pub shape : PlainShape
     pub now : Now tables sh w s proc shape m
-    pub goes : sh proc m.place ≡ Some (with_more 1 shape)
+    pub goes : sh proc m.address ≡ Some (with_more 1 shape)
 
   abbrev pub Left : Knowledge → ℕ → Bool → Option LinkedStack → Type 0
   Left w s cr None = cr ≡ not (is_main s)
@@ -245,18 +245,18 @@ module _ (tables : Tables) (sh : ℕ → ℕ → Option PlainShape) where
   pub leave_ok : (w : Knowledge) (s p : ℕ) (S : PlainShape) (m : LinkedStack) → Now tables sh w s p S m → Left w s S.in_create (C.leave m)
   leave_ok w s p S m h = leave_by w s p S.in_create m (frame m) h.memory (the_frame tables sh w s p S m h)
 
-  suspend_proc_by : (w : Knowledge) (s p : ℕ) (S : PlainShape) (m : LinkedStack) (f : Frame) → Now tables sh w s p S m → sh p m.place ≡ Some S
+  suspend_proc_by : (w : Knowledge) (s p : ℕ) (S : PlainShape) (m : LinkedStack) (f : Frame) → Now tables sh w s p S m → sh p m.address ≡ Some S
       → FrameOk tables sh w s p S.in_create f → Left w s S.in_create (C.suspend_frame m f)
   suspend_proc_by w s p S m (at_base proc a) c e h = h.1
   suspend_proc_by w s p S m (in_call proc a level place caller) c e h =
       record {
         proc = h.3.0;
         shape = h.3.1;
-        now = record { has = suspended_ok w s h.3.0 h.3.1 (suspension (because Proc) m.place m.chain) caller (p, S, e, c.has) h.3.3; memory = c.memory };
+        now = record { has = suspended_ok w s h.3.0 h.3.1 (suspension (because Proc) m.address m.chain) caller (p, S, e, c.has) h.3.3; memory = c.memory };
         goes = h.3.2;
       }
 
-  pub suspend_proc_ok : (w : Knowledge) (s p : ℕ) (S : PlainShape) (m : LinkedStack) → Now tables sh w s p S m → sh p m.place ≡ Some S
+  pub suspend_proc_ok : (w : Knowledge) (s p : ℕ) (S : PlainShape) (m : LinkedStack) → Now tables sh w s p S m → sh p m.address ≡ Some S
       → Left w s S.in_create (C.suspend_proc m)
   suspend_proc_ok w s p S m h e = suspend_proc_by w s p S m (frame m) h e (the_frame tables sh w s p S m h)
 
@@ -272,7 +272,7 @@ module _ (tables : Tables) (sh : ℕ → ℕ → Option PlainShape) where
     pub proc : ℕ
     pub shape : PlainShape
     pub now : Now tables sh w s proc shape back.1
-    pub why : WhyOk w proc shape back.1.place back.0
+    pub why : WhyOk w proc shape back.1.address back.0
 
   why_same : (w : Knowledge) (p : ℕ) (S : PlainShape) (place : ℕ) (m : LinkedStack) (reason : Reason) → ReasonOk tables sh w p S place reason
       → WhyOk w p S place (C.why_of reason m)
@@ -297,7 +297,7 @@ module _ (tables : Tables) (sh : ℕ → ℕ → Option PlainShape) where
     pub proc : ℕ
     pub shape : PlainShape
     pub now : Now tables sh w s proc shape m
-    pub goes : sh proc m.place ≡ Some shape
+    pub goes : sh proc m.address ≡ Some shape
 
   abbrev pub DroppedOk : Knowledge → ℕ → MarkDrop LinkedStack → Type 0
   DroppedOk w s NoMark = Unit {0}
@@ -360,7 +360,7 @@ module _ (tables : Tables) (sh : ℕ → ℕ → Option PlainShape) where
   -- a result of a limit is counted
   pub record Counted (w : Knowledge) (s p : ℕ) (S : PlainShape) (m : LinkedStack) (counted : ℕ × LinkedStack) : Type 0 where
     pub now : Now tables sh w s p S counted.1
-    pub place : counted.1.place ≡ m.place
+    pub address : counted.1.address ≡ m.address
 
   count_by : (w : Knowledge) (s p : ℕ) (S : PlainShape) (cr : Bool) (kind : LevelKind) (ls : List Level) (m : LinkedStack) (o : Outer) → Now tables sh w s p S m
       → OuterOk tables sh w s p cr kind ls o → is_some (slice_get ls 0) ≡ true → same_kind kind Levels.Limit ≡ true
@@ -371,7 +371,7 @@ module _ (tables : Tables) (sh : ℕ → ℕ → Option PlainShape) where
   count_by w s p S cr kind ls m (limit n c) g h e k = (
     (C.remaining n m, record m { limits = slice_set m.limits n (C.remaining n m) }),
     refl,
-    record { now = record { has = g.has; memory = g.memory }; place = refl },
+    record { now = record { has = g.has; memory = g.memory }; address = refl },
   )
 
   pub count_ok : (w : Knowledge) (s p : ℕ) (S : PlainShape) (m : LinkedStack) → Now tables sh w s p S m → is_some (slice_get S.outer 0) ≡ true

@@ -58,12 +58,12 @@ module _ (P : Program) (sh : ℕ → ℕ → Option PlainShape) (given : KeepsSh
 
   pub step_ok : (s : St P sh given keep) → Good s → Good (step M P s)
   step_ok (running m st) h =
-      let fine : IsFine (instrs_of P h.1) (sh h.1) m.place h.2 = given.fine h.1 m.place h.2 h.4 in
-      let next : LinkedStack = M.go (suc (M.place m)) m in
+      let fine : IsFine (instrs_of P h.1) (sh h.1) m.address h.2 = given.fine h.1 m.address h.2 h.4 in
+      let next : LinkedStack = M.go (suc (M.address m)) m in
       ok_found P sh given keep (instruction_at M P m) (λ instr. instruction M P instr next st) fine.instr
-      (ap (λ x. slice_get (instrs_of P x) m.place) (here_proc P sh h.0 st.active h.1 h.2 m h.3) ∙ fine.stands)
-      (instruction_ok P sh given keep h.0 h.1 h.2 next m.place st (record { now = record { has = h.3.has; memory = h.3.memory }; store = h.5 }) refl fine.instr
-      fine.fit fine.on fine.onward fine.backward (tables_ok.instrs h.1 m.place fine.instr fine.stands))
+      (ap (λ x. slice_get (instrs_of P x) m.address) (here_proc P sh h.0 st.active h.1 h.2 m h.3) ∙ fine.stands)
+      (instruction_ok P sh given keep h.0 h.1 h.2 next m.address st (record { now = record { has = h.3.has; memory = h.3.memory }; store = h.5 }) refl fine.instr
+      fine.fit fine.on fine.onward fine.backward (tables_ok.instrs h.1 m.address fine.instr fine.stands))
   step_ok (failing m st) h = fails_ok P sh given keep h.0 h.1 h.2 m st (record { now = h.3; store = h.4 })
   step_ok (hopping m st) h = hop_ok P sh given keep h.0 m st (record { memory = h.1; store = h.2 })
   step_ok (over ending outside) h = tt
@@ -153,7 +153,7 @@ module _ (P : Program) (sh : ℕ → ℕ → Option PlainShape) (given : KeepsSh
       (λ v a st' g h'. begun_ok (nat_le 1 st'.world.heap.bounds.levels) main o.0 o.1 l v a st' g h'))
 
   abbrev main_coexp : Coexp WaitingChain
-  main_coexp = record { status = Active; activator = zero; values = []; proc = zero; place = zero }
+  main_coexp = record { status = Active; activator = zero; values = []; proc = zero; address = zero }
 
   main_entered : Entered P sh (main_coexp ∷ []) 0
   main_entered = record { coexp = main_coexp; stands = refl; begun = λ z. z }

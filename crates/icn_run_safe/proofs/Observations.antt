@@ -66,18 +66,18 @@ module _ (tables : Tables) (have : HaveShapes tables) (ok : TablesOk tables) (ke
 
   -- the instruction at a reached place is that whose labels were looked at
   forward_at : (m : LinkedStack) (st : Store WaitingChain) → Safe tables sh (running m st) → (instr : Instr) → instruction_at M tables m ≡ Some instr
-      → IsForward m.place instr
+      → IsForward m.address instr
   forward_at m st h instr e =
-      let fine : IsFine (instrs_of tables h.1) (shapes_of tables have h.1) m.place h.2 = given.fine h.1 m.place h.2 h.4 in
+      let fine : IsFine (instrs_of tables h.1) (shapes_of tables have h.1) m.address h.2 = given.fine h.1 m.address h.2 h.4 in
       let same : instr
-      ≡ fine.instr = some_inj (sym e ∙ ap (λ x. slice_get (instrs_of tables x) m.place) (here_proc tables sh h.0 st.active h.1 h.2 m h.3) ∙ fine.stands) in
-      subst (IsForward m.place) (sym same) (goes_forward fine.instr h.2 m.place (λ to. shapes_of tables have h.1 to.0 ≡ Some to.1) fine.onward)
+      ≡ fine.instr = some_inj (sym e ∙ ap (λ x. slice_get (instrs_of tables x) m.address) (here_proc tables sh h.0 st.active h.1 h.2 m h.3) ∙ fine.stands) in
+      subst (IsForward m.address) (sym same) (goes_forward fine.instr h.2 m.address (λ to. shapes_of tables have h.1 to.0 ≡ Some to.1) fine.onward)
 
   marks_end : (launch : Launch) → EndsFrom M tables (Marks.start repeats_anywhere tables launch)
   marks_end launch =
       ends_by M (most tables.procs) (linked_weighs repeats_anywhere (most tables.procs)) tables launch.bounds.turns (λ s. Safe tables sh s) (record {
         on = λ s kept. step_ok tables sh given keep ok s kept;
-        within = λ m st kept instr e. proc_within tables.procs (M.proc m) m.place instr e;
+        within = λ m st kept instr e. proc_within tables.procs (M.proc m) m.address instr e;
         forward = forward_at;
       }) empty launch refl (start_safe tables sh given keep ok launch)
 

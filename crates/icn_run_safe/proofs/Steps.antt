@@ -127,11 +127,11 @@ module _ (P : Program) (sh : ℕ → ℕ → Option PlainShape) (given : KeepsSh
   pub ok_fails : (w : Knowledge) (p : ℕ) (S : PlainShape) (m : LinkedStack) (st : Store WaitingChain) → Ready w p S m st → Ok (failing m st)
   ok_fails w p S m st h = (w, p, S, h.now, h.store)
 
-  pub ok_runs : (w : Knowledge) (p : ℕ) (S : PlainShape) (m : LinkedStack) (st : Store WaitingChain) → Ready w p S m st → sh p m.place ≡ Some S → Ok (running m st)
+  pub ok_runs : (w : Knowledge) (p : ℕ) (S : PlainShape) (m : LinkedStack) (st : Store WaitingChain) → Ready w p S m st → sh p m.address ≡ Some S → Ok (running m st)
   ok_runs w p S m st h e = (w, p, S, h.now, e, h.store)
 
   pub ok_push : (item : Item) (w : Knowledge) (p : ℕ) (S : PlainShape) (m : LinkedStack) (st : Store WaitingChain) → Ready w p S m st → ItemWithin w.coexps item
-      → sh p m.place ≡ Some (with_more 1 S) → Ok (push_item M item m st)
+      → sh p m.address ≡ Some (with_more 1 S) → Ok (push_item M item m st)
   ok_push item w p S m st h g e = (w, p, with_more 1 S, push_ok P sh item w st.active p S m h.now g, e, h.store)
 
   pub ready_world : (w : Knowledge) (p : ℕ) (S : PlainShape) (m : LinkedStack) (st : Store WaitingChain) (world : World) → Ready w p S m st
@@ -177,7 +177,7 @@ module _ (P : Program) (sh : ℕ → ℕ → Option PlainShape) (given : KeepsSh
   }
 
   pub ok_outcome : (o : Outcome) (w : Knowledge) (p : ℕ) (S : PlainShape) (m : LinkedStack) (st : Store WaitingChain) → Ready w p S m st → OutcomeWithin w.coexps o
-      → KeepsIn (here M m st) o → sh p m.place ≡ Some (with_more 1 S) → Ok (outcome M o m st)
+      → KeepsIn (here M m st) o → sh p m.address ≡ Some (with_more 1 S) → Ok (outcome M o m st)
   ok_outcome (Fails seen) w p S m st h g k e = ok_fails w p S (C.set_locals seen.locals m) (with_at seen st) (ready_seen w p S m st seen h g k)
   ok_outcome (Gives item seen) w p S m st h g k e = ok_push item w p S (C.set_locals seen.locals m) (with_at seen st) (ready_seen w p S m st seen h g.1 k) g.0 e
   ok_outcome (Suspends item r seen) w p S m st h g k e =
@@ -191,7 +191,7 @@ module _ (P : Program) (sh : ℕ → ℕ → Option PlainShape) (given : KeepsSh
   pub ok_made : (o : Outcome) (w : Knowledge) (p : ℕ) (S : PlainShape) (m : LinkedStack) (st : Store WaitingChain)
       (next : Value → LinkedStack → Store WaitingChain → St)
       → Ready w p S m st → OutcomeWithin w.coexps o → KeepsIn (here M m st) o
-      → ((v : Value) (a : LinkedStack) (st' : Store WaitingChain) → ValueWithin w.coexps v → Ready w p S a st' → a.place ≡ m.place → Ok (next v a st'))
+      → ((v : Value) (a : LinkedStack) (st' : Store WaitingChain) → ValueWithin w.coexps v → Ready w p S a st' → a.address ≡ m.address → Ok (next v a st'))
       → Ok (with_made M o m st next)
   ok_made (Gives (Val v) seen) w p S m st next h g k f = f v (C.set_locals seen.locals m) (with_at seen st) g.0 (ready_seen w p S m st seen h g.1 k) refl
   ok_made (Gives (Var v) seen) w p S m st next h g k f = ok_fails w p S m st h
@@ -215,7 +215,7 @@ module _ (P : Program) (sh : ℕ → ℕ → Option PlainShape) (given : KeepsSh
   pub ok_list : (values : List Value) (w : Knowledge) (p : ℕ) (S : PlainShape) (m : LinkedStack) (st : Store WaitingChain)
       (next : Value → LinkedStack → Store WaitingChain → St)
       → Ready w p S m st → Each (ValueWithin w.coexps) values
-      → ((v : Value) (a : LinkedStack) (st' : Store WaitingChain) → ValueWithin w.coexps v → Ready w p S a st' → a.place ≡ m.place → Ok (next v a st'))
+      → ((v : Value) (a : LinkedStack) (st' : Store WaitingChain) → ValueWithin w.coexps v → Ready w p S a st' → a.address ≡ m.address → Ok (next v a st'))
       → Ok (list_made M values m st next)
   ok_list values w p S m st next h g f =
       ok_made (list_row values (here M m st)) w p S m st next h (keep.listed w.coexps values (here M m st) (here_within w p S m st h) g)
@@ -232,7 +232,7 @@ module _ (P : Program) (sh : ℕ → ℕ → Option PlainShape) (given : KeepsSh
       → (vs : List Value) (w : Knowledge) (p : ℕ) (S : PlainShape) (m : LinkedStack) (st : Store WaitingChain)
       (next : List Value → LinkedStack → Store WaitingChain → St)
       → Ready w p S m st → Each (ValueWithin w.coexps) vs
-      → ((ps : List Value) (a : LinkedStack) (st' : Store WaitingChain) → Parameters w entry ps → Ready w p S a st' → a.place ≡ m.place → Ok (next ps a st'))
+      → ((ps : List Value) (a : LinkedStack) (st' : Store WaitingChain) → Parameters w entry ps → Ready w p S a st' → a.address ≡ m.address → Ok (next ps a st'))
       → Ok (collect_rest M b entry.parameters vs m st next)
   collected_ok false entry some vs w p S m st next h g f =
       f (fill_nulls entry.parameters vs) m st
@@ -249,7 +249,7 @@ module _ (P : Program) (sh : ℕ → ℕ → Option PlainShape) (given : KeepsSh
       → (vs : List Value) (w : Knowledge) (p : ℕ) (S : PlainShape) (m : LinkedStack) (st : Store WaitingChain)
       (next : List Value → LinkedStack → Store WaitingChain → St)
       → Ready w p S m st → Each (ValueWithin w.coexps) vs
-      → ((ps : List Value) (a : LinkedStack) (st' : Store WaitingChain) → Parameters w entry ps → Ready w p S a st' → a.place ≡ m.place → Ok (next ps a st'))
+      → ((ps : List Value) (a : LinkedStack) (st' : Store WaitingChain) → Parameters w entry ps → Ready w p S a st' → a.address ≡ m.address → Ok (next ps a st'))
       → Ok (with_parameters M entry vs m st next)
   ok_parameters n entry e vs w p S m st next h g f = collected_ok entry.collects entry (given.collects n entry e) vs w p S m st next h g f
 
@@ -265,7 +265,7 @@ module _ (P : Program) (sh : ℕ → ℕ → Option PlainShape) (given : KeepsSh
 
   ready_enter : (n : ℕ) (values : List Value) (w : Knowledge) (p : ℕ) (S : PlainShape) (m : LinkedStack) (st : Store WaitingChain) → Ready w p S m st
       → Locals w n values
-      → sh p m.place ≡ Some (with_more 1 S) → Ready (with_activation w n) n (start_shape false) (C.enter n values m) st
+      → sh p m.address ≡ Some (with_more 1 S) → Ready (with_activation w n) n (start_shape false) (C.enter n values m) st
   ready_enter n values w p S m st h g e =
       record {
         now = enter_ok P sh n values w st.active p S m h.now g e;
@@ -274,7 +274,7 @@ module _ (P : Program) (sh : ℕ → ℕ → Option PlainShape) (given : KeepsSh
 
   called_ok : (b : Bool) (n : ℕ) (entry : Procedure) → slice_get P.procs n ≡ Some entry
       → (vs : List Value) (w : Knowledge) (p : ℕ) (S : PlainShape) (m : LinkedStack) (st : Store WaitingChain) → Ready w p S m st → Each (ValueWithin w.coexps) vs
-      → sh p m.place ≡ Some (with_more 1 S)
+      → sh p m.address ≡ Some (with_more 1 S)
       → Ok (called_if M b n entry vs m st)
   called_ok false n entry e vs w p S m st h g o = tt
   called_ok true n entry e vs w p S m st h g o =
@@ -285,7 +285,7 @@ module _ (P : Program) (sh : ℕ → ℕ → Option PlainShape) (given : KeepsSh
 
   constructed_ok : (kind : ℕ) (entry : RecordType) (vs : List Value) (w : Knowledge) (p : ℕ) (S : PlainShape) (m : LinkedStack) (st : Store WaitingChain)
       → Ready w p S m st
-      → Each (ValueWithin w.coexps) vs → sh p m.place ≡ Some (with_more 1 S) → Ok (construct_record M kind entry vs m st)
+      → Each (ValueWithin w.coexps) vs → sh p m.address ≡ Some (with_more 1 S) → Ok (construct_record M kind entry vs m st)
   constructed_ok kind entry vs w p S m st h g e =
       let fields = fill_nulls (length entry.fields) vs in
       ok_made (record_row kind fields (here M m st)) w p S m st (λ value m st. push_item M (Val value) m st) h
@@ -294,7 +294,7 @@ module _ (P : Program) (sh : ℕ → ℕ → Option PlainShape) (given : KeepsSh
       (λ v a st' gv h' q. ok_push (Val v) w p S a st' h' gv (ap (sh p) q ∙ e))
 
   callee_ok : (c : Callee) (n : ℕ) → CalleeIn P.procs n c → (items : List Item) (w : Knowledge) (p : ℕ) (S : PlainShape) (m : LinkedStack) (st : Store WaitingChain)
-      → Ready w p S m st → Each (ItemWithin w.coexps) items → sh p m.place ≡ Some (with_more 1 S) → Ok (callee_called M c n items m st)
+      → Ready w p S m st → Each (ItemWithin w.coexps) items → sh p m.address ≡ Some (with_more 1 S) → Ok (callee_called M c n items m st)
   callee_ok (IsProc entry) n i items w p S m st h g e = ok_values items w p S m st (λ arguments. call_procedure M n entry arguments m st) h g
       (λ vs gv. called_ok (nat_le (suc (M.level m)) st.world.heap.bounds.levels) n entry i vs w p S m st h gv e)
   callee_ok (IsRecord kind entry) n i items w p S m st h g e =
@@ -305,18 +305,18 @@ module _ (P : Program) (sh : ℕ → ℕ → Option PlainShape) (given : KeepsSh
 
   pub ok_one : (o : Option Item) (w : Knowledge) (p : ℕ) (S : PlainShape) (m : LinkedStack) (st : Store WaitingChain) → Ready w p S m st
       → IfThere (ItemWithin w.coexps) o
-      → sh p m.place ≡ Some (with_more 1 S) → Ok (pushed_or_fails M o m st)
+      → sh p m.address ≡ Some (with_more 1 S) → Ok (pushed_or_fails M o m st)
   ok_one (Some item) w p S m st h g e = ok_push item w p S m st h g e
   ok_one None w p S m st h g e = ok_fails w p S m st h
 
   integer_ok : (callee : Value) (o : Option ℤ) (items : List Item) (w : Knowledge) (p : ℕ) (S : PlainShape) (m : LinkedStack) (st : Store WaitingChain)
       → Ready w p S m st
-      → Each (ItemWithin w.coexps) items → sh p m.place ≡ Some (with_more 1 S) → Ok (integer_called M callee o items m st)
+      → Each (ItemWithin w.coexps) items → sh p m.address ≡ Some (with_more 1 S) → Ok (integer_called M callee o items m st)
   integer_ok callee (Some n) items w p S m st h g e = ok_one (choose_item n items) w p S m st h (argument_within w.coexps (place_of n (length items)) items g) e
   integer_ok callee None items w p S m st h g e = tt
 
   pub ok_invoked : (callee : Value) (items : List Item) (w : Knowledge) (p : ℕ) (S : PlainShape) (m : LinkedStack) (st : Store WaitingChain) → Ready w p S m st
-      → Each (ItemWithin w.coexps) items → sh p m.place ≡ Some (with_more 1 S) → Ok (invoke_value M P callee items m st)
+      → Each (ItemWithin w.coexps) items → sh p m.address ≡ Some (with_more 1 S) → Ok (invoke_value M P callee items m st)
   ok_invoked (ProcedureValue n) items w p S m st h g e = callee_ok (callee_of P n) n (callee_in P.procs P.records n) items w p S m st h g e
   ok_invoked Null items w p S m st h g e = tt
   ok_invoked (Integer x) items w p S m st h g e = integer_ok (Integer x) (number_of (Integer x)) items w p S m st h g e
@@ -330,7 +330,7 @@ module _ (P : Program) (sh : ℕ → ℕ → Option PlainShape) (given : KeepsSh
   ok_invoked (ACoexp x) items w p S m st h g e = tt
 
   pub ok_elements : (callee from : Value) (w : Knowledge) (p : ℕ) (S : PlainShape) (m : LinkedStack) (st : Store WaitingChain) → Ready w p S m st
-      → sh p m.place ≡ Some (with_more 1 S) → Ok (elements_called M P callee from m st)
+      → sh p m.address ≡ Some (with_more 1 S) → Ok (elements_called M P callee from m st)
   ok_elements callee (AList n) w p S m st h e =
       let vs = (list_at st.world.heap n).items in
       ok_invoked callee (map plain vs) w p S m st h (plain_within w.coexps vs (items_at w.coexps st.world.heap.lists n h.store.world.heap.lists)) e
@@ -348,7 +348,7 @@ module _ (P : Program) (sh : ℕ → ℕ → Option PlainShape) (given : KeepsSh
   ok_elements callee (ACoexp x) w p S m st h e = tt
 
   pub ok_applied : (items : List Item) (w : Knowledge) (p : ℕ) (S : PlainShape) (m : LinkedStack) (st : Store WaitingChain) → Ready w p S m st → length items ≡ 2
-      → Each (ItemWithin w.coexps) items → sh p m.place ≡ Some (with_more 1 S) → Ok (applied_to_elements M P items m st)
+      → Each (ItemWithin w.coexps) items → sh p m.address ≡ Some (with_more 1 S) → Ok (applied_to_elements M P items m st)
   ok_applied [] w p S m st h l g e = absurd (omega (arith, l))
   ok_applied (x ∷ []) w p S m st h l g e = absurd (omega (arith, l))
   ok_applied (callee ∷ from ∷ []) w p S m st h l g e =
@@ -357,18 +357,18 @@ module _ (P : Program) (sh : ℕ → ℕ → Option PlainShape) (given : KeepsSh
   ok_applied (x ∷ y ∷ z ∷ items) w p S m st h l g e = absurd (omega (arith, l))
 
   pub ok_invoked_with : (items : List Item) (k : ℕ) (w : Knowledge) (p : ℕ) (S : PlainShape) (m : LinkedStack) (st : Store WaitingChain) → Ready w p S m st
-      → length items ≡ suc k → Each (ItemWithin w.coexps) items → sh p m.place ≡ Some (with_more 1 S) → Ok (invoked_with M P items m st)
+      → length items ≡ suc k → Each (ItemWithin w.coexps) items → sh p m.address ≡ Some (with_more 1 S) → Ok (invoked_with M P items m st)
   ok_invoked_with [] k w p S m st h l g e = absurd (omega (arith, l))
   ok_invoked_with (callee ∷ items) k w p S m st h l g e =
       ok_value callee w p S m st (λ value. invoke_value M P value items m st) h g.0 (λ v z. ok_invoked v items w p S m st h g.1 e)
 
   field_ok : (n : ℕ) (o : Option ℕ) (w : Knowledge) (p : ℕ) (S : PlainShape) (m : LinkedStack) (st : Store WaitingChain) → Ready w p S m st
-      → sh p m.place ≡ Some (with_more 1 S) → Ok (field_taken M o n m st)
+      → sh p m.address ≡ Some (with_more 1 S) → Ok (field_taken M o n m st)
   field_ok n None w p S m st h e = tt
   field_ok n (Some place) w p S m st h e = ok_push (Var (Whole (R.Field n place))) w p S m st h tt e
 
   pub ok_field : (k : ℕ) (v : Value) (w : Knowledge) (p : ℕ) (S : PlainShape) (m : LinkedStack) (st : Store WaitingChain) → Ready w p S m st
-      → sh p m.place ≡ Some (with_more 1 S) → Ok (field_of M P k v m st)
+      → sh p m.address ≡ Some (with_more 1 S) → Ok (field_of M P k v m st)
   ok_field k (ARecord x) w p S m st h e = field_ok x (field_place P k (record_at st.world.heap x).kind) w p S m st h e
   ok_field k Null w p S m st h e = tt
   ok_field k (Integer x) w p S m st h e = tt

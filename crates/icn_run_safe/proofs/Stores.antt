@@ -70,7 +70,7 @@ module _ (tables : Tables) (sh : ℕ → ℕ → Option PlainShape) where
   pub set_coexps : (w : Knowledge) (May May' : ℕ → Type 0) (a a' : ℕ) (ks : List (Coexp WaitingChain)) (n : ℕ) (c c' : Coexp WaitingChain)
       → CoexpsOk tables sh w May a ks
       → slice_get ks n ≡ Some c → (IsFresh tables sh c'.status → IsFresh tables sh c.status) → (n ≢ 0 → LocalsOk tables sh w c'.proc c'.values)
-      → (n ≢ 0 → sh c'.proc c'.place ≡ Some (start_shape true)) → Entered tables sh ks c'.activator → ((May' n → ⊥) → StatusOk tables sh w n c'.status)
+      → (n ≢ 0 → sh c'.proc c'.address ≡ Some (start_shape true)) → Entered tables sh ks c'.activator → ((May' n → ⊥) → StatusOk tables sh w n c'.status)
       → ((i : ℕ) → i ≢ n → (May' i → ⊥) → May i → ⊥) → Entered tables sh (slice_set ks n c') a'
       → CoexpsOk tables sh w May' a' (slice_set ks n c')
   set_coexps w May May' a a' ks n c c' h e f values origin act status may there = record {
@@ -140,7 +140,7 @@ module _ (tables : Tables) (sh : ℕ → ℕ → Option PlainShape) where
   pub more_coexps : (w : Knowledge) (st : Store WaitingChain) (values : List Value) (proc place : ℕ) → CoexpsOk tables sh w (λ i. i ≡ st.active) st.active st.coexps
       → LocalsOk tables sh w proc values → sh proc place ≡ Some (start_shape true)
       → CoexpsOk tables sh (one_more w) (λ i. i ≡ st.active) st.active
-      (st.coexps ++ record { status = Fresh; activator = 0; values = values; proc = proc; place = place } ∷ [])
+      (st.coexps ++ record { status = Fresh; activator = 0; values = values; proc = proc; address = place } ∷ [])
   more_coexps w st values proc place h vs e = record {
     count = more_length st.coexps new ∙ ap suc h.count;
     each = λ i c z. by i c (got_more st.coexps new i c z);
@@ -150,7 +150,7 @@ module _ (tables : Tables) (sh : ℕ → ℕ → Option PlainShape) where
   }
     where
       new : Coexp WaitingChain
-      new = record { status = Fresh; activator = 0; values = values; proc = proc; place = place }
+      new = record { status = Fresh; activator = 0; values = values; proc = proc; address = place }
 
       by : (i : ℕ) (c : Coexp WaitingChain) → ((i ≡ length st.coexps) × (new ≡ c)) ⊎ (slice_get st.coexps i ≡ Some c)
           → CoexpOk tables sh (one_more w) (st.coexps ++ new ∷ []) i c

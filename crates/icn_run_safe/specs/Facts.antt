@@ -34,8 +34,8 @@ marks = linked_calls repeats_anywhere
 pub record IsShapedAt (tables : Tables) (shapes : ℕ → ℕ → Option PlainShape) (m : LinkedStack)
     (st : Store WaitingChain) : Type 0 where
   pub shape : PlainShape
-  pub here : shapes (marks.proc m) m.place ≡ Some shape
-  pub fine : IsFine (instrs_of tables (marks.proc m)) (shapes (marks.proc m)) m.place shape
+  pub here : shapes (marks.proc m) m.address ≡ Some shape
+  pub fine : IsFine (instrs_of tables (marks.proc m)) (shapes (marks.proc m)) m.address shape
   pub operands : length (operands_of m.chain) ≡ shape.inner.operands
   pub open_marks : mark_count (outer_of m.chain) ≡ length shape.outer
   pub scans : shape.inner.scans ≤ length (scans_of m.chain)
@@ -46,14 +46,14 @@ pub record IsShapedAt (tables : Tables) (shapes : ℕ → ℕ → Option PlainSh
 pub record GoesOn {K M : Type 0} (C : Calls K M) (tables : Tables) (m : M) (st : Store K) : Type 0 where
   pub instr : Instr
   pub stands : instruction_at C tables m ≡ Some instr
-  pub lacks_nothing : instruction C tables instr (C.go (suc (C.place m)) m) st ≢ stuck
+  pub lacks_nothing : instruction C tables instr (C.go (suc (C.address m)) m) st ≢ stuck
 
 -- The same of a flat stack, as far as its calls tell: the operands of its innermost mark, the procedure that runs, and its locals.
 pub record IsFlatShapedAt (tables : Tables) (shapes : ℕ → ℕ → Option PlainShape) (m : Frames)
     (st : Store Frames) : Type 0 where
   pub shape : PlainShape
-  pub here : shapes (flat.proc m) m.place ≡ Some shape
-  pub fine : IsFine (instrs_of tables (flat.proc m)) (shapes (flat.proc m)) m.place shape
+  pub here : shapes (flat.proc m) m.address ≡ Some shape
+  pub fine : IsFine (instrs_of tables (flat.proc m)) (shapes (flat.proc m)) m.address shape
   pub operands : (n : ℕ) → n ≤ shape.inner.operands → is_some (flat.take n m) ≡ true
   pub no_more : is_some (flat.take (suc shape.inner.operands) m) ≡ false
   pub in_create : is_create_body flat m st ≡ shape.in_create

@@ -118,7 +118,7 @@ module _ (tables : Tables) (sh : ℕ → ℕ → Option PlainShape) where
     pub proc : ℕ
     pub shape : PlainShape
     pub has : ChainOk w s proc shape k.chain
-    pub goes : sh proc k.place ≡ Some (with_more 1 shape)
+    pub goes : sh proc k.address ≡ Some (with_more 1 shape)
 
   -- that of one that does not run
   abbrev pub StatusOk : Knowledge → ℕ → Status WaitingChain → Type 0
@@ -141,7 +141,7 @@ module _ (tables : Tables) (sh : ℕ → ℕ → Option PlainShape) where
   pub record CoexpOk (w : Knowledge) (coexps : List (Coexp WaitingChain)) (i : ℕ)
       (c : Coexp WaitingChain) : Type 0 where
     pub values : i ≢ 0 → LocalsOk w c.proc c.values
-    pub origin : i ≢ 0 → sh c.proc c.place ≡ Some (start_shape true)
+    pub origin : i ≢ 0 → sh c.proc c.address ≡ Some (start_shape true)
     pub activator : Entered coexps c.activator
 
   -- those wait of which it may not be that they run
@@ -164,7 +164,7 @@ module _ (tables : Tables) (sh : ℕ → ℕ → Option PlainShape) where
 
   abbrev pub Safe : State WaitingChain LinkedStack → Type 0
   Safe (running m st) = (w : Knowledge) × (p : ℕ) × (S : PlainShape) × Now w st.active p S m
-      × (sh p m.place ≡ Some S) × StoreOk w (λ i. i ≡ st.active) st
+      × (sh p m.address ≡ Some S) × StoreOk w (λ i. i ≡ st.active) st
   Safe (failing m st) =
       (w : Knowledge) × (p : ℕ) × (S : PlainShape) × Now w st.active p S m × StoreOk w (λ i. i ≡ st.active) st
   Safe (hopping m st) = (w : Knowledge) × MemoryOf w m × StoreOk w (λ i. ⊥) st

@@ -32,7 +32,7 @@ use Rattle.icn_simulation.proofs.Runs.{good_steps, after, shift, forward, backwa
 
 module _ (G : Ground) where
   first_coexp : S.Coexp WaitingChain
-  first_coexp = record { status = S.Active; activator = zero; values = []; proc = zero; place = zero }
+  first_coexp = record { status = S.Active; activator = zero; values = []; proc = zero; address = zero }
 
   abbrev made_store : List Value → ℕ → ℕ → Names → Launch → S.Store WaitingChain
   made_store globals statics procs names launch = record {
@@ -40,14 +40,14 @@ module _ (G : Ground) where
     outside = launch.outside;
     turns = 0;
     begun = replicate procs false;
-    coexps = record { status = S.Active; activator = zero; values = []; proc = zero; place = zero } ∷ [];
+    coexps = record { status = S.Active; activator = zero; values = []; proc = zero; address = zero } ∷ [];
     active = 0;
     names = names;
   }
 
   same_store : (launch : Launch) → Begins G.L
       → store_of (MM.first_store G.L.program launch)
-      (record { status = S.Active; activator = zero; values = []; proc = zero; place = zero } ∷ []) ≡
+      (record { status = S.Active; activator = zero; values = []; proc = zero; address = zero } ∷ []) ≡
       S.first_store (code_of G) launch
   same_store launch b = ap (λ g. made_store g G.L.program.statics (length G.L.program.routines)
       (MP.names_of G.L.program) launch) b.globals

@@ -75,10 +75,10 @@ module _ (G : Ground) where
   refreshed_by {a = a} {k = k'} {r = r'} {xs = xs} {s = s} {z = z} {o = o} p st ls live e
       (was_made {co = co} {l = l} h stands) k r =
       subst (λ j. Reach G (MX.fresh co.body j co.values a k' r' st)
-      (S.coexp_made (machine G) l.values l.proc l.place (linked_of (chain xs s z o) p st)
+      (S.coexp_made (machine G) l.values l.proc l.address (linked_of (chain xs s z o) p st)
       (store_of st ls))) (sym h.procedure)
       (subst (λ vs. Reach G (MX.fresh co.body l.proc vs a k' r' st)
-      (S.coexp_made (machine G) l.values l.proc l.place (linked_of (chain xs s z o) p st)
+      (S.coexp_made (machine G) l.values l.proc l.address (linked_of (chain xs s z o) p st)
       (store_of st ls))) (sym h.values) (on_fresh l.values p st ls live e stands k r))
 
   made_at : {cos : List M.Coexpression} {ls : List (S.Coexp WaitingChain)} → OfAll G.L cos ls → (n : ℕ)

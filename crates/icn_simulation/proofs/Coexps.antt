@@ -25,7 +25,7 @@ no_coexpression = record {
 }
 
 abbrev no_coexp : S.Coexp WaitingChain
-no_coexp = record { status = S.Exhausted; activator = zero; values = []; proc = zero; place = zero }
+no_coexp = record { status = S.Exhausted; activator = zero; values = []; proc = zero; address = zero }
 
 abbrev co_at : List M.Coexpression → ℕ → M.Coexpression
 co_at cos n = slice_index_or cos n no_coexpression
@@ -52,7 +52,7 @@ module _ (G : Ground) where
   pub data Made : Option M.Coexpression → Option (S.Coexp WaitingChain) → Type 0 where
     not_made : Made None None
     was_made : {co : M.Coexpression} {l : S.Coexp WaitingChain} {q : ℕ} → OfCoexp G.L false co l
-        → StandsCreate G.L l.proc co.body l.place q → Made (Some co) (Some l)
+        → StandsCreate G.L l.proc co.body l.address q → Made (Some co) (Some l)
 
   pub find_made : {cos : List M.Coexpression} {ls : List (S.Coexp WaitingChain)} → OfOthers G.L cos ls → (n : ℕ)
       → Made (slice_get cos n) (slice_get ls n)
@@ -62,19 +62,19 @@ module _ (G : Ground) where
 
   pub others_more : {cos : List M.Coexpression} {ls : List (S.Coexp WaitingChain)} {co : M.Coexpression}
       {l : S.Coexp WaitingChain} {q : ℕ} → OfOthers G.L cos ls → OfCoexp G.L false co l
-      → StandsCreate G.L l.proc co.body l.place q → OfOthers G.L (cos ++ co ∷ []) (ls ++ l ∷ [])
+      → StandsCreate G.L l.proc co.body l.address q → OfOthers G.L (cos ++ co ∷ []) (ls ++ l ∷ [])
   others_more c_none h s = c_more h s c_none
   others_more (c_more h' s' t) h s = c_more h' s' (others_more t h s)
 
   pub all_more : {cos : List M.Coexpression} {ls : List (S.Coexp WaitingChain)} {co : M.Coexpression}
       {l : S.Coexp WaitingChain} {q : ℕ} → OfAll G.L cos ls → OfCoexp G.L false co l
-      → StandsCreate G.L l.proc co.body l.place q → OfAll G.L (cos ++ co ∷ []) (ls ++ l ∷ [])
+      → StandsCreate G.L l.proc co.body l.address q → OfAll G.L (cos ++ co ∷ []) (ls ++ l ∷ [])
   all_more (c_all h' t) h s = c_all h' (others_more t h s)
 
   -- a status is changed
   status_others : {cos : List M.Coexpression} {ls : List (S.Coexp WaitingChain)} {status : M.Status}
       {status' : S.Status WaitingChain} → OfOthers G.L cos ls → (n : ℕ)
-      → OfStatus G.L false (l_at ls n).proc (co_at cos n).body (l_at ls n).place status status'
+      → OfStatus G.L false (l_at ls n).proc (co_at cos n).body (l_at ls n).address status status'
       → OfOthers G.L (slice_set cos n (record (co_at cos n) { status = status }))
       (slice_set ls n (record (l_at ls n) { status = status' }))
   status_others c_none n h = c_none
@@ -85,7 +85,7 @@ module _ (G : Ground) where
 
   pub status_all : {cos : List M.Coexpression} {ls : List (S.Coexp WaitingChain)} {status : M.Status}
       {status' : S.Status WaitingChain} → OfAll G.L cos ls → (n : ℕ)
-      → OfStatus G.L (S.is_main n) (l_at ls n).proc (co_at cos n).body (l_at ls n).place status status'
+      → OfStatus G.L (S.is_main n) (l_at ls n).proc (co_at cos n).body (l_at ls n).address status status'
       → OfAll G.L (slice_set cos n (record (co_at cos n) { status = status }))
       (slice_set ls n (record (l_at ls n) { status = status' }))
   status_all (c_all h' t) zero h =
@@ -133,7 +133,7 @@ module _ (G : Ground) where
 
   on_entered_in : {status : M.Status} {status' : S.Status WaitingChain} (c : ℕ) (v : Value) (m : Chain) (p : ℕ)
       (st : M.Store) (ls : List (S.Coexp WaitingChain)) → OfAll G.L st.coexpressions ls
-      → OfStatus G.L (S.is_main c) (l_at ls c).proc (co_at st.coexpressions c).body (l_at ls c).place status
+      → OfStatus G.L (S.is_main c) (l_at ls c).proc (co_at st.coexpressions c).body (l_at ls c).address status
       status' → Reach G (MX.entered_in status c v st)
       (S.give_by (machine G) status' c v (linked_of m p st) (store_of st ls))
   on_entered_in c v m p st ls all (t_fresh e s) = let l = look all c in
@@ -153,7 +153,7 @@ module _ (G : Ground) where
 
   on_failed_in : {status : M.Status} {status' : S.Status WaitingChain} (c : ℕ) (m : Chain) (p : ℕ) (st : M.Store)
       (ls : List (S.Coexp WaitingChain)) → OfAll G.L st.coexpressions ls
-      → OfStatus G.L (S.is_main c) (l_at ls c).proc (co_at st.coexpressions c).body (l_at ls c).place status
+      → OfStatus G.L (S.is_main c) (l_at ls c).proc (co_at st.coexpressions c).body (l_at ls c).address status
       status' → Reach G (MX.failed_in status c st)
       (S.fail_by (machine G) status' c (linked_of m p st) (store_of st ls))
   on_failed_in c m p st ls all (t_fresh e s) = stay G at_lost

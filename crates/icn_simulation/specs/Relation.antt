@@ -224,7 +224,7 @@ mutual
         (suspension (because Proc) p (chain (x ∷ xs) s z o)) z' o'
 
 abbrev pub waiting_chain : Chain → ℕ → WaitingChain
-waiting_chain m p = record { chain = m; place = p }
+waiting_chain m p = record { chain = m; address = p }
 
 -- a co-expression with this body in a procedure, whose code begins at a place, may stand in these states
 pub data OfStatus (L : Linkage) (first : Bool) (j : ℕ) (e : Tree) (place : ℕ) : M.Status
@@ -246,13 +246,13 @@ pub record OfCoexp (L : Linkage) (first : Bool) (co : M.Coexpression)
   pub activator : co.activator ≡ l.activator
   pub procedure : co.procedure ≡ l.proc
   pub values : co.values ≡ l.values
-  pub status : OfStatus L first l.proc co.body l.place co.status l.status
+  pub status : OfStatus L first l.proc co.body l.address co.status l.status
 
 pub data OfOthers (L : Linkage) : List M.Coexpression → List (S.Coexp WaitingChain) → Type 0 where
   c_none : OfOthers L [] []
   c_more : {co : M.Coexpression} {l : S.Coexp WaitingChain} {cos : List M.Coexpression}
       {ls : List (S.Coexp WaitingChain)} {q : ℕ} → OfCoexp L false co l
-      → StandsCreate L l.proc co.body l.place q
+      → StandsCreate L l.proc co.body l.address q
       → OfOthers L cos ls → OfOthers L (co ∷ cos) (l ∷ ls)
 
 -- all co-expressions: `&main` and the others
@@ -267,7 +267,7 @@ pub data OfAll (L : Linkage) : List M.Coexpression → List (S.Coexp WaitingChai
 abbrev pub linked_of : Chain → ℕ → M.Store → LinkedStack
 linked_of m p st = record {
   chain = m;
-  place = p;
+  address = p;
   activations = st.activations;
   flags = st.flags;
   relabels =

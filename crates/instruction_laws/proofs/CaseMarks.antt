@@ -76,12 +76,12 @@ module _ (tables : Tables) (have : HaveShapes tables) (ok : TablesOk tables) (ke
   chain_marked w s p S (chain items q scans o) h d m = marked w s p S.in_create S.inner.kind S.outer o h.4 d m
 
   linked_marked : (m : LinkedStack) (st : Store WaitingChain) (safe : Safe tables sh (running m st))
-      → slice_get (instrs_of tables (marks.proc m)) m.place ≡ Some Instrs.Ccase → is_some (marks.unmark m) ≡ true
+      → slice_get (instrs_of tables (marks.proc m)) m.address ≡ Some Instrs.Ccase → is_some (marks.unmark m) ≡ true
   linked_marked m st safe at =
       let same = here_proc tables sh safe.0 st.active safe.1 safe.2 m safe.3 in
-      let there : sh (marks.proc m) m.place ≡ Some safe.2 = ap (λ p. sh p m.place) same ∙ safe.4 in
-      let fine : IsFine (instrs_of tables (marks.proc m)) (sh (marks.proc m)) m.place safe.2 = (given tables have ok keep).fine
-      (marks.proc m) m.place safe.2 there in
+      let there : sh (marks.proc m) m.address ≡ Some safe.2 = ap (λ p. sh p m.address) same ∙ safe.4 in
+      let fine : IsFine (instrs_of tables (marks.proc m)) (sh (marks.proc m)) m.address safe.2 = (given tables have ok keep).fine
+      (marks.proc m) m.address safe.2 there in
       let is : fine.instr ≡ Instrs.Ccase = same_Some _ _ (sym fine.stands ∙ at) in
       let fit : fits safe.2 Instrs.Ccase ≡ true = subst (λ (i : Instr). fits safe.2 i ≡ true) is fine.fit in
       chain_marked safe.0 st.active safe.1 safe.2 m.chain safe.3.has (λ e. no_outer safe.2 fit e) m
@@ -90,9 +90,9 @@ module _ (tables : Tables) (have : HaveShapes tables) (ok : TablesOk tables) (ke
   near_case l f (same_running {m'} {m} st ks' h) safe =
       let G = linked_agrees repeats_anywhere (Opens tables) in
       let proc = G.proc h.world st.active m' m h.here in
-      let place = G.place h.world st.active m' m h.here in
+      let place = G.address h.world st.active m' m h.here in
       λ at. some_both _ (marks.unmark m') (flat.unmark m) (G.unmark h.world st.active m' m h.here)
-      (linked_marked m' (lift st ks') safe (ap (λ p. slice_get (instrs_of tables p) m'.place) proc ∙ ap (slice_get (instrs_of tables (flat.proc m))) place
+      (linked_marked m' (lift st ks') safe (ap (λ p. slice_get (instrs_of tables p) m'.address) proc ∙ ap (slice_get (instrs_of tables (flat.proc m))) place
       ∙ at))
   near_case l f (same_failing st ks' h) safe = tt
   near_case l f (same_hopping st ks' h) safe = tt
@@ -168,5 +168,5 @@ has_mark Instrs.Ccase m h = h refl
 has_mark instr m h = tt
 
 pub case_mark : (tables : Tables) (m : Frames) (st : Store Frames) (instr : Instr) → CaseStands tables (running m st)
-    → instruction_at flat tables m ≡ Some instr → HasCaseMark instr (flats.go (suc m.place) m)
-case_mark tables m st instr h at = has_mark instr (flats.go (suc m.place) m) (λ e. go_marked m (suc m.place) (h (at ∙ ap Some e)))
+    → instruction_at flat tables m ≡ Some instr → HasCaseMark instr (flats.go (suc m.address) m)
+case_mark tables m st instr h at = has_mark instr (flats.go (suc m.address) m) (λ e. go_marked m (suc m.address) (h (at ∙ ap Some e)))

@@ -160,7 +160,7 @@ module _ (rows : RowsKeepVariables) (P : Tables) where
       (kept (rows.coexpressions (length vs) (S.here flat m st)) k) k (λ v m s k. k)
 
   refreshed_from : (o : Option (Coexp Frames)) (m : Frames) (st : Store Frames) → K st → G (S.refreshed_from flat o m st)
-  refreshed_from (Some co) m st k = coexp_made co.values co.proc co.place m st k
+  refreshed_from (Some co) m st k = coexp_made co.values co.proc co.address m st k
   refreshed_from None m st k = tt
 
   refreshed : (v : Value) (m : Frames) (st : Store Frames) → K st → G (S.refresh flat v m st)
@@ -501,8 +501,8 @@ module _ (rows : RowsKeepVariables) (P : Tables) where
       (λ x m. result x m st (λ result. S.return_to (flats.leave m) (S.push_item flat result) (S.all_left flat m st)) k
       (λ x. returned (flats.leave m) (S.push_item flat x) (S.all_left flat m st) (all_left m st k) (λ m s k. k)))
   instruction I.Pfail m st k = either (S.is_create_body flat m st) stuck (S.proc_fails flat m st) tt (proc_fails m st k)
-  instruction (I.Create l) m st k = turn st (S.coexp_made flat (flats.locals m) (flats.proc m) m.place (flats.go l m)) k
-      (λ st k. coexp_made (flats.locals m) (flats.proc m) m.place (flats.go l m) st k)
+  instruction (I.Create l) m st k = turn st (S.coexp_made flat (flats.locals m) (flats.proc m) m.address (flats.go l m)) k
+      (λ st k. coexp_made (flats.locals m) (flats.proc m) m.address (flats.go l m) st k)
   instruction I.Coact m st k =
       taken 2 m (λ items m. S.turn P st (S.activation_of flat items m)) (λ xs m. turn st (S.activation_of flat xs m) k (λ st k. activation_of xs m st k))
   instruction I.Coret m st k = either (S.is_create_body flat m st)
@@ -514,7 +514,7 @@ module _ (rows : RowsKeepVariables) (P : Tables) where
 
   step : (state : State Frames Frames) → G state → G (S.step flat P state)
   step (running m st) k =
-      found (S.instruction_at flat P m) (λ instr. S.instruction flat P instr (flats.go (suc m.place) m) st) (λ i. instruction i (flats.go (suc m.place) m) st k)
+      found (S.instruction_at flat P m) (λ instr. S.instruction flat P instr (flats.go (suc m.address) m) st) (λ i. instruction i (flats.go (suc m.address) m) st k)
   step (failing m st) k = fails m st k
   step (hopping m st) k = hop m st k
   step (over ending outside) k = tt

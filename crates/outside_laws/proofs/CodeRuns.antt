@@ -150,7 +150,7 @@ module _ {H M : Type 0} (C : Calls H M) (P : Program) (b : Lasting) where
       (λ value m st. S.push_item C (Val value) m (S.with_new vs proc place st)) k (coexpression_leaves b (length vs) (S.here C m st) k) (λ v m s k. k)
 
   refreshed_from : (o : Option (Coexp H)) (m : M) (st : Store H) → K st → G (S.refreshed_from C o m st)
-  refreshed_from (Some co) m st k = coexp_made co.values co.proc co.place m st k
+  refreshed_from (Some co) m st k = coexp_made co.values co.proc co.address m st k
   refreshed_from None m st k = tt
 
   refreshed : (v : Value) (m : M) (st : Store H) → K st → G (S.refresh C v m st)
@@ -371,7 +371,7 @@ module _ {H M : Type 0} (C : Calls H M) (P : Program) (b : Lasting) where
       (λ x. returned (C.leave m) (S.push_item C x) (S.all_left C m st) (all_left m st k) (λ m s k. k)))
   instruction I.Pfail m st k = either (S.is_create_body C m st) stuck (S.proc_fails C m st) tt (proc_fails m st k)
   instruction (I.Create l) m st k =
-      turn st (S.coexp_made C (C.locals m) (C.proc m) (C.place m) (C.go l m)) k (λ st k. coexp_made (C.locals m) (C.proc m) (C.place m) (C.go l m) st k)
+      turn st (S.coexp_made C (C.locals m) (C.proc m) (C.address m) (C.go l m)) k (λ st k. coexp_made (C.locals m) (C.proc m) (C.address m) (C.go l m) st k)
   instruction I.Coact m st k =
       taken 2 m (λ items m. S.turn P st (S.activation_of C items m)) (λ xs m. turn st (S.activation_of C xs m) k (λ st k. activation_of xs m st k))
   instruction I.Coret m st k =
@@ -384,7 +384,7 @@ module _ {H M : Type 0} (C : Calls H M) (P : Program) (b : Lasting) where
 
   step : (s : State H M) → G s → G (S.step C P s)
   step (running m st) k =
-      found (S.instruction_at C P m) (λ instr. S.instruction C P instr (C.go (suc (C.place m)) m) st) (λ i. instruction i (C.go (suc (C.place m)) m) st k)
+      found (S.instruction_at C P m) (λ instr. S.instruction C P instr (C.go (suc (C.address m)) m) st) (λ i. instruction i (C.go (suc (C.address m)) m) st k)
   step (failing m st) k = back_or_dropped m st (C.resume m) k
   step (hopping m st) k = hop m st k
   step (over ending outside) k = k

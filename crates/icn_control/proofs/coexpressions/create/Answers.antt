@@ -81,7 +81,7 @@ returns-in-Ok-clause-sound g c tables k =
         results = same_counts (m.turns + 1) m.stacks.table.active u.active cs ds c.in_ok-charge_coexp.ensures.counts
             (ap (λ (x : Table). x.active) c.in-Ok.ensures) (turn_more m.turns m.stacks.table.active cs k.counted.results);
         activators = subst (λ (x : Table). EnterOthers x.coexps) (sym c.in-Ok.ensures)
-            (new_others m.stacks.table (held.locals f) (held.proc f) f.place k.counted.activators);
+            (new_others m.stacks.table (held.locals f) (held.proc f) f.address k.counted.activators);
       };
     }
 

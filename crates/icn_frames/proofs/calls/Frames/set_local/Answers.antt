@@ -17,12 +17,12 @@ invariant_of-self g c =
 
 pub returns-clause-flat : goal.returns-clause-flat
 returns-clause-flat g c =
-    let m : FlatStack = record { cells = g.K.Stack.cells c.self.inside.cells; registers = c.self.inside.registers; place = c.self.inside.place } in
+    let m : FlatStack = record { cells = g.K.Stack.cells c.self.inside.cells; registers = c.self.inside.registers; address = c.self.inside.place } in
     rw (← c.self.view_is) (set_local_is m c.args.place c.args.v _ c.self.invariant (rw (← c.self.view_is) at c.requires) c.set.ensures.cells)
 
 pub returns-clause-locals : goal.returns-clause-locals
 returns-clause-locals g c =
-    let m : FlatStack = record { cells = g.K.Stack.cells c.self.inside.cells; registers = c.self.inside.registers; place = c.self.inside.place } in
+    let m : FlatStack = record { cells = g.K.Stack.cells c.self.inside.cells; registers = c.self.inside.registers; address = c.self.inside.place } in
     let s = g.K.Stack.cells c.self.inside.cells in
     let r = c.self.inside.registers in
     let n = rw (← c.self.view_is) at c.requires in

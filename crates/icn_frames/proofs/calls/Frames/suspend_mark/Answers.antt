@@ -49,6 +49,6 @@ returns-clause-ok g c =
     let n : r.mark ≤ length s = within _ _ k.to in
     let o = c.saved_by-saved.result in
     let u : Sound (cut (r.mark - 1) s) o = sound_cut s _ r _ _ _ c.self.invariant k.from n c.get.ensures (ap outer_of c.saved_by-saved.ensures) refl in
-    let m : FlatStack = record { cells = g.K.Stack.cells c.self.inside.cells; registers = c.self.inside.registers; place = c.self.inside.place } in
+    let m : FlatStack = record { cells = g.K.Stack.cells c.self.inside.cells; registers = c.self.inside.registers; address = c.self.inside.place } in
     rw (← c.self.view_is) (suspend_mark_is m _ _ o _ _ c.args.given c.self.invariant c.get.ensures c.saved_by-saved.ensures u
     c.bottom_of-from.ensures c.in_ok-height.ensures.height c.in_ok-height.ensures.ok)
