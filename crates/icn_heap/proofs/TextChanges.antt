@@ -2,7 +2,7 @@
 use Rattle.std.proofs.Common.{◌≡◌, ◌∙◌, refl, sym, ap, ℕ, ◌+◌, ◌<◌, ◌≤◌, List, ◌++◌, length, Result, Ok, Err, inl, inr, ◌↔◌, arith, length-append}
 use Rattle.std.proofs.lemmas.Bool.{cases_lt}
 use Rattle.icn_strings.specs.declared.region.Region.{Region}
-use Rattle.icn_strings.specs.declared.place.Place.{Place}
+use Rattle.icn_strings.specs.declared.place.ByteRange.{ByteRange}
 use Rattle.icn_strings.specs.declared.full.Full.{Full as FullRegion}
 use Rattle.icn_strings.specs.declared.full.Full.TheVariants.{Strings as StringsRegion, NoMemory as NoRoom}
 use Rattle.icn_strings.specs.Regions.{IsOf, Keeps as KeepsTexts, bytes_of, sum_of, limit_of}
@@ -18,10 +18,10 @@ use Rattle.icn_heap.proofs.Keeping.{Becomes}
 use Rattle.icn_heap.proofs.OtherChanges.{texts_join}
 
 -- a text of the region is one of the heap
-pub text_is : (all : Extent) (span : Span) {place : Place} → place_of span ≡ place → IsOf all.strings place → IsText all span
+pub text_is : (all : Extent) (span : Span) {place : ByteRange} → place_of span ≡ place → IsOf all.strings place → IsText all span
 text_is all span {place} same is = record { of = rw same is }
 
-pub text_has : (all : Extent) (span : Span) {place : Place} {bytes : List ℕ} → place_of span ≡ place → bytes_of all.strings place ≡ bytes
+pub text_has : (all : Extent) (span : Span) {place : ByteRange} {bytes : List ℕ} → place_of span ≡ place → bytes_of all.strings place ≡ bytes
     → text_in all span ≡ bytes
 unfolding text_in
 text_has all span {place} same is = rw same is
@@ -46,9 +46,9 @@ module _ (parts : Parts) (is : IsSound parts) (strings : Region) (texts : KeepsT
 -- why the region refused is why the heap does
 
 module _ (parts : Parts) (is : IsSound parts) (n : ℕ) {full : FullRegion}
-    (exact : (let refused : Result Place FullRegion = Err full in refused ≡ Err (StringsRegion (sum_of parts.strings) (limit_of parts.strings)))
+    (exact : (let refused : Result ByteRange FullRegion = Err full in refused ≡ Err (StringsRegion (sum_of parts.strings) (limit_of parts.strings)))
     ↔ (limit_of parts.strings < sum_of parts.strings + n))
-    (memory : sum_of parts.strings + n ≤ limit_of parts.strings → (let refused : Result Place FullRegion = Err full in refused ≡ Err NoRoom)) where
+    (memory : sum_of parts.strings + n ≤ limit_of parts.strings → (let refused : Result ByteRange FullRegion = Err full in refused ≡ Err NoRoom)) where
   limit : limit_of parts.strings ≡ parts.limits.strings
   limit = is.charged.limit
 
@@ -75,7 +75,7 @@ module _ (parts : Parts) (is : IsSound parts) (n : ℕ) {full : FullRegion}
       ]
 
 -- how long two texts are together, by their places
-pub joined_len : (all : Extent) (a b : Span) {p q : Place} → p ≡ place_of a → q ≡ place_of b → length (bytes_of all.strings p) ≡ p.len
+pub joined_len : (all : Extent) (a b : Span) {p q : ByteRange} → p ≡ place_of a → q ≡ place_of b → length (bytes_of all.strings p) ≡ p.len
     → length (bytes_of all.strings q) ≡ q.len
     → length (text_in all a ++ text_in all b) ≡ p.len + q.len
 unfolding text_in
@@ -84,7 +84,7 @@ joined_len all a b {p} {q} is is' first second =
     let two : length (bytes_of all.strings (place_of b)) ≡ q.len = (rw (← is') second) in
     rw length-append (omega arith)
 
-pub joined_is : (old new : Extent) (a b span : Span) {p q place : Place} → p ≡ place_of a → q ≡ place_of b → place_of span ≡ place
+pub joined_is : (old new : Extent) (a b span : Span) {p q place : ByteRange} → p ≡ place_of a → q ≡ place_of b → place_of span ≡ place
     → bytes_of new.strings place ≡ bytes_of old.strings p ++ bytes_of old.strings q
     → text_in new span ≡ text_in old a ++ text_in old b
 unfolding text_in

@@ -2,7 +2,7 @@
 use Rattle.std.specs.Prelude.{◌≡◌, ℕ, ◌<◌, List, ⊤}
 use Rattle.std.specs.List.{All}
 use Rattle.std.specs.Coded.{Unit-prop, le_prop}
-use Rattle.icn_strings.specs.declared.place.Place.{Place}
+use Rattle.icn_strings.specs.declared.place.ByteRange.{ByteRange}
 use Rattle.icn_strings.specs.declared.region.Region.{Region}
 use Rattle.icn_strings.specs.Regions.{IsOf, IsOf-prop, bytes_of}
 use Rattle.icn_value.specs.declared.val.Span.{Span}
@@ -22,7 +22,7 @@ pub record Extent : Type 0 where
   pub coexps : ℕ
 
 -- where the bytes of a text lie in the region
-abbrev pub place_of : Span → Place
+abbrev pub place_of : Span → ByteRange
 place_of span = record { place = span.place; len = span.len }
 
 -- the span names a text

@@ -3,10 +3,10 @@ ghost use Rattle.std.specs.Prelude.{◌≡◌};
 ghost use Rattle.icn_heap.specs.Extents.{place_of};
 ghost use Rattle.icn_heap.specs.Fulls.{strings_full};
 
-use icn_strings::Place;
+use icn_strings::ByteRange;
 use icn_value::{Full, Span};
 
-pub fn span_of(place: Place) -> Span
+pub fn span_of(place: ByteRange) -> Span
     ensures { place_of result ≡ place }
 {
     Span {
@@ -15,10 +15,10 @@ pub fn span_of(place: Place) -> Span
     }
 }
 
-pub fn as_place(span: Span) -> Place
+pub fn as_place(span: Span) -> ByteRange
     ensures { result ≡ place_of span }
 {
-    Place {
+    ByteRange {
         place: span.place,
         len: span.len,
     }

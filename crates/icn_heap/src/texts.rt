@@ -1,7 +1,7 @@
 // The texts of a heap.
 use crate::heap::Heap;
 use crate::spans::{as_place, full_of, span_of};
-use icn_strings::{Place, end_of_place, length_of_bytes, part_of_place};
+use icn_strings::{ByteRange, end_of_place, length_of_bytes, part_of_place};
 use icn_value::{Full, Span};
 use std::alloc::AllocError;
 
@@ -77,7 +77,7 @@ impl Heap {
         let whole = as_place(span);
         length_of_bytes(&self.strings, whole);
         end_of_place(&self.strings, whole);
-        let part = Place {
+        let part = ByteRange {
             place: whole.place + from,
             len,
         };

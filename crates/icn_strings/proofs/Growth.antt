@@ -2,7 +2,7 @@
 use Rattle.std.proofs.Common.{inl, inr, ◌≡◌, ◌∙◌, ℕ, zero, suc, ◌+◌, ◌-◌, ◌<◌, ◌≤◌, List, [], ◌++◌, length, take, drop, refl, sym, ap, arith, length-append, length-drop, append-nil}
 use Rattle.std.proofs.lemmas.Bool.{cases_lt}
 use Rattle.std.proofs.lemmas.List.{length-take-le, take_all, take-append-le, drop-append-le, drop-take, drop-drop, take-take}
-use Rattle.icn_strings.specs.declared.place.Place.{Place}
+use Rattle.icn_strings.specs.declared.place.ByteRange.{ByteRange}
 use Rattle.icn_strings.specs.declared.region.Region.{Region}
 use Rattle.icn_strings.specs.Places.{IsPart}
 use Rattle.icn_strings.specs.Regions.{limit_of, sum_of, IsHeld, bytes_of, Keeps, IsUnchanged}
@@ -43,7 +43,7 @@ unchanged {a} {b} is limit sum = record {
 }
 
 -- the bytes of a part are its part of the bytes
-pub part_bytes : (xs : List ℕ) (part whole : Place) → IsPart part whole
+pub part_bytes : (xs : List ℕ) (part whole : ByteRange) → IsPart part whole
     → take part.len (drop part.place xs) ≡ take part.len (drop (part.place - whole.place) (take whole.len (drop whole.place xs)))
 part_bytes xs part whole is =
     let before : ℕ = part.place - whole.place in

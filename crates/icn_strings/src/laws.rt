@@ -3,12 +3,12 @@ ghost use Rattle.std.specs.Prelude.{◌≡◌, ◌+◌, ◌-◌, ◌^◌, ◌<�
 ghost use Rattle.icn_strings.specs.Places.{IsPart};
 ghost use Rattle.icn_strings.specs.Regions.{limit_of, sum_of, IsOf, bytes_of};
 
-use crate::place::Place;
+use crate::place::ByteRange;
 use crate::region::Region;
 
 /// A place of length 0 is of every region, and has no bytes.
 #[tactic(auto, unfolding(crate::specs::Regions::IsHeld, crate::specs::Regions::bytes_of))]
-pub fn empty_place(region: &Region, place: Place)
+pub fn empty_place(region: &Region, place: ByteRange)
     requires { place.len ≡ 0 }
     ensures of { IsOf region.now place }
     ensures bytes { bytes_of region.now place ≡ [] }
@@ -16,7 +16,7 @@ pub fn empty_place(region: &Region, place: Place)
 
 /// A part of a place of a region is of it too, and has its part of the bytes.
 #[tactic(auto, using(crate::proofs::Growth::part_bytes), unfolding(crate::specs::Regions::IsHeld, crate::specs::Regions::bytes_of))]
-pub fn part_of_place(region: &Region, part: Place, whole: Place)
+pub fn part_of_place(region: &Region, part: ByteRange, whole: ByteRange)
     requires of { IsOf region.now whole }
     requires part { IsPart part whole }
     ensures of { IsOf region.now part }
@@ -26,14 +26,14 @@ pub fn part_of_place(region: &Region, part: Place, whole: Place)
 
 /// A place of a region has as many bytes as it says.
 #[tactic(auto, unfolding(crate::specs::Regions::IsHeld, crate::specs::Regions::bytes_of))]
-pub fn length_of_bytes(region: &Region, place: Place)
+pub fn length_of_bytes(region: &Region, place: ByteRange)
     requires { IsOf region.now place }
     ensures { length (bytes_of region.now place) ≡ place.len }
 {}
 
 /// The end of a place of a region is a `u64`, so that the place of a part can be computed.
 #[tactic(auto, unfolding(crate::specs::Regions::IsHeld))]
-pub fn end_of_place(region: &Region, place: Place)
+pub fn end_of_place(region: &Region, place: ByteRange)
     requires { IsOf region.now place }
     ensures { place.place + place.len < 2 ^ 64 }
 {}
@@ -46,7 +46,7 @@ pub fn within_limit(region: &Region)
 
 /// A string of a region has so few bytes that each position in it is an `i64`, the one behind its last byte too.
 #[tactic(auto, using(crate::proofs::Growth::part_short), unfolding(crate::specs::Regions::bytes_of))]
-pub fn short_string(region: &Region, place: Place)
+pub fn short_string(region: &Region, place: ByteRange)
     requires { IsOf region.now place }
     ensures { length (bytes_of region.now place) < 2 ^ 63 - 1 }
 {}

@@ -11,5 +11,5 @@ pub use full::Full;
 pub use laws::{
     empty_place, end_of_place, length_of_bytes, part_of_place, short_string, within_limit,
 };
-pub use place::Place;
+pub use place::ByteRange;
 pub use region::Region;

@@ -4,7 +4,7 @@
 ///
 /// The bytes of a part are named by a place within it. Both numbers may be anything where `len` is 0.
 #[derive(Clone, Copy, Debug, PartialEq, Eq)]
-pub struct Place {
+pub struct ByteRange {
     /// The place of the first byte. Each further byte lies one higher.
     pub place: u64,
 

@@ -3,7 +3,7 @@ ghost use Rattle.std.specs.Prelude.{◌≡◌, ◌+◌, ◌-◌, ◌^◌, ◌<�
 
 use crate::copy::append_both;
 use crate::full::Full;
-use crate::place::Place;
+use crate::place::ByteRange;
 use std::alloc::{AllocError, Global};
 use std::ops::Range;
 
@@ -44,7 +44,7 @@ impl Region {
     /// The limit is looked at before memory: `Strings` comes exactly where it would be passed, and `NoMemory` only
     /// where it would not. Either leaves the region as it was.
     #[tactic(auto, using(crate::proofs::Keeping::keeps_then))]
-    pub fn build(&mut self, bytes: &[u8]) -> Result<Place, Full>
+    pub fn build(&mut self, bytes: &[u8]) -> Result<ByteRange, Full>
         ensures of { IfOk result (IsOf self.new) }
         ensures len { IfOk result (λ place. place.len ≡ length bytes.now) }
         ensures bytes { IfOk result (λ place. bytes_of self.new place ≡ bytes.now) }
@@ -72,7 +72,7 @@ impl Region {
     /// The limit is looked at before memory: `Strings` comes exactly where it would be passed, and `NoMemory` only
     /// where it would not. Either leaves the region as it was.
     #[tactic(auto, using(crate::proofs::Keeping::keeps_then))]
-    pub fn join(&mut self, a: Place, b: Place) -> Result<Place, Full>
+    pub fn join(&mut self, a: ByteRange, b: ByteRange) -> Result<ByteRange, Full>
         requires first { IsOf self.old a }
         requires second { IsOf self.old b }
         ensures of { IfOk result (IsOf self.new) }
@@ -103,7 +103,7 @@ impl Region {
     ///
     /// The error is want of memory, and leaves the region as it was.
     #[tactic(auto, using(crate::proofs::Growth::growth), unfolding(crate::specs::Regions::limit_of, crate::specs::Regions::sum_of, crate::specs::Regions::IsHeld, crate::specs::Regions::bytes_of))]
-    pub fn hold(&mut self, bytes: &[u8]) -> Result<Place, AllocError>
+    pub fn hold(&mut self, bytes: &[u8]) -> Result<ByteRange, AllocError>
         ensures of { IfOk result (IsOf self.new) }
         ensures len { IfOk result (λ place. place.len ≡ length bytes.now) }
         ensures bytes { IfOk result (λ place. bytes_of self.new place ≡ bytes.now) }
@@ -117,14 +117,14 @@ impl Region {
             return Err(AllocError);
         }
         self.bytes.extend_from_slice(bytes)?;
-        Ok(Place {
+        Ok(ByteRange {
             place,
             len: bytes.len() as u64,
         })
     }
 
     /// The bytes of a string. It takes no memory.
-    pub fn bytes(&self, place: Place) -> &[u8]
+    pub fn bytes(&self, place: ByteRange) -> &[u8]
         requires { IsOf self.now place }
         ensures { result.now ≡ bytes_of self.now place }
     {
@@ -133,7 +133,7 @@ impl Region {
 
     // Where the bytes of a place lie in the buffer.
     #[tactic(auto, unfolding(crate::specs::Regions::IsHeld, crate::specs::Regions::bytes_of))]
-    fn range(&self, place: Place) -> Range<usize>
+    fn range(&self, place: ByteRange) -> Range<usize>
         requires { IsOf self.now place }
         ensures ordered { result.start ≤ result.end }
         ensures within { result.end ≤ vec_len self.now.bytes }
@@ -149,7 +149,7 @@ impl Region {
 
     // Holds the bytes of `a` and then those of `b`, without a charge.
     #[tactic(auto, using(crate::proofs::Growth::growth), unfolding(crate::specs::Regions::limit_of, crate::specs::Regions::sum_of, crate::specs::Regions::IsHeld, crate::specs::Regions::bytes_of))]
-    fn hold_both(&mut self, a: Place, b: Place) -> Result<Place, AllocError>
+    fn hold_both(&mut self, a: ByteRange, b: ByteRange) -> Result<ByteRange, AllocError>
         requires first { IsOf self.old a }
         requires second { IsOf self.old b }
         requires fits { a.len + b.len < 2 ^ 64 }
@@ -168,7 +168,7 @@ impl Region {
         let first = self.range(a);
         let second = self.range(b);
         append_both(&mut self.bytes, first, second)?;
-        Ok(Place {
+        Ok(ByteRange {
             place,
             len: a.len + b.len,
         })

@@ -6,7 +6,7 @@ ghost use Rattle.icn_strings.specs.Regions.{IsOf, Keeps};
 
 #[cfg(test)]
 mod tests {
-    use icn_strings::{Full, Place, Region, empty_place, end_of_place, part_of_place};
+    use icn_strings::{Full, ByteRange, Region, empty_place, end_of_place, part_of_place};
     use std::process::Abort;
     use std::test::Fail;
 
@@ -49,10 +49,10 @@ mod tests {
     fn check_join(
         rt: &impl Abort,
         region: &mut Region,
-        a: Place,
-        b: Place,
+        a: ByteRange,
+        b: ByteRange,
         want: (&str, &str),
-    ) -> Result<Place, Full>
+    ) -> Result<ByteRange, Full>
         requires first { IsOf region.old a }
         requires second { IsOf region.old b }
         ensures of { IfOk result (IsOf region.new) }
@@ -77,7 +77,7 @@ mod tests {
         let north = region.build(b"north")?;
         let wind = region.hold(b"wind")?;
         end_of_place(&region, north);
-        let part = Place {
+        let part = ByteRange {
             place: north.place + 1,
             len: 2,
         };
@@ -98,7 +98,7 @@ mod tests {
     fn joins_empty_strings(rt: HostRuntime) -> Result<(), Fail> {
         let mut region = Region::new(rt.alloc(), 4);
         let wind = region.build(b"wind")?;
-        let wild = Place {
+        let wild = ByteRange {
             place: u64::MAX,
             len: 0,
         };
