@@ -157,7 +157,8 @@ suffixes =
     (Subscript (at 1) (Identifier (name_on (codes "a") 1)) (More Empty NoTrees)) ∷
     -- a [ b ]
     row (name (codes "a") ∷ mark M.OpenBracket ∷ name (codes "b") ∷ mark M.CloseBracket ∷ [])
-    (Subscript (at 1) (Identifier (name_on (codes "a") 1)) (More (Identifier (name_on (codes "b") 3)) NoTrees))
+    (Subscript (at 1) (Identifier (name_on (codes "a") 1))
+    (More (Identifier (name_on (codes "b") 3)) NoTrees))
     ∷
     -- a [ b , c ]
     row (name (codes "a") ∷ mark M.OpenBracket ∷ name (codes "b") ∷ mark M.Comma
@@ -165,11 +166,13 @@ suffixes =
     (More (Identifier (name_on (codes "b") 3)) (More (Identifier (name_on (codes "c") 5)) NoTrees))) ∷
     -- a [ b : c ]
     row (name (codes "a") ∷ mark M.OpenBracket ∷ name (codes "b") ∷ mark M.Colon
-    ∷ name (codes "c") ∷ mark M.CloseBracket ∷ []) (Section (at 1) Between (Identifier (name_on (codes "a") 1))
+    ∷ name (codes "c") ∷ mark M.CloseBracket ∷ [])
+    (Section (at 1) Between (Identifier (name_on (codes "a") 1))
     (Identifier (name_on (codes "b") 3)) (Identifier (name_on (codes "c") 5))) ∷
     -- a [ b +: c ]
     row (name (codes "a") ∷ mark M.OpenBracket ∷ name (codes "b") ∷ mark M.PlusColon
-    ∷ name (codes "c") ∷ mark M.CloseBracket ∷ []) (Section (at 1) Forward (Identifier (name_on (codes "a") 1))
+    ∷ name (codes "c") ∷ mark M.CloseBracket ∷ [])
+    (Section (at 1) Forward (Identifier (name_on (codes "a") 1))
     (Identifier (name_on (codes "b") 3)) (Identifier (name_on (codes "c") 5))) ∷
     -- a [ b -: c ]
     row (name (codes "a") ∷ mark M.OpenBracket ∷ name (codes "b") ∷ mark M.MinusColon ∷ name (codes "c")
@@ -182,20 +185,24 @@ suffixes =
     row (name (codes "a") ∷ op O.Dot ∷ name (codes "b") ∷ mark M.OpenParenthesis ∷ name (codes "c")
     ∷ mark M.CloseParenthesis ∷ mark M.OpenBracket ∷ name (codes "d") ∷ mark M.CloseBracket ∷ [])
     (Subscript (at 1) (Call (at 1) (Field (at 1) (Identifier (name_on (codes "a") 1)) (name_on (codes "b") 3))
-    (More (Identifier (name_on (codes "c") 5)) NoTrees)) (More (Identifier (name_on (codes "d") 8)) NoTrees)) ∷
+    (More (Identifier (name_on (codes "c") 5)) NoTrees)) (More (Identifier (name_on (codes "d") 8)) NoTrees))
+    ∷
     -- 1 ( a ) { b }
     row (integer 1 ∷ mark M.OpenParenthesis ∷ name (codes "a")
     ∷ mark M.CloseParenthesis ∷ mark M.OpenBrace ∷ name (codes "b") ∷ mark M.CloseBrace ∷ [])
     (CoCall (at 1) (Call (at 1) (Constant (at 1) (Literals.Integer (pos 1)))
-    (More (Identifier (name_on (codes "a") 3)) NoTrees)) (More (Identifier (name_on (codes "b") 6)) NoTrees)) ∷
+    (More (Identifier (name_on (codes "a") 3)) NoTrees)) (More (Identifier (name_on (codes "b") 6)) NoTrees))
+    ∷
     -- ( a ) ( b )
     row (mark M.OpenParenthesis ∷ name (codes "a") ∷ mark M.CloseParenthesis ∷ mark M.OpenParenthesis
     ∷ name (codes "b") ∷ mark M.CloseParenthesis ∷ []) (Call (at 1) (Parentheses (at 1)
-    (More (Identifier (name_on (codes "a") 2)) NoTrees)) (More (Identifier (name_on (codes "b") 5)) NoTrees)) ∷
+    (More (Identifier (name_on (codes "a") 2)) NoTrees)) (More (Identifier (name_on (codes "b") 5)) NoTrees))
+    ∷
     -- a [ b & c : d ]
     row (name (codes "a") ∷ mark M.OpenBracket ∷ name (codes "b") ∷ op O.Ampersand
     ∷ name (codes "c") ∷ mark M.Colon ∷ name (codes "d") ∷ mark M.CloseBracket ∷ []) (Section (at 1) Between
-    (Identifier (name_on (codes "a") 1)) (Binary (at 3) (Plain O.Ampersand) (Identifier (name_on (codes "b") 3))
+    (Identifier (name_on (codes "a") 1))
+    (Binary (at 3) (Plain O.Ampersand) (Identifier (name_on (codes "b") 3))
     (Identifier (name_on (codes "c") 5))) (Identifier (name_on (codes "d") 7))) ∷
     []
 
@@ -264,7 +271,8 @@ forms =
     -- suspend
     row (word W.Suspend ∷ []) (Suspend (at 1) Empty Absent) ∷
     -- suspend a
-    row (word W.Suspend ∷ name (codes "a") ∷ []) (Suspend (at 1) (Identifier (name_on (codes "a") 2)) Absent) ∷
+    row (word W.Suspend ∷ name (codes "a") ∷ []) (Suspend (at 1) (Identifier (name_on (codes "a") 2)) Absent)
+    ∷
     -- suspend a do b
     row (word W.Suspend ∷ name (codes "a") ∷ word W.Do ∷ name (codes "b") ∷ [])
     (Suspend (at 1) (Identifier (name_on (codes "a") 2)) (Present (Identifier (name_on (codes "b") 4)))) ∷
@@ -287,7 +295,8 @@ levels =
     -- a ? b := c
     row (name (codes "a") ∷ op O.Question ∷ name (codes "b") ∷ op O.Assign ∷ name (codes "c") ∷ [])
     (Binary (at 1) (Plain O.Question) (Identifier (name_on (codes "a") 1))
-    (Binary (at 3) (Plain O.Assign) (Identifier (name_on (codes "b") 3)) (Identifier (name_on (codes "c") 5))))
+    (Binary (at 3) (Plain O.Assign) (Identifier (name_on (codes "b") 3))
+    (Identifier (name_on (codes "c") 5))))
     ∷
     -- a := b ? c
     row (name (codes "a") ∷ op O.Assign ∷ name (codes "b") ∷ op O.Question ∷ name (codes "c") ∷ [])
@@ -312,7 +321,8 @@ levels =
     -- a | b < c
     row (name (codes "a") ∷ op O.Bar ∷ name (codes "b") ∷ op O.Less ∷ name (codes "c") ∷ [])
     (Binary (at 1) (Plain O.Bar) (Identifier (name_on (codes "a") 1))
-    (Binary (at 3) (Plain O.Less) (Identifier (name_on (codes "b") 3)) (Identifier (name_on (codes "c") 5)))) ∷
+    (Binary (at 3) (Plain O.Less) (Identifier (name_on (codes "b") 3)) (Identifier (name_on (codes "c") 5))))
+    ∷
     -- a < b | c
     row (name (codes "a") ∷ op O.Less ∷ name (codes "b") ∷ op O.Bar ∷ name (codes "c") ∷ [])
     (Binary (at 1) (Plain O.Bar) (Binary (at 1) (Plain O.Less) (Identifier (name_on (codes "a") 1))
@@ -320,7 +330,8 @@ levels =
     -- a < b || c
     row (name (codes "a") ∷ op O.Less ∷ name (codes "b") ∷ op O.BarBar ∷ name (codes "c") ∷ [])
     (Binary (at 1) (Plain O.Less) (Identifier (name_on (codes "a") 1))
-    (Binary (at 3) (Plain O.BarBar) (Identifier (name_on (codes "b") 3)) (Identifier (name_on (codes "c") 5))))
+    (Binary (at 3) (Plain O.BarBar) (Identifier (name_on (codes "b") 3))
+    (Identifier (name_on (codes "c") 5))))
     ∷
     -- a || b < c
     row (name (codes "a") ∷ op O.BarBar ∷ name (codes "b") ∷ op O.Less ∷ name (codes "c") ∷ [])
@@ -329,7 +340,8 @@ levels =
     -- a || b + c
     row (name (codes "a") ∷ op O.BarBar ∷ name (codes "b") ∷ op O.Plus ∷ name (codes "c") ∷ [])
     (Binary (at 1) (Plain O.BarBar) (Identifier (name_on (codes "a") 1))
-    (Binary (at 3) (Plain O.Plus) (Identifier (name_on (codes "b") 3)) (Identifier (name_on (codes "c") 5)))) ∷
+    (Binary (at 3) (Plain O.Plus) (Identifier (name_on (codes "b") 3)) (Identifier (name_on (codes "c") 5))))
+    ∷
     -- a + b || c
     row (name (codes "a") ∷ op O.Plus ∷ name (codes "b") ∷ op O.BarBar ∷ name (codes "c") ∷ [])
     (Binary (at 1) (Plain O.BarBar) (Binary (at 1) (Plain O.Plus) (Identifier (name_on (codes "a") 1))
@@ -337,7 +349,8 @@ levels =
     -- a + b * c
     row (name (codes "a") ∷ op O.Plus ∷ name (codes "b") ∷ op O.Star ∷ name (codes "c") ∷ [])
     (Binary (at 1) (Plain O.Plus) (Identifier (name_on (codes "a") 1))
-    (Binary (at 3) (Plain O.Star) (Identifier (name_on (codes "b") 3)) (Identifier (name_on (codes "c") 5)))) ∷
+    (Binary (at 3) (Plain O.Star) (Identifier (name_on (codes "b") 3)) (Identifier (name_on (codes "c") 5))))
+    ∷
     -- a * b + c
     row (name (codes "a") ∷ op O.Star ∷ name (codes "b") ∷ op O.Plus ∷ name (codes "c") ∷ [])
     (Binary (at 1) (Plain O.Plus) (Binary (at 1) (Plain O.Star) (Identifier (name_on (codes "a") 1))
@@ -345,7 +358,8 @@ levels =
     -- a * b ^ c
     row (name (codes "a") ∷ op O.Star ∷ name (codes "b") ∷ op O.Caret ∷ name (codes "c") ∷ [])
     (Binary (at 1) (Plain O.Star) (Identifier (name_on (codes "a") 1))
-    (Binary (at 3) (Plain O.Caret) (Identifier (name_on (codes "b") 3)) (Identifier (name_on (codes "c") 5)))) ∷
+    (Binary (at 3) (Plain O.Caret) (Identifier (name_on (codes "b") 3)) (Identifier (name_on (codes "c") 5))))
+    ∷
     -- a ^ b * c
     row (name (codes "a") ∷ op O.Caret ∷ name (codes "b") ∷ op O.Star ∷ name (codes "c") ∷ [])
     (Binary (at 1) (Plain O.Star) (Binary (at 1) (Plain O.Caret) (Identifier (name_on (codes "a") 1))
@@ -376,12 +390,14 @@ levels =
     -- not a [ b ]
     row (word W.Not ∷ name (codes "a") ∷ mark M.OpenBracket ∷ name (codes "b") ∷ mark M.CloseBracket ∷ [])
     (Not (at 1)
-    (Subscript (at 2) (Identifier (name_on (codes "a") 2)) (More (Identifier (name_on (codes "b") 4)) NoTrees)))
+    (Subscript (at 2) (Identifier (name_on (codes "a") 2))
+    (More (Identifier (name_on (codes "b") 4)) NoTrees)))
     ∷
     -- a * ( b + c )
     row (name (codes "a") ∷ op O.Star
     ∷ mark M.OpenParenthesis ∷ name (codes "b") ∷ op O.Plus ∷ name (codes "c") ∷ mark M.CloseParenthesis ∷ [])
-    (Binary (at 1) (Plain O.Star) (Identifier (name_on (codes "a") 1)) (Parentheses (at 3) (More (Binary (at 4)
+    (Binary (at 1) (Plain O.Star) (Identifier (name_on (codes "a") 1))
+    (Parentheses (at 3) (More (Binary (at 4)
     (Plain O.Plus) (Identifier (name_on (codes "b") 4)) (Identifier (name_on (codes "c") 6))) NoTrees))) ∷
     []
 
@@ -399,14 +415,16 @@ groups =
     -- a := b := c
     row (name (codes "a") ∷ op O.Assign ∷ name (codes "b") ∷ op O.Assign ∷ name (codes "c") ∷ [])
     (Binary (at 1) (Plain O.Assign) (Identifier (name_on (codes "a") 1))
-    (Binary (at 3) (Plain O.Assign) (Identifier (name_on (codes "b") 3)) (Identifier (name_on (codes "c") 5))))
+    (Binary (at 3) (Plain O.Assign) (Identifier (name_on (codes "b") 3))
+    (Identifier (name_on (codes "c") 5))))
     ∷
     -- a :=: b <- c
     row (name (codes "a") ∷ op O.Swap ∷ name (codes "b") ∷ op O.ReversibleAssign ∷ name (codes "c") ∷ [])
     (Binary (at 1) (Plain O.Swap) (Identifier (name_on (codes "a") 1)) (Binary (at 3)
     (Plain O.ReversibleAssign) (Identifier (name_on (codes "b") 3)) (Identifier (name_on (codes "c") 5)))) ∷
     -- a +:= b <-> c
-    row (name (codes "a") ∷ augmented_kind O.Plus ∷ name (codes "b") ∷ op O.ReversibleSwap ∷ name (codes "c") ∷ [])
+    row (name (codes "a") ∷ augmented_kind O.Plus ∷ name (codes "b") ∷ op O.ReversibleSwap ∷ name (codes "c")
+    ∷ [])
     (Binary (at 1) (Augmented O.Plus) (Identifier (name_on (codes "a") 1)) (Binary (at 3)
     (Plain O.ReversibleSwap) (Identifier (name_on (codes "b") 3)) (Identifier (name_on (codes "c") 5)))) ∷
     -- a to b to c
@@ -436,7 +454,8 @@ groups =
     -- a ^ b ^ c
     row (name (codes "a") ∷ op O.Caret ∷ name (codes "b") ∷ op O.Caret ∷ name (codes "c") ∷ [])
     (Binary (at 1) (Plain O.Caret) (Identifier (name_on (codes "a") 1))
-    (Binary (at 3) (Plain O.Caret) (Identifier (name_on (codes "b") 3)) (Identifier (name_on (codes "c") 5)))) ∷
+    (Binary (at 3) (Plain O.Caret) (Identifier (name_on (codes "b") 3)) (Identifier (name_on (codes "c") 5))))
+    ∷
     -- a @ b ! c
     row (name (codes "a") ∷ op O.At ∷ name (codes "b") ∷ op O.Bang ∷ name (codes "c") ∷ [])
     (Binary (at 1) (Plain O.Bang) (Binary (at 1) (Plain O.At) (Identifier (name_on (codes "a") 1))
@@ -492,7 +511,8 @@ prefixes =
     (Identifier (name_on (codes "a") 1)) (Prefix (at 3) O.Plus (Identifier (name_on (codes "b") 4)))) ∷
     -- a ++ b
     row (name (codes "a") ∷ op O.PlusPlus ∷ name (codes "b") ∷ [])
-    (Binary (at 1) (Plain O.PlusPlus) (Identifier (name_on (codes "a") 1)) (Identifier (name_on (codes "b") 3)))
+    (Binary (at 1) (Plain O.PlusPlus) (Identifier (name_on (codes "a") 1))
+    (Identifier (name_on (codes "b") 3)))
     ∷
     -- a - - - b
     row (name (codes "a") ∷ op O.Minus ∷ op O.Minus ∷ op O.Minus ∷ name (codes "b") ∷ [])
@@ -547,7 +567,8 @@ nearest =
     -- suspend suspend a do b
     row (word W.Suspend ∷ word W.Suspend ∷ name (codes "a") ∷ word W.Do ∷ name (codes "b") ∷ [])
     (Suspend (at 1)
-    (Suspend (at 2) (Identifier (name_on (codes "a") 3)) (Present (Identifier (name_on (codes "b") 5)))) Absent)
+    (Suspend (at 2) (Identifier (name_on (codes "a") 3)) (Present (Identifier (name_on (codes "b") 5))))
+    Absent)
     ∷
     -- every a to b by c do d
     row (word W.Every ∷ name (codes "a") ∷ word W.To ∷ name (codes "b")
@@ -566,7 +587,8 @@ nearest =
     4)) (Identifier (name_on (codes "c") 6)) (Present (Identifier (name_on (codes "d") 8))))) Absent) ∷
     -- if a then b & c
     row (word W.If ∷ name (codes "a") ∷ word W.Then ∷ name (codes "b") ∷ op O.Ampersand
-    ∷ name (codes "c") ∷ []) (If (at 1) (Identifier (name_on (codes "a") 2)) (Binary (at 4) (Plain O.Ampersand)
+    ∷ name (codes "c") ∷ [])
+    (If (at 1) (Identifier (name_on (codes "a") 2)) (Binary (at 4) (Plain O.Ampersand)
     (Identifier (name_on (codes "b") 4)) (Identifier (name_on (codes "c") 6))) Absent) ∷
     -- a & if b then c & d
     row (name (codes "a") ∷ op O.Ampersand ∷ word W.If ∷ name (codes "b") ∷ word W.Then
@@ -575,7 +597,8 @@ nearest =
     (Plain O.Ampersand) (Identifier (name_on (codes "c") 6)) (Identifier (name_on (codes "d") 8))) Absent)) ∷
     -- repeat a + b
     row (word W.Repeat ∷ name (codes "a") ∷ op O.Plus ∷ name (codes "b") ∷ []) (Repeat (at 1)
-    (Binary (at 2) (Plain O.Plus) (Identifier (name_on (codes "a") 2)) (Identifier (name_on (codes "b") 4)))) ∷
+    (Binary (at 2) (Plain O.Plus) (Identifier (name_on (codes "a") 2)) (Identifier (name_on (codes "b") 4))))
+    ∷
     -- create a & b
     row (word W.Create ∷ name (codes "a") ∷ op O.Ampersand ∷ name (codes "b") ∷ []) (Create (at 1) (Binary
     (at 2) (Plain O.Ampersand) (Identifier (name_on (codes "a") 2)) (Identifier (name_on (codes "b") 4)))) ∷
@@ -585,12 +608,14 @@ nearest =
     (Identifier (name_on (codes "b") 4)) (Identifier (name_on (codes "c") 6))))) ∷
     -- not if a then b
     row (word W.Not ∷ word W.If ∷ name (codes "a") ∷ word W.Then ∷ name (codes "b") ∷ [])
-    (Not (at 1) (If (at 2) (Identifier (name_on (codes "a") 3)) (Identifier (name_on (codes "b") 5)) Absent)) ∷
+    (Not (at 1) (If (at 2) (Identifier (name_on (codes "a") 3)) (Identifier (name_on (codes "b") 5)) Absent))
+    ∷
     -- ( if a then b ) & c
     row (mark M.OpenParenthesis ∷ word W.If ∷ name (codes "a")
     ∷ word W.Then ∷ name (codes "b") ∷ mark M.CloseParenthesis ∷ op O.Ampersand ∷ name (codes "c") ∷ [])
     (Binary (at 1) (Plain O.Ampersand) (Parentheses (at 1)
-    (More (If (at 2) (Identifier (name_on (codes "a") 3)) (Identifier (name_on (codes "b") 5)) Absent) NoTrees))
+    (More (If (at 2) (Identifier (name_on (codes "a") 3)) (Identifier (name_on (codes "b") 5)) Absent)
+    NoTrees))
     (Identifier (name_on (codes "c") 8))) ∷
     []
 
@@ -622,7 +647,8 @@ operands =
     row (word W.Return ∷ integer 1 ∷ []) (Return (at 1) (Constant (at 2) (Literals.Integer (pos 1)))) ∷
     -- return a + b
     row (word W.Return ∷ name (codes "a") ∷ op O.Plus ∷ name (codes "b") ∷ []) (Return (at 1)
-    (Binary (at 2) (Plain O.Plus) (Identifier (name_on (codes "a") 2)) (Identifier (name_on (codes "b") 4)))) ∷
+    (Binary (at 2) (Plain O.Plus) (Identifier (name_on (codes "a") 2)) (Identifier (name_on (codes "b") 4))))
+    ∷
     -- return a ( b )
     row (word W.Return ∷ name (codes "a") ∷ mark M.OpenParenthesis ∷ name (codes "b")
     ∷ mark M.CloseParenthesis ∷ []) (Return (at 1)
@@ -658,11 +684,13 @@ operands =
     (Suspend (at 1) (Prefix (at 2) O.Bar (Prefix (at 2) O.Bar (Identifier (name_on (codes "a") 3)))) Absent) ∷
     -- suspend >> a
     row (word W.Suspend ∷ op O.GreaterGreater ∷ name (codes "a") ∷ [])
-    (Binary (at 1) (Plain O.GreaterGreater) (Suspend (at 1) Empty Absent) (Identifier (name_on (codes "a") 3)))
+    (Binary (at 1) (Plain O.GreaterGreater) (Suspend (at 1) Empty Absent)
+    (Identifier (name_on (codes "a") 3)))
     ∷
     -- ( return , a )
     row (mark M.OpenParenthesis ∷ word W.Return ∷ mark M.Comma ∷ name (codes "a") ∷ mark M.CloseParenthesis
-    ∷ []) (Parentheses (at 1) (More (Return (at 2) Empty) (More (Identifier (name_on (codes "a") 4)) NoTrees)))
+    ∷ [])
+    (Parentheses (at 1) (More (Return (at 2) Empty) (More (Identifier (name_on (codes "a") 4)) NoTrees)))
     ∷
     -- { return ; a }
     row (mark M.OpenBrace ∷ word W.Return ∷ mark M.Semicolon ∷ name (codes "a") ∷ mark M.CloseBrace ∷ [])
@@ -683,7 +711,8 @@ operands =
     (MoreClauses (Default (at 5) (Identifier (name_on (codes "a") 7))) NoClauses)) ∷
     -- a [ return : b ]
     row (name (codes "a") ∷ mark M.OpenBracket ∷ word W.Return ∷ mark M.Colon
-    ∷ name (codes "b") ∷ mark M.CloseBracket ∷ []) (Section (at 1) Between (Identifier (name_on (codes "a") 1))
+    ∷ name (codes "b") ∷ mark M.CloseBracket ∷ [])
+    (Section (at 1) Between (Identifier (name_on (codes "a") 1))
     (Return (at 3) Empty) (Identifier (name_on (codes "b") 5))) ∷
     -- a := return b & c
     row (name (codes "a") ∷ op O.Assign ∷ word W.Return ∷ name (codes "b") ∷ op O.Ampersand ∷ name (codes "c")
@@ -709,7 +738,8 @@ files =
     ∷ Link (at 5) (Items.Identifier (name_on (codes "c") 6) ∷ Items.Text (name_on (codes "d") 8) ∷ []) ∷ []) ∷
     -- invocable "a" , b
     file_row (word W.Invocable ∷ text (codes "a") ∷ mark M.Comma ∷ name (codes "b") ∷ [])
-    (Invocable (at 1) (Items.Text (name_on (codes "a") 2) ∷ Items.Identifier (name_on (codes "b") 4) ∷ []) ∷ [])
+    (Invocable (at 1) (Items.Text (name_on (codes "a") 2) ∷ Items.Identifier (name_on (codes "b") 4) ∷ [])
+    ∷ [])
     ∷
     -- record r ( )
     file_row (word W.Record ∷ name (codes "r") ∷ mark M.OpenParenthesis ∷ mark M.CloseParenthesis ∷ [])

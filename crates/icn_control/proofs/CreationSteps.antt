@@ -23,7 +23,8 @@ use Rattle.icn_control.specs.Creations.{with_coexps, charged_and_made, Creations
 
 -- the new one stands behind the others
 added_is : (beside : Beside) (t : Table) (values : List Val) (proc place : ℕ)
-    → map (coexp_in beside.all) t.coexps ++ record { status = Fresh; activator = 0; values = map (value_in beside.all) values; proc = proc; address = place } ∷ []
+    → map (coexp_in beside.all) t.coexps ++ record { status = Fresh; activator = 0; values = map (value_in beside.all) values; proc = proc; address = place }
+    ∷ []
     ≡ map (coexp_in beside.all) (with_new values proc place t).coexps
 added_is beside t values proc place =
     let new : Coexp = record { status = Fresh; activator = 0; values = values; proc = proc; address = place } in

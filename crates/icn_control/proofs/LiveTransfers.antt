@@ -222,7 +222,8 @@ created_live t old new tab u m label e c keeps count value k =
     subst (λ (w : Table). AreLiveStacks t new w) (sym (c ∙ ap (created_on label tab) e)) made
 
 pub created_length : (tab u : Table) (m : FlatStack) (label : ℕ) → tab.running ≡ Some m → u ≡ create_entry label tab → length u.coexps ≡ suc (length tab.coexps)
-created_length tab u m label e c = ap (λ (w : Table). length w.coexps) (c ∙ ap (created_on label tab) e) ∙ new_length tab (held.locals m) (held.proc m) m.address
+created_length tab u m label e c =
+    ap (λ (w : Table). length w.coexps) (c ∙ ap (created_on label tab) e) ∙ new_length tab (held.locals m) (held.proc m) m.address
 
 -- what is copied
 pub copied_live : (t : Tables) (old new : Reach) (tab u : Table) (m : FlatStack) (id : ℕ) → tab.running ≡ Some m → u ≡ copy_entry id tab → 0 < id

@@ -69,7 +69,8 @@ pub k_passing : (b : Setting) (t : Bool) (next : Row) (a : Setting) → Keeps b 
 k_passing b true next a k f = f
 k_passing b false next a k f = record { is = k }
 
-pub k_found : {A : Type 0} (b : Setting) (o : Option A) (next : A → Row) (a : Setting) → Keeps b a → ((x : A) → KI b (next x a)) → KI b (thing_or_failure o next a)
+pub k_found : {A : Type 0} (b : Setting) (o : Option A) (next : A → Row) (a : Setting) → Keeps b a → ((x : A) → KI b (next x a))
+    → KI b (thing_or_failure o next a)
 k_found b (Some x) next a k f = f x
 k_found b None next a k f = record { is = k }
 

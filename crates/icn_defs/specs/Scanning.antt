@@ -88,7 +88,8 @@ match_row args = do
 -- the next place from this one on at which the text stands
 abbrev pub found_from : List ℕ → List ℕ → ℕ → ℕ → Row
 found_from wanted text place last = do
-  place ← thing_or_failure (find (λ place. stands wanted text place last) (range_with_len place (last + 1 - place)))
+  place ← thing_or_failure
+      (find (λ place. stands wanted text place last) (range_with_len place (last + 1 - place)))
   suspends (Val (Integer (pos place))) (Found wanted text place last)
 
 -- `find(s1, s, i, j)`

@@ -62,7 +62,8 @@ copy_row args = copy_of (arg args 0) (group_of (arg args 0))
 -- Lists
 
 -- the element at an end, which is removed; it fails where there is none
-abbrev pub takes_from : (NumberedList Value → Option Value) → (NumberedList Value → NumberedList Value) → List Value → Row
+abbrev pub takes_from : (NumberedList Value → Option Value) → (NumberedList Value → NumberedList Value)
+    → List Value → Row
 takes_from taken rest args = do
   id ← list (arg args 0)
   setting ← here
@@ -220,7 +221,8 @@ gives_pairs pairs = gives_list (flat_map (λ (pair : Value × Value). pair.0 ∷
 
 -- how a table is sorted: by key or by value, to lists of two or in turn
 abbrev pub table_sorted : Names → Heap → List (Value × Value) → ℤ → Value → Row
-table_sorted names heap pairs (pos (suc zero)) chosen = gives_pair_lists (sort_list (key_cmp names heap) pairs)
+table_sorted names heap pairs (pos (suc zero)) chosen =
+    gives_pair_lists (sort_list (key_cmp names heap) pairs)
 table_sorted names heap pairs (pos (suc (suc zero))) chosen =
     gives_pair_lists (sort_list (entry_cmp names heap) pairs)
 table_sorted names heap pairs (pos (suc (suc (suc zero)))) chosen =

@@ -34,17 +34,20 @@ two make (Some a) (Some b) = capped_at (make a.0 b.0) (max a.1 b.1 + 1)
 two make _ _ = None
 
 -- a form with three parts, one higher than the highest of them
-abbrev pub three : {A B D F : Type 0} → (A → B → D → F) → WithHeight A → WithHeight B → WithHeight D → WithHeight F
+abbrev pub three : {A B D F : Type 0} → (A → B → D → F) → WithHeight A → WithHeight B → WithHeight D
+    → WithHeight F
 three make (Some a) (Some b) (Some c) = capped_at (make a.0 b.0 c.0) (max a.1 (max b.1 c.1) + 1)
 three make _ _ _ = None
 
 -- a part that may be absent
-abbrev pub one_if : {A B : Type 0} → (A → MaybeTree → B) → WithHeight A → Option (WithHeight Tree) → WithHeight B
+abbrev pub one_if : {A B : Type 0} → (A → MaybeTree → B) → WithHeight A → Option (WithHeight Tree)
+    → WithHeight B
 one_if make a None = one (λ x. make x Absent) a
 one_if make a (Some b) = two (λ x y. make x (Present y)) a b
 
 -- a form with two parts and a third one that may be missing
-abbrev pub two_if : {A B D : Type 0} → (A → B → MaybeTree → D) → WithHeight A → WithHeight B → Option (WithHeight Tree)
+abbrev pub two_if : {A B D : Type 0} → (A → B → MaybeTree → D) → WithHeight A → WithHeight B
+    → Option (WithHeight Tree)
     → WithHeight D
 two_if make a b None = two (λ x y. make x y Absent) a b
 two_if make a b (Some c) = three (λ x y z. make x y (Present z)) a b c
@@ -55,7 +58,8 @@ join_capped make (Some a) (Some b) = Some (make a.0 b.0, max a.1 b.1)
 join_capped make _ _ = None
 
 -- parts put together, as high as the highest of them
-abbrev pub joined_three : {A B D F : Type 0} → (A → B → D → F) → WithHeight A → WithHeight B → WithHeight D → WithHeight F
+abbrev pub joined_three : {A B D F : Type 0} → (A → B → D → F) → WithHeight A → WithHeight B → WithHeight D
+    → WithHeight F
 joined_three make (Some a) (Some b) (Some c) = Some (make a.0 b.0 c.0, max a.1 (max b.1 c.1))
 joined_three make _ _ _ = None
 

@@ -28,7 +28,8 @@ fn condition<'a>(
     value: Value,
     tokens: &'a [Token],
 ) -> Result<(State, &'a [Token]), AllocError>
-    ensures { IfOk result (λ r. state_of r.0 (stack_of stack.new) r.1.now ≡ close_by builds_with_height ConditionHolding
+    ensures { IfOk result
+        (λ r. state_of r.0 (stack_of stack.new) r.1.now ≡ close_by builds_with_height ConditionHolding
         level place (capped_of value) true (stack_of stack.old) tokens.now) }
 {
     if !then_next(tokens) {
@@ -102,7 +103,8 @@ fn control<'a>(
     tokens: &'a [Token],
 ) -> Result<(State, &'a [Token]), AllocError>
     ensures { IfOk result (λ r. state_of r.0 (stack_of stack.new) r.1.now
-        ≡ close_by builds_with_height (Control kind) level place (capped_of value) true (stack_of stack.old) tokens.now) }
+        ≡ close_by builds_with_height (Control kind) level place (capped_of value) true
+        (stack_of stack.old) tokens.now) }
 {
     if do_next(tokens) {
         return Ok((
@@ -126,7 +128,8 @@ fn suspended<'a>(
     tokens: &'a [Token],
 ) -> Result<(State, &'a [Token]), AllocError>
     ensures { IfOk result (λ r. state_of r.0 (stack_of stack.new) r.1.now
-        ≡ close_by builds_with_height SuspendValue level place (capped_of value) true (stack_of stack.old) tokens.now) }
+        ≡ close_by builds_with_height SuspendValue level place (capped_of value) true
+        (stack_of stack.old) tokens.now) }
 {
     if do_next(tokens) {
         return Ok((
@@ -180,7 +183,8 @@ fn clause<'a>(
     clauses: Branches,
     tokens: &'a [Token],
 ) -> Result<(State, &'a [Token]), AllocError>
-    ensures { IfOk result (λ r. state_of r.0 (stack_of stack.new) r.1.now ≡ clause_step builds_with_height level place
+    ensures { IfOk result
+        (λ r. state_of r.0 (stack_of stack.new) r.1.now ≡ clause_step builds_with_height level place
         (capped_of subject) (branches_of clauses) (stack_of stack.old) tokens.now) }
 {
     let at = place_of(tokens);
@@ -224,7 +228,8 @@ fn case_subject<'a>(
     tokens: &'a [Token],
 ) -> Result<(State, &'a [Token]), AllocError>
     ensures { IfOk result (λ r. state_of r.0 (stack_of stack.new) r.1.now
-        ≡ close_by builds_with_height CaseSubject level place (capped_of value) true (stack_of stack.old) tokens.now) }
+        ≡ close_by builds_with_height CaseSubject level place (capped_of value) true
+        (stack_of stack.old) tokens.now) }
 {
     if !of_next(tokens) || !open_brace_next(behind(tokens)) {
         discard(value);
@@ -284,7 +289,8 @@ fn clause_ends<'a>(
     tokens: &'a [Token],
 ) -> Result<(State, &'a [Token]), AllocError>
     ensures { IfOk result (λ r. state_of r.0 (stack_of stack.new) r.1.now
-        ≡ clause_end builds_with_height (is_separator BySemicolon (next tokens.now)) level place (capped_of subject)
+        ≡ clause_end builds_with_height (is_separator BySemicolon (next tokens.now)) level place
+        (capped_of subject)
         (branches_of clauses) (stack_of stack.old) tokens.now) }
 {
     if semicolon_next(tokens) {
@@ -355,7 +361,8 @@ fn element<'a>(
     tokens: &'a [Token],
 ) -> Result<(State, &'a [Token]), AllocError>
     ensures { IfOk result (λ r. state_of r.0 (stack_of stack.new) r.1.now
-        ≡ close_by builds_with_height (ElementsHolding (bracket_of bracket) (elements_of elements)) level place
+        ≡ close_by builds_with_height
+        (ElementsHolding (bracket_of bracket) (elements_of elements)) level place
         (capped_of value) present (stack_of stack.old) tokens.now) }
 {
     if separated(&bracket, tokens) {
@@ -406,7 +413,8 @@ fn in_brackets(
     elements: Elements,
 ) -> Result<Value, AllocError>
     ensures { IfOk result
-        (λ value. capped_of value ≡ bracket_tree builds_with_height (bracket_of bracket) place (elements_of elements)) }
+        (λ value. capped_of value
+        ≡ bracket_tree builds_with_height (bracket_of bracket) place (elements_of elements)) }
 {
     match bracket {
         Bracket::Round => Ok(Value::parentheses(place, elements)),
@@ -430,7 +438,8 @@ fn section<'a>(
     tokens: &'a [Token],
 ) -> Result<(State, &'a [Token]), AllocError>
     ensures { IfOk result (λ r. state_of r.0 (stack_of stack.new) r.1.now ≡ section_by builds_with_height
-        (section_subject builds_with_height (bracket_of bracket) (builds_with_height.has_none (elements_of elements)) present)
+        (section_subject builds_with_height (bracket_of bracket)
+        (builds_with_height.has_none (elements_of elements)) present)
         (section_kind (next tokens.now)) level place (capped_of value) (stack_of stack.old)
         (behind_first tokens.now)) }
 {
@@ -470,7 +479,8 @@ fn close_frame<'a>(
     tokens: &'a [Token],
 ) -> Result<(State, &'a [Token]), AllocError>
     ensures { IfOk result
-        (λ r. state_of r.0 (stack_of stack.new) r.1.now ≡ close_by builds_with_height (holding_of frame.holds) frame.level
+        (λ r. state_of r.0 (stack_of stack.new) r.1.now
+        ≡ close_by builds_with_height (holding_of frame.holds) frame.level
         frame.place (capped_of value) present (stack_of stack.old) tokens.now) }
 {
     let Frame {

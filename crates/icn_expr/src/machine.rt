@@ -106,7 +106,8 @@ fn open_list(
     bracket: Bracket,
 ) -> Result<State, AllocError>
     ensures { IfOk result (λ state. (tokens : List Token) → state_of state (stack_of stack.new) tokens
-        ≡ Starting 0 (frame_at level place (ElementsHolding (bracket_of bracket) builds_with_height.no_elements)
+        ≡ Starting 0
+        (frame_at level place (ElementsHolding (bracket_of bracket) builds_with_height.no_elements)
         ∷ stack_of stack.old) tokens) }
 {
     open(
@@ -377,7 +378,8 @@ fn extend<'a>(
     tokens: &'a [Token],
 ) -> Result<(State, &'a [Token]), AllocError>
     ensures { IfOk result (λ r. state_of r.0 (stack_of stack.new) r.1.now
-        ≡ extend_step builds_with_height level place (capped_of value) kind.now (stack_of stack.old) tokens.now) }
+        ≡ extend_step builds_with_height level place (capped_of value) kind.now
+        (stack_of stack.old) tokens.now) }
 {
     match kind {
         Kind::Operator(operator) => plain(stack, alloc, level, place, value, *operator, tokens),

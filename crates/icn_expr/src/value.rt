@@ -240,7 +240,8 @@ impl Value {
         arguments: Elements,
     ) -> Result<Value, AllocError>
         ensures { IfOk result
-            (λ built. capped_of built ≡ builds_with_height.call place (capped_of callee) (elements_of arguments)) }
+            (λ built. capped_of built
+            ≡ builds_with_height.call place (capped_of callee) (elements_of arguments)) }
     {
         let height = callee.height.max(arguments.height);
         if height >= HIGHEST {
@@ -262,7 +263,8 @@ impl Value {
         arguments: Elements,
     ) -> Result<Value, AllocError>
         ensures { IfOk result
-            (λ built. capped_of built ≡ builds_with_height.co_call place (capped_of callee) (elements_of arguments)) }
+            (λ built. capped_of built
+            ≡ builds_with_height.co_call place (capped_of callee) (elements_of arguments)) }
     {
         let height = callee.height.max(arguments.height);
         if height >= HIGHEST {
@@ -284,7 +286,8 @@ impl Value {
         subscripts: Elements,
     ) -> Result<Value, AllocError>
         ensures { IfOk result
-            (λ built. capped_of built ≡ builds_with_height.subscript place (capped_of subject) (elements_of subscripts)) }
+            (λ built. capped_of built
+            ≡ builds_with_height.subscript place (capped_of subject) (elements_of subscripts)) }
     {
         let height = subject.height.max(subscripts.height);
         if height >= HIGHEST {
@@ -336,7 +339,8 @@ impl Value {
         subject: Value,
         name: Name,
     ) -> Result<Value, AllocError>
-        ensures { IfOk result (λ built. capped_of built ≡ builds_with_height.field place (capped_of subject) name) }
+        ensures { IfOk result
+            (λ built. capped_of built ≡ builds_with_height.field place (capped_of subject) name) }
     {
         let height = subject.height;
         if height >= HIGHEST {
@@ -360,7 +364,8 @@ impl Value {
         operator: Operator,
         operand: Value,
     ) -> Result<Value, AllocError>
-        ensures { IfOk result (λ built. capped_of built ≡ builds_with_height.prefix place operator (capped_of operand)) }
+        ensures { IfOk result
+            (λ built. capped_of built ≡ builds_with_height.prefix place operator (capped_of operand)) }
     {
         let height = operand.height;
         if height >= HIGHEST {
@@ -379,7 +384,8 @@ impl Value {
 
     /// `not a`. An error is want of memory.
     pub fn not(alloc: Global, place: Place, operand: Value) -> Result<Value, AllocError>
-        ensures { IfOk result (λ built. capped_of built ≡ builds_with_height.not_form place (capped_of operand)) }
+        ensures { IfOk result
+            (λ built. capped_of built ≡ builds_with_height.not_form place (capped_of operand)) }
     {
         let height = operand.height;
         if height >= HIGHEST {
@@ -404,7 +410,8 @@ impl Value {
         right: Value,
     ) -> Result<Value, AllocError>
         ensures { IfOk result
-            (λ built. capped_of built ≡ builds_with_height.binary place operator (capped_of left) (capped_of right)) }
+            (λ built. capped_of built
+            ≡ builds_with_height.binary place operator (capped_of left) (capped_of right)) }
     {
         let height = left.height.max(right.height);
         if height >= HIGHEST {
@@ -426,7 +433,8 @@ impl Value {
     /// `a to b`. An error is want of memory.
     pub fn to(alloc: Global, place: Place, from: Value, to: Value) -> Result<Value, AllocError>
         ensures { IfOk result
-            (λ built. capped_of built ≡ builds_with_height.to_form place (capped_of from) (capped_of to) None) }
+            (λ built. capped_of built
+            ≡ builds_with_height.to_form place (capped_of from) (capped_of to) None) }
     {
         let height = from.height.max(to.height);
         if height >= HIGHEST {
@@ -482,7 +490,8 @@ impl Value {
         then: Value,
     ) -> Result<Value, AllocError>
         ensures { IfOk result
-            (λ built. capped_of built ≡ builds_with_height.if_form place (capped_of condition) (capped_of then) None) }
+            (λ built. capped_of built
+            ≡ builds_with_height.if_form place (capped_of condition) (capped_of then) None) }
     {
         let height = condition.height.max(then.height);
         if height >= HIGHEST {
@@ -510,7 +519,8 @@ impl Value {
         otherwise: Value,
     ) -> Result<Value, AllocError>
         ensures { IfOk result (λ built. capped_of built
-            ≡ builds_with_height.if_form place (capped_of condition) (capped_of then) (Some (capped_of otherwise))) }
+            ≡ builds_with_height.if_form place (capped_of condition) (capped_of then)
+            (Some (capped_of otherwise))) }
     {
         let height = condition.height.max(then.height.max(otherwise.height));
         if height >= HIGHEST {
@@ -538,7 +548,8 @@ impl Value {
         clauses: Branches,
     ) -> Result<Value, AllocError>
         ensures { IfOk result
-            (λ built. capped_of built ≡ builds_with_height.case_form place (capped_of subject) (branches_of clauses)) }
+            (λ built. capped_of built
+            ≡ builds_with_height.case_form place (capped_of subject) (branches_of clauses)) }
     {
         let height = subject.height.max(clauses.height);
         if height >= HIGHEST {
@@ -608,7 +619,8 @@ impl Value {
 
     /// `repeat a`. An error is want of memory.
     pub fn repeat(alloc: Global, place: Place, body: Value) -> Result<Value, AllocError>
-        ensures { IfOk result (λ built. capped_of built ≡ builds_with_height.repeat_form place (capped_of body)) }
+        ensures { IfOk result
+            (λ built. capped_of built ≡ builds_with_height.repeat_form place (capped_of body)) }
     {
         let height = body.height;
         if height >= HIGHEST {
@@ -626,7 +638,8 @@ impl Value {
 
     /// `create a`. An error is want of memory.
     pub fn create(alloc: Global, place: Place, body: Value) -> Result<Value, AllocError>
-        ensures { IfOk result (λ built. capped_of built ≡ builds_with_height.create_form place (capped_of body)) }
+        ensures { IfOk result
+            (λ built. capped_of built ≡ builds_with_height.create_form place (capped_of body)) }
     {
         let height = body.height;
         if height >= HIGHEST {
@@ -644,7 +657,8 @@ impl Value {
 
     /// `break a`. An error is want of memory.
     pub fn break_with(alloc: Global, place: Place, value: Value) -> Result<Value, AllocError>
-        ensures { IfOk result (λ built. capped_of built ≡ builds_with_height.break_form place (capped_of value)) }
+        ensures { IfOk result
+            (λ built. capped_of built ≡ builds_with_height.break_form place (capped_of value)) }
     {
         let height = value.height;
         if height >= HIGHEST {
@@ -662,7 +676,8 @@ impl Value {
 
     /// `return a`. An error is want of memory.
     pub fn return_with(alloc: Global, place: Place, value: Value) -> Result<Value, AllocError>
-        ensures { IfOk result (λ built. capped_of built ≡ builds_with_height.return_form place (capped_of value)) }
+        ensures { IfOk result
+            (λ built. capped_of built ≡ builds_with_height.return_form place (capped_of value)) }
     {
         let height = value.height;
         if height >= HIGHEST {
@@ -680,7 +695,8 @@ impl Value {
 
     /// `suspend a`. An error is want of memory.
     pub fn suspend(alloc: Global, place: Place, value: Value) -> Result<Value, AllocError>
-        ensures { IfOk result (λ built. capped_of built ≡ builds_with_height.suspend_form place (capped_of value) None) }
+        ensures { IfOk result
+            (λ built. capped_of built ≡ builds_with_height.suspend_form place (capped_of value) None) }
     {
         let height = value.height;
         if height >= HIGHEST {
@@ -705,7 +721,8 @@ impl Value {
         body: Value,
     ) -> Result<Value, AllocError>
         ensures { IfOk result
-            (λ built. capped_of built ≡ builds_with_height.suspend_form place (capped_of value) (Some (capped_of body))) }
+            (λ built. capped_of built
+            ≡ builds_with_height.suspend_form place (capped_of value) (Some (capped_of body))) }
     {
         let height = value.height.max(body.height);
         if height >= HIGHEST {
@@ -802,7 +819,8 @@ impl Branches {
         value: Value,
     ) -> Result<Branches, AllocError>
         ensures { IfOk result
-            (λ all. branches_of all ≡ builds_with_height.with_default (branches_of self) place (capped_of value)) }
+            (λ all. branches_of all
+            ≡ builds_with_height.with_default (branches_of self) place (capped_of value)) }
     {
         let height = self.height.max(value.height);
         if height > HIGHEST {

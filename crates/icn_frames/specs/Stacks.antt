@@ -272,7 +272,8 @@ suspend_onto why m cells registers place =
 
 -- from the mark's cell downward
 abbrev pub suspend_mark_from : FlatStack → List Cell → Option FlatStack
-suspend_mark_from m (Mark label changed registers ∷ cells) = Some (suspend_onto Alt m cells registers m.address)
+suspend_mark_from m (Mark label changed registers ∷ cells) =
+    Some (suspend_onto Alt m cells registers m.address)
 suspend_mark_from m (Limit count registers ∷ cells) = Some (suspend_onto Alt m cells registers m.address)
 suspend_mark_from m cells = None
 

@@ -231,7 +231,8 @@ enter_read read proc values m =
     ap (λ (n : ℕ). F (A n (code.level (stack_read read m))) (length s)) (length-map values read.value)
     ∙ ap (λ (n : ℕ). F (A (length values) n) (length s)) (level_read read m)
     ∙ ap (F (A (length values) (flat.level m))) (length-map m.cells (cell_read read))
-    ∙ ap (λ (w : List code.Cell). F w (length m.cells)) (above_read read values (Call proc (length values) (suc (flat.level m)) m.registers m.address ∷ m.cells))
+    ∙ ap (λ (w : List code.Cell). F w (length m.cells))
+    (above_read read values (Call proc (length values) (suc (flat.level m)) m.registers m.address ∷ m.cells))
 
 leave_from_read : (read : Interpretation) (s : List Cell) → code.leave_from (map (cell_read read) s) ≡ option_map (stack_read read) (flat.leave_from s)
 leave_from_read read (Call proc locals level registers place ∷ s) = refl

@@ -45,7 +45,11 @@ cell_read read (Operand item) = code.operand (read.item item)
 -- the stack that a machine's stack stands for
 abbrev pub stack_read : Interpretation → FlatStack → code.Frames
 stack_read read m =
-    record { cells = map (cell_read read) m.cells; registers = registers_read m.registers; address = m.address }
+    record {
+      cells = map (cell_read read) m.cells;
+      registers = registers_read m.registers;
+      address = m.address;
+    }
 
 -- what a call gives beside the stack
 abbrev pub popped_read : Interpretation → Item × FlatStack → rows.Item × code.Frames

@@ -162,7 +162,8 @@ module _ (parts : Parts) (is : IsSound parts) {sum : ℕ} (more : parts.cells �
   lists_more : All (IsSoundList (extent_in parts) sum) parts.lists
   lists_more = lists_later (extent_in parts) parts.cells sum more parts.lists is.structures.lists
 
-  pub list_changes : (id : ℕ) {list : NumberedList Val} {value : NumberedList Value} → IsSoundList (extent_in parts) sum list → list_in (extent_in parts) list ≡ value
+  pub list_changes : (id : ℕ) {list : NumberedList Val} {value : NumberedList Value} → IsSoundList (extent_in parts) sum list
+      → list_in (extent_in parts) list ≡ value
       → Becomes parts (record parts { lists = slice_set parts.lists id list; cells = sum })
       (with_list id value (with_cells sum (heap_over (extent_in parts) parts)))
   list_changes id {list} {value} sound same =

@@ -1,5 +1,6 @@
 // The co-expressions of a heap, of which it knows how many results each gave.
 ghost use Rattle.icn_profile.specs.Numbers.{greatest_integer};
+
 use crate::counts::{add_count, raise_at};
 use crate::heap::Heap;
 use icn_value::Full;

@@ -104,7 +104,8 @@ fn join_with(
 
 // Refuses a code whose image is too long.
 fn check_image(code: &Code) -> Result<(), LinkFault>
-    ensures none { OnOk result (over most_bytes_of_image (length (image_of (tables_of code.now)) ∷ []) ≡ None) }
+    ensures none { OnOk result
+        (over most_bytes_of_image (length (image_of (tables_of code.now)) ∷ []) ≡ None) }
     ensures fault { IfErr result
         (λ fault. over most_bytes_of_image (length (image_of (tables_of code.now)) ∷ []) ≡ Some fault) }
 {
@@ -423,7 +424,8 @@ fn entries(
     procs: &[&ProcCode],
 ) -> Result<Vec<Procedure>, AllocError>
     requires few { AreFew (gathered_seen tables.now) }
-    requires sizes { list_all (λ proc. nat_le (size_of proc) most_instructions) (procs_seen procs.now) ≡ true }
+    requires sizes { list_all (λ proc. nat_le (size_of proc) most_instructions) (procs_seen procs.now)
+        ≡ true }
     requires locals { list_all (λ proc. nat_le (locals_in (gathered_seen tables.now).globals proc.names)
         most_entries) (procs_seen procs.now) ≡ true }
     requires statics { list_all (λ proc. nat_le (statics_in (gathered_seen tables.now).globals proc.names)

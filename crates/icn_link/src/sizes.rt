@@ -122,7 +122,8 @@ fn check_operands_in(instrs: &[UnitInstr]) -> Result<(), LinkFault>
     ensures none { OnOk result ((rest : List ℕ) → over most_entries
         (flat_map (λ instr. operands_in (mention_of instr)) instrs.now ++ rest) ≡ over most_entries rest) }
     ensures fault { IfErr result (λ fault. (rest : List ℕ)
-        → over most_entries (flat_map (λ instr. operands_in (mention_of instr)) instrs.now ++ rest) ≡ Some fault) }
+        → over most_entries (flat_map (λ instr. operands_in (mention_of instr)) instrs.now ++ rest)
+        ≡ Some fault) }
 {
     for instr in instrs {
         check_operands_of(instr)?;
@@ -134,7 +135,8 @@ fn check_operands_of(instr: &UnitInstr) -> Result<(), LinkFault>
     ensures none { OnOk result ((rest : List ℕ)
         → over most_entries (operands_in (mention_of instr.now) ++ rest) ≡ over most_entries rest) }
     ensures fault { IfErr result
-        (λ fault. (rest : List ℕ) → over most_entries (operands_in (mention_of instr.now) ++ rest) ≡ Some fault) }
+        (λ fault. (rest : List ℕ)
+        → over most_entries (operands_in (mention_of instr.now) ++ rest) ≡ Some fault) }
 {
     match mention_of(instr) {
         Mention::Operands(count) => check_count(u64::from(count), MOST_ENTRIES),
@@ -149,7 +151,8 @@ fn check_operands_of(instr: &UnitInstr) -> Result<(), LinkFault>
 /// Refuses a record of too many fields.
 pub fn check_records(decls: &[&UnitDecl]) -> Result<(), LinkFault>
     ensures none { OnOk result (over most_entries (record_sizes (decls_seen decls.now)) ≡ None) }
-    ensures fault { IfErr result (λ fault. over most_entries (record_sizes (decls_seen decls.now)) ≡ Some fault) }
+    ensures fault { IfErr result
+        (λ fault. over most_entries (record_sizes (decls_seen decls.now)) ≡ Some fault) }
 {
     for decl in decls {
         check_record(decl)?;
@@ -161,7 +164,8 @@ fn check_record(decl: &UnitDecl) -> Result<(), LinkFault>
     ensures none { OnOk result ((rest : List ℕ)
         → over most_entries (field_counts (decl_seen decl.now) ++ rest) ≡ over most_entries rest) }
     ensures fault { IfErr result
-        (λ fault. (rest : List ℕ) → over most_entries (field_counts (decl_seen decl.now) ++ rest) ≡ Some fault) }
+        (λ fault. (rest : List ℕ)
+        → over most_entries (field_counts (decl_seen decl.now) ++ rest) ≡ Some fault) }
 {
     match decl {
         UnitDecl::Record(_, fields) => check_count(fields.len() as u64, MOST_ENTRIES),
@@ -176,7 +180,8 @@ pub fn check_locals(globals: &IndexSet<&[u8]>, procs: &[&ProcCode]) -> Result<()
     ensures none { OnOk result
         (over most_entries (local_counts (texts_seen globals.now.keys) (procs_seen procs.now)) ≡ None) }
     ensures fault { IfErr result
-        (λ fault. over most_entries (local_counts (texts_seen globals.now.keys) (procs_seen procs.now)) ≡ Some fault) }
+        (λ fault. over most_entries (local_counts (texts_seen globals.now.keys) (procs_seen procs.now))
+        ≡ Some fault) }
 {
     for proc in procs {
         check_count(locals_in(globals, &proc.names), MOST_ENTRIES)?;
@@ -189,7 +194,8 @@ pub fn check_statics(globals: &IndexSet<&[u8]>, procs: &[&ProcCode]) -> Result<(
     ensures none { OnOk result
         (over most_entries (static_counts (texts_seen globals.now.keys) (procs_seen procs.now)) ≡ None) }
     ensures fault { IfErr result
-        (λ fault. over most_entries (static_counts (texts_seen globals.now.keys) (procs_seen procs.now)) ≡ Some fault) }
+        (λ fault. over most_entries (static_counts (texts_seen globals.now.keys) (procs_seen procs.now))
+        ≡ Some fault) }
 {
     for proc in procs {
         check_count(statics_in(globals, &proc.names), MOST_ENTRIES)?;

@@ -97,7 +97,8 @@ module _ {K : Type 0} (m n : Machine K) (f : FlatStack) (moves : Moves m n f) wh
     step_here outside =
         step_does tables (stack_seen m) instr (store_seen tables outside m) instr_here
         ∙ sym (ap (λ (s : Frames). instruction flat tables instr s (store_seen tables outside n)) moved_stack
-        ∙ ap (λ (st : Store Frames). instruction flat tables instr (flat.go (suc (flat.address (stack_seen m))) (stack_seen m)) st) (moved_store tables outside))
+        ∙ ap (λ (st : Store Frames). instruction flat tables instr (flat.go (suc (flat.address (stack_seen m))) (stack_seen m)) st)
+        (moved_store tables outside))
 
     pub doing_here : keeps_rules tables ≡ true → IsReady tables m Stages.Runs → IsDoing tables n instr
     doing_here rules ready = record {

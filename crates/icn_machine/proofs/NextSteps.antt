@@ -46,7 +46,8 @@ pub instr_within : (tables : Tables) (all : Extent) (f : FlatStack) (st : Store 
     → f.address < length (instrs_of tables (held.proc f))
 instr_within tables all f st d = by_instr (slice_get (instrs_of tables (flat.proc (stack_in all f))) f.address) refl
   where
-    by_instr : (o : Option Instr) → slice_get (instrs_of tables (flat.proc (stack_in all f))) f.address ≡ o → f.address < length (instrs_of tables (held.proc f))
+    by_instr : (o : Option Instr) → slice_get (instrs_of tables (flat.proc (stack_in all f))) f.address ≡ o
+        → f.address < length (instrs_of tables (held.proc f))
     by_instr (Some instr) e =
         subst (λ (p : ℕ). f.address < length (instrs_of tables p)) (proc_read (reading_of all) f)
         (slice_get_within (instrs_of tables (flat.proc (stack_in all f))) f.address instr e)

@@ -54,7 +54,8 @@ pub pair_picked : (x : Item) (id place : ℕ) (pair : Value × Value) (s : Setti
 pair_picked x id place pair s some same is =
     let on : ℕ → Row = λ place. thing_or_failure (slice_get (table_at s.world.heap id).pairs place) (λ (pair : Value × Value). gives (key_item id pair.0)) in
     ap (λ t. passing t (picks (length (table_at s.world.heap id).pairs) on) s) (lt-ltb 0 (length (table_at s.world.heap id).pairs) some)
-    ∙ (sym (ap (λ p. on p (after_pick s)) same) ∙ sym (ap (λ one. thing_or_failure one (λ (pair : Value × Value). gives (key_item id pair.0)) (after_pick s)) is))
+    ∙ (sym (ap (λ p. on p (after_pick s)) same)
+    ∙ sym (ap (λ one. thing_or_failure one (λ (pair : Value × Value). gives (key_item id pair.0)) (after_pick s)) is))
 
 pub table_empty : (x : Item) (id : ℕ) (s : Setting) → length (table_at s.world.heap id).pairs ≤ 0 → random_of x (ATable id) (Tabled id) s ≡ Fails s
 table_empty x id s none =

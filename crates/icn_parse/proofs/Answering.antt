@@ -36,7 +36,8 @@ kept_by x h false e = ap (λ b. kept_tree (cond b (Some (x, h)) None)) e
 kept_at : {A : Type 0} (x : A) (h : ℕ) → kept_tree (capped_at x h) ≡ cond (nat_le h 2000) (Some x) None
 kept_at x h = kept_by x h (nat_le h 2000) refl
 
-finish_first : (initial : Initial) → finish_initial (Exact.shown_initial (WithHeight Tree) (WithHeight Trees) (WithHeight Clauses) builds_with_height capped_shows initial)
+finish_first : (initial : Initial)
+    → finish_initial (Exact.shown_initial (WithHeight Tree) (WithHeight Trees) (WithHeight Clauses) builds_with_height capped_shows initial)
     ≡ cond (nat_le (initial_height initial) 2000) (Some initial) None
 finish_first NoInitial = refl
 finish_first (Initially place value) = ap (λ v. option_map (Initially place) (kept_tree v)) (shown_tree value)
@@ -153,7 +154,8 @@ read_sound tokens n all e = by_read (file_read builds_with_height n tokens) refl
 
 pub nothing_read : (tokens : List Token) → file_read builds_with_height (length tokens) tokens ≡ None → HasTree tokens → ⊥
 nothing_read tokens e h =
-    none-some _ (sym e ∙ Exact.file_found (WithHeight Tree) (WithHeight Trees) (WithHeight Clauses) builds_with_height capped_shows h.0 tokens (length tokens) (omega arith) h.1)
+    none-some _ (sym e
+    ∙ Exact.file_found (WithHeight Tree) (WithHeight Trees) (WithHeight Clauses) builds_with_height capped_shows h.0 tokens (length tokens) (omega arith) h.1)
 
 -- no tree is too high
 pub low_tree : (tokens : List Token) (n : ℕ) (decls : List Declaration)
@@ -206,7 +208,8 @@ is_outcome tokens file s = by_place (first_too_high file) (first_fault file) ref
 pub some_outcome : (tokens : List Token) → (outcome : Outcome) × IsOutcome tokens outcome
 some_outcome tokens = by_read (file_read builds_with_height (length tokens) tokens) refl
   where
-    by_read : (read : Option (List CappedDeclaration)) → file_read builds_with_height (length tokens) tokens ≡ read → (outcome : Outcome) × IsOutcome tokens outcome
+    by_read : (read : Option (List CappedDeclaration)) → file_read builds_with_height (length tokens) tokens ≡ read
+        → (outcome : Outcome) × IsOutcome tokens outcome
     by_read None r = (NoProgram, no_program (nothing_read tokens r))
     by_read (Some found) r =
         let s = Exact.file_sound (WithHeight Tree) (WithHeight Trees) (WithHeight Clauses) builds_with_height capped_shows tokens (length tokens) found r in

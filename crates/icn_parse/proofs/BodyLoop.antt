@@ -15,7 +15,8 @@ use Rattle.icn_parse.proofs.HeadsExact.{semicolon_tests, sign_shorter}
 use Rattle.icn_parse.proofs.BodiesExact.{part_shorter}
 
 -- no expression leaves more than there was
-pub value_shorter : (level : ℕ) (here after : List Token) (value : WithHeight Tree) → level ≤ 12 → expression_read builds_with_height level here ≡ Some (value, after)
+pub value_shorter : (level : ℕ) (here after : List Token) (value : WithHeight Tree) → level ≤ 12
+    → expression_read builds_with_height level here ≡ Some (value, after)
     → length after ≤ length here
 value_shorter level here after value h e =
     let p = expression_sound (WithHeight Tree) (WithHeight Trees) (WithHeight Clauses) builds_with_height capped_shows level here after value h e in
@@ -41,11 +42,13 @@ body_shorter rest middle after value e s =
     )
 
 pub body_more : (tokens : List Token) (done : WithHeight Trees) (rest middle after : List Token) (value : WithHeight Tree)
-    → BodySo tokens done rest → is_end (next rest) ≡ false → expression_read builds_with_height 0 rest ≡ Some (value, middle) → sign_read is_semicolon middle ≡ Some after
+    → BodySo tokens done rest → is_end (next rest) ≡ false → expression_read builds_with_height 0 rest ≡ Some (value, middle)
+    → sign_read is_semicolon middle ≡ Some after
     → BodySo tokens (builds_with_height.with_element done value) after
 body_more tokens done rest middle after value so f e s = by_steps so.steps so.enough so.is
   where
-    by_steps : (steps : ℕ) → length rest ≤ steps → body_read builds_with_height (suc (length tokens)) builds_with_height.no_elements tokens ≡ body_read builds_with_height (suc steps) done rest
+    by_steps : (steps : ℕ) → length rest ≤ steps
+        → body_read builds_with_height (suc (length tokens)) builds_with_height.no_elements tokens ≡ body_read builds_with_height (suc steps) done rest
         → BodySo tokens (builds_with_height.with_element done value) after
     by_steps zero h is = absurd (omega (arith, h, body_shorter rest middle after value e s))
     by_steps (suc steps) h is = record {
@@ -61,7 +64,8 @@ pub body_no_value : (tokens : List Token) (done : WithHeight Trees) (rest : List
     → expression_read builds_with_height 0 rest ≡ None → body_read builds_with_height (suc (length tokens)) builds_with_height.no_elements tokens ≡ None
 body_no_value tokens done rest so f e =
     so.is ∙ ap (λ b. body_by builds_with_height b (body_read builds_with_height so.steps) done rest) f
-    ∙ ap (λ (o : Option (WithHeight Tree × List Token)). o >>= λ v. sign_read is_semicolon v.1 >>= λ r. body_read builds_with_height so.steps (builds_with_height.with_element done v.0) r)
+    ∙ ap (λ (o : Option (WithHeight Tree × List Token)). o
+    >>= λ v. sign_read is_semicolon v.1 >>= λ r. body_read builds_with_height so.steps (builds_with_height.with_element done v.0) r)
     e
 
 pub body_no_semicolon : (tokens : List Token) (done : WithHeight Trees) (rest middle : List Token) (value : WithHeight Tree) → BodySo tokens done rest
@@ -69,7 +73,8 @@ pub body_no_semicolon : (tokens : List Token) (done : WithHeight Trees) (rest mi
     → body_read builds_with_height (suc (length tokens)) builds_with_height.no_elements tokens ≡ None
 body_no_semicolon tokens done rest middle value so f e s =
     so.is ∙ ap (λ b. body_by builds_with_height b (body_read builds_with_height so.steps) done rest) f
-    ∙ ap (λ (o : Option (WithHeight Tree × List Token)). o >>= λ v. sign_read is_semicolon v.1 >>= λ r. body_read builds_with_height so.steps (builds_with_height.with_element done v.0) r)
+    ∙ ap (λ (o : Option (WithHeight Tree × List Token)). o
+    >>= λ v. sign_read is_semicolon v.1 >>= λ r. body_read builds_with_height so.steps (builds_with_height.with_element done v.0) r)
     e
     ∙ ap (λ (o : Option (List Token)). o >>= λ r. body_read builds_with_height so.steps (builds_with_height.with_element done value) r) s
 

@@ -36,7 +36,8 @@ pub declaration_shorter : (rest after : List Token) (finished : Finish) → fini
     → length after < length rest
 declaration_shorter rest after finished e =
     let r = reads_of (declaration_read builds_with_height rest) finished after e in
-    let s = declaration_sound (WithHeight Tree) (WithHeight Trees) (WithHeight Clauses) builds_with_height capped_shows (next rest) rest r.declaration after refl r.is in
+    let s = declaration_sound (WithHeight Tree) (WithHeight Trees) (WithHeight Clauses) builds_with_height capped_shows
+    (next rest) rest r.declaration after refl r.is in
     let f = declaration_framed s.0 rest after s.1 in
     omega (arith, ap length f.is, length-append f.taken after)
 
@@ -99,7 +100,8 @@ file_stops tokens high done (token ∷ rest) so some e =
     none_before (Some all) e = absurd (none-some _ (sym e))
 
 pub file_stopped : (tokens : List Token) (high : Option Place) (done : List Declaration) (rest : List Token) (stop : Stop) → FileSo tokens high done rest
-    → 0 < length rest → ReadsNothing (finished_read (declaration_read builds_with_height rest)) stop → ReadsNothing (file_read builds_with_height (length tokens) tokens) stop
+    → 0 < length rest → ReadsNothing (finished_read (declaration_read builds_with_height rest)) stop
+    → ReadsNothing (file_read builds_with_height (length tokens) tokens) stop
 file_stopped tokens high done rest stop so some (inl is) = inl is
 file_stopped tokens high done rest stop so some (inr e) = inr (file_stops tokens high done rest so some e)
 

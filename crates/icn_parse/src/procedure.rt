@@ -51,7 +51,8 @@ fn read_value<'a>(
     tokens: &'a [Token],
 ) -> Result<(Value, &'a [Token]), Stop>
     ensures { MatchResult result (λ found. expression_read builds_with_height level tokens.now
-        ≡ Some (capped_of found.0, found.1.now)) (ReadsNothing (expression_read builds_with_height level tokens.now)) }
+        ≡ Some (capped_of found.0, found.1.now))
+        (ReadsNothing (expression_read builds_with_height level tokens.now)) }
 {
     match expression(alloc, level, tokens)? {
         Some(found) => Ok(found),
@@ -135,7 +136,8 @@ fn read_initial<'a>(
     tokens: &'a [Token],
 ) -> Result<(Option<First>, &'a [Token]), Stop>
     ensures { MatchResult result
-        (λ found. initial_read builds_with_height tokens.now ≡ Some (option_map first_value found.0, found.1.now))
+        (λ found. initial_read builds_with_height tokens.now
+        ≡ Some (option_map first_value found.0, found.1.now))
         (ReadsNothing (initial_read builds_with_height tokens.now)) }
 {
     if !initial_next(tokens) {
@@ -150,8 +152,10 @@ fn read_initial<'a>(
 // The expressions up to the end of a procedure.
 fn read_body<'a>(alloc: Global, tokens: &'a [Token]) -> Result<(Elements, &'a [Token]), Stop>
     ensures { MatchResult result (λ found. body_read builds_with_height
-        (suc (length tokens.now)) builds_with_height.no_elements tokens.now ≡ Some (elements_of found.0, found.1.now))
-        (ReadsNothing (body_read builds_with_height (suc (length tokens.now)) builds_with_height.no_elements tokens.now)) }
+        (suc (length tokens.now)) builds_with_height.no_elements tokens.now
+        ≡ Some (elements_of found.0, found.1.now))
+        (ReadsNothing (body_read builds_with_height
+        (suc (length tokens.now)) builds_with_height.no_elements tokens.now)) }
 {
     let mut done = Elements::new(alloc);
     let mut rest = tokens;
@@ -170,7 +174,8 @@ pub fn read_procedure<'a>(
     tokens: &'a [Token],
 ) -> Result<(Outline, &'a [Token]), Stop>
     ensures { MatchResult result (λ found. procedure_read builds_with_height place tokens.now
-        ≡ Some (outline_of found.0, found.1.now)) (ReadsNothing (procedure_read builds_with_height place tokens.now)) }
+        ≡ Some (outline_of found.0, found.1.now))
+        (ReadsNothing (procedure_read builds_with_height place tokens.now)) }
 {
     let (head, rest) = read_head(alloc, tokens)?;
     let (locals, rest) = read_all_locals(alloc, rest)?;

@@ -19,7 +19,8 @@ OneOutcome = (files : FileMap) (name : List ℕ)
 
 -- a file without directives, in which no name can be defined, gives its own lines, numbered from 1
 abbrev pub OwnLines : Type 0
-OwnLines = (files : FileMap) (name bytes : List ℕ) → files name ≡ Some bytes → length bytes ≤ most_bytes_of_source
+OwnLines =
+    (files : FileMap) (name bytes : List ℕ) → files name ≡ Some bytes → length bytes ≤ most_bytes_of_source
     → has_no_directive (lines_of bytes) ≡ true
     → source_lines files name ≡ Ok (record { names = name ∷ []; lines = numbered_lines 0 1 (lines_of bytes) })
 

@@ -12,7 +12,8 @@ after_in_literal quote b =
 
 -- behind a byte
 abbrev pub after : LiteralState → ℕ → LiteralState
-after Outside b = if b == number_sign then Comment else (if (b == double_quote) || (b == single_quote) then Inside b else Outside)
+after Outside b = if b == number_sign then Comment
+    else (if (b == double_quote) || (b == single_quote) then Inside b else Outside)
 after (Inside quote) b = after_in_literal quote b
 after (Joining quote) b = after_in_literal quote b
 after (Escape quote) b = if b == caret then Control quote else Inside quote

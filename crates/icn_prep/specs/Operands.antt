@@ -52,7 +52,8 @@ file_name name = if not (is_empty name) && is_utf8 name then Some name else None
 -- the name of a file, in double quotes or as a run of bytes that begins with none
 abbrev pub file_operand : List ℕ → Option (List ℕ)
 file_operand operand =
-    option_and_then file_name (if begins_with double_quote operand then text_in_quotes operand else plain_run operand)
+    option_and_then file_name (if begins_with double_quote operand then text_in_quotes operand
+    else plain_run operand)
 
 -- the number that digits write
 abbrev pub number_of : List ℕ → ℕ

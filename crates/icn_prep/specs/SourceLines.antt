@@ -179,7 +179,8 @@ file_read includes name s bytes = lines_read includes (record s { names = s.name
 
 -- unless the file is too long
 abbrev pub unless_long : List ℕ → List ℕ → Outcome → Outcome
-unless_long name bytes outcome = if nat_lt most_bytes_of_source (length bytes) then Err (Broken P9 name 0) else outcome
+unless_long name bytes outcome =
+    if nat_lt most_bytes_of_source (length bytes) then Err (Broken P9 name 0) else outcome
 
 -- the line that includes a file is left empty, and the lines of the file stand behind it
 abbrev pub include_read : IncludeStep → List ℕ → State → Place → List ℕ → Outcome

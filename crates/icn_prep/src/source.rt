@@ -144,7 +144,8 @@ fn included_content<F: Files>(
 
 // The content of a file, unless it is too long.
 fn not_longer(alloc: Global, name: &str, content: Vec<u8>) -> Result<Vec<u8>, PrepFault>
-    ensures ok { IfOk result (λ whole. (whole.items ≡ content.items) × (length content.items ≤ most_bytes_of_source)) }
+    ensures ok { IfOk result
+        (λ whole. (whole.items ≡ content.items) × (length content.items ≤ most_bytes_of_source)) }
     ensures err { IfErr result (λ fault. (fault ≡ NoMemory)
         ⊎ ((most_bytes_of_source < length content.items) × (fault ≡ Broken Rule.P9 name.now 0))) }
 {

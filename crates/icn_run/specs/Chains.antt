@@ -361,7 +361,8 @@ suspend_mark m = suspend_outer m (outer_of m.chain)
 abbrev pub suspend_frame : LinkedStack → Frame → Option LinkedStack
 suspend_frame m (at_base proc activation) = None
 suspend_frame m (in_call proc activation level place caller) =
-    Some (record m { chain = suspend_in (suspension (because Proc) m.address m.chain) caller; address = place })
+    Some
+    (record m { chain = suspend_in (suspension (because Proc) m.address m.chain) caller; address = place })
 
 -- the procedure is left suspended in its caller
 abbrev pub suspend_proc : LinkedStack → Option LinkedStack
@@ -395,7 +396,8 @@ enter proc values m = record m {
 -- the way back to the caller, if there is one
 abbrev pub leave_frame : LinkedStack → Frame → Option LinkedStack
 leave_frame m (at_base proc activation) = None
-leave_frame m (in_call proc activation level place caller) = Some (record m { chain = caller; address = place })
+leave_frame m (in_call proc activation level place caller) =
+    Some (record m { chain = caller; address = place })
 
 -- the procedure ends and its caller goes on
 abbrev pub leave : LinkedStack → Option LinkedStack

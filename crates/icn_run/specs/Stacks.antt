@@ -316,7 +316,8 @@ suspended_onto why m cells registers place =
 
 -- from the mark's cell downward
 abbrev pub mark_suspended : Frames → List Cell → Option Frames
-mark_suspended m (mark label changed registers ∷ cells) = Some (suspended_onto Alt m cells registers m.address)
+mark_suspended m (mark label changed registers ∷ cells) =
+    Some (suspended_onto Alt m cells registers m.address)
 mark_suspended m (limit count registers ∷ cells) = Some (suspended_onto Alt m cells registers m.address)
 mark_suspended m cells = None
 

@@ -343,13 +343,15 @@ module _ {K M : Type 0} (C : Calls K M) (N : ℕ) (W : Weighs C N) (P : Program)
   ready m st f s = let e = s.turns in (f, s.fit, omega arith)
 
   -- the place is that of the next instruction
-  module _ (m : M) (fits : Fits C N B W m) (bound : worth N (C.address m) + worth N (C.address m) + worth N (C.address m) + worth N (C.address m) + fits.0 ≤ w) where
+  module _ (m : M) (fits : Fits C N B W m)
+      (bound : worth N (C.address m) + worth N (C.address m) + worth N (C.address m) + worth N (C.address m) + fits.0 ≤ w) where
     go_on : (k : ℕ) (after : M) (st : Store K) → Stays W.Bounded C.address k fits.0 m after → k ≤ suc (worth N (C.address m)) → Same st → Lt (running after st)
     go_on k after st s le g =
         let more = s.weighs in let e : worth N (C.address after) ≡ worth N (C.address m) = ap (worth N) s.stands in let one = cost_some (N - C.address m) in
         (s.fits, g.fit, inr (g.turns, omega arith))
 
-    fail_on : (k : ℕ) (after : M) (st : Store K) → Stays W.Bounded C.address k fits.0 m after → k ≤ suc (worth N (C.address m)) → Same st → Lt (failing after st)
+    fail_on : (k : ℕ) (after : M) (st : Store K) → Stays W.Bounded C.address k fits.0 m after → k ≤ suc (worth N (C.address m)) → Same st
+        → Lt (failing after st)
     fail_on k after st s le g = let more = s.weighs in let one = cost_some (N - C.address m) in (s.fits, g.fit, inr (g.turns, omega arith))
 
     abbrev stay : Stays W.Bounded C.address 0 fits.0 m m
@@ -359,7 +361,8 @@ module _ {K M : Type 0} (C : Calls K M) (N : ℕ) (W : Weighs C N) (P : Program)
         → Stays W.Bounded C.address (k + j) fits.0 m b
     andthen j k a b s t = let x = s.weighs in let y = t.weighs in record { fits = t.fits; weighs = omega arith; stands = t.stands ∙ s.stands }
 
-    then_same : (k : ℕ) (a b : M) → (s : Stays W.Bounded C.address k fits.0 m a) → Stays W.Bounded C.address 0 s.fits.0 a b → Stays W.Bounded C.address k fits.0 m b
+    then_same : (k : ℕ) (a b : M) → (s : Stays W.Bounded C.address k fits.0 m a) → Stays W.Bounded C.address 0 s.fits.0 a b
+        → Stays W.Bounded C.address k fits.0 m b
     then_same k a b s t = let x = s.weighs in let y = t.weighs in record { fits = t.fits; weighs = omega arith; stands = t.stands ∙ s.stands }
 
     -- a call that the weight paid for
@@ -376,7 +379,8 @@ module _ {K M : Type 0} (C : Calls K M) (N : ℕ) (W : Weighs C N) (P : Program)
 
     paid_fail : (k : ℕ) (a after : M) (st : Store K) → (s : Stays W.Bounded C.address k fits.0 m a) → k ≤ suc (worth N (C.address m))
         → Pays W.Bounded C.address N s.fits.0 after → Same st → Lt (failing after st)
-    paid_fail k a after st s le p g = let x = s.weighs in let y = p.weighs in let one = cost_some (N - C.address m) in (p.fits, g.fit, inr (g.turns, omega arith))
+    paid_fail k a after st s le p g =
+        let x = s.weighs in let y = p.weighs in let one = cost_some (N - C.address m) in (p.fits, g.fit, inr (g.turns, omega arith))
 
     -- a label behind the instruction
     jump : (label : ℕ) (st : Store K) → C.address m ≤ label → Same st → Lt (running (C.go label m) st)
@@ -450,7 +454,8 @@ module _ {K M : Type 0} (C : Calls K M) (N : ℕ) (W : Weighs C N) (P : Program)
     returning k a None next st s le i g f = either_way Lt (is_main st.active) _ _ tt tt
     returning k a (Some caller) next st s le i g f = f caller i
 
-    resulting_at : (a : M) (item : Item) (st : Store K) (next : Item → State K M) → Stays W.Bounded C.address 0 fits.0 m a → Same st → ((x : Item) → Lt (next x))
+    resulting_at : (a : M) (item : Item) (st : Store K) (next : Item → State K M) → Stays W.Bounded C.address 0 fits.0 m a → Same st
+        → ((x : Item) → Lt (next x))
         → Lt (with_result C item a st next)
     resulting_at a (Var (Whole (Local k))) st next s g f = lt_value (Var (Whole (Local k))) a st (λ value. next (Val value)) s g (λ v. f (Val v))
     resulting_at a (Var (Part (Local k) place size)) st next s g f =

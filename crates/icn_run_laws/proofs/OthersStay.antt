@@ -311,7 +311,8 @@ module _ {K M : Type 0} (C : Calls K M) (P : Program) (IsAdded : Coexp K → Typ
       (λ st' h'. q_returned (C.leave x.1) (push_item C result) st' h' (λ b. stay st' h'))))
   q_instruction I.Pfail m st h d added = q_if (is_create_body C m st) _ _ tt (q_proc_fails m st h)
   q_instruction (I.Create l) m st h d added =
-      q_turn st (coexp_made C (C.locals m) (C.proc m) (C.address m) (C.go l m)) h (λ st' h'. q_new (C.locals m) (C.proc m) (C.address m) (C.go l m) st' h' added)
+      q_turn st (coexp_made C (C.locals m) (C.proc m) (C.address m) (C.go l m)) h
+      (λ st' h'. q_new (C.locals m) (C.proc m) (C.address m) (C.go l m) st' h' added)
   q_instruction I.Coact m st h d added = absurd (cc)
   q_instruction I.Coret m st h d added = absurd (cc)
   q_instruction I.Cofail m st h d added = absurd (cc)

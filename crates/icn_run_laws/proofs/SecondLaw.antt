@@ -166,7 +166,8 @@ told_once repeats tables launch seen other run flat_run = flat_once tables launc
 -- where each end that is meant is the end of the run on linked marks, and one is meant, the run on flat stacks ends as is meant
 pub as_meant : (repeats : ℕ → ℕ → Bool) (tables : Tables) (launch : Launch) (Means : Observation → Type 0)
     → ((seen : Observation) → Means seen → L.Runs repeats tables launch seen)
-    → (one : Observation) → Means one → ((seen : Observation) → Means seen → F.Runs tables launch seen) × ((seen : Observation) → F.Runs tables launch seen → Means seen)
+    → (one : Observation) → Means one → ((seen : Observation) → Means seen → F.Runs tables launch seen) × ((seen : Observation) → F.Runs tables launch seen
+    → Means seen)
 as_meant repeats tables launch Means law one means = (
   (λ seen m. to_flat rows_keep repeats tables launch seen (law seen m)),
   (λ seen run. subst Means (told_once repeats tables launch one seen (law one means) run) means),

@@ -111,7 +111,8 @@ mark_by : (m : Frames) (cell : Cell) (outside : List Cell) (registers : Register
 mark_by m (mark l c r) outside registers items result after e is h =
     subst (λ (kept : Registers). SuspendsTo Alt m kept m.address items result (push result after))
     is (outside_by Alt m after outside r m.address items result (some_inj e) h)
-mark_by m (limit n r) outside registers items result after e is h = subst (λ (kept : Registers). SuspendsTo Alt m kept m.address items result (push result after))
+mark_by m (limit n r) outside registers items result after e is h =
+    subst (λ (kept : Registers). SuspendsTo Alt m kept m.address items result (push result after))
     is (outside_by Alt m after outside r m.address items result (some_inj e) h)
 mark_by m (base p n) outside registers items result after e is h = no_some after e
 mark_by m (call p n l r q) outside registers items result after e is h = no_some after e

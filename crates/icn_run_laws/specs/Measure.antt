@@ -77,7 +77,8 @@ pub record Weighs {K M : Type 0} (C : Calls K M) (N : ℕ) : Type 1 where
       → Stays Bounded C.address 0 f.0 m (C.set_locals values m)
   pub go : (place : ℕ) (m : M) (v : ℕ) → Bounded m v → Bounded (C.go place m) v
   pub go_stands : (place : ℕ) (m : M) → C.address (C.go place m) ≡ place
-  pub push : (item : Item) (m : M) (f : (v : ℕ) × Bounded m v) → Stays Bounded C.address 0 f.0 m (C.push item m)
+  pub push : (item : Item) (m : M) (f : (v : ℕ) × Bounded m v)
+      → Stays Bounded C.address 0 f.0 m (C.push item m)
   pub pop : (m : M) (f : (v : ℕ) × Bounded m v)
       → IfThere (C.pop m) (λ top. Stays Bounded C.address 0 f.0 m top.1)
   pub take : (n : ℕ) (m : M) (f : (v : ℕ) × Bounded m v)

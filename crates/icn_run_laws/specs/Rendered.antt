@@ -228,7 +228,8 @@ module _ (repeats : ℕ → ℕ → Bool) (Opens : ℕ → ℕ → Option ℕ �
   -- the stack that runs, as number s
   pub data Now (w : World) (s : ℕ) : LinkedStack → Frames → Type 0 where
     now : {c : Chain} {q : ℕ} {r : Registers} (cells : List NCell) → IsFlat c cells r → AllOk w s cells
-        → Now w s (linked_with w.kept c q) (record { cells = render w.kept cells; registers = r; address = q })
+        → Now w s (linked_with w.kept c q)
+        (record { cells = render w.kept cells; registers = r; address = q })
 
   -- a stack that waits
   pub data Away (w : World) (s : ℕ) : WaitingChain → Frames → Type 0 where

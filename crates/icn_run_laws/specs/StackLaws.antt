@@ -41,7 +41,8 @@ pub record SuspendsTo (why : Why) (before : Frames) (outside : Registers) (back 
   pub frame : cell_at (suc (length before.cells)) after.cells
       ≡ Some (suspension why before.registers before.address)
   pub above : after.cells
-      ≡ operand result ∷ (map operand operands ++ suspension why before.registers before.address ∷ before.cells)
+      ≡ operand result
+      ∷ (map operand operands ++ suspension why before.registers before.address ∷ before.cells)
   pub registers : after.registers ≡ record outside { newest = Some (suc (length before.cells)) }
   pub address : after.address ≡ back
 

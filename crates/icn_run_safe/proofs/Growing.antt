@@ -107,7 +107,8 @@ module _ (tables : Tables) (sh : ℕ → ℕ → Option PlainShape) where
     grow_susps w w' g s none h = tt
     grow_susps w w' g s (suspension reason place inside) h = (h.0, h.1, grow_reason w w' g h.0 h.1 place reason h.2, grow_chain w w' g s h.0 h.1 inside h.3)
 
-    pub grow_outer : (w w' : Knowledge) → Grow w w' → (s p : ℕ) (cr : Bool) (kind : LevelKind) (ls : List Level) (o : Outer) → OuterOk tables sh w s p cr kind ls o
+    pub grow_outer : (w w' : Knowledge) → Grow w w' → (s p : ℕ) (cr : Bool) (kind : LevelKind) (ls : List Level) (o : Outer)
+        → OuterOk tables sh w s p cr kind ls o
         → OuterOk tables sh w' s p cr kind ls o
     grow_outer w w' g s p cr kind ls (base proc a) h = (h.0, h.1, h.2, h.3, g.activations a p h.4)
     grow_outer w w' g s p cr kind ls (call proc a level place caller) h =

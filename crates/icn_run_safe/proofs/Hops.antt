@@ -81,7 +81,8 @@ module _ (P : Program) (sh : ℕ → ℕ → Option PlainShape) (given : KeepsSh
       (fail_ok n w m st ent.coexp i ent.stands ent ent.coexp.status (i.store.coexps.waits n ent.coexp ent.stands (λ z. z)) ent.begun)
 
   -- the activator of one that is there has begun
-  activator_begun : (w : Knowledge) (May : ℕ → Type 0) (st : Store WaitingChain) (n : ℕ) → StoreOk P sh w May st → HasBegun st n → HasBegun st (activator_of n st)
+  activator_begun : (w : Knowledge) (May : ℕ → Type 0) (st : Store WaitingChain) (n : ℕ) → StoreOk P sh w May st → HasBegun st n
+      → HasBegun st (activator_of n st)
   activator_begun w May st n h ent =
       subst (λ (x : Coexp WaitingChain). HasBegun st x.activator) (sym (read_coexp st n ent.coexp ent.stands)) (h.coexps.each n ent.coexp ent.stands).activator
 
@@ -112,7 +113,8 @@ module _ (P : Program) (sh : ℕ → ℕ → Option PlainShape) (given : KeepsSh
       (give_ok n value w m st c i e g c.status refl (i.store.coexps.waits n c e (λ z. z)))
 
   -- the active one gets a status
-  status_ok : (s : Status WaitingChain) (w : Knowledge) (p : ℕ) (S : PlainShape) (m : LinkedStack) (st : Store WaitingChain) → Set w p S m st → (IsFresh P sh s → ⊥)
+  status_ok : (s : Status WaitingChain) (w : Knowledge) (p : ℕ) (S : PlainShape) (m : LinkedStack) (st : Store WaitingChain) → Set w p S m st
+      → (IsFresh P sh s → ⊥)
       → StatusOk P sh w st.active s → Idle w m (with_status st.active s st)
   status_ok s w p S m st h f ok = let a = h.store.coexps.there in record {
     memory = h.now.memory;
@@ -159,7 +161,8 @@ module _ (P : Program) (sh : ℕ → ℕ → Option PlainShape) (given : KeepsSh
     };
   }
 
-  pub result_ok : (value : Value) (w : Knowledge) (p : ℕ) (S : PlainShape) (m : LinkedStack) (st : Store WaitingChain) → Set w p S m st → ValueWithin w.coexps value
+  pub result_ok : (value : Value) (w : Knowledge) (p : ℕ) (S : PlainShape) (m : LinkedStack) (st : Store WaitingChain) → Set w p S m st
+      → ValueWithin w.coexps value
       → sh p m.address ≡ Some (with_more 1 S) → Good (result_given M value m st)
   result_ok value w p S m st h g e =
       let n = activator_of st.active st in
@@ -242,7 +245,8 @@ module _ (P : Program) (sh : ℕ → ℕ → Option PlainShape) (given : KeepsSh
   created_ok (Suspends item r seen) values proc place w p S m st h c g origin e = absurd c
   created_ok (Ends j seen) values proc place w p S m st h c g origin e = absurd c
 
-  pub coexp_made_ok : (values : List Value) (proc place : ℕ) (w : Knowledge) (p : ℕ) (S : PlainShape) (m : LinkedStack) (st : Store WaitingChain) → Set w p S m st
+  pub coexp_made_ok : (values : List Value) (proc place : ℕ) (w : Knowledge) (p : ℕ) (S : PlainShape) (m : LinkedStack) (st : Store WaitingChain)
+      → Set w p S m st
       → LocalsOk P sh w proc values → sh proc place ≡ Some (start_shape true) → sh p m.address ≡ Some (with_more 1 S)
       → Good (coexp_made M values proc place m st)
   coexp_made_ok values proc place w p S m st h g origin e =
@@ -294,7 +298,8 @@ module _ (P : Program) (sh : ℕ → ℕ → Option PlainShape) (given : KeepsSh
 
   -- Back to the caller
 
-  pub ok_returned : (o : Option LinkedStack) (w : Knowledge) (cr : Bool) (st : Store WaitingChain) (next : LinkedStack → Store WaitingChain → St P sh given keep)
+  pub ok_returned : (o : Option LinkedStack) (w : Knowledge) (cr : Bool) (st : Store WaitingChain)
+      (next : LinkedStack → Store WaitingChain → St P sh given keep)
       → StoreOk P sh w (λ i. i ≡ st.active) st → Left P sh w st.active cr o → cr ≡ false
       → ((m : LinkedStack) (p : ℕ) (S : PlainShape) → Set w p S m st → sh p m.address ≡ Some (with_more 1 S) → Good (next m st)) → Good (return_to o next st)
   ok_returned None w cr st next h g e f =
@@ -332,7 +337,8 @@ module _ (P : Program) (sh : ℕ → ℕ → Option PlainShape) (given : KeepsSh
       (λ st' r. ok_runs P sh given keep w g.proc g.shape after st' r g.goes)
   dropped_ok w p S m st (WithoutLabel after) h g = ok_fails P sh given keep w g.0 g.1 after st (record { now = g.2; store = h.store })
 
-  resumed_ok : (why : Why) (w : Knowledge) (p : ℕ) (S : PlainShape) (m : LinkedStack) (st : Store WaitingChain) → Set w p S m st → WhyOk P sh w p S m.address why
+  resumed_ok : (why : Why) (w : Knowledge) (p : ℕ) (S : PlainShape) (m : LinkedStack) (st : Store WaitingChain) → Set w p S m st
+      → WhyOk P sh w p S m.address why
       → Good (resume_by M P why m st)
   resumed_ok Alt w p S m st h g = ok_fails P sh given keep w p S m st h
   resumed_ok (Operation r) w p S m st h g = ok_turn P sh given keep w p S m st (λ st. outcome M (again r (here M m st)) m st) h (λ st' q.

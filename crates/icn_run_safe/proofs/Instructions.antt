@@ -103,7 +103,8 @@ module _ (P : Program) (sh : ℕ → ℕ → Option PlainShape) (given : KeepsSh
   field_applied_ok k (item ∷ items) w p S m st h l g e =
       ok_value P sh given keep item w p S m st (λ value. field_of M P k value m st) h g.0 (λ v gv. ok_field P sh given keep k v w p S m st h e)
 
-  activation_of_ok : (items : List Item) (w : Knowledge) (p : ℕ) (S : PlainShape) (m : LinkedStack) (st : Store WaitingChain) → Set w p S m st → length items ≡ 2
+  activation_of_ok : (items : List Item) (w : Knowledge) (p : ℕ) (S : PlainShape) (m : LinkedStack) (st : Store WaitingChain) → Set w p S m st
+      → length items ≡ 2
       → Each (ItemWithin w.coexps) items → sh p m.address ≡ Some (with_more 1 S) → Good (activation_of M items m st)
   activation_of_ok [] w p S m st h l g e = absurd (omega (arith, l))
   activation_of_ok (x ∷ []) w p S m st h l g e = absurd (omega (arith, l))
@@ -139,7 +140,8 @@ module _ (P : Program) (sh : ℕ → ℕ → Option PlainShape) (given : KeepsSh
   limited_result_ok item (suc n) w p S m st h g l e = suspended_ok item w p S m st h g l e
 
   -- scans
-  scan_ok : (v : Value) (w : Knowledge) (p : ℕ) (S : PlainShape) (m : LinkedStack) (st : Store WaitingChain) → Set w p S m st → sh p m.address ≡ Some (with_scan S)
+  scan_ok : (v : Value) (w : Knowledge) (p : ℕ) (S : PlainShape) (m : LinkedStack) (st : Store WaitingChain) → Set w p S m st
+      → sh p m.address ≡ Some (with_scan S)
       → Good (scan_opened M v m st)
   scan_ok (Text text) w p S m st h e =
       let pair : Pair = record { subject = text; position = 1 } in
@@ -158,7 +160,8 @@ module _ (P : Program) (sh : ℕ → ℕ → Option PlainShape) (given : KeepsSh
   scan_ok (ACoexp x) w p S m st h e = ok_fails P sh given keep w p S m st h
 
   -- results of procedures
-  result_of : (item : Item) (w : Knowledge) (p : ℕ) (S : PlainShape) (m : LinkedStack) (st : Store WaitingChain) (next : Item → St P sh given keep) → Set w p S m st
+  result_of : (item : Item) (w : Knowledge) (p : ℕ) (S : PlainShape) (m : LinkedStack) (st : Store WaitingChain) (next : Item → St P sh given keep)
+      → Set w p S m st
       → ItemWithin w.coexps item → ((result : Item) → ItemWithin w.coexps result → Good (next result)) → Good (with_result M item m st next)
   result_of (Var (Whole (Local n))) w p S m st next h g f =
       ok_value P sh given keep (Var (Whole (Local n))) w p S m st (λ value. next (Val value)) h g (λ v z. f (Val v) z)

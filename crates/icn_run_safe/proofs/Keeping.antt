@@ -51,7 +51,8 @@ module _ (tables : Tables) (sh : ℕ → ℕ → Option PlainShape) where
       by a q (inr z) =
           let o = h.locals a q z in (o.0, get_more acts values a o.0 o.1, grow_locals tables sh w (with_activation w p) (grow_activation w p) q o.0 o.2)
 
-  pub last_activation : (w : Knowledge) (p : ℕ) (acts : List (List Value)) (flags : List Bool) (relabels : List (ℕ × ℕ)) → MemoryOk tables sh w acts flags relabels
+  pub last_activation : (w : Knowledge) (p : ℕ) (acts : List (List Value)) (flags : List Bool) (relabels : List (ℕ × ℕ))
+      → MemoryOk tables sh w acts flags relabels
       → IsOf (with_activation w p) (length acts) p
   last_activation w p acts flags relabels h = ap (slice_get (w.activations ++ p ∷ [])) (sym h.same_activations) ∙ get_seam w.activations p []
 
@@ -123,7 +124,8 @@ module _ (tables : Tables) (sh : ℕ → ℕ → Option PlainShape) where
       let o = h.memory.locals (activation_of (frame m)) p (frame_activation w s p S.in_create (frame m) (the_frame w s p S m h)) in
       subst (LocalsOk tables sh w p) (sym (index_there m.activations (activation_of (frame m)) o.0 [] o.1)) o.2
 
-  pub set_locals_ok : (values : List Value) (w : Knowledge) (s p : ℕ) (S : PlainShape) (m : LinkedStack) → Now tables sh w s p S m → LocalsOk tables sh w p values
+  pub set_locals_ok : (values : List Value) (w : Knowledge) (s p : ℕ) (S : PlainShape) (m : LinkedStack) → Now tables sh w s p S m
+      → LocalsOk tables sh w p values
       → Now tables sh w s p S (C.set_locals values m)
   set_locals_ok values w s p S m h g =
       record {

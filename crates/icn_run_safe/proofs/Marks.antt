@@ -38,7 +38,8 @@ module _ (tables : Tables) (sh : ℕ → ℕ → Option PlainShape) where
     pub unmark : C.unmark_from m o ≡ C.unmark_in m chain
     pub suspend : C.suspend_outer m o ≡ Some (with_chain (C.suspend_in (suspension (because Alt) m.address m.chain) chain) m)
 
-  outside_by : (w : Knowledge) (s p : ℕ) (cr : Bool) (inner : Level) (ls : List Level) (m : LinkedStack) (o : Outer) → OuterOk tables sh w s p cr inner.kind ls o
+  outside_by : (w : Knowledge) (s p : ℕ) (cr : Bool) (inner : Level) (ls : List Level) (m : LinkedStack) (o : Outer)
+      → OuterOk tables sh w s p cr inner.kind ls o
       → is_some (slice_get ls 0) ≡ true → Outside w s p (record { in_create = cr; inner = inner; outer = ls }) m o
   outside_by w s p cr inner ls m (base proc a) h e = not_true (subst (λ (x : List Level). is_some (slice_get x 0) ≡ true) h.3 e)
   outside_by w s p cr inner ls m (call proc a level place caller) h e = not_true (subst (λ (x : List Level). is_some (slice_get x 0) ≡ true) h.3 e)
@@ -136,7 +137,8 @@ module _ (tables : Tables) (sh : ℕ → ℕ → Option PlainShape) where
 
   -- Suspending
 
-  pub suspend_op : (residual : Residual) (w : Knowledge) (s p : ℕ) (S : PlainShape) (m : LinkedStack) → Now tables sh w s p S m → ResidualWithin w.coexps residual
+  pub suspend_op : (residual : Residual) (w : Knowledge) (s p : ℕ) (S : PlainShape) (m : LinkedStack) → Now tables sh w s p S m
+      → ResidualWithin w.coexps residual
       → sh p m.address ≡ Some (with_more 1 S) → Now tables sh w s p S (C.suspend (Op residual) m)
   suspend_op r w s p S m h g e =
       record { has = suspended_ok w s p S (suspension (because (Op r)) m.address m.chain) m.chain (p, S, (g, e), h.has) h.has; memory = h.memory }
@@ -146,7 +148,8 @@ module _ (tables : Tables) (sh : ℕ → ℕ → Option PlainShape) where
   suspend_alt w s p S m h o =
       record { has = suspended_ok w s p o.shape (suspension (because Alt) m.address m.chain) o.chain (p, S, tt, h.has) o.has; memory = h.memory }
 
-  with_scan_ok : (w : Knowledge) (s p n : ℕ) (S : PlainShape) (c : Chain) → ChainOk tables sh w s p S c → ChainOk tables sh w s p (with_scan S) (C.with_scan n c)
+  with_scan_ok : (w : Knowledge) (s p n : ℕ) (S : PlainShape) (c : Chain) → ChainOk tables sh w s p S c
+      → ChainOk tables sh w s p (with_scan S) (C.with_scan n c)
   with_scan_ok w s p n S (chain items q scans o) h = let e = h.2 in (h.0, h.1, omega (arith, e), h.3, h.4)
 
   without_scan_ok : (w : Knowledge) (s p : ℕ) (S : PlainShape) (c : Chain) → ChainOk tables sh w s p S c
@@ -305,7 +308,8 @@ module _ (tables : Tables) (sh : ℕ → ℕ → Option PlainShape) where
   DroppedOk w s (Repeats m) = GoesOn w s m
   DroppedOk w s (WithoutLabel m) = (p : ℕ) × (S : PlainShape) × Now tables sh w s p S m
 
-  dropped_to_ok : (w : Knowledge) (s p : ℕ) (S : PlainShape) (m : LinkedStack) (c : Chain) (label : Option ℕ) → MemoryOf tables sh w m → ChainOk tables sh w s p S c
+  dropped_to_ok : (w : Knowledge) (s p : ℕ) (S : PlainShape) (m : LinkedStack) (c : Chain) (label : Option ℕ) → MemoryOf tables sh w m
+      → ChainOk tables sh w s p S c
       → LabelTo tables sh p S label → DroppedOk w s (C.dropped_to m c label)
   dropped_to_ok w s p S m c None g h l = (p, S, record { has = h; memory = g })
   dropped_to_ok w s p S m c (Some label) g h l = record { proc = p; shape = S; now = record { has = h; memory = g }; goes = l }

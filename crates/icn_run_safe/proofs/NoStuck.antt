@@ -62,7 +62,8 @@ module _ (P : Program) (sh : ℕ → ℕ → Option PlainShape) (given : KeepsSh
       let next : LinkedStack = M.go (suc (M.address m)) m in
       ok_found P sh given keep (instruction_at M P m) (λ instr. instruction M P instr next st) fine.instr
       (ap (λ x. slice_get (instrs_of P x) m.address) (here_proc P sh h.0 st.active h.1 h.2 m h.3) ∙ fine.stands)
-      (instruction_ok P sh given keep h.0 h.1 h.2 next m.address st (record { now = record { has = h.3.has; memory = h.3.memory }; store = h.5 }) refl fine.instr
+      (instruction_ok P sh given keep h.0 h.1 h.2 next m.address st
+      (record { now = record { has = h.3.has; memory = h.3.memory }; store = h.5 }) refl fine.instr
       fine.fit fine.on fine.onward fine.backward (tables_ok.instrs h.1 m.address fine.instr fine.stands))
   step_ok (failing m st) h = fails_ok P sh given keep h.0 h.1 h.2 m st (record { now = h.3; store = h.4 })
   step_ok (hopping m st) h = hop_ok P sh given keep h.0 m st (record { memory = h.1; store = h.2 })

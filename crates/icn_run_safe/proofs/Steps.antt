@@ -127,7 +127,8 @@ module _ (P : Program) (sh : ℕ → ℕ → Option PlainShape) (given : KeepsSh
   pub ok_fails : (w : Knowledge) (p : ℕ) (S : PlainShape) (m : LinkedStack) (st : Store WaitingChain) → Ready w p S m st → Ok (failing m st)
   ok_fails w p S m st h = (w, p, S, h.now, h.store)
 
-  pub ok_runs : (w : Knowledge) (p : ℕ) (S : PlainShape) (m : LinkedStack) (st : Store WaitingChain) → Ready w p S m st → sh p m.address ≡ Some S → Ok (running m st)
+  pub ok_runs : (w : Knowledge) (p : ℕ) (S : PlainShape) (m : LinkedStack) (st : Store WaitingChain) → Ready w p S m st → sh p m.address ≡ Some S
+      → Ok (running m st)
   ok_runs w p S m st h e = (w, p, S, h.now, e, h.store)
 
   pub ok_push : (item : Item) (w : Knowledge) (p : ℕ) (S : PlainShape) (m : LinkedStack) (st : Store WaitingChain) → Ready w p S m st → ItemWithin w.coexps item
@@ -139,7 +140,8 @@ module _ (P : Program) (sh : ℕ → ℕ → Option PlainShape) (given : KeepsSh
       → Ready w p S m (with_world world st)
   ready_world w p S m st world h g = record { now = h.now; store = record { world = g; coexps = h.store.coexps } }
 
-  pub here_within : (w : Knowledge) (p : ℕ) (S : PlainShape) (m : LinkedStack) (st : Store WaitingChain) → Ready w p S m st → SettingWithin w.coexps (here M m st)
+  pub here_within : (w : Knowledge) (p : ℕ) (S : PlainShape) (m : LinkedStack) (st : Store WaitingChain) → Ready w p S m st
+      → SettingWithin w.coexps (here M m st)
   here_within w p S m st h = record { world = h.store.world; locals = (locals_ok P sh w st.active p S m h.now).within }
 
   -- Rows
@@ -176,7 +178,8 @@ module _ (P : Program) (sh : ℕ → ℕ → Option PlainShape) (given : KeepsSh
     store = record { world = g.world; coexps = h.store.coexps };
   }
 
-  pub ok_outcome : (o : Outcome) (w : Knowledge) (p : ℕ) (S : PlainShape) (m : LinkedStack) (st : Store WaitingChain) → Ready w p S m st → OutcomeWithin w.coexps o
+  pub ok_outcome : (o : Outcome) (w : Knowledge) (p : ℕ) (S : PlainShape) (m : LinkedStack) (st : Store WaitingChain) → Ready w p S m st
+      → OutcomeWithin w.coexps o
       → KeepsIn (here M m st) o → sh p m.address ≡ Some (with_more 1 S) → Ok (outcome M o m st)
   ok_outcome (Fails seen) w p S m st h g k e = ok_fails w p S (C.set_locals seen.locals m) (with_at seen st) (ready_seen w p S m st seen h g k)
   ok_outcome (Gives item seen) w p S m st h g k e = ok_push item w p S (C.set_locals seen.locals m) (with_at seen st) (ready_seen w p S m st seen h g.1 k) g.0 e
@@ -232,7 +235,8 @@ module _ (P : Program) (sh : ℕ → ℕ → Option PlainShape) (given : KeepsSh
       → (vs : List Value) (w : Knowledge) (p : ℕ) (S : PlainShape) (m : LinkedStack) (st : Store WaitingChain)
       (next : List Value → LinkedStack → Store WaitingChain → St)
       → Ready w p S m st → Each (ValueWithin w.coexps) vs
-      → ((ps : List Value) (a : LinkedStack) (st' : Store WaitingChain) → Parameters w entry ps → Ready w p S a st' → a.address ≡ m.address → Ok (next ps a st'))
+      → ((ps : List Value) (a : LinkedStack) (st' : Store WaitingChain) → Parameters w entry ps → Ready w p S a st' → a.address ≡ m.address
+      → Ok (next ps a st'))
       → Ok (collect_rest M b entry.parameters vs m st next)
   collected_ok false entry some vs w p S m st next h g f =
       f (fill_nulls entry.parameters vs) m st
@@ -249,7 +253,8 @@ module _ (P : Program) (sh : ℕ → ℕ → Option PlainShape) (given : KeepsSh
       → (vs : List Value) (w : Knowledge) (p : ℕ) (S : PlainShape) (m : LinkedStack) (st : Store WaitingChain)
       (next : List Value → LinkedStack → Store WaitingChain → St)
       → Ready w p S m st → Each (ValueWithin w.coexps) vs
-      → ((ps : List Value) (a : LinkedStack) (st' : Store WaitingChain) → Parameters w entry ps → Ready w p S a st' → a.address ≡ m.address → Ok (next ps a st'))
+      → ((ps : List Value) (a : LinkedStack) (st' : Store WaitingChain) → Parameters w entry ps → Ready w p S a st' → a.address ≡ m.address
+      → Ok (next ps a st'))
       → Ok (with_parameters M entry vs m st next)
   ok_parameters n entry e vs w p S m st next h g f = collected_ok entry.collects entry (given.collects n entry e) vs w p S m st next h g f
 
@@ -273,7 +278,8 @@ module _ (P : Program) (sh : ℕ → ℕ → Option PlainShape) (given : KeepsSh
       }
 
   called_ok : (b : Bool) (n : ℕ) (entry : Procedure) → slice_get P.procs n ≡ Some entry
-      → (vs : List Value) (w : Knowledge) (p : ℕ) (S : PlainShape) (m : LinkedStack) (st : Store WaitingChain) → Ready w p S m st → Each (ValueWithin w.coexps) vs
+      → (vs : List Value) (w : Knowledge) (p : ℕ) (S : PlainShape) (m : LinkedStack) (st : Store WaitingChain) → Ready w p S m st
+      → Each (ValueWithin w.coexps) vs
       → sh p m.address ≡ Some (with_more 1 S)
       → Ok (called_if M b n entry vs m st)
   called_ok false n entry e vs w p S m st h g o = tt
@@ -293,7 +299,8 @@ module _ (P : Program) (sh : ℕ → ℕ → Option PlainShape) (given : KeepsSh
       (rows_keep.recorded kind fields (here M m st))
       (λ v a st' gv h' q. ok_push (Val v) w p S a st' h' gv (ap (sh p) q ∙ e))
 
-  callee_ok : (c : Callee) (n : ℕ) → CalleeIn P.procs n c → (items : List Item) (w : Knowledge) (p : ℕ) (S : PlainShape) (m : LinkedStack) (st : Store WaitingChain)
+  callee_ok : (c : Callee) (n : ℕ) → CalleeIn P.procs n c
+      → (items : List Item) (w : Knowledge) (p : ℕ) (S : PlainShape) (m : LinkedStack) (st : Store WaitingChain)
       → Ready w p S m st → Each (ItemWithin w.coexps) items → sh p m.address ≡ Some (with_more 1 S) → Ok (callee_called M c n items m st)
   callee_ok (IsProc entry) n i items w p S m st h g e = ok_values items w p S m st (λ arguments. call_procedure M n entry arguments m st) h g
       (λ vs gv. called_ok (nat_le (suc (M.level m)) st.world.heap.bounds.levels) n entry i vs w p S m st h gv e)
@@ -347,7 +354,8 @@ module _ (P : Program) (sh : ℕ → ℕ → Option PlainShape) (given : KeepsSh
   ok_elements callee (ATable x) w p S m st h e = tt
   ok_elements callee (ACoexp x) w p S m st h e = tt
 
-  pub ok_applied : (items : List Item) (w : Knowledge) (p : ℕ) (S : PlainShape) (m : LinkedStack) (st : Store WaitingChain) → Ready w p S m st → length items ≡ 2
+  pub ok_applied : (items : List Item) (w : Knowledge) (p : ℕ) (S : PlainShape) (m : LinkedStack) (st : Store WaitingChain) → Ready w p S m st
+      → length items ≡ 2
       → Each (ItemWithin w.coexps) items → sh p m.address ≡ Some (with_more 1 S) → Ok (applied_to_elements M P items m st)
   ok_applied [] w p S m st h l g e = absurd (omega (arith, l))
   ok_applied (x ∷ []) w p S m st h l g e = absurd (omega (arith, l))

@@ -137,7 +137,8 @@ module _ (tables : Tables) (sh : ℕ → ℕ → Option PlainShape) where
     labels = grow_relabels tables sh w (one_more w) (grow_one w) relabels h.labels;
   }
 
-  pub more_coexps : (w : Knowledge) (st : Store WaitingChain) (values : List Value) (proc place : ℕ) → CoexpsOk tables sh w (λ i. i ≡ st.active) st.active st.coexps
+  pub more_coexps : (w : Knowledge) (st : Store WaitingChain) (values : List Value) (proc place : ℕ)
+      → CoexpsOk tables sh w (λ i. i ≡ st.active) st.active st.coexps
       → LocalsOk tables sh w proc values → sh proc place ≡ Some (start_shape true)
       → CoexpsOk tables sh (one_more w) (λ i. i ≡ st.active) st.active
       (st.coexps ++ record { status = Fresh; activator = 0; values = values; proc = proc; address = place } ∷ [])

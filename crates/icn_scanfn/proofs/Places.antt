@@ -71,7 +71,8 @@ counts_up opening closing byte count is = sym (ap (λ b. cond b (Some (count + 1
 counts_closed : (opening closing : List ℕ) (byte count : ℕ) → contains opening byte ≡ false → contains closing byte ≡ true
     → count_behind opening closing byte count ≡ close_one count
 counts_closed opening closing byte count absent is =
-    ap (λ b. cond b (Some (count + 1)) (cond (contains closing byte) (close_one count) (Some count))) absent ∙ ap (λ b. cond b (close_one count) (Some count)) is
+    ap (λ b. cond b (Some (count + 1)) (cond (contains closing byte) (close_one count) (Some count))) absent
+    ∙ ap (λ b. cond b (close_one count) (Some count)) is
 
 pub counts_none : (opening closing : List ℕ) (byte count : ℕ) → contains opening byte ≡ false → contains closing byte ≡ true → count ≡ 0
     → None ≡ count_behind opening closing byte count

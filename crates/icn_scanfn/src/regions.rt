@@ -102,7 +102,8 @@ pub fn charged_region<L: Locals>(
 pub fn ends_of(heap: &Heap, searched: Searched) -> Option<(u64, u64)>
     requires { IsText (extent_of heap.now) searched.text }
     ensures ends { (next : ℕ × ℕ → Row) (setting : Setting)
-        → ends_of (searched_in (extent_of heap.now) searched) next setting ≡ thing_or_failure result next setting }
+        → ends_of (searched_in (extent_of heap.now) searched) next setting
+        ≡ thing_or_failure result next setting }
     ensures low { IfSome result (λ ends. 1 ≤ ends.0) }
     ensures order { IfSome result (λ ends. ends.0 ≤ ends.1) }
     ensures high { IfSome result (λ ends. ends.1 ≤ length (text_in (extent_of heap.now) searched.text) + 1) }

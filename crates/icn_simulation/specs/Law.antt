@@ -31,7 +31,8 @@ abbrev pub RunsFlat : Tables → Launch → Observation → Type 0
 RunsFlat tables launch seen = Flat.Runs tables launch seen
 
 -- Broken off, what comes to some end leaves these streams so.
-pub record BrokenOff (Sees : Launch → Observation → Type 0) (launch : Launch) (before after : Streams) : Type 0
+pub record BrokenOff (Sees : Launch → Observation → Type 0) (launch : Launch)
+    (before after : Streams) : Type 0
   where
     pub seen : Observation
     pub sees : Sees launch seen

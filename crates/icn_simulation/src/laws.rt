@@ -9,7 +9,8 @@ ghost use Rattle.icn_simulation.specs.Law.{IsLinked, FilesMean, RunsLinked, Runs
 /// What a program means, with some words, limits and input, is what its linked code comes to: how it ends, with its report, what is put on
 /// both outputs, the input that is left, and the readings that were made. On linked marks, and on the flat stacks that a machine has.
 pub fn same_ends()
-    ensures on_marks { (files : List (List Declaration)) (tables : Tables) (launch : Launch) (seen : Observation)
+    ensures on_marks { (files : List (List Declaration)) (tables : Tables) (launch : Launch)
+        (seen : Observation)
         → IsLinked files tables → FilesMean files launch seen ↔ RunsLinked tables launch seen }
     ensures on_stacks { (files : List (List Declaration)) (tables : Tables) (launch : Launch)
         (seen : Observation)

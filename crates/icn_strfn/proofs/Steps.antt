@@ -179,7 +179,8 @@ module _ (args : List Value) (text from to : Value) (setting : Setting) (first :
 
   pub map_left : IsMapping args
       → map_row args setting
-      ≡ costs_texts (text ∷ from ∷ to ∷ []) (builds (map (map_byte (the_text (or_default Upper from)) (the_text (or_default Lower to))) (the_text text))) setting
+      ≡ costs_texts (text ∷ from ∷ to ∷ [])
+      (builds (map (map_byte (the_text (or_default Upper from)) (the_text (or_default Lower to))) (the_text text))) setting
   map_left is =
       let test : (length (the_text (or_default Upper (arg args 1))) == length (the_text (or_default Lower (arg args 2)))) ≡ true =
       (Decides-eqb (length (the_text (or_default Upper (arg args 1)))) (length (the_text (or_default Lower (arg args 2))))).1 is.alike in

@@ -71,7 +71,8 @@ module _ (grown : NumberedList Value → Value → NumberedList Value) (id : ℕ
   unfolding one_more
   records_stay heap new value step = ap (λ (h : Heap). h.records) (added_one heap new value step)
 
-  at_set : (lists : List (NumberedList Value)) (list : NumberedList Value) → id < length lists → unwrap_or (slice_get (slice_set lists id list) id) (new_list []) ≡ list
+  at_set : (lists : List (NumberedList Value)) (list : NumberedList Value) → id < length lists
+      → unwrap_or (slice_get (slice_set lists id list) id) (new_list []) ≡ list
   at_set lists list there = unwrap_or-slice_get (slice_set lists id list) id (new_list []) ∙ get_or-set_same lists id list (new_list []) there
 
   heap_by : (heap : Heap) {lists lists' : List (NumberedList Value)} {cells cells' : ℕ} → lists' ≡ lists → cells' ≡ cells

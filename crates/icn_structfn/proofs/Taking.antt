@@ -22,7 +22,8 @@ use Rattle.icn_vars.proofs.Growing.{heap_changed, setting_over}
 abbrev pub takes : (NumberedList Value → Option Value) → (NumberedList Value → NumberedList Value) → Value → Row
 takes taken rest value =
     list value (λ id. here (λ setting.
-    thing_or_failure (taken (list_at setting.world.heap id)) (λ element. changes_heap (with_list id (rest (list_at setting.world.heap id))) (gives_value element))))
+    thing_or_failure (taken (list_at setting.world.heap id))
+    (λ element. changes_heap (with_list id (rest (list_at setting.world.heap id))) (gives_value element))))
 
 -- nothing leaves an empty list
 
@@ -50,7 +51,8 @@ list_stays heap id =
     (ap (slice_set heap.lists id) (unwrap_or-slice_get heap.lists id (new_list [])) ∙ set-get_or heap.lists id (new_list []))
 
 -- the row of a value that is no list
-pub not_taken : (taken : NumberedList Value → Option Value) (rest : NumberedList Value → NumberedList Value) (value : Value) → list_of value ≡ None → (setting : Setting)
+pub not_taken : (taken : NumberedList Value → Option Value) (rest : NumberedList Value → NumberedList Value) (value : Value) → list_of value ≡ None
+    → (setting : Setting)
     → takes taken rest value setting ≡ Error 108 (Some value) setting
 not_taken taken rest value none setting =
     ap (λ opt. present opt 108 (Some value) (λ id. here (λ setting. thing_or_failure (taken (list_at setting.world.heap id))

@@ -38,7 +38,8 @@ order_of n = Unknown
 
 -- a new list of what a table holds, in an order: 205 for what is none
 abbrev pub sorted_pairs : Names → Heap → List (Value × Value) → TableOrder → Value → Finds Value
-sorted_pairs names heap pairs ListsByKey chosen next = list_of_pairs (sort_list (key_cmp names heap) pairs) next
+sorted_pairs names heap pairs ListsByKey chosen next =
+    list_of_pairs (sort_list (key_cmp names heap) pairs) next
 sorted_pairs names heap pairs ListsByValue chosen next =
     list_of_pairs (sort_list (entry_cmp names heap) pairs) next
 sorted_pairs names heap pairs TurnByKey chosen next =

@@ -28,7 +28,8 @@ pub fn read_integer(text: &[u8]) -> Result<i64, NotInteger>
 
 // The integer of this sign and magnitude.
 pub(crate) fn signed(is_negative: bool, magnitude: u64) -> Result<i64, NotInteger>
-    ensures { OkIff result (FitsSigned w64 (with_sign is_negative magnitude)) (with_sign is_negative magnitude) }
+    ensures { OkIff result (FitsSigned w64 (with_sign is_negative magnitude))
+        (with_sign is_negative magnitude) }
 {
     let magnitude = i128::from(magnitude);
     let value = if is_negative { -magnitude } else { magnitude };

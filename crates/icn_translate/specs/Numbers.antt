@@ -48,7 +48,8 @@ abbrev mutual
   pub clause_numbers : Clauses → ℕ
   clause_numbers NoClauses = 0
   clause_numbers (MoreClauses (Default place e) clauses) = numbers e + clause_numbers clauses
-  clause_numbers (MoreClauses (Guarded place s b) clauses) = 2 + numbers s + numbers b + clause_numbers clauses
+  clause_numbers (MoreClauses (Guarded place s b) clauses) =
+      2 + numbers s + numbers b + clause_numbers clauses
 
 -- the numbers that `initial` takes
 abbrev pub initial_numbers : Initial → ℕ

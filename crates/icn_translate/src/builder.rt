@@ -361,7 +361,8 @@ impl<'a> Builder<'a> {
     /// Goes on in one more loop, with these labels, and writes `goto` to its last one.
     pub fn put_last_goto(&mut self, ways: Ways) -> Result<(), AllocError>
         requires { IsRoomFor 1 (draft_of self.old) }
-        ensures draft { OnOk result (draft_of self.new ≡ put_last GotoInstr (in_loop ways (draft_of self.old))) }
+        ensures draft { OnOk result
+            (draft_of self.new ≡ put_last GotoInstr (in_loop ways (draft_of self.old))) }
         ensures given { OnOk result (TakesAtMost 1 (draft_of self.old) (draft_of self.new)) }
     {
         self.enter_loop(ways)?;
@@ -382,7 +383,8 @@ impl<'a> Builder<'a> {
     /// Ends a case with its last label.
     pub fn end_case(&mut self) -> Result<(), AllocError>
         requires { IsRoomFor 1 (draft_of self.old) }
-        ensures draft { OnOk result (draft_of self.new ≡ outside_case (put_end LabInstr (draft_of self.old))) }
+        ensures draft { OnOk result
+            (draft_of self.new ≡ outside_case (put_end LabInstr (draft_of self.old))) }
         ensures given { OnOk result (TakesAtMost 1 (draft_of self.old) (draft_of self.new)) }
     {
         let label = self.end_label()?;

@@ -470,7 +470,8 @@ impl<'a> Builder<'a> {
     #[cycle(translate)]
     fn put_other_creations(&mut self, exprs: &'a [Expr]) -> Result<(), AllocError>
         requires { IsRoomFor (all_numbers (all_of exprs.now)) (draft_of self.old) }
-        ensures draft { OnOk result (draft_of self.new ≡ other_creations (all_of exprs.now) (draft_of self.old)) }
+        ensures draft { OnOk result
+            (draft_of self.new ≡ other_creations (all_of exprs.now) (draft_of self.old)) }
         ensures given { OnOk result
             (TakesAtMost (all_numbers (all_of exprs.now)) (draft_of self.old) (draft_of self.new)) }
     {
@@ -564,7 +565,8 @@ impl<'a> Builder<'a> {
             (draft_of self.new ≡ case_of (guarded (open_of within.entry) (all_clauses_of clauses.now))
             (default_part (open_of within.entry) (all_clauses_of clauses.now)) (draft_of self.old)) }
         ensures given { OnOk result
-            (TakesAtMost (1 + clause_numbers (all_clauses_of clauses.now)) (draft_of self.old) (draft_of self.new)) }
+            (TakesAtMost (1 + clause_numbers (all_clauses_of clauses.now)) (draft_of self.old)
+            (draft_of self.new)) }
     {
         self.enter_case(None)?;
         self.put_guarded(clauses, within)?;
@@ -580,7 +582,8 @@ impl<'a> Builder<'a> {
         ensures draft { OnOk result (draft_of self.new
             ≡ guarded (open_of within.entry) (all_clauses_of clauses.now) (draft_of self.old)) }
         ensures given { OnOk result
-            (TakesAtMost (guarded_numbers (all_clauses_of clauses.now)) (draft_of self.old) (draft_of self.new)) }
+            (TakesAtMost (guarded_numbers (all_clauses_of clauses.now)) (draft_of self.old)
+            (draft_of self.new)) }
     {
         for clause in clauses {
             self.put_guarded_clause(clause, within)?;
@@ -618,7 +621,8 @@ impl<'a> Builder<'a> {
         ensures draft { OnOk result (draft_of self.new
             ≡ default_part (open_of within.entry) (all_clauses_of clauses.now) (draft_of self.old)) }
         ensures given { OnOk result
-            (TakesAtMost (default_numbers (all_clauses_of clauses.now)) (draft_of self.old) (draft_of self.new)) }
+            (TakesAtMost (default_numbers (all_clauses_of clauses.now)) (draft_of self.old)
+            (draft_of self.new)) }
     {
         for clause in clauses {
             if let Clause::Default { value, .. } = clause {

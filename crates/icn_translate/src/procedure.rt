@@ -118,7 +118,8 @@ fn put_initial<'a>(
     ensures draft { OnOk result
         (draft_of builder.new ≡ initially (initial_of initial.now) (draft_of builder.old)) }
     ensures given { OnOk result
-        (TakesAtMost (initial_numbers (initial_of initial.now)) (draft_of builder.old) (draft_of builder.new)) }
+        (TakesAtMost (initial_numbers (initial_of initial.now)) (draft_of builder.old)
+        (draft_of builder.new)) }
 {
     match initial {
         None => Ok(()),

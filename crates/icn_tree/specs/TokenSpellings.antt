@@ -19,7 +19,8 @@ with_backslashes (b ∷ rest) = (if is_special b then backslash ∷ b ∷ [] els
 -- a text of one token
 pub data Spells : Kind → List ℕ → Type 0 where
   bare : (kind : Kind) (text : List ℕ) → one_token text ≡ Some (Ok kind) → Spells kind text
-  string : (bytes : List ℕ) → length bytes ≤ most_bytes_of_name → Spells (Text bytes) (double_quote ∷ (with_backslashes bytes ++ double_quote ∷ []))
+  string : (bytes : List ℕ) → length bytes ≤ most_bytes_of_name
+      → Spells (Text bytes) (double_quote ∷ (with_backslashes bytes ++ double_quote ∷ []))
   cset : (bytes : List ℕ) → length bytes ≤ most_bytes_of_name
       → Spells (Cset (members_of bytes)) (single_quote ∷ (with_backslashes bytes ++ single_quote ∷ []))
 

@@ -22,7 +22,8 @@ use Rattle.icn_tree.specs.Spellings.{lookup_text, name_of, marks_of}
 -- a letter or an underscore and what goes on with it
 abbrev pub name : ℕ → List ℕ → Option (Result Kind Rule)
 name b rest =
-    if list_all continues_identifier rest then Some (within_size (b ∷ rest) (Ok (name_of (b ∷ rest)))) else None
+    if list_all continues_identifier rest then Some (within_size (b ∷ rest) (Ok (name_of (b ∷ rest))))
+    else None
 
 -- a dot, which with a digit behind it begins a number that is not whole
 abbrev pub dot_number : List ℕ → Option (Result Kind Rule)
@@ -103,7 +104,8 @@ literal_piece literal = record {
 
 -- a literal at its closing quote, and what the bytes behind it give
 abbrev pub closed_then : Literal → Scan → Scan
-closed_then literal later = if nat_le (length literal.bytes) most_bytes_of_name then before (literal_piece literal) later
+closed_then literal later =
+    if nat_le (length literal.bytes) most_bytes_of_name then before (literal_piece literal) later
     else Broken L7 literal.line literal.file
 
 -- an escape by the bytes behind its backslash, and what the bytes behind it give

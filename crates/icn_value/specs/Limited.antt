@@ -26,4 +26,9 @@ pub record AreLimits (bounds : Bounds) : Type 0 where
 -- the limits of a run for which the command sets none
 abbrev pub default_limits : Bounds
 default_limits =
-    record { turns = 18446744073709551615; strings = default_strings; cells = default_cells; levels = default_levels }
+    record {
+      turns = 18446744073709551615;
+      strings = default_strings;
+      cells = default_cells;
+      levels = default_levels;
+    }

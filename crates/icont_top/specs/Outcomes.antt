@@ -81,7 +81,8 @@ IsIdleFault IsJobOf ReadFault before between = ⊥
 IsIdleFault IsJobOf WriteFault before between =
     (job : Job) × IsJobOf job × (job.written ≡ []) × BreaksOff before between job.errors
 IsIdleFault IsJobOf NoMemory before between =
-    (between ≡ before) ⊎ ((job : Job) × IsJobOf job × (job.written ≡ []) × RunsShort before between job.errors)
+    (between ≡ before)
+    ⊎ ((job : Job) × IsJobOf job × (job.written ≡ []) × RunsShort before between job.errors)
 
 -- what a file may fail to be written whole by: a fault of the files, or want of memory
 abbrev pub IsTornFault : Answer → Type 0
@@ -223,7 +224,8 @@ pub record IsImage (members : List Member) (bytes : List ℕ) : Type 0 where
   pub within : length bytes ≤ most_bytes_of_image
   pub read : image_read bytes ≡ Ok tables
   pub verified : IsVerified tables
-  pub runs : (launch : Launch) (seen : Observation) → (Behaves members launch seen → RunsFlat tables launch seen)
+  pub runs : (launch : Launch) (seen : Observation)
+      → (Behaves members launch seen → RunsFlat tables launch seen)
       × (RunsFlat tables launch seen → Behaves members launch seen)
 
 -- the two texts of each unit are read as that unit

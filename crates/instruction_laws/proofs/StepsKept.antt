@@ -514,7 +514,8 @@ module _ (rows : RowsKeepVariables) (P : Tables) where
 
   step : (state : State Frames Frames) → G state → G (S.step flat P state)
   step (running m st) k =
-      found (S.instruction_at flat P m) (λ instr. S.instruction flat P instr (flats.go (suc m.address) m) st) (λ i. instruction i (flats.go (suc m.address) m) st k)
+      found (S.instruction_at flat P m) (λ instr. S.instruction flat P instr (flats.go (suc m.address) m) st)
+      (λ i. instruction i (flats.go (suc m.address) m) st k)
   step (failing m st) k = fails m st k
   step (hopping m st) k = hop m st k
   step (over ending outside) k = tt

@@ -58,7 +58,8 @@ pub fn outsides_grow()
         → StateExtends state (after_steps (Flat.step tables) n state) }
     ensures meant { (program : Program) (launch : Launch) (seen : Observation) → Means program launch seen
         → Extends launch.outside seen.outside }
-    ensures on_stacks { (tables : Tables) (launch : Launch) (seen : Observation) → Flat.Runs tables launch seen
+    ensures on_stacks { (tables : Tables) (launch : Launch) (seen : Observation)
+        → Flat.Runs tables launch seen
         → Extends launch.outside seen.outside }
     ensures on_marks { (repeats : ℕ → ℕ → Bool) (tables : Tables) (launch : Launch) (seen : Observation)
         → Linked.Runs repeats tables launch seen → Extends launch.outside seen.outside }

@@ -51,7 +51,8 @@ abbrev pub ends_done : String → ℕ → ℕ → ℕ → Expectation
 ends_done output turns strings cells = ends Done output "" turns strings cells
 
 abbrev pub ends_errored : ℕ → String → String → ℕ → ℕ → ℕ → Expectation
-ends_errored number output errors turns strings cells = ends (Errored number) output errors turns strings cells
+ends_errored number output errors turns strings cells =
+    ends (Errored number) output errors turns strings cells
 
 abbrev pub at_bound : String → ℕ → ℕ → ℕ → Expectation
 at_bound output turns strings cells = ends AtBound output "turn bound reached\n" turns strings cells

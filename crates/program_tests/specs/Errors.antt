@@ -20,7 +20,8 @@ errors =
     -- global write
     -- procedure main(); write("x"); end
     case (globals ("write" ∷ []) ∷ main (write (text "x" ∷ []) ∷ []) ∷ []) 72
-    (ends_errored 106 "" "Run-time error 106\nprocedure or integer expected\noffending value: &null\n" 1 0 1) ∷
+    (ends_errored 106 "" "Run-time error 106\nprocedure or integer expected\noffending value: &null\n" 1 0 1)
+    ∷
     -- procedure main(); write(1 \ -1); end
     case
     (main (write (between (int 1) Signs.Backslash (before Signs.Minus (int 1)) ∷ []) ∷ []) ∷ [])
@@ -100,7 +101,8 @@ errors =
     3) ∷
     -- procedure main(); foo(1); end
     case (main (call (name "foo") (int 1 ∷ []) ∷ []) ∷ []) 72
-    (ends_errored 106 "" "Run-time error 106\nprocedure or integer expected\noffending value: &null\n" 1 0 1) ∷
+    (ends_errored 106 "" "Run-time error 106\nprocedure or integer expected\noffending value: &null\n" 1 0 1)
+    ∷
     -- procedure main(); write ! 3; end
     case (main (between (name "write") Signs.Bang (int 3) ∷ []) ∷ []) 72
     (ends_errored 126 "" "Run-time error 126\nlist or record expected\noffending value: 3\n" 1 0 1) ∷
@@ -147,7 +149,8 @@ errors =
     (ends_errored 106 "" "Run-time error 106\nprocedure or integer expected\noffending value: '1'\n" 1 0 1) ∷
     -- procedure main(); "x"(2); end
     case (main (call (text "x") (int 2 ∷ []) ∷ []) ∷ []) 40
-    (ends_errored 106 "" "Run-time error 106\nprocedure or integer expected\noffending value: \"x\"\n" 1 0 1) ∷
+    (ends_errored 106 "" "Run-time error 106\nprocedure or integer expected\noffending value: \"x\"\n" 1 0 1)
+    ∷
     -- procedure main(); 3 ! 4; end
     case (main (between (int 3) Signs.Bang (int 4) ∷ []) ∷ []) 40
     (ends_errored 126 "" "Run-time error 126\nlist or record expected\noffending value: 4\n" 1 0 1) ∷

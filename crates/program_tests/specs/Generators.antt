@@ -29,7 +29,8 @@ generators =
     142
     (ends_done "2\n3\n1\n" 8 0 1) ∷
     -- procedure main(); write(2 to 1); write("z"); end
-    case (main (write (to (int 2) (int 1) ∷ []) ∷ write (text "z" ∷ []) ∷ []) ∷ []) 104 (ends_done "z\n" 2 0 1) ∷
+    case (main (write (to (int 2) (int 1) ∷ []) ∷ write (text "z" ∷ []) ∷ []) ∷ []) 104
+    (ends_done "z\n" 2 0 1) ∷
     -- procedure main(); every write(|(1 to 2) \ 5); end
     case
     (main

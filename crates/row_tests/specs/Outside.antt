@@ -31,8 +31,10 @@ abbrev pub input_and_output : List Case
 input_and_output =
     -- write, writes, stop
     case (fn F.Write []) (Gave null (with_outputs (codes "\n") [] plain) ∷ []) ∷
-    case (fn F.Write (str (codes "a") ∷ int 12 ∷ [])) (Gave (int 12) (with_outputs (codes "a12\n") [] plain) ∷ []) ∷
-    case (fn F.Write (chars (codes "ab") ∷ null ∷ [])) (Gave null (with_outputs (codes "ab\n") [] plain) ∷ []) ∷
+    case (fn F.Write (str (codes "a") ∷ int 12 ∷ []))
+    (Gave (int 12) (with_outputs (codes "a12\n") [] plain) ∷ []) ∷
+    case (fn F.Write (chars (codes "ab") ∷ null ∷ [])) (Gave null (with_outputs (codes "ab\n") [] plain) ∷ [])
+    ∷
     case (fn F.Write (str (codes "a") ∷ file Errout ∷ str (codes "b") ∷ []))
     (Gave (str (codes "b")) (with_outputs (codes "a\n") (codes "b\n") plain) ∷ []) ∷
     case (fn F.Write (file Errout ∷ [])) (Gave (file Errout) (with_outputs [] (codes "\n") plain) ∷ []) ∷
@@ -59,9 +61,11 @@ input_and_output =
     -- reads
     case (fn F.Reads (null ∷ int 5 ∷ []))
     (Gave (str (codes "one\n\n"))
-    (costs 5 0 (with_input (codes "last") (reading_of (SomeBytes 5) (codes "one\n\nlast") ∷ []) plain)) ∷ []) ∷
+    (costs 5 0 (with_input (codes "last") (reading_of (SomeBytes 5) (codes "one\n\nlast") ∷ []) plain)) ∷ [])
+    ∷
     case (fn F.Reads (file Input ∷ int 99 ∷ []))
-    (Gave (str (codes "one\n\nlast")) (costs 9 0 (with_input [] (reading_of (SomeBytes 99) (codes "one\n\nlast")
+    (Gave (str (codes "one\n\nlast"))
+    (costs 9 0 (with_input [] (reading_of (SomeBytes 99) (codes "one\n\nlast")
     ∷ []) plain)) ∷ []) ∷
     case (fn F.Reads (file Output ∷ int 0 ∷ [])) (stops 205 (int 0)) ∷
     case (fn F.Reads (file Output ∷ [])) (stops 212 (file Output)) ∷
@@ -69,7 +73,8 @@ input_and_output =
     case_from at_end (fn F.Reads []) (Failed (with_input [] (reading_of (SomeBytes 1) [] ∷ []) plain) ∷ []) ∷
     -- the lines of the input, one after the other
     case (op O.Elements (file Input ∷ []))
-    (Suspended (str (codes "one")) (costs 3 0 (with_input (codes "\nlast") (reading_of ALine (codes "one\n\nlast")
+    (Suspended (str (codes "one"))
+    (costs 3 0 (with_input (codes "\nlast") (reading_of ALine (codes "one\n\nlast")
     ∷ []) plain))
     ∷ Suspended (str []) (costs 3 0 (with_input (codes "last") (reading_of ALine (codes "\nlast")
     ∷ reading_of ALine (codes "one\n\nlast") ∷ []) plain))

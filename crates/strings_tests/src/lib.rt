@@ -6,7 +6,7 @@ ghost use Rattle.icn_strings.specs.Regions.{IsOf, Keeps};
 
 #[cfg(test)]
 mod tests {
-    use icn_strings::{Full, ByteRange, Region, empty_place, end_of_place, part_of_place};
+    use icn_strings::{ByteRange, Full, Region, empty_place, end_of_place, part_of_place};
     use std::process::Abort;
     use std::test::Fail;
 

@@ -12,7 +12,8 @@ use Rattle.icn_expr.proofs.reader.advance.Goals as goal
 
 pub returns-in-Finished-clause-same : goal.returns-in-Finished-clause-same
 returns-in-Finished-clause-same c =
-    rw c.in-Finished.is (sym (end_finished (WithHeight Tree) (WithHeight Trees) (WithHeight Clauses) builds_with_height (capped_of c.in-Finished.value) c.args.tokens.now))
+    rw c.in-Finished.is
+    (sym (end_finished (WithHeight Tree) (WithHeight Trees) (WithHeight Clauses) builds_with_height (capped_of c.in-Finished.value) c.args.tokens.now))
 
 pub returns-in-Broken-clause-same : goal.returns-in-Broken-clause-same
 returns-in-Broken-clause-same c = rw c.in-Broken.is (sym (end_broken (WithHeight Tree) (WithHeight Trees) (WithHeight Clauses) builds_with_height))

@@ -8,7 +8,8 @@ use Rattle.icn_ops.proofs.arithmetic.given.Goals as goal
 
 pub returns-in_err-n-clause-row : goal.returns-in_err-n-clause-row
 returns-in_err-n-clause-row c = λ all setting.
-    row_stops all (number_or_error c.args.found) (λ n. gives_value (Integer n)) setting setting c.in_err-n.field-0.0 c.from_residual.result c.from_residual.ensures.1
+    row_stops all (number_or_error c.args.found)
+    (λ n. gives_value (Integer n)) setting setting c.in_err-n.field-0.0 c.from_residual.result c.from_residual.ensures.1
     (c.in_err-n.ensures.found all setting)
 
 pub returns-in_err-n-clause-live : goal.returns-in_err-n-clause-live

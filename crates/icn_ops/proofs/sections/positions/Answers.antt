@@ -13,16 +13,19 @@ use Rattle.icn_ops.proofs.sections.positions.Goals as goal
 pub returns-in_err-m-clause-found : goal.returns-in_err-m-clause-found
 returns-in_err-m-clause-found c = λ setting.
     first_stops (extent_of c.args.heap.now) (integer (value_in (extent_of c.args.heap.now) c.args.from))
-    (λ m next. integer (value_in (extent_of c.args.heap.now) c.args.to) (λ n. number_or_error (second_of c.args.kind m n) (λ end. next (m, end)))) setting setting
+    (λ m next. integer (value_in (extent_of c.args.heap.now) c.args.to) (λ n. number_or_error (second_of c.args.kind m n) (λ end. next (m, end)))) setting
+    setting
     (λ (two : ℤ × ℤ). two) c.in_err-m.field-0.0 c.from_residual.result c.from_residual.ensures.1 (c.in_err-m.ensures.found setting)
 
 pub returns-in_err-n-clause-found : goal.returns-in_err-n-clause-found
 returns-in_err-n-clause-found c = λ setting.
     then_stops (extent_of c.args.heap.now) (integer (value_in (extent_of c.args.heap.now) c.args.from)) c.in_ok-m.m
-    (λ m next. integer (value_in (extent_of c.args.heap.now) c.args.to) (λ n. number_or_error (second_of c.args.kind m n) (λ end. next (m, end)))) setting setting
+    (λ m next. integer (value_in (extent_of c.args.heap.now) c.args.to) (λ n. number_or_error (second_of c.args.kind m n) (λ end. next (m, end)))) setting
+    setting
     setting (λ (two : ℤ × ℤ). two) c.in_err-n.field-0.0 c.from_residual-in_err-n.result c.from_residual-in_err-n.ensures.1 (c.in_ok-m.ensures.found setting)
     (stops_within (extent_of c.args.heap.now) (integer (value_in (extent_of c.args.heap.now) c.args.to)) (λ n next.
-    number_or_error (second_of c.args.kind c.in_ok-m.m n) (λ end. next (c.in_ok-m.m, end))) setting setting c.in_err-n.field-0.0 (c.in_err-n.ensures.found setting))
+    number_or_error (second_of c.args.kind c.in_ok-m.m n) (λ end. next (c.in_ok-m.m, end))) setting setting c.in_err-n.field-0.0
+    (c.in_err-n.ensures.found setting))
 
 pub returns-in_err-end-clause-found : goal.returns-in_err-end-clause-found
 returns-in_err-end-clause-found c = λ setting.

@@ -6,7 +6,8 @@ use Rattle.icn_parse.proofs.laws.longest_expressions.Goals as goal
 
 pub returns-clause-reads_longest : goal.returns-clause-reads_longest
 returns-clause-reads_longest c = λ level tree here after part ends.
-    rw (← shown_tree tree) (expression_found (WithHeight Tree) (WithHeight Trees) (WithHeight Clauses) builds_with_height capped_shows level tree here after part ends)
+    rw (← shown_tree tree)
+    (expression_found (WithHeight Tree) (WithHeight Trees) (WithHeight Clauses) builds_with_height capped_shows level tree here after part ends)
 
 pub returns-clause-by_grammar : goal.returns-clause-by_grammar
 returns-clause-by_grammar c = λ level here after value bound e.

@@ -32,7 +32,8 @@ returns-in_ok-items-in-List-clause-found g c outside =
     (setting_of outside c.list_in_order.new.w (g.L.Locals.items c.args.l.now)) (value_in (extent_of c.list_in_order.new.w.heap)) c.list_in_order.result
     (λ next. ap (λ v. sorted_value (g.N.Names.known c.args.names.now) c.args.n (value_in (extent_of c.args.w.now.heap) c.args.chosen)
     (value_in (extent_of c.args.w.now.heap) v) next (setting_of outside c.args.w.now (g.L.Locals.items c.args.l.now))) c.in-List.is
-    ∙ ap (λ items. new_list_of (sort_list (value_cmp (g.N.Names.known c.args.names.now) (heap_of c.args.w.now.heap)) items) next (setting_of outside c.args.w.now
+    ∙ ap (λ items. new_list_of (sort_list (value_cmp (g.N.Names.known c.args.names.now) (heap_of c.args.w.now.heap)) items) next
+    (setting_of outside c.args.w.now
     (g.L.Locals.items c.args.l.now))) (sym (ap (map (value_in (extent_of c.args.w.now.heap))) c.deref.ensures.value ∙ c.in_ok-items-in-List.ensures.items)))
     (c.list_in_order.ensures.found outside)
 

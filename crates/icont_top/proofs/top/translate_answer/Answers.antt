@@ -36,12 +36,14 @@ returns-in-Err-clause-command g c is = no_command c.in-Err.answer c.refuse.resul
 
 pub returns-in-Ok-clause-causes : goal.returns-in-Ok-clause-causes
 returns-in-Ok-clause-causes g c left input out =
-    after_read c.texts_answer.result (c.in-Ok.ensures.reads.file_fault.stayed (λ e. cc)) c.in-Ok.ensures.reads.absence.later (c.texts_answer.ensures.causes left input out)
+    after_read c.texts_answer.result (c.in-Ok.ensures.reads.file_fault.stayed (λ e. cc)) c.in-Ok.ensures.reads.absence.later
+    (c.texts_answer.ensures.causes left input out)
 
 pub returns-in-Err-clause-causes : goal.returns-in-Err-clause-causes
 returns-in-Err-clause-causes g c left input out =
     refused_ends c.in-Err.answer c.refuse.result (loading_no_write c.in-Err.answer c.in-Err.ensures.others)
-    (loading_no_read c.in-Err.answer c.in-Err.ensures.others) (err_counts c.in-Err.answer FileFault c.in-Err.ensures.reads.file_fault) c.in-Err.ensures.reads.absence
+    (loading_no_read c.in-Err.answer c.in-Err.ensures.others)
+    (err_counts c.in-Err.answer FileFault c.in-Err.ensures.reads.file_fault) c.in-Err.ensures.reads.absence
     (absence_of c.in-Err.answer c.refuse.result c.refuse.ensures.line) c.refuse.ensures.line
 
 pub returns-in-Err-clause-untouched : goal.returns-in-Err-clause-untouched

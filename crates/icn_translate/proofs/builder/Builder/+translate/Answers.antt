@@ -132,26 +132,34 @@ put_expr-put_compound-requires n c =
 
 pub put_expr-put_arguments-requires-in-Call : goal.put_expr-put_arguments-requires-in-Call
 put_expr-put_arguments-requires-in-Call n c =
-    let all : numbers (tree_of c.args.expr.now) ≡ numbers (tree_of c.deref-in-Call.result.now) + all_numbers (all_of c.deref-in-Call-2.result.now) = search (rules, row_trees, the_lemmas) in
-    let room : numbers_given (draft_of c.put_expr.new.self) + all_numbers (all_of c.deref-in-Call-2.result.now) < 4294967296 = omega (arith, all, c.in_ok-put_expr-in-Call.ensures.given, c.requires) in
+    let all : numbers (tree_of c.args.expr.now)
+    ≡ numbers (tree_of c.deref-in-Call.result.now) + all_numbers (all_of c.deref-in-Call-2.result.now) = search (rules, row_trees, the_lemmas) in
+    let room : numbers_given (draft_of c.put_expr.new.self) + all_numbers (all_of c.deref-in-Call-2.result.now)
+    < 4294967296 = omega (arith, all, c.in_ok-put_expr-in-Call.ensures.given, c.requires) in
     search (rules, row_trees, the_lemmas)
 
 pub put_expr-put_creations-requires : goal.put_expr-put_creations-requires
 put_expr-put_creations-requires n c =
-    let all : numbers (tree_of c.args.expr.now) ≡ numbers (tree_of c.deref-in-CoCall.result.now) + all_numbers (all_of c.deref-in-CoCall-2.result.now) = search (rules, row_trees, the_lemmas) in
-    let room : numbers_given (draft_of c.put_expr-in-CoCall.new.self) + all_numbers (all_of c.deref-in-CoCall-2.result.now) < 4294967296 = omega (arith, all, c.in_ok-put_expr-in-CoCall.ensures.given, c.requires) in
+    let all : numbers (tree_of c.args.expr.now)
+    ≡ numbers (tree_of c.deref-in-CoCall.result.now) + all_numbers (all_of c.deref-in-CoCall-2.result.now) = search (rules, row_trees, the_lemmas) in
+    let room : numbers_given (draft_of c.put_expr-in-CoCall.new.self) + all_numbers (all_of c.deref-in-CoCall-2.result.now)
+    < 4294967296 = omega (arith, all, c.in_ok-put_expr-in-CoCall.ensures.given, c.requires) in
     search (rules, row_trees, the_lemmas)
 
 pub put_expr-put_subscripts-requires : goal.put_expr-put_subscripts-requires
 put_expr-put_subscripts-requires n c =
-    let all : numbers (tree_of c.args.expr.now) ≡ numbers (tree_of c.deref-in-Subscript.result.now) + all_numbers (all_of c.deref-in-Subscript-2.result.now) = search (rules, row_trees, the_lemmas) in
-    let room : numbers_given (draft_of c.put_expr-in-Subscript.new.self) + all_numbers (all_of c.deref-in-Subscript-2.result.now) < 4294967296 = omega (arith, all, c.in_ok-put_expr-in-Subscript.ensures.given, c.requires) in
+    let all : numbers (tree_of c.args.expr.now)
+    ≡ numbers (tree_of c.deref-in-Subscript.result.now) + all_numbers (all_of c.deref-in-Subscript-2.result.now) = search (rules, row_trees, the_lemmas) in
+    let room : numbers_given (draft_of c.put_expr-in-Subscript.new.self) + all_numbers (all_of c.deref-in-Subscript-2.result.now)
+    < 4294967296 = omega (arith, all, c.in_ok-put_expr-in-Subscript.ensures.given, c.requires) in
     search (rules, row_trees, the_lemmas)
 
 pub put_expr-put_clauses-requires : goal.put_expr-put_clauses-requires
 put_expr-put_clauses-requires n c =
-    let all : numbers (tree_of c.args.expr.now) ≡ 1 + numbers (tree_of c.deref-in-Case.result.now) + clause_numbers (all_clauses_of c.deref-in-Case-2.result.now) = search (rules, row_clauses, the_lemmas) in
-    let room : numbers_given (draft_of c.put-in-Case-2.new.self) + (1 + clause_numbers (all_clauses_of c.deref-in-Case-2.result.now)) < 4294967296 = omega (arith, all, c.in_ok-put-in-Case.ensures.given, c.in_ok-put_expr-in-Case.ensures.given, c.in_ok-put-in-Case-2.ensures.given, c.requires) in
+    let all : numbers (tree_of c.args.expr.now) ≡ 1 + numbers (tree_of c.deref-in-Case.result.now)
+    + clause_numbers (all_clauses_of c.deref-in-Case-2.result.now) = search (rules, row_clauses, the_lemmas) in
+    let room : numbers_given (draft_of c.put-in-Case-2.new.self) + (1 + clause_numbers (all_clauses_of c.deref-in-Case-2.result.now)) < 4294967296 =
+    omega (arith, all, c.in_ok-put-in-Case.ensures.given, c.in_ok-put_expr-in-Case.ensures.given, c.in_ok-put-in-Case-2.ensures.given, c.requires) in
     search (rules, row_clauses, the_lemmas)
 
 pub put_expr-returns-in-Parentheses-clause-given : goal.put_expr-returns-in-Parentheses-clause-given
@@ -171,20 +179,27 @@ put_expr-returns-in-Compound-clause-given n c =
 
 pub put_expr-returns-in_ok-count-in-Call-clause-given : goal.put_expr-returns-in_ok-count-in-Call-clause-given
 put_expr-returns-in_ok-count-in-Call-clause-given n c =
-    let all : numbers (tree_of c.args.expr.now) ≡ numbers (tree_of c.deref-in-Call.result.now) + all_numbers (all_of c.deref-in-Call-2.result.now) = search (rules, row_trees, the_lemmas) in
-    on_ok c.put-in-Call.result _ _ c.put-in-Call.ensures.given (λ h. omega (arith, all, h, c.in_ok-put_expr-in-Call.ensures.given, c.in_ok-count-in-Call.ensures.given))
+    let all : numbers (tree_of c.args.expr.now)
+    ≡ numbers (tree_of c.deref-in-Call.result.now) + all_numbers (all_of c.deref-in-Call-2.result.now) = search (rules, row_trees, the_lemmas) in
+    on_ok c.put-in-Call.result
+    _ _ c.put-in-Call.ensures.given (λ h. omega (arith, all, h, c.in_ok-put_expr-in-Call.ensures.given, c.in_ok-count-in-Call.ensures.given))
 
 pub put_expr-returns-in_ok-count-in-CoCall-clause-given : goal.put_expr-returns-in_ok-count-in-CoCall-clause-given
 put_expr-returns-in_ok-count-in-CoCall-clause-given n c =
-    let all : numbers (tree_of c.args.expr.now) ≡ numbers (tree_of c.deref-in-CoCall.result.now) + all_numbers (all_of c.deref-in-CoCall-2.result.now) = search (rules, row_trees, the_lemmas) in
-    on_ok c.put_two.result _ _ c.put_two.ensures.given (λ h. omega (arith, all, h, c.in_ok-put_expr-in-CoCall.ensures.given, c.in_ok-count-in-CoCall.ensures.given))
+    let all : numbers (tree_of c.args.expr.now)
+    ≡ numbers (tree_of c.deref-in-CoCall.result.now) + all_numbers (all_of c.deref-in-CoCall-2.result.now) = search (rules, row_trees, the_lemmas) in
+    on_ok c.put_two.result
+    _ _ c.put_two.ensures.given (λ h. omega (arith, all, h, c.in_ok-put_expr-in-CoCall.ensures.given, c.in_ok-count-in-CoCall.ensures.given))
 
 pub put_expr-returns-in_ok-put_expr-in-Subscript-clause-given : goal.put_expr-returns-in_ok-put_expr-in-Subscript-clause-given
 put_expr-returns-in_ok-put_expr-in-Subscript-clause-given n c =
-    let all : numbers (tree_of c.args.expr.now) ≡ numbers (tree_of c.deref-in-Subscript.result.now) + all_numbers (all_of c.deref-in-Subscript-2.result.now) = search (rules, row_trees, the_lemmas) in
+    let all : numbers (tree_of c.args.expr.now)
+    ≡ numbers (tree_of c.deref-in-Subscript.result.now) + all_numbers (all_of c.deref-in-Subscript-2.result.now) = search (rules, row_trees, the_lemmas) in
     on_ok c.put_subscripts.result _ _ c.put_subscripts.ensures.given (λ h. omega (arith, all, h, c.in_ok-put_expr-in-Subscript.ensures.given))
 
 pub put_expr-returns-in_ok-put-in-Case-2-clause-given : goal.put_expr-returns-in_ok-put-in-Case-2-clause-given
 put_expr-returns-in_ok-put-in-Case-2-clause-given n c =
-    let all : numbers (tree_of c.args.expr.now) ≡ 1 + numbers (tree_of c.deref-in-Case.result.now) + clause_numbers (all_clauses_of c.deref-in-Case-2.result.now) = search (rules, row_clauses, the_lemmas) in
-    on_ok c.put_clauses.result _ _ c.put_clauses.ensures.given (λ h. omega (arith, all, h, c.in_ok-put-in-Case.ensures.given, c.in_ok-put_expr-in-Case.ensures.given, c.in_ok-put-in-Case-2.ensures.given))
+    let all : numbers (tree_of c.args.expr.now) ≡ 1 + numbers (tree_of c.deref-in-Case.result.now)
+    + clause_numbers (all_clauses_of c.deref-in-Case-2.result.now) = search (rules, row_clauses, the_lemmas) in
+    on_ok c.put_clauses.result _ _ c.put_clauses.ensures.given (λ h.
+    omega (arith, all, h, c.in_ok-put-in-Case.ensures.given, c.in_ok-put_expr-in-Case.ensures.given, c.in_ok-put-in-Case-2.ensures.given))
