@@ -97,7 +97,7 @@ set_locals values m = record m { cells = set_from m.registers.base values m.cell
 
 -- another place
 abbrev pub go : ℕ → FlatStack → FlatStack
-go place m = record m { place = place }
+go place m = record m { address = place }
 
 -- operands
 
@@ -371,8 +371,8 @@ pub record SwapsAt (height : ℕ) (pair : Pair) (cells : List Cell) (old : Pair)
     (after : List Cell) : Type 0 where
   pub registers : Registers
   pub address : ℕ
-  pub was : cell_at height cells ≡ Some (Suspension (Scan old) registers place)
-  pub is : after ≡ set_cell height (Suspension (Scan pair) registers place) cells
+  pub was : cell_at height cells ≡ Some (Suspension (Scan old) registers address)
+  pub is : after ≡ set_cell height (Suspension (Scan pair) registers address) cells
 
 -- how many locals there are
 abbrev pub local_count : FlatStack → ℕ

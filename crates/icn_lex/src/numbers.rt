@@ -6,7 +6,7 @@ ghost use Rattle.icn_tree.specs.Characters.{digit_value};
 ghost use Rattle.icn_tree.specs.Numbers.{are_digits, integer, number_in};
 ghost use Rattle.icn_lex.specs.Reading.{bounded_by, with_length, within_limit, number_read, value_in};
 
-use icn_profile::{FULL_STOP, GREATEST_INTEGER, MOST_BYTES_OF_NAME};
+use icn_profile::{GREATEST_INTEGER, MOST_BYTES_OF_NAME};
 use icn_tree::characters::{alphanumeric_len, digit_value, digits_len};
 use icn_tree::{Kind, Rule};
 
@@ -24,7 +24,7 @@ pub fn integer_literal(bytes: &[u8]) -> Result<(Kind, usize), Rule>
             let written = written.split_at(written_len).0;
             counted(count + 1 + written_len, radix_integer(digits, written))
         }
-        Some((FULL_STOP | b'e' | b'E', _)) => Err(Rule::L6),
+        Some((b'.' | b'e' | b'E', _)) => Err(Rule::L6),
         _ => counted(count, bounded(value(10, digits))),
     }
 }
