@@ -44,13 +44,13 @@ mod tests {
     fn create<K: Stack<Cell> + Drop>(
         stacks: &mut Stacks<K>,
         alloc: Global,
-        place: u32,
+        address: u32,
     ) -> Result<Option<u32>, AllocError> {
         if stacks.len() > 1000 {
             return Ok(None);
         }
         let locals = [Val::Integer(7), Val::Null];
-        Ok(Some(stacks.create(alloc, &locals, 3, place)?))
+        Ok(Some(stacks.create(alloc, &locals, 3, address)?))
     }
 
     fn refresh<K: Stack<Cell> + Drop>(
@@ -64,10 +64,10 @@ mod tests {
         Ok(Some(stacks.refresh(alloc, id)?))
     }
 
-    // The place of the stack that runs.
-    fn place_of<K: Stack<Cell> + Drop>(stacks: &mut Stacks<K>) -> Option<u32> {
+    // The address of the stack that runs.
+    fn address_of<K: Stack<Cell> + Drop>(stacks: &mut Stacks<K>) -> Option<u32> {
         if stacks.runs() {
-            Some(stacks.frames().place())
+            Some(stacks.frames().address())
         } else {
             None
         }
@@ -83,11 +83,11 @@ mod tests {
         let mut stacks = new_stacks(rt.alloc())?;
         assert_eq!(rt; create(&mut stacks, rt.alloc(), 20)?, Some(1));
         assert_eq!(rt; create(&mut stacks, rt.alloc(), 30)?, Some(2));
-        for (id, active, source, place) in [(1, 1, 0, 20), (2, 2, 1, 30), (0, 0, 2, 10)] {
+        for (id, active, source, address) in [(1, 1, 0, 20), (2, 2, 1, 30), (0, 0, 2, 10)] {
             assert_eq!(rt; activate(&mut stacks, id, 5)?, Some(Went::Moved), "{id}");
             assert_eq!(rt; stacks.active(), active, "{id}");
             assert_eq!(rt; stacks.source(), source, "{id}");
-            assert_eq!(rt; place_of(&mut stacks), Some(place), "{id}");
+            assert_eq!(rt; address_of(&mut stacks), Some(address), "{id}");
         }
         assert_eq!(rt;
             activate(&mut stacks, 0, 6)?,
@@ -136,7 +136,7 @@ mod tests {
         assert_eq!(rt; refresh(&mut stacks, rt.alloc(), 1)?, Some(2));
         assert_eq!(rt; refresh(&mut stacks, rt.alloc(), 0)?, None);
         assert_eq!(rt; activate(&mut stacks, 2, 1)?, Some(Went::Moved));
-        assert_eq!(rt; place_of(&mut stacks), Some(20));
+        assert_eq!(rt; address_of(&mut stacks), Some(20));
         Ok(())
     }
 }

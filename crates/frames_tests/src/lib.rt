@@ -100,7 +100,7 @@ mod tests {
         AtBase,
         Local(u64),
         SetLocal(u64, i64),
-        Place,
+        Address,
         Go(u32),
         Push(i64),
         Pop,
@@ -163,14 +163,14 @@ mod tests {
             Call::Proc => Answer::Number(u64::from(frames.proc())),
             Call::Level => Answer::Number(frames.level()),
             Call::AtBase => Answer::Is(frames.at_base()),
-            Call::Local(place) => {
-                if place < frames.local_count() {
-                    value_of(frames.local(place))
+            Call::Local(index) => {
+                if index < frames.local_count() {
+                    value_of(frames.local(index))
                 } else {
                     Answer::Not
                 }
             }
-            Call::Place => Answer::Number(u64::from(frames.place())),
+            Call::Address => Answer::Number(u64::from(frames.address())),
             Call::Label => Answer::Label(frames.label()),
             Call::Relabelled => Answer::Is(frames.relabelled()),
             Call::Below => {
@@ -187,12 +187,12 @@ mod tests {
 
     fn drop_or_set<K: Stack<Cell> + Drop>(frames: &mut Frames<K>, call: Call) -> Answer {
         match call {
-            Call::SetLocal(place, n) if place < frames.local_count() => {
-                frames.set_local(place, Val::Integer(n));
+            Call::SetLocal(index, n) if index < frames.local_count() => {
+                frames.set_local(index, Val::Integer(n));
                 Answer::Done
             }
-            Call::Go(place) => {
-                frames.go(place);
+            Call::Go(address) => {
+                frames.go(address);
                 Answer::Done
             }
             Call::Pop if frames.has_operand() => item_of(frames.pop()),
@@ -298,7 +298,7 @@ mod tests {
         (Call::Local(1), Answer::Value(20)),
         (Call::Local(2), Answer::Not),
         (Call::SetLocal(2, 5), Answer::Not),
-        (Call::Place, Answer::Number(100)),
+        (Call::Address, Answer::Number(100)),
         (Call::Pop, Answer::Not),
         (Call::Below, Answer::Not),
         (Call::Unmark, Answer::Not),
@@ -349,7 +349,7 @@ mod tests {
             Call::Resume,
             Answer::Why(Some(Why::Op(Residual::InputLines))),
         ),
-        (Call::Place, Answer::Number(50)),
+        (Call::Address, Answer::Number(50)),
         (Call::Pop, Answer::Value(2)),
         (Call::Pop, Answer::Not),
         (Call::Resume, Answer::Why(Some(Why::Op(COUNTING)))),
@@ -404,7 +404,7 @@ mod tests {
         (Call::Enter(3), Answer::Done),
         (Call::Proc, Answer::Number(3)),
         (Call::Level, Answer::Number(2)),
-        (Call::Place, Answer::Number(0)),
+        (Call::Address, Answer::Number(0)),
         (Call::AtBase, Answer::Is(true)),
         (Call::Scanning, Answer::Is(false)),
         (Call::Local(2), Answer::Value(3)),
@@ -414,13 +414,13 @@ mod tests {
         (Call::Go(4), Answer::Done),
         (Call::Suspend(Why::Proc, Some(6)), Answer::Done),
         (Call::Level, Answer::Number(1)),
-        (Call::Place, Answer::Number(100)),
+        (Call::Address, Answer::Number(100)),
         (Call::Label, Answer::Label(Some(8))),
         (Call::Pop, Answer::Value(6)),
         (Call::Pop, Answer::Value(1)),
         (Call::Resume, Answer::Why(Some(Why::Proc))),
         (Call::Level, Answer::Number(2)),
-        (Call::Place, Answer::Number(4)),
+        (Call::Address, Answer::Number(4)),
         (Call::Local(2), Answer::Value(30)),
         (Call::Leave, Answer::Done),
         (Call::Pop, Answer::Value(1)),

@@ -33,7 +33,7 @@ use Rattle.icn_frames.specs.Stacks.{FlatStack}
 use Rattle.icn_code.specs.Codes.{RecordType, Tables}
 use Rattle.icn_run.specs.Rows as rows
 use Rattle.icn_run.specs.Stacks.{Frames, flat}
-use Rattle.icn_run.specs.Step.{State, Store, construct_record, errs, field_applied, field_of, field_place, field_taken, fill_nulls, here, push_item, running, with_world}
+use Rattle.icn_run.specs.Step.{State, Store, construct_record, errs, field_applied, field_of, field_index, field_taken, fill_nulls, here, push_item, running, with_world}
 use Rattle.icn_control.specs.Parts.{FindsValue, HaltsWith, RunsWith}
 use Rattle.icn_control.proofs.PartSteps.{same_world, value_goes, value_halts}
 use Rattle.icn_control.specs.Standing.{stack_in}
@@ -92,13 +92,13 @@ kind_there tables kind p =
     let nothing : RecordType = record { name = 0; fields = [] } in
     (get_or tables.records kind nothing, slice_get-get_or tables.records kind nothing p)
 
-pub place_absent : (tables : Tables) (field kind : ℕ) → length tables.records ≤ kind → None ≡ field_place tables field kind
+pub place_absent : (tables : Tables) (field kind : ℕ) → length tables.records ≤ kind → None ≡ field_index tables field kind
 place_absent tables field kind p =
     sym (ap (option_and_then (λ (entry : RecordType). position (is_number field) entry.fields)) (slice_get_past tables.records kind p))
 
 pub place_found : (tables : Tables) (field kind : ℕ) (entry : RecordType) (fields : List ℕ) (place : Option ℕ) → slice_get tables.records kind ≡ Some entry
     → fields ≡ entry.fields → place ≡ position (is_number field) fields
-    → place ≡ field_place tables field kind
+    → place ≡ field_index tables field kind
 place_found tables field kind entry fields place at e p =
     p ∙ ap (position (is_number field)) e ∙ sym (ap (option_and_then (λ (entry : RecordType). position (is_number field) entry.fields)) at)
 
@@ -180,21 +180,21 @@ not_a_record w tables field item m val st same f h =
 taken_is : (w : World) (tables : Tables) (field : ℕ) (item : Item) (m : FlatStack) (val : Val) (id kind : ℕ) (place : Option ℕ) (st : Store Frames)
     → st.world ≡ world_of w
     → FindsValue (extent_of w.heap) (item_in (extent_of w.heap) item) (here flat (stack_in (extent_of w.heap) m) st) (Ok val) → val ≡ Vals.Rec id
-    → kind ≡ (record_at (heap_of w.heap) id).kind → place ≡ field_place tables field kind
+    → kind ≡ (record_at (heap_of w.heap) id).kind → place ≡ field_index tables field kind
     → field_applied flat tables field (item_in (extent_of w.heap) item ∷ []) (stack_in (extent_of w.heap) m) st
     ≡ field_taken flat place id (stack_in (extent_of w.heap) m) st
 taken_is w tables field item m val id kind place st same f v k p =
     let all : Extent = extent_of w.heap in
     applied_is w tables field item m val st f
     ∙ ap (λ (x : Val). field_of flat tables field (value_in all x) (stack_in all m) st) v
-    ∙ ap (λ (x : StoreWorld). field_taken flat (field_place tables field (record_at x.heap id).kind) id (stack_in all m) st) same
-    ∙ ap (λ (n : ℕ). field_taken flat (field_place tables field n) id (stack_in all m) st) (sym k)
+    ∙ ap (λ (x : StoreWorld). field_taken flat (field_index tables field (record_at x.heap id).kind) id (stack_in all m) st) same
+    ∙ ap (λ (n : ℕ). field_taken flat (field_index tables field n) id (stack_in all m) st) (sym k)
     ∙ ap (λ (o : Option ℕ). field_taken flat o id (stack_in all m) st) (sym p)
 
 pub no_such_field : (w : World) (tables : Tables) (field : ℕ) (item : Item) (m : FlatStack) (val : Val) (id kind : ℕ) (place : Option ℕ) (st : Store Frames)
     → st.world ≡ world_of w
     → FindsValue (extent_of w.heap) (item_in (extent_of w.heap) item) (here flat (stack_in (extent_of w.heap) m) st) (Ok val) → val ≡ Vals.Rec id
-    → kind ≡ (record_at (heap_of w.heap) id).kind → place ≡ field_place tables field kind → place ≡ None
+    → kind ≡ (record_at (heap_of w.heap) id).kind → place ≡ field_index tables field kind → place ≡ None
     → field_applied flat tables field (item_in (extent_of w.heap) item ∷ []) (stack_in (extent_of w.heap) m) st
     ≡ errs 207 (Some (rows.ARecord id)) (with_world (world_of w) st)
 no_such_field w tables field item m val id kind place st same f v k p e =
@@ -206,7 +206,7 @@ no_such_field w tables field item m val id kind place st same f v k p e =
 pub field_runs : (w : World) (tables : Tables) (field : ℕ) (item : Item) (m k n : FlatStack) (val : Val) (id kind at : ℕ) (place : Option ℕ) (st : Store Frames)
     → st.world ≡ world_of w
     → FindsValue (extent_of w.heap) (item_in (extent_of w.heap) item) (here flat (stack_in (extent_of w.heap) m) st) (Ok val) → val ≡ Vals.Rec id
-    → kind ≡ (record_at (heap_of w.heap) id).kind → place ≡ field_place tables field kind
+    → kind ≡ (record_at (heap_of w.heap) id).kind → place ≡ field_index tables field kind
     → place ≡ Some at → k ≡ m → n ≡ held.push (HeldVar (HeldWhole (HeldField id at))) k
     → RunsWith (field_applied flat tables field (item_in (extent_of w.heap) item ∷ []) (stack_in (extent_of w.heap) m) st) st w n
 field_runs w tables field item m k n val id kind at place st same f v e p there q r =

@@ -15,4 +15,4 @@ pub use calling::{call_procedure, take_parameters};
 pub use constructors::{construct, record_of};
 pub use integers::{call_integer, chosen, number_of};
 pub use invoking::invoke;
-pub use record_fields::{field_place, push_field};
+pub use record_fields::{field_index, push_field};

@@ -9,7 +9,7 @@ ghost use Rattle.icn_heap.specs.Heaps.{extent_of, heap_of};
 ghost use Rattle.icn_vars.specs.Outcomes.{IsLiveHalt};
 ghost use Rattle.icn_vars.specs.Worlds.{IsLiveItem, item_in, reach_of, world_of};
 ghost use Rattle.icn_run.specs.Stacks.{Frames as FramesRead, flat as calls};
-ghost use Rattle.icn_run.specs.Step.{Store, field_applied, field_place};
+ghost use Rattle.icn_run.specs.Step.{Store, field_applied, field_index};
 ghost use Rattle.icn_control.specs.Living.{IsLiveStack, with_locals};
 ghost use Rattle.icn_control.specs.Parts.{HaltsWith, RunsWith};
 ghost use Rattle.icn_control.specs.Standing.{stack_in};
@@ -53,8 +53,8 @@ fn fields_of(code: &Code, kind: u32) -> &[u32]
 }
 
 /// The first of the fields of a kind of records whose entry is this, where there is one. It takes no memory.
-pub fn field_place(code: &Code, field: u32, kind: u16) -> Option<u16>
-    ensures place { result ≡ field_place (tables_of code.now) field kind }
+pub fn field_index(code: &Code, field: u32, kind: u16) -> Option<u16>
+    ensures place { result ≡ field_index (tables_of code.now) field kind }
     ensures within { IfSome result (λ place. place < field_count (tables_of code.now) kind) }
 {
     let place = kind as usize;
@@ -92,7 +92,7 @@ pub fn push_field<K: Stack<Cell> + Drop>(
     let Val::Rec(rec) = val else {
         return Err(Halt::Error(107, Some(val)));
     };
-    let Some(place) = field_place(code, field, world.heap.kind(rec)) else {
+    let Some(place) = field_index(code, field, world.heap.kind(rec)) else {
         return Err(Halt::Error(207, Some(val)));
     };
     match frames.push(Item::Var(VarRef::Whole(Root::Field { rec, place }))) {

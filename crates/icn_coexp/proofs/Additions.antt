@@ -47,7 +47,7 @@ main_begun K es o all l =
 pub kept_more : (K : Type 0) (es es' : List (Entry K)) (a : ℕ) (running : Running K) (e : Entry K) (stack : SeenStack) → AreInOrder es a running
     → es' ≡ es ++ e ∷ []
     → e.status ≡ Fresh stack
-    → stack.flat ≡ flat.begin e.proc e.values.items e.place → e.activator ≡ 0 → AreInOrder es' a running
+    → stack.flat ≡ flat.begin e.proc e.values.items e.address → e.activator ≡ 0 → AreInOrder es' a running
 kept_more K es es' a running e stack k p q f r =
     let h = here_entry K running (slice_get es a) k.here in
     let inside : a < length es = slice_get_within es a h.0 h.1 in
@@ -69,7 +69,7 @@ kept_more K es es' a running e stack k p q f r =
 -- one more, made as another one was
 pub copied_is : (K : Type 0) (es : List (Entry K)) (t : Table) (id : ℕ) (e : Entry K) (values : List Val) → slice_get es id ≡ Some e
     → t.coexps ≡ map coexp_seen es → values ≡ e.values.items
-    → with_new values e.proc e.place t ≡ with_copy t (slice_get t.coexps id)
+    → with_new values e.proc e.address t ≡ with_copy t (slice_get t.coexps id)
 copied_is K es t id e values g p q =
-    ap (λ (w : List Val). with_new w e.proc e.place t) q
+    ap (λ (w : List Val). with_new w e.proc e.address t) q
     ∙ sym (ap (with_copy t) (ap (λ (w : List Coexp). slice_get w id) p ∙ slice_get-map coexp_seen es id ∙ ap (option_map coexp_seen) g))

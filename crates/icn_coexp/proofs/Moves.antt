@@ -150,7 +150,7 @@ give_case : (K : Type 0) (es : List (Entry K)) (n a : ℕ) (r : Option FlatStack
 give_case K es n a r v e (Fresh stack) m g f i =
     let T : Table = record { coexps = map coexp_seen es; active = a; running = r } in
     ap (λ (w : Option Coexp). Some (begin_by n T w)) (slice_get-map coexp_seen es n ∙ ap (option_map coexp_seen) g)
-    ∙ ap (λ (w : Table). Some w) (on_seen K es n a r m (flat.begin e.proc e.values.items e.place) (i ∙ f.1))
+    ∙ ap (λ (w : Table). Some w) (on_seen K es n a r m (flat.begin e.proc e.values.items e.address) (i ∙ f.1))
 give_case K es n a r v e Active m g f i = absurd i
 give_case K es n a r v e (Waiting stack) m g f i = ap (λ (w : Table). Some w) (on_seen K es n a r m (flat.push (Items.Val v) stack.flat) i)
 give_case K es n a r v e Exhausted m g f i = absurd i

@@ -26,7 +26,7 @@ coexp_seen entry = record {
   activator = entry.activator;
   values = entry.values.items;
   proc = entry.proc;
-  address = entry.place;
+  address = entry.address;
 }
 
 abbrev pub running_seen : {K : Type 0} → Running K → Option FlatStack
@@ -109,7 +109,7 @@ IsBegun None = ⊥
 -- `&main` has begun and is never exhausted; a fresh one has the stack with which it begins; a waiting one has room for the value that enters it
 abbrev pub StatusFits : {K : Type 0} → Option ℕ → ℕ → Entry K → Status K → Type 0
 StatusFits active n entry (Fresh stack) =
-    (0 < n) × (stack.flat ≡ flat.begin entry.proc entry.values.items entry.place)
+    (0 < n) × (stack.flat ≡ flat.begin entry.proc entry.values.items entry.address)
 StatusFits active n entry Active = Some n ≡ active
 StatusFits active n entry (Waiting stack) = 0 < stack.spare
 StatusFits active n entry Exhausted = 0 < n

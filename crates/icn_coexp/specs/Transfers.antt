@@ -10,7 +10,7 @@ use Rattle.icn_coexp.specs.declared.table.Went.{Went}
 use Rattle.icn_coexp.specs.declared.table.Went.TheVariants as Wents
 
 -- A co-expression: it has not begun, is active, waits with its stack, or is exhausted; what entered it last; and the values, the procedure and the
--- place that it was made with.
+-- address that it was made with.
 pub record Coexp : Type 0 where
   pub status : Status FlatStack
   pub activator : ℕ
@@ -88,10 +88,11 @@ with_activator_in n activator coexps None = coexps
 abbrev pub with_activator : ℕ → ℕ → List Coexp → List Coexp
 with_activator n activator coexps = with_activator_in n activator coexps (slice_get coexps n)
 
--- one more, made with these values for this procedure, to begin at this place
+-- one more, made with these values for this procedure, to begin at this address
 abbrev pub with_new : List Val → ℕ → ℕ → Table → Table
-with_new values proc place t = record t {
-  coexps = t.coexps ++ record { status = Fresh; activator = 0; values = values; proc = proc; address = place }
+with_new values proc address t = record t {
+  coexps = t.coexps
+      ++ record { status = Fresh; activator = 0; values = values; proc = proc; address = address }
       ∷ [];
 }
 

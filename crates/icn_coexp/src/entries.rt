@@ -28,7 +28,7 @@ pub struct Entry<K: Stack<Cell> + Drop> {
     pub activator: u32,
     pub values: Vec<Val>,
     pub proc: u32,
-    pub place: u32,
+    pub address: u32,
 }
 
 /// The stack that runs, or that a hop is due.

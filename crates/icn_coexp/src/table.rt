@@ -64,7 +64,7 @@ impl<K: Stack<Cell> + Drop> Stacks<K> {
             activator: 0,
             values: Vec::new(alloc),
             proc: 0,
-            place: 0,
+            address: 0,
         })?;
         Ok(Stacks {
             entries,
@@ -130,7 +130,7 @@ impl<K: Stack<Cell> + Drop> Stacks<K> {
         self.running.stack_mut()
     }
 
-    /// One more co-expression, made with these values for this procedure, which begins at this place. Gives its number.
+    /// One more co-expression, made with these values for this procedure, which begins at this address. Gives its number.
     ///
     /// An error is want of memory, and nothing has changed. There must be fewer than 2 ^ 32 co-expressions.
     pub fn create(
@@ -138,17 +138,17 @@ impl<K: Stack<Cell> + Drop> Stacks<K> {
         alloc: Global,
         locals: &[Val],
         proc: u32,
-        place: u32,
+        address: u32,
     ) -> Result<u32, AllocError>
         requires few { length self.old.table.coexps < 2 ^ 32 }
         ensures number { IfOk result (λ id. id ≡ length self.old.table.coexps) }
-        ensures made { OnOk result (self.new.table ≡ with_new locals.now proc place self.old.table) }
+        ensures made { OnOk result (self.new.table ≡ with_new locals.now proc address self.old.table) }
         ensures unchanged { OnErr result (self.new.table ≡ self.old.table) }
         ensures spare { self.new.spare ≡ self.old.spare }
     {
         let mut values = Vec::new(alloc);
         values.extend_from_slice(locals)?;
-        self.add(alloc, values, proc, place)
+        self.add(alloc, values, proc, address)
     }
 
     /// One more co-expression, made as another one was, whatever that one or its procedure did since. Gives its number.
@@ -167,10 +167,10 @@ impl<K: Stack<Cell> + Drop> Stacks<K> {
     {
         let entry = &self.entries[id as usize];
         let proc = entry.proc;
-        let place = entry.place;
+        let address = entry.address;
         let mut values = Vec::new(alloc);
         values.extend_from_slice(&entry.values)?;
-        self.add(alloc, values, proc, place)
+        self.add(alloc, values, proc, address)
     }
 
     // One more, made with these values.
@@ -179,22 +179,22 @@ impl<K: Stack<Cell> + Drop> Stacks<K> {
         alloc: Global,
         values: Vec<Val>,
         proc: u32,
-        place: u32,
+        address: u32,
     ) -> Result<u32, AllocError>
         requires few { length self.old.table.coexps < 2 ^ 32 }
         ensures number { IfOk result (λ id. id ≡ length self.old.table.coexps) }
-        ensures made { OnOk result (self.new.table ≡ with_new values.items proc place self.old.table) }
+        ensures made { OnOk result (self.new.table ≡ with_new values.items proc address self.old.table) }
         ensures unchanged { OnErr result (self.new.table ≡ self.old.table) }
         ensures spare { self.new.spare ≡ self.old.spare }
     {
         let id = self.entries.len() as u32;
-        let stack = Frames::new(alloc, proc, &values, place)?;
+        let stack = Frames::new(alloc, proc, &values, address)?;
         let entry = Entry {
             status: Status::Fresh(stack),
             activator: 0,
             values,
             proc,
-            place,
+            address,
         };
         self.entries.push(entry)?;
         Ok(id)

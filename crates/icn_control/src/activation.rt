@@ -15,13 +15,13 @@ pub struct Activation<'a, K: Stack<Cell> + Drop> {
 impl<K: Stack<Cell> + Drop> Locals for Activation<'_, K> {
     ghost items = { λ l. flat.locals l.frames.now.flat };
 
-    fn get(&self, place: u64) -> Val {
+    fn get(&self, index: u64) -> Val {
         self.frames.local_count();
-        self.frames.local(place)
+        self.frames.local(index)
     }
 
-    fn set(&mut self, place: u64, val: Val) {
+    fn set(&mut self, index: u64, val: Val) {
         self.frames.local_count();
-        self.frames.set_local(place, val);
+        self.frames.set_local(index, val);
     }
 }

@@ -28,7 +28,7 @@ use icn_value::{Item, Val};
 use icn_vars::{Halt, Stop, World};
 use std::alloc::{AllocError, Global};
 
-/// Makes a co-expression with the present values of the locals, as a turn: it begins at the present place, and the code goes on
+/// Makes a co-expression with the present values of the locals, as a turn: it begins at the present address, and the code goes on
 /// at a label with its value.
 ///
 /// The error is 307 or want of memory.
@@ -139,8 +139,8 @@ fn add_here<K: Stack<Cell> + Drop>(
     let frames = stacks.frames();
     let locals = locals_of(frames, alloc)?;
     let proc = frames.proc();
-    let place = frames.place();
-    let id = stacks.create(alloc, &locals, proc, place)?;
+    let address = frames.address();
+    let id = stacks.create(alloc, &locals, proc, address)?;
     let frames = stacks.frames();
     frames.go(label);
     frames.push(Item::Val(Val::Coexp(id)))?;
@@ -174,10 +174,10 @@ fn locals_of<K: Stack<Cell> + Drop>(
 {
     let count = frames.local_count();
     let mut values = Vec::new(alloc);
-    let mut place: u64 = 0;
-    while place < count {
-        values.push(frames.local(place))?;
-        place += 1;
+    let mut index: u64 = 0;
+    while index < count {
+        values.push(frames.local(index))?;
+        index += 1;
     }
     Ok(values)
 }

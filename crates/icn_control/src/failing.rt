@@ -88,8 +88,8 @@ fn drop_failed<K: Stack<Cell> + Drop>(frames: &mut Frames<K>) -> Due
     frames.unmark();
     match label {
         None => Due::Failing,
-        Some(place) => {
-            frames.go(place);
+        Some(address) => {
+            frames.go(address);
             if again { Due::Beginning } else { Due::Running }
         }
     }

@@ -15,87 +15,87 @@ use icn_frames::{Cell, Frames};
 use icn_value::{Cset, Item, Root, Val, VarRef};
 use std::alloc::AllocError;
 
-/// Pushes an integer of the code, by its place, which must be there.
+/// Pushes an integer of the code, by its index, which must be there.
 pub fn push_integer<K: Stack<Cell> + Drop>(
     frames: &mut Frames<K>,
     code: &Code,
-    place: u32,
+    index: u32,
 ) -> Result<(), AllocError>
-    requires { place < length (tables_of code.now).integers }
+    requires { index < length (tables_of code.now).integers }
     ensures step { OnOk result
-        (GoesOnIn (tables_of code.now) (Instrs.Int place) frames.old.flat frames.new.flat) }
+        (GoesOnIn (tables_of code.now) (Instrs.Int index) frames.old.flat frames.new.flat) }
     ensures live { OnOk result (StaysLive frames.old.flat frames.new.flat) }
 {
-    let n = code.integers[place as usize];
+    let n = code.integers[index as usize];
     frames.push(Item::Val(Val::Integer(n)))?;
     Ok(())
 }
 
-/// Pushes the variable of a local, by its place, which must be there.
+/// Pushes the variable of a local, by its index, which must be there.
 pub fn push_local<K: Stack<Cell> + Drop>(
     frames: &mut Frames<K>,
-    place: u32,
+    index: u32,
 ) -> Result<(), AllocError>
-    requires { place < flat.local_count frames.old.flat }
-    ensures step { OnOk result (GoesOn (Instrs.Local place) frames.old.flat frames.new.flat) }
+    requires { index < flat.local_count frames.old.flat }
+    ensures step { OnOk result (GoesOn (Instrs.Local index) frames.old.flat frames.new.flat) }
     ensures live { OnOk result (StaysLive frames.old.flat frames.new.flat) }
 {
-    frames.push(Item::Var(VarRef::Whole(Root::Local(place))))?;
+    frames.push(Item::Var(VarRef::Whole(Root::Local(index))))?;
     Ok(())
 }
 
-/// Pushes the variable of a global, by its place.
+/// Pushes the variable of a global, by its index.
 pub fn push_global<K: Stack<Cell> + Drop>(
     frames: &mut Frames<K>,
-    place: u32,
+    index: u32,
 ) -> Result<(), AllocError>
-    ensures step { OnOk result (GoesOn (Instrs.Global place) frames.old.flat frames.new.flat) }
-    ensures live { OnOk result ((tables : Tables) (reach : Reach) → place < reach.globals
+    ensures step { OnOk result (GoesOn (Instrs.Global index) frames.old.flat frames.new.flat) }
+    ensures live { OnOk result ((tables : Tables) (reach : Reach) → index < reach.globals
         → IsLiveStack tables reach frames.old.flat → IsLiveStack tables reach frames.new.flat) }
 {
-    frames.push(Item::Var(VarRef::Whole(Root::Global(place))))?;
+    frames.push(Item::Var(VarRef::Whole(Root::Global(index))))?;
     Ok(())
 }
 
-/// Pushes a cset of the code, by its place, which must be there.
+/// Pushes a cset of the code, by its index, which must be there.
 pub fn push_cset<K: Stack<Cell> + Drop>(
     frames: &mut Frames<K>,
     code: &Code,
-    place: u32,
+    index: u32,
 ) -> Result<(), AllocError>
-    requires { place < length (tables_of code.now).csets }
+    requires { index < length (tables_of code.now).csets }
     ensures step { OnOk result
-        (GoesOnIn (tables_of code.now) (Instrs.Cset place) frames.old.flat frames.new.flat) }
+        (GoesOnIn (tables_of code.now) (Instrs.Cset index) frames.old.flat frames.new.flat) }
     ensures live { OnOk result (StaysLive frames.old.flat frames.new.flat) }
 {
-    let set = cset_at(code, place);
+    let set = cset_at(code, index);
     frames.push(Item::Val(Val::Chars(set)))?;
     Ok(())
 }
 
-/// Pushes the variable of a static of the procedure that runs, by its place among them; `first` is the number of the
+/// Pushes the variable of a static of the procedure that runs, by its index among them; `first` is the number of the
 /// procedure's first static, and so many there are below 2 ^ 32.
 pub fn push_static<K: Stack<Cell> + Drop>(
     frames: &mut Frames<K>,
     first: u32,
-    place: u32,
+    index: u32,
 ) -> Result<(), AllocError>
-    requires few { first + place < 2 ^ 32 }
+    requires few { first + index < 2 ^ 32 }
     ensures step { OnOk result ((tables : Tables) → first ≡ statics_before tables (flat.proc frames.old.flat)
-        → GoesOnIn tables (Instrs.Static place) frames.old.flat frames.new.flat) }
-    ensures live { OnOk result ((tables : Tables) (reach : Reach) → first + place < reach.statics
+        → GoesOnIn tables (Instrs.Static index) frames.old.flat frames.new.flat) }
+    ensures live { OnOk result ((tables : Tables) (reach : Reach) → first + index < reach.statics
         → IsLiveStack tables reach frames.old.flat → IsLiveStack tables reach frames.new.flat) }
 {
-    frames.push(Item::Var(VarRef::Whole(Root::Static(first + place))))?;
+    frames.push(Item::Var(VarRef::Whole(Root::Static(first + index))))?;
     Ok(())
 }
 
 // A cset of the code.
-fn cset_at(code: &Code, place: u32) -> Cset
-    requires { place < length (tables_of code.now).csets }
-    ensures { slice_get (tables_of code.now).csets place ≡ Some result }
+fn cset_at(code: &Code, index: u32) -> Cset
+    requires { index < length (tables_of code.now).csets }
+    ensures { slice_get (tables_of code.now).csets index ≡ Some result }
 {
-    match code.csets.get(place as usize) {
+    match code.csets.get(index as usize) {
         Some(set) => *set,
         None => unreachable!(),
     }

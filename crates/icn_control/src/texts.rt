@@ -19,35 +19,35 @@ use icn_value::{Item, Span, Val};
 use icn_vars::World;
 use std::alloc::AllocError;
 
-/// Pushes a text of the code, by its place, which must be there. It is not charged. The error is want of memory.
+/// Pushes a text of the code, by its index, which must be there. It is not charged. The error is want of memory.
 pub fn push_string<K: Stack<Cell> + Drop>(
     frames: &mut Frames<K>,
     world: &mut World,
     code: &Code,
-    place: u32,
+    index: u32,
 ) -> Result<(), AllocError>
-    requires place { place < length (tables_of code.now).strings }
+    requires index { index < length (tables_of code.now).strings }
     requires live { (tables : Tables) × IsLiveStack tables (reach_of world.old []) frames.old.flat }
     ensures step { OnOk result ((st : Store FramesRead) → st.world ≡ world_of world.old
         → RunsWith (instruction_state (extent_of world.old.heap) (tables_of code.now)
-        (Instrs.Str place) frames.old.flat st) st world.new frames.new.flat) }
+        (Instrs.Str index) frames.old.flat st) st world.new frames.new.flat) }
     ensures live { (tables : Tables) → IsLiveStack tables (reach_of world.old []) frames.old.flat
         → OnOk result (IsLiveStack tables (reach_of world.new []) frames.new.flat) }
     ensures kept { KeepsItems (reach_of world.old []) (reach_of world.new []) }
     ensures heap { heap_of world.new.heap ≡ heap_of world.old.heap }
 {
-    let text = string_at(code, place);
+    let text = string_at(code, index);
     let span = hold(world, text)?;
     frames.push(Item::Val(Val::Text(span)))?;
     Ok(())
 }
 
 // A text of the code.
-fn string_at(code: &Code, place: u32) -> &[u8]
-    requires { place < length (tables_of code.now).strings }
-    ensures { slice_get (tables_of code.now).strings place ≡ Some result.now }
+fn string_at(code: &Code, index: u32) -> &[u8]
+    requires { index < length (tables_of code.now).strings }
+    ensures { slice_get (tables_of code.now).strings index ≡ Some result.now }
 {
-    match code.strings.get(place as usize) {
+    match code.strings.get(index as usize) {
         Some(text) => text.as_slice(),
         None => unreachable!(),
     }

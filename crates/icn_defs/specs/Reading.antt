@@ -2,7 +2,7 @@
 use Rattle.std.specs.Prelude.{◌==◌, ◌&&◌, ◌+◌, ◌-◌, ◌^◌, ◌%◌, ℕ, pos, Bool, true, false, not, nat_lt, nat_le, List, [], ◌∷◌, ◌++◌, length, take, drop, slice_set, slice_range, Option, None, Some, unwrap_or, is_some, if◌then◌else◌}
 use Rattle.std.specs.Int.{w64, cast_unsigned}
 use Rattle.icn_structs.specs.Numbered.{item_numbered, with_numbered}
-use Rattle.icn_structs.specs.PairLists.{value_of, stored}
+use Rattle.icn_structs.specs.PairLists.{value_of, with_value_of}
 use Rattle.icn_value.specs.Values.{Value, Null, Integer, Text, Root, Global, Static, Local, Element, Field, Key, Keyword, KeywordVariable, Subject, Position, Random, Variable, Whole, Part, Item, Val, Var}
 use Rattle.icn_value.specs.Store.{Setting, Table, list_at, table_at, record_at, value_at, with_list, with_table, with_record, having_globals, having_statics, having_subject, having_position, having_random}
 use Rattle.icn_defs.specs.Conversions.{same, text_of, integer_of, held_text, place_of}
@@ -106,7 +106,7 @@ stores id key value next = do
   setting ← here
   let table = table_at setting.world.heap id
   costs_unless (is_some (value_of same table.pairs key))
-  changes_heap (with_table id (record table { pairs = stored same table.pairs key value }))
+  changes_heap (with_table id (record table { pairs = with_value_of same table.pairs key value }))
   next
 
 -- a whole variable gets a value: 205 where a list element is gone

@@ -14,7 +14,7 @@ use std::marker::Model;
 
 /// The stack of one co-expression.
 ///
-/// A clause sees the stack as cells, registers and a place in the code, and for how many more cells there is room. The base,
+/// A clause sees the stack as cells, registers and an address in the code, and for how many more cells there is room. The base,
 /// and each procedure's frame, counts as the outermost mark of what runs in it. Only `new`, `reserve`, `mark`,
 /// `push`, `suspend` and `enter` take memory; after an error, which is want of memory, they leave all but the room as it was,
 /// and the room does not shrink.
@@ -22,7 +22,7 @@ use std::marker::Model;
 pub struct Frames<K: Stack<Cell> + Drop> {
     cells: K,
     registers: Registers,
-    place: u32,
+    address: u32,
 }
 
 impl<K: Stack<Cell> + Drop> Model for Frames<K> {
@@ -31,7 +31,7 @@ impl<K: Stack<Cell> + Drop> Model for Frames<K> {
     ghost Value = { SeenStack };
 
     ghost view = { λ m. record {
-      flat = record { cells = K.cells m.cells; registers = m.registers; address = m.place };
+      flat = record { cells = K.cells m.cells; registers = m.registers; address = m.address };
       spare = K.spare m.cells;
     } };
 
@@ -40,8 +40,8 @@ impl<K: Stack<Cell> + Drop> Model for Frames<K> {
 
 impl<K: Stack<Cell> + Drop> Frames<K> {
     /// A base frame with these locals.
-    pub fn new(alloc: Global, proc: u32, locals: &[Val], place: u32) -> Result<Self, AllocError>
-        ensures { IfOk result (λ m. m.flat ≡ flat.begin proc locals.now place) }
+    pub fn new(alloc: Global, proc: u32, locals: &[Val], address: u32) -> Result<Self, AllocError>
+        ensures { IfOk result (λ m. m.flat ≡ flat.begin proc locals.now address) }
     {
         let mut cells = K::empty(alloc);
         let height = raise(
@@ -55,7 +55,7 @@ impl<K: Stack<Cell> + Drop> Frames<K> {
         Ok(Frames {
             cells,
             registers: at_frame(height),
-            place,
+            address,
         })
     }
 
@@ -102,41 +102,41 @@ impl<K: Stack<Cell> + Drop> Frames<K> {
         }
     }
 
-    /// A local of the running procedure, by its place, which must be in range.
-    pub fn local(&self, place: u64) -> Val
-        requires { place < flat.local_count self.now.flat }
-        ensures { slice_get (flat.locals self.now.flat) place ≡ Some result }
+    /// A local of the running procedure, by its index, which must be in range.
+    pub fn local(&self, index: u64) -> Val
+        requires { index < flat.local_count self.now.flat }
+        ensures { slice_get (flat.locals self.now.flat) index ≡ Some result }
     {
-        match self.cells.get(self.registers.base + place) {
+        match self.cells.get(self.registers.base + index) {
             Cell::Local(v) => v,
             _ => unreachable!(),
         }
     }
 
-    /// Sets a local of the running procedure, by its place, which must be in range.
-    pub fn set_local(&mut self, place: u64, v: Val)
-        requires { place < flat.local_count self.old.flat }
+    /// Sets a local of the running procedure, by its index, which must be in range.
+    pub fn set_local(&mut self, index: u64, v: Val)
+        requires { index < flat.local_count self.old.flat }
         ensures flat { self.new.flat
-            ≡ flat.set_locals (slice_set (flat.locals self.old.flat) place v) self.old.flat }
-        ensures locals { flat.locals self.new.flat ≡ slice_set (flat.locals self.old.flat) place v }
+            ≡ flat.set_locals (slice_set (flat.locals self.old.flat) index v) self.old.flat }
+        ensures locals { flat.locals self.new.flat ≡ slice_set (flat.locals self.old.flat) index v }
         ensures spare { self.new.spare ≡ self.old.spare }
     {
-        self.cells.set(self.registers.base + place, Cell::Local(v));
+        self.cells.set(self.registers.base + index, Cell::Local(v));
     }
 
-    /// The place in the code.
-    pub fn place(&self) -> u32
+    /// The address of the next instruction.
+    pub fn address(&self) -> u32
         ensures { result ≡ self.now.flat.address }
     {
-        self.place
+        self.address
     }
 
-    /// Sets the place.
-    pub fn go(&mut self, place: u32)
-        ensures flat { self.new.flat ≡ flat.go place self.old.flat }
+    /// Goes on at this address.
+    pub fn go(&mut self, address: u32)
+        ensures flat { self.new.flat ≡ flat.go address self.old.flat }
         ensures spare { self.new.spare ≡ self.old.spare }
     {
-        self.place = place;
+        self.address = address;
     }
 
     /// Makes room for `n` more cells. Where there is so much room already it takes no memory.
@@ -344,10 +344,14 @@ impl<K: Stack<Cell> + Drop> Frames<K> {
             Some(height) => {
                 let at = height - 1;
                 match self.cells.get(at) {
-                    Cell::Suspension { why, saved, place } => {
+                    Cell::Suspension {
+                        why,
+                        saved,
+                        address,
+                    } => {
                         self.cells.cut(at);
                         self.registers = saved;
-                        self.place = place;
+                        self.address = address;
                         Some(why)
                     }
                     _ => unreachable!(),
@@ -382,10 +386,10 @@ impl<K: Stack<Cell> + Drop> Frames<K> {
         self.pair_since(None)
     }
 
-    /// Opens a procedure frame with these locals, and goes to a place. The level of the call must be a number of 64 bits.
-    pub fn enter(&mut self, proc: u32, locals: &[Val], place: u32) -> Result<(), AllocError>
+    /// Opens a procedure frame with these locals, and goes to an address. The level of the call must be a number of 64 bits.
+    pub fn enter(&mut self, proc: u32, locals: &[Val], address: u32) -> Result<(), AllocError>
         requires { flat.level self.old.flat + 1 < 2 ^ 64 }
-        ensures ok { OnOk result (self.new.flat ≡ flat.enter proc locals.now place self.old.flat) }
+        ensures ok { OnOk result (self.new.flat ≡ flat.enter proc locals.now address self.old.flat) }
         ensures err { OnErr result (self.new.flat ≡ self.old.flat) }
         ensures spare { OnErr result (self.old.spare ≤ self.new.spare) }
     {
@@ -394,11 +398,11 @@ impl<K: Stack<Cell> + Drop> Frames<K> {
             locals: locals.len() as u64,
             level: self.level() + 1,
             saved: self.registers,
-            place: self.place,
+            address: self.address,
         };
         let height = raise(&mut self.cells, frame, locals)?;
         self.registers = at_frame(height);
-        self.place = place;
+        self.address = address;
         Ok(())
     }
 
@@ -410,10 +414,10 @@ impl<K: Stack<Cell> + Drop> Frames<K> {
     {
         let at = self.registers.base - 1;
         match self.cells.get(at) {
-            Cell::Call { saved, place, .. } => {
+            Cell::Call { saved, address, .. } => {
                 self.cells.cut(at);
                 self.registers = saved;
-                self.place = place;
+                self.address = address;
             }
             _ => unreachable!(),
         }
@@ -434,7 +438,7 @@ impl<K: Stack<Cell> + Drop> Frames<K> {
             Cell::Suspension {
                 why,
                 saved: self.registers,
-                place: self.place,
+                address: self.address,
             },
             from,
             to,
@@ -465,7 +469,7 @@ impl<K: Stack<Cell> + Drop> Frames<K> {
             Cell::Suspension {
                 why: Why::Alt,
                 saved: self.registers,
-                place: self.place,
+                address: self.address,
             },
             from,
             to,
@@ -490,14 +494,14 @@ impl<K: Stack<Cell> + Drop> Frames<K> {
     {
         let to = self.registers.base - 1;
         match self.cells.get(to) {
-            Cell::Call { saved, place, .. } => {
+            Cell::Call { saved, address, .. } => {
                 let from = bottom_of(&self.cells, saved);
                 let height = hang(
                     &mut self.cells,
                     Cell::Suspension {
                         why: Why::Proc,
                         saved: self.registers,
-                        place: self.place,
+                        address: self.address,
                     },
                     from,
                     to,
@@ -509,7 +513,7 @@ impl<K: Stack<Cell> + Drop> Frames<K> {
                     newest: Some(height),
                     scan: saved.scan,
                 };
-                self.place = place;
+                self.address = address;
                 Ok(())
             }
             _ => unreachable!(),

@@ -46,7 +46,7 @@ pub enum Cell {
         locals: u64,
         level: u64,
         saved: Registers,
-        place: u32,
+        address: u32,
     },
     /// A local.
     Local(Val),
@@ -65,7 +65,7 @@ pub enum Cell {
     Suspension {
         why: Why,
         saved: Registers,
-        place: u32,
+        address: u32,
     },
     /// An operand.
     Operand(Item),

@@ -175,14 +175,14 @@ pub fn swap_at<K: Stack<Cell>>(cells: &mut K, height: u64, pair: Pair) -> Pair
         Cell::Suspension {
             why: Why::Scan(old),
             saved,
-            place,
+            address,
         } => {
             cells.set(
                 height - 1,
                 Cell::Suspension {
                     why: Why::Scan(pair),
                     saved,
-                    place,
+                    address,
                 },
             );
             old

@@ -14,8 +14,8 @@ use Rattle.icn_frames_laws.specs.Readings.{Interpretation, why_read, stack_read,
 
 -- what is left where the innermost mark is dropped, by its label and by whether that was set anew
 abbrev pub drop_by : Interpretation → Option ℕ → Bool → FlatStack → calls.MarkDrop code.Frames
-drop_by read (Some place) true m = calls.Repeats (stack_read read (flat.go place m))
-drop_by read (Some place) false m = calls.Goes (stack_read read (flat.go place m))
+drop_by read (Some address) true m = calls.Repeats (stack_read read (flat.go address m))
+drop_by read (Some address) false m = calls.Goes (stack_read read (flat.go address m))
 drop_by read None again m = calls.Outside (stack_read read m)
 
 -- What a stack that is read tells is what the stack tells, read.
@@ -30,7 +30,7 @@ pub record SameToRead (read : Interpretation) (m : FlatStack) : Type 0 where
 pub record SameToCall (read : Interpretation) (m : FlatStack) : Type 0 where
   pub set_locals : (values : List Val) → code.set_locals (map read.value values) (stack_read read m)
       ≡ stack_read read (flat.set_locals values m)
-  pub go : (place : ℕ) → code.go place (stack_read read m) ≡ stack_read read (flat.go place m)
+  pub go : (address : ℕ) → code.go address (stack_read read m) ≡ stack_read read (flat.go address m)
   pub push : (item : Item)
       → code.push (read.item item) (stack_read read m) ≡ stack_read read (flat.push item m)
   pub pop : code.pop (stack_read read m) ≡ option_map (popped_read read) (flat.pop m)
@@ -63,8 +63,8 @@ pub record SameToCall (read : Interpretation) (m : FlatStack) : Type 0 where
 
 -- A stack that is begun with values that are read is the one that is begun with the values, read.
 abbrev pub SameToBegin : Interpretation → Type 0
-SameToBegin read = (proc : ℕ) (values : List Val) (place : ℕ) (m : code.Frames)
-    → code.begin proc (map read.value values) place m ≡ stack_read read (flat.begin proc values place)
+SameToBegin read = (proc : ℕ) (values : List Val) (address : ℕ) (m : code.Frames)
+    → code.begin proc (map read.value values) address m ≡ stack_read read (flat.begin proc values address)
 
 -- To take operands is to pop them one by one, the last one first.
 abbrev pub TakesByPops : Type 0

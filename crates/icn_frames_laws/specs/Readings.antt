@@ -33,13 +33,13 @@ registers_read r = record { base = r.base; mark = r.mark; newest = r.newest; sca
 
 abbrev pub cell_read : Interpretation → Cell → code.Cell
 cell_read read (Base proc locals) = code.base proc locals
-cell_read read (Call proc locals level registers place) =
-    code.call proc locals level (registers_read registers) place
+cell_read read (Call proc locals level registers address) =
+    code.call proc locals level (registers_read registers) address
 cell_read read (Local value) = code.local (read.value value)
 cell_read read (Mark label changed registers) = code.mark label changed (registers_read registers)
 cell_read read (Limit count registers) = code.limit count (registers_read registers)
-cell_read read (Suspension why registers place) =
-    code.suspension (why_read read why) (registers_read registers) place
+cell_read read (Suspension why registers address) =
+    code.suspension (why_read read why) (registers_read registers) address
 cell_read read (Operand item) = code.operand (read.item item)
 
 -- the stack that a machine's stack stands for

@@ -5,7 +5,7 @@ use Rattle.std.specs.List.{All}
 use Rattle.std.proofs.lemmas.List.{map-append, map_more}
 use Rattle.std.proofs.lemmas.List.Elements.{All-push, filter-append}
 use Rattle.std.proofs.lemmas.List.Sums.{fold-append}
-use Rattle.icn_structs.specs.PairLists.{value_of, stored}
+use Rattle.icn_structs.specs.PairLists.{value_of, with_value_of}
 use Rattle.icn_value.specs.declared.val.Val.{Val}
 use Rattle.icn_value.specs.Values.{Value}
 use Rattle.icn_value.specs.Sameness.{has_value, with_member}
@@ -26,8 +26,8 @@ module _ (all : Extent) (key : Key) (formed : IsKey key) (val : Val) (live : IsL
       by_test (is_some (value_of key_eq members key)) (has_value (set_in members) (value_in all val))
       (member_found all key formed members are ∙ ap (λ v. has_value (set_in members) v) alike) (stored_new key_eq members key val)
     where
-      by_test : (b c : Bool) → b ≡ c → (b ≡ false → stored key_eq members key val ≡ members ++ (key, val) ∷ [])
-          → set_in (if b then members else stored key_eq members key val) ≡ (if c then set_in members else set_in members ++ value_in all val ∷ [])
+      by_test : (b c : Bool) → b ≡ c → (b ≡ false → with_value_of key_eq members key val ≡ members ++ (key, val) ∷ [])
+          → set_in (if b then members else with_value_of key_eq members key val) ≡ (if c then set_in members else set_in members ++ value_in all val ∷ [])
       by_test true true same new = refl
       by_test false false same new =
           ap set_in (new refl) ∙ (map-append member_in members ((key, val) ∷ []) ∙ ap (λ (v : Value). set_in members ++ v ∷ []) alike)
@@ -37,8 +37,8 @@ module _ (all : Extent) (key : Key) (formed : IsKey key) (val : Val) (live : IsL
   pub joins_soundly : All (IsSoundMember all) (with_entry members key val)
   joins_soundly = by_test (is_some (value_of key_eq members key)) (stored_new key_eq members key val)
     where
-      by_test : (b : Bool) → (b ≡ false → stored key_eq members key val ≡ members ++ (key, val) ∷ [])
-          → All (IsSoundMember all) (if b then members else stored key_eq members key val)
+      by_test : (b : Bool) → (b ≡ false → with_value_of key_eq members key val ≡ members ++ (key, val) ∷ [])
+          → All (IsSoundMember all) (if b then members else with_value_of key_eq members key val)
       by_test true new = are
       by_test false new =
           rw (new refl)
@@ -53,8 +53,8 @@ fold_more step start f xs i d there =
 -- a pair that is stored behind others
 pub stores_more : (all : Extent) (key : Key) (formed : IsKey key) (pair : Val × Val) → AreLive all pair → key_value key ≡ value_in all pair.0
     → (pairs : List (Key × Entry)) → All (IsSoundPair all) pairs
-    → (map (pair_in all) (stored key_eq pairs key (record { key = pair.0; value = pair.1 })) ≡ with_stored (map (pair_in all) pairs) (values_in all pair))
-    × All (IsSoundPair all) (stored key_eq pairs key (record { key = pair.0; value = pair.1 }))
+    → (map (pair_in all) (with_value_of key_eq pairs key (record { key = pair.0; value = pair.1 })) ≡ with_stored (map (pair_in all) pairs) (values_in all pair))
+    × All (IsSoundPair all) (with_value_of key_eq pairs key (record { key = pair.0; value = pair.1 }))
 stores_more all key formed pair live alike pairs are =
     let entry : Entry = record { key = pair.0; value = pair.1 } in (
       pair_stored all key formed pairs are entry ∙ ap (λ k. with_stored (map (pair_in all) pairs) (k, value_in all pair.1)) alike,

@@ -9,7 +9,7 @@ use Rattle.std.proofs.lemmas.List.Elements.{All-push, All-set}
 use Rattle.icn_strings.specs.declared.region.Region.{Region}
 use Rattle.icn_strings.specs.Regions.{Keeps as KeepsTexts, sum_of}
 use Rattle.icn_structs.specs.Numbered.{NumberedList}
-use Rattle.icn_structs.specs.PairLists.{value_of, stored, without, KeysDiffer}
+use Rattle.icn_structs.specs.PairLists.{value_of, with_value_of, without, KeysDiffer}
 use Rattle.icn_value.specs.declared.full.Full.{Full}
 use Rattle.icn_value.specs.declared.val.Val.{Val}
 use Rattle.icn_value.specs.declared.val.Val.TheVariants.{Null as NullVal}
@@ -205,12 +205,12 @@ module _ (parts : Parts) (is : IsSound parts) (id : ℕ) (there : id < length pa
   pub member_adds : {sum : ℕ} → parts.cells ≤ sum → sum ≤ parts.limits.cells → (key : Key) (val : Val) → IsKey key → IsLive (extent_in parts) val
       → key_value key ≡ value_in (extent_in parts) val
       → has_value (set_at (heap_over (extent_in parts) parts) id) (key_value key) ≡ false
-      → Becomes parts (record parts { sets = slice_set parts.sets id (stored key_eq (slice_index_or parts.sets id []) key val); cells = sum })
+      → Becomes parts (record parts { sets = slice_set parts.sets id (with_value_of key_eq (slice_index_or parts.sets id []) key val); cells = sum })
       (having_member id (value_in (extent_in parts) val) (with_cells sum (heap_over (extent_in parts) parts)))
   member_adds {sum} more within key val formed live alike none =
       let members : List (Key × Val) = slice_index_or parts.sets id [] in
-      let joined : stored key_eq members key val ≡ members ++ (key, val) ∷ [] = stored_new key_eq members key val (has_is key formed ∙ none) in
-      set_changes parts is more within id (stored key_eq members key val)
+      let joined : with_value_of key_eq members key val ≡ members ++ (key, val) ∷ [] = stored_new key_eq members key val (has_is key formed ∙ none) in
+      set_changes parts is more within id (with_value_of key_eq members key val)
       (rw joined (All-push (IsSoundMember (extent_in parts)) members (key, val) members_sound
       (record { live = live; formed = formed; alike = rw alike (same_self (value_in (extent_in parts) val)) })))
       (ap (map member_in) joined ∙ (map-append member_in members ((key, val) ∷ [])
@@ -299,9 +299,9 @@ module _ (parts : Parts) (is : IsSound parts) (id : ℕ) (there : id < length pa
       (record { default = table_sound.default; pairs = stored_sound (extent_in parts) key formed table.pairs table_sound.pairs entry live live' alike })
       (ap (λ pairs. let t : Table = record { default = value_in (extent_in parts) table.default; pairs = pairs } in t)
       (pair_stored (extent_in parts) key formed table.pairs table_sound.pairs entry
-      ∙ ap (λ k. stored same (map (pair_in (extent_in parts)) table.pairs) k (value_in (extent_in parts) entry.value)) alike)
+      ∙ ap (λ k. with_value_of same (map (pair_in (extent_in parts)) table.pairs) k (value_in (extent_in parts) entry.value)) alike)
       ∙ ap (λ (t : Table). let u : Table =
-      record { default = t.default; pairs = stored same t.pairs (value_in (extent_in parts) entry.key) (value_in (extent_in parts) entry.value) } in u)
+      record { default = t.default; pairs = with_value_of same t.pairs (value_in (extent_in parts) entry.key) (value_in (extent_in parts) entry.value) } in u)
       (sym (table_view (extent_in parts) parts id)))
 
   pub pair_leaves : (key : Key) → IsKey key

@@ -5,7 +5,7 @@ use Rattle.std.specs.Map.{keys_of, remove_entry}
 use Rattle.std.specs.Option.{option_map}
 use Rattle.std.proofs.lemmas.List.Elements.{All-cons, All-head, All-tail}
 use Rattle.std.proofs.lemmas.Map.Keys.{IsDistinct-head, IsDistinct-tail}
-use Rattle.icn_structs.specs.PairLists.{value_of, stored, without, KeysDiffer}
+use Rattle.icn_structs.specs.PairLists.{value_of, with_value_of, without, KeysDiffer}
 use Rattle.icn_value.specs.declared.val.Val.{Val}
 use Rattle.icn_value.specs.Values.{Value}
 use Rattle.icn_value.specs.Sameness.{same}
@@ -20,13 +20,13 @@ use Rattle.icn_heap.proofs.KeyValues.{same_keys}
 
 -- a pair goes behind the others where its key is not there
 pub stored_new : {K V : Type 0} (eq : K → K → Bool) (pairs : List (K × V)) (key : K) (value : V) → is_some (value_of eq pairs key) ≡ false
-    → stored eq pairs key value ≡ pairs ++ (key, value) ∷ []
+    → with_value_of eq pairs key value ≡ pairs ++ (key, value) ∷ []
 stored_new eq [] key value none = refl
 stored_new {K} {V} eq (pair ∷ pairs) key value none = by_test (eq key pair.0) none (stored_new eq pairs key value)
   where
     by_test : (b : Bool) → is_some (cond b (Some pair.1) (value_of eq pairs key)) ≡ false
-        → (is_some (value_of eq pairs key) ≡ false → stored eq pairs key value ≡ pairs ++ (key, value) ∷ [])
-        → (if b then (pair.0, value) ∷ pairs else pair ∷ stored eq pairs key value) ≡ pair ∷ (pairs ++ (key, value) ∷ [])
+        → (is_some (value_of eq pairs key) ≡ false → with_value_of eq pairs key value ≡ pairs ++ (key, value) ∷ [])
+        → (if b then (pair.0, value) ∷ pairs else pair ∷ with_value_of eq pairs key value) ≡ pair ∷ (pairs ++ (key, value) ∷ [])
     by_test true none later = absurd (true≢false none)
     by_test false none later = ap (λ (rest : List (K × V)). pair ∷ rest) (later none)
 
@@ -123,17 +123,17 @@ module _ (all : Extent) (key : Key) (is : IsKey key) where
       by_test false here later = later
 
   pub pair_stored : (pairs : List (Key × Entry)) → All (IsSoundPair all) pairs → (entry : Entry)
-      → map (pair_in all) (stored key_eq pairs key entry) ≡ stored same (map (pair_in all) pairs) (key_value key) (value_in all entry.value)
+      → map (pair_in all) (with_value_of key_eq pairs key entry) ≡ with_value_of same (map (pair_in all) pairs) (key_value key) (value_in all entry.value)
   pair_stored [] are entry = refl
   pair_stored (pair ∷ pairs) are entry =
       let first : IsSoundPair all pair = All-head (IsSoundPair all) pair pairs are in
       by_test (key_eq key pair.0) _ (same_keys key pair.0 is first.formed) (pair_stored pairs (All-tail (IsSoundPair all) pair pairs are) entry)
     where
       by_test : (b c : Bool) → c ≡ b
-          → map (pair_in all) (stored key_eq pairs key entry) ≡ stored same (map (pair_in all) pairs) (key_value key) (value_in all entry.value)
-          → map (pair_in all) (if b then (pair.0, entry) ∷ pairs else pair ∷ stored key_eq pairs key entry)
+          → map (pair_in all) (with_value_of key_eq pairs key entry) ≡ with_value_of same (map (pair_in all) pairs) (key_value key) (value_in all entry.value)
+          → map (pair_in all) (if b then (pair.0, entry) ∷ pairs else pair ∷ with_value_of key_eq pairs key entry)
           ≡ (if c then (key_value pair.0, value_in all entry.value) ∷ map (pair_in all) pairs
-          else pair_in all pair ∷ stored same (map (pair_in all) pairs) (key_value key) (value_in all entry.value))
+          else pair_in all pair ∷ with_value_of same (map (pair_in all) pairs) (key_value key) (value_in all entry.value))
       by_test true true alike later = refl
       by_test false false alike later = ap (λ (rest : List (Value × Value)). pair_in all pair ∷ rest) later
       by_test true false alike later = absurd (true≢false (sym alike))
@@ -156,7 +156,7 @@ module _ (all : Extent) (key : Key) (is : IsKey key) where
 
   pub stored_sound : (pairs : List (Key × Entry)) → All (IsSoundPair all) pairs → (entry : Entry) → IsLive all entry.key → IsLive all entry.value
       → key_value key ≡ value_in all entry.key
-      → All (IsSoundPair all) (stored key_eq pairs key entry)
+      → All (IsSoundPair all) (with_value_of key_eq pairs key entry)
   stored_sound [] are entry live live' alike =
       All-cons (IsSoundPair all) (key, entry) [] (record { key = live; value = live'; formed = is; alike = rw alike (same_self (value_in all entry.key)) }) are
   stored_sound (pair ∷ pairs) are entry live live' alike =
@@ -164,11 +164,11 @@ module _ (all : Extent) (key : Key) (is : IsKey key) where
       by_test (key_eq key pair.0) (same_keys key pair.0 is first.formed) first
       (stored_sound pairs (All-tail (IsSoundPair all) pair pairs are) entry live live' alike)
     where
-      by_test : (b : Bool) → same (key_value key) (key_value pair.0) ≡ b → IsSoundPair all pair → All (IsSoundPair all) (stored key_eq pairs key entry)
-          → All (IsSoundPair all) (if b then (pair.0, entry) ∷ pairs else pair ∷ stored key_eq pairs key entry)
+      by_test : (b : Bool) → same (key_value key) (key_value pair.0) ≡ b → IsSoundPair all pair → All (IsSoundPair all) (with_value_of key_eq pairs key entry)
+          → All (IsSoundPair all) (if b then (pair.0, entry) ∷ pairs else pair ∷ with_value_of key_eq pairs key entry)
       by_test true here first later =
           let one : key_value pair.0 ≡ value_in all entry.key = sym (same_is (key_value key) (key_value pair.0) here) ∙ alike in
           All-cons (IsSoundPair all) (pair.0, entry) pairs
           (record { key = live; value = live'; formed = first.formed; alike = rw one (same_self (value_in all entry.key)) })
           (All-tail (IsSoundPair all) pair pairs are)
-      by_test false here first later = All-cons (IsSoundPair all) pair (stored key_eq pairs key entry) first later
+      by_test false here first later = All-cons (IsSoundPair all) pair (with_value_of key_eq pairs key entry) first later

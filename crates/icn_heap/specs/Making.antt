@@ -1,6 +1,6 @@
 -- Sets and tables that are made with their elements.
 use Rattle.std.specs.Prelude.{◌+◌, Bool, true, false, not, List, [], ◌∷◌, ◌++◌, length, filter, Ok}
-use Rattle.icn_structs.specs.PairLists.{stored}
+use Rattle.icn_structs.specs.PairLists.{with_value_of}
 use Rattle.icn_value.specs.Values.{Value}
 use Rattle.icn_value.specs.Sameness.{same, has_value}
 use Rattle.icn_value.specs.Store.{Heap, Table}
@@ -37,4 +37,4 @@ difference members others = filter (stands false others) members
 
 -- the pairs with one more, or with another value at a key that is there
 abbrev pub with_stored : List (Value × Value) → Value × Value → List (Value × Value)
-with_stored pairs pair = stored same pairs pair.0 pair.1
+with_stored pairs pair = with_value_of same pairs pair.0 pair.1

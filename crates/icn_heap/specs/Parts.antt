@@ -5,7 +5,7 @@ use Rattle.std.proofs.Props.{props}
 use Rattle.icn_strings.specs.declared.region.Region.{Region}
 use Rattle.icn_strings.specs.Regions.{sum_of, limit_of}
 use Rattle.icn_structs.specs.Numbered.{NumberedList, number_after}
-use Rattle.icn_structs.specs.PairLists.{value_of, stored, without}
+use Rattle.icn_structs.specs.PairLists.{value_of, with_value_of, without}
 use Rattle.icn_value.specs.declared.limits.Limits.{Limits}
 use Rattle.icn_value.specs.declared.val.Val.{Val}
 use Rattle.icn_value.specs.declared.val.Val.TheVariants.{Null}
@@ -121,13 +121,13 @@ entry_vals entry = (entry.key, entry.value)
 -- members with one more under its key, unless that key is there
 abbrev pub with_entry : List (Key × Val) → Key → Val → List (Key × Val)
 with_entry members key val =
-    if is_some (value_of key_eq members key) then members else stored key_eq members key val
+    if is_some (value_of key_eq members key) then members else with_value_of key_eq members key val
 
 -- a table with a pair under a key, and without the pair of a key
 
 -- the table with this entry under this key
 abbrev pub table_with : Entries → Key → Entry → Entries
-table_with table key entry = record table { pairs = stored key_eq table.pairs key entry }
+table_with table key entry = record table { pairs = with_value_of key_eq table.pairs key entry }
 
 -- the table without the entry of this key
 abbrev pub table_without : Entries → Key → Entries

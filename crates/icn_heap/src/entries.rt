@@ -2,7 +2,7 @@
 ghost use Rattle.std.specs.Prelude.{◌≡◌, ◌<◌, ◌^◌, ◌++◌, ◌∷◌, [], OnOk, OnErr, slice_set, slice_get, slice_index_or, length, is_some};
 ghost use Rattle.std.specs.Option.{option_map};
 ghost use Rattle.std.specs.Vec.{vec_len};
-ghost use Rattle.icn_structs.specs.PairLists.{value_of, stored, without, KeysDiffer};
+ghost use Rattle.icn_structs.specs.PairLists.{value_of, with_value_of, without, KeysDiffer};
 ghost use Rattle.icn_heap.specs.KeyTests.{key_eq};
 ghost use Rattle.icn_heap.specs.Parts.{no_entries, entry_of, entry_value, entry_vals, table_with, table_without};
 
@@ -54,7 +54,7 @@ pub fn add_entries(tables: &mut Vec<Entries>, table: Entries) -> Result<(), Allo
 // Stores a pair under its key among others.
 #[tactic(auto, using(crate::proofs::KeyTests::same_tests))]
 pub fn join_entry(pairs: &mut Pairs<Key, Entry>, key: Key, entry: Entry) -> Result<(), AllocError>
-    ensures { OnOk result (pairs.new ≡ stored key_eq pairs.old key entry) }
+    ensures { OnOk result (pairs.new ≡ with_value_of key_eq pairs.old key entry) }
 {
     pairs.store(key, entry)?;
     Ok(())

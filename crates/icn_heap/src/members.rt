@@ -2,7 +2,7 @@
 ghost use Rattle.std.specs.Prelude.{◌≡◌, ◌<◌, ◌^◌, ◌++◌, ◌∷◌, [], OnOk, OnErr, slice_set, slice_get, slice_index_or, length, is_some};
 ghost use Rattle.std.specs.Option.{option_map};
 ghost use Rattle.std.specs.Vec.{vec_len};
-ghost use Rattle.icn_structs.specs.PairLists.{value_of, stored, without, KeysDiffer};
+ghost use Rattle.icn_structs.specs.PairLists.{value_of, with_value_of, without, KeysDiffer};
 ghost use Rattle.icn_heap.specs.KeyTests.{key_eq};
 ghost use Rattle.icn_heap.specs.Parts.{member_val, with_entry};
 
@@ -62,7 +62,8 @@ pub fn member_stored_at(
 ) -> Result<(), AllocError>
     requires { set < vec_len sets.old }
     ensures ok { OnOk result (sets.new.items
-        ≡ slice_set sets.old.items set (stored key_eq (slice_index_or sets.old.items set []) key val)) }
+        ≡ slice_set sets.old.items set
+        (with_value_of key_eq (slice_index_or sets.old.items set []) key val)) }
     ensures err { OnErr result (sets.new.items ≡ sets.old.items) }
 {
     sets[set as usize].store(key, val)?;

@@ -9,7 +9,7 @@ use Rattle.std.proofs.lemmas.Int.{to_z-of_z, of_z-to_z}
 use Rattle.icn_value.specs.declared.cset.Cset.{Cset}
 use Rattle.icn_code.specs.Codes.{RecordType}
 use Rattle.icn_code.specs.Rules.{is_byte, is_count, is_string, is_cset, is_integer, is_record}
-use Rattle.icn_image.specs.Readers.{◌>>=◌, bytes_at, number_at, place_at, table_at}
+use Rattle.icn_image.specs.Readers.{◌>>=◌, bytes_at, number_at, index_at, table_at}
 use Rattle.icn_image.specs.Reading.{string_at, cset_at, integer_at, record_at}
 use Rattle.icn_image.specs.Spelling.{table, string, cset, integer, record_type}
 use Rattle.icn_image.proofs.Fields.{IsBytes, all_bytes, bind_ok, ok_is, Takes, takes_then, Reads, bytes_take, bytes_again, IsWide, wide64, number_reads, place_reads, table_reads}
@@ -97,11 +97,11 @@ record_takes : (w : Width) → IsWide w 65536 → (strings fields : ℕ) → str
     → Takes bytes (record_type w x.0) x.1 × (is_record strings fields x.0 ≡ true)
 unfolding record_at
 record_takes w wide strings fields few_strings few_fields bytes x fits e =
-    let a = bind_ok (place_at w strings bytes)
-    (λ name. table_at w (place_at w fields) name.1 >>= λ places. Ok (record { name = name.0; fields = places.0 }, places.1)) x e in
-    let b = bind_ok (table_at w (place_at w fields) a.0.1) (λ places. Ok (record { name = a.0.0; fields = places.0 }, places.1)) x a.2 in
+    let a = bind_ok (index_at w strings bytes)
+    (λ name. table_at w (index_at w fields) name.1 >>= λ places. Ok (record { name = name.0; fields = places.0 }, places.1)) x e in
+    let b = bind_ok (table_at w (index_at w fields) a.0.1) (λ places. Ok (record { name = a.0.0; fields = places.0 }, places.1)) x a.2 in
     let t = (place_reads w wide strings few_strings).takes bytes a.0 fits a.1 in
-    let s = (table_reads w wide ℕ (place_at w fields) (to_le_bytes w) (λ n. nat_lt n fields) (place_reads w wide fields few_fields)).takes a.0.1 b.0
+    let s = (table_reads w wide ℕ (index_at w fields) (to_le_bytes w) (λ n. nat_lt n fields) (place_reads w wide fields few_fields)).takes a.0.1 b.0
     t.0.rest_fits b.1 in
     let both = takes_then bytes (to_le_bytes w a.0.0) a.0.1 (table w (to_le_bytes w) b.0.0) b.0.1 t.0 s.0 in
     let p = and_parts (is_count (length b.0.0)) (list_all (λ n. nat_lt n fields) b.0.0) s.1 in
@@ -121,7 +121,7 @@ record_again w wide strings fields few_strings few_fields kind rest keeps =
     ap (record_at w strings fields) (append_assoc (to_le_bytes w kind.name) (table w (to_le_bytes w) kind.fields) rest)
     ∙ rw (
       (place_reads w wide strings few_strings).again kind.name (table w (to_le_bytes w) kind.fields ++ rest) q.0,
-      (table_reads w wide ℕ (place_at w fields) (to_le_bytes w) (λ n. nat_lt n fields) (place_reads w wide fields few_fields)).again kind.fields rest all,
+      (table_reads w wide ℕ (index_at w fields) (to_le_bytes w) (λ n. nat_lt n fields) (place_reads w wide fields few_fields)).again kind.fields rest all,
     ) refl
 
 pub record_reads : (w : Width) → IsWide w 65536 → (strings fields : ℕ) → strings ≤ 65535 → fields ≤ 65535

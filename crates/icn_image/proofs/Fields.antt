@@ -10,7 +10,7 @@ use Rattle.std.proofs.lemmas.Nat.{le_bytes_2, le_bytes_4, le_bytes_8, from_le_by
 use Rattle.icn_tree.specs.declared.rule.Rule.{Rule}
 use Rattle.icn_tree.specs.declared.rule.Rule.TheVariants.{I2, I4}
 use Rattle.icn_code.specs.Rules.{is_byte, is_count}
-use Rattle.icn_image.specs.Readers.{◌>>=◌, Reader, bytes_at, number_at, place_at, times, table_at}
+use Rattle.icn_image.specs.Readers.{◌>>=◌, Reader, bytes_at, number_at, index_at, times, table_at}
 use Rattle.icn_image.specs.Spelling.{table}
 
 abbrev pub IsBytes : List ℕ → Type 0
@@ -141,9 +141,9 @@ below_count n e = lt-ltb n 65536 (omega (arith, leb-true n 65535 e))
 
 -- ---- places
 
-place_takes : (w : Width) → IsWide w 65536 → (count : ℕ) (bytes : List ℕ) (x : ℕ × List ℕ) → IsBytes bytes → place_at w count bytes ≡ Ok x
+place_takes : (w : Width) → IsWide w 65536 → (count : ℕ) (bytes : List ℕ) (x : ℕ × List ℕ) → IsBytes bytes → index_at w count bytes ≡ Ok x
     → Takes bytes (to_le_bytes w x.0) x.1 × (nat_lt x.0 count ≡ true)
-unfolding place_at
+unfolding index_at
 place_takes w wide count bytes x fits e =
     let a = bind_ok (number_at w bytes) (λ n. cond (ltb n.0 count) (Ok n) (Err I4)) x e in
     let t = (number_reads w 65536 wide).takes bytes a.0 fits a.1 in
@@ -151,11 +151,11 @@ place_takes w wide count bytes x fits e =
     subst (λ (y : ℕ × List ℕ). Takes bytes (to_le_bytes w y.0) y.1 × (nat_lt y.0 count ≡ true)) g.1 (t.0, g.0)
 
 place_again : (w : Width) → IsWide w 65536 → (count : ℕ) → count ≤ 65535 → (n : ℕ) (rest : List ℕ) → nat_lt n count ≡ true
-    → place_at w count (to_le_bytes w n ++ rest) ≡ Ok (n, rest)
-unfolding place_at
+    → index_at w count (to_le_bytes w n ++ rest) ≡ Ok (n, rest)
+unfolding index_at
 place_again w wide count few n rest lt = rw ((number_reads w 65536 wide).again n rest (lt-ltb n 65536 (omega (arith, ltb-true n count lt, few))), lt) refl
 
-pub place_reads : (w : Width) → IsWide w 65536 → (count : ℕ) → count ≤ 65535 → Reads ℕ (place_at w count) (to_le_bytes w) (λ n. nat_lt n count)
+pub place_reads : (w : Width) → IsWide w 65536 → (count : ℕ) → count ≤ 65535 → Reads ℕ (index_at w count) (to_le_bytes w) (λ n. nat_lt n count)
 place_reads w wide count few = record { takes = place_takes w wide count; again = place_again w wide count few }
 
 -- ---- entries one behind the other

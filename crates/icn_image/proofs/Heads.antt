@@ -6,7 +6,7 @@ use Rattle.std.proofs.lemmas.Bool.{ltb-true, lt-ltb, leb-true, and_parts, and_fr
 use Rattle.icn_tree.specs.declared.rule.Rule.TheVariants.{I3, I4}
 use Rattle.icn_code.specs.Rules.{is_count}
 use Rattle.icn_image.specs.declared.head.Head.{Head}
-use Rattle.icn_image.specs.Readers.{◌>>=◌, number_at, place_at}
+use Rattle.icn_image.specs.Readers.{◌>>=◌, number_at, index_at}
 use Rattle.icn_image.specs.Reading.{collects_at, locals_at, head_at}
 use Rattle.icn_image.specs.Spelling.{flag, head}
 use Rattle.icn_image.proofs.Fields.{IsBytes, IsBytes-rest, bind_ok, done, ok_is, passed_ok, Takes, takes_then, Reads, IsWide, wide32, number_reads, place_reads, count_below}
@@ -124,7 +124,7 @@ head_takes : (w : Width) → IsWide w 65536 → (strings : ℕ) → strings ≤ 
     → head_at w strings bytes ≡ Ok x → Takes bytes (head w x.0) x.1 × (head_fits strings x.0 ≡ true)
 unfolding head_at
 head_takes w wide strings few bytes x fits e =
-    let a = bind_ok (place_at w strings bytes) (λ name. number_at w name.1 >>= λ parameters. collects_at parameters.0 parameters.1
+    let a = bind_ok (index_at w strings bytes) (λ name. number_at w name.1 >>= λ parameters. collects_at parameters.0 parameters.1
     >>= λ collects. locals_at w parameters.0 collects.1 >>= λ locals. number_at w locals.1 >>= λ statics. number_at w32 statics.1 >>= λ instrs.
     Ok (record { name = name.0; parameters = parameters.0; collects = collects.0; locals = locals.0; statics = statics.0; instrs = instrs.0 }, instrs.1)) x e in
     let b = bind_ok (number_at w a.0.1) (λ parameters. collects_at parameters.0 parameters.1

@@ -16,7 +16,7 @@ use Rattle.icn_code.specs.declared.code.Start.{Start}
 use Rattle.icn_code.specs.declared.code.Start.TheVariants.{Null, Procedure, Record, Function}
 use Rattle.icn_code.specs.Rules.{name_of}
 use Rattle.icn_tree.specs.NameSets.{NameTest}
-use Rattle.icn_image.specs.Readers.{◌>>=◌, number_at, place_at}
+use Rattle.icn_image.specs.Readers.{◌>>=◌, number_at, index_at}
 use Rattle.icn_image.specs.Reading.{func_start, start_of, start_at, new_name_at, global_at}
 use Rattle.icn_image.specs.Spelling.{kind_and_number, global}
 use Rattle.icn_image.proofs.Fields.{IsBytes, IsBytes-rest, bind_ok, ok_is, guard_ok, passed_ok, Takes, takes_then, takes_byte, Reads, IsWide, number_reads, place_reads}
@@ -114,7 +114,7 @@ new_name_takes : (w : Width) → IsWide w 65536 → (strings : List (List ℕ)) 
     → Takes bytes (to_le_bytes w x.0) x.1 × (nat_lt x.0 (length strings) ≡ true) × (met (slice_index_or strings x.0 []) ≡ false)
 unfolding new_name_at
 new_name_takes w wide strings few met bytes x fits e =
-    let a = bind_ok (place_at w (length strings) bytes) (λ name. cond (met (slice_index_or strings name.0 [])) (Err I4) (Ok name)) x e in
+    let a = bind_ok (index_at w (length strings) bytes) (λ name. cond (met (slice_index_or strings name.0 [])) (Err I4) (Ok name)) x e in
     let t = (place_reads w wide (length strings) few).takes bytes a.0 fits a.1 in
     let g = guard_ok (met (slice_index_or strings a.0.0 [])) I4 a.0 x a.2 in
     subst (λ (y : ℕ × List ℕ). Takes bytes (to_le_bytes w y.0) y.1 × (nat_lt y.0 (length strings) ≡ true) × (met (slice_index_or strings y.0 []) ≡ false)) g.1

@@ -15,7 +15,7 @@ use Rattle.icn_code.specs.Rules.{is_count, is_string, is_cset, is_integer, is_re
 use Rattle.icn_image.specs.declared.head.Head.{Head}
 use Rattle.icn_image.specs.Fronts.{FrontTables, with_procs, head_of, scope_of}
 use Rattle.icn_image.specs.Scopes.{names_there}
-use Rattle.icn_image.specs.Readers.{◌>>=◌, place_at, table_at}
+use Rattle.icn_image.specs.Readers.{◌>>=◌, index_at, table_at}
 use Rattle.icn_image.specs.Reading.{string_at, cset_at, integer_at, record_at, globals_at, front_at, has_proc, heads_at, procs_at, tables_at, behind_head, image_read}
 use Rattle.icn_image.specs.Spelling.{table, string, cset, integer, record_type, global, head, body, front, procs, front_of, image_head, image_of}
 use Rattle.icn_image.proofs.Fields.{IsBytes, bind_ok, done, ok_is, passed_ok, Takes, takes_then, Reads, IsWide, wide16, place_reads, all_keep, table_reads}
@@ -69,8 +69,8 @@ integers_read : (w : Width) → IsWide w 65536 → Reads (List ℤ) (table_at w 
 integers_read w wide = table_reads w wide ℤ integer_at integer is_integer integer_reads
 
 fields_read : (w : Width) → IsWide w 65536 → (strings : ℕ) → strings ≤ 65535
-    → Reads (List ℕ) (table_at w (place_at w strings)) (table w (to_le_bytes w)) (all_keep (λ n. nat_lt n strings))
-fields_read w wide strings short = table_reads w wide ℕ (place_at w strings) (to_le_bytes w) (λ n. nat_lt n strings) (place_reads w wide strings short)
+    → Reads (List ℕ) (table_at w (index_at w strings)) (table w (to_le_bytes w)) (all_keep (λ n. nat_lt n strings))
+fields_read w wide strings short = table_reads w wide ℕ (index_at w strings) (to_le_bytes w) (λ n. nat_lt n strings) (place_reads w wide strings short)
 
 records_read : (w : Width) → IsWide w 65536 → (strings fields : ℕ) → strings ≤ 65535 → fields ≤ 65535
     → Reads (List RecordType) (table_at w (record_at w strings fields)) (table w (record_type w)) (all_keep (is_record strings fields))
@@ -82,17 +82,17 @@ front_takes : (w : Width) → IsWide w 65536 → (bytes : List ℕ) (x : FrontTa
 unfolding front_at
 front_takes w wide bytes x fits e =
     let a = bind_ok (table_at w (string_at w) bytes) (λ strings. table_at w cset_at strings.1 >>= λ csets. table_at w integer_at csets.1
-    >>= λ integers. table_at w (place_at w (length strings.0)) integers.1 >>= λ fields. table_at w (record_at w (length strings.0) (length fields.0)) fields.1
+    >>= λ integers. table_at w (index_at w (length strings.0)) integers.1 >>= λ fields. table_at w (record_at w (length strings.0) (length fields.0)) fields.1
     >>= λ records. globals_at w strings.0 (length records.0) records.1 >>= λ globals.
     Ok (record { strings = strings.0; csets = csets.0; integers = integers.0; fields = fields.0; records = records.0; globals = globals.0 }, globals.1)) x e in
     let b = bind_ok (table_at w cset_at a.0.1) (λ csets. table_at w integer_at csets.1
-    >>= λ integers. table_at w (place_at w (length a.0.0)) integers.1 >>= λ fields. table_at w (record_at w (length a.0.0) (length fields.0)) fields.1
+    >>= λ integers. table_at w (index_at w (length a.0.0)) integers.1 >>= λ fields. table_at w (record_at w (length a.0.0) (length fields.0)) fields.1
     >>= λ records. globals_at w a.0.0 (length records.0) records.1 >>= λ globals.
     Ok (record { strings = a.0.0; csets = csets.0; integers = integers.0; fields = fields.0; records = records.0; globals = globals.0 }, globals.1)) x a.2 in
-    let c = bind_ok (table_at w integer_at b.0.1) (λ integers. table_at w (place_at w (length a.0.0)) integers.1 >>= λ fields.
+    let c = bind_ok (table_at w integer_at b.0.1) (λ integers. table_at w (index_at w (length a.0.0)) integers.1 >>= λ fields.
     table_at w (record_at w (length a.0.0) (length fields.0)) fields.1 >>= λ records. globals_at w a.0.0 (length records.0) records.1 >>= λ globals.
     Ok (record { strings = a.0.0; csets = b.0.0; integers = integers.0; fields = fields.0; records = records.0; globals = globals.0 }, globals.1)) x b.2 in
-    let d = bind_ok (table_at w (place_at w (length a.0.0)) c.0.1)
+    let d = bind_ok (table_at w (index_at w (length a.0.0)) c.0.1)
     (λ fields. table_at w (record_at w (length a.0.0) (length fields.0)) fields.1 >>= λ records. globals_at w a.0.0 (length records.0) records.1 >>= λ globals.
     Ok (record { strings = a.0.0; csets = b.0.0; integers = c.0.0; fields = fields.0; records = records.0; globals = globals.0 }, globals.1)) x c.2 in
     let f = bind_ok (table_at w (record_at w (length a.0.0) (length d.0.0)) d.0.1) (λ records. globals_at w a.0.0 (length records.0) records.1 >>= λ globals.

@@ -41,8 +41,8 @@ number_at width bytes = do
   Ok (from_le_bytes width number.0, number.1)
 
 -- a place in a table of so many entries
-unfoldable pub place_at : Width → ℕ → Reader ℕ
-place_at width count bytes = do
+unfoldable pub index_at : Width → ℕ → Reader ℕ
+index_at width count bytes = do
   place ← number_at width bytes
   if nat_lt place.0 count then Ok place else Err I4
 

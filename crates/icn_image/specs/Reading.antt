@@ -18,7 +18,7 @@ use Rattle.icn_image.specs.declared.head.Head.{Head}
 use Rattle.icn_image.specs.declared.operand.Operand.{Operand}
 use Rattle.icn_image.specs.declared.operand.Operand.TheVariants.{Nothing, Number, Label}
 use Rattle.icn_image.specs.declared.scope.Scope.{Scope}
-use Rattle.icn_image.specs.Readers.{◌>>=◌, Reader, bytes_at, byte_at, number_at, place_at, times, table_at}
+use Rattle.icn_image.specs.Readers.{◌>>=◌, Reader, bytes_at, byte_at, number_at, index_at, times, table_at}
 use Rattle.icn_image.specs.Operands.{operand_of, instr_of}
 use Rattle.icn_image.specs.Scopes.{names_there}
 use Rattle.icn_tree.specs.NameSets.{NameTest, none_met, with_name}
@@ -48,8 +48,8 @@ integer_at bytes = do
 -- a record of a code with so many strings and fields
 unfoldable pub record_at : Width → ℕ → ℕ → Reader RecordType
 record_at width strings fields bytes = do
-  name ← place_at width strings bytes
-  places ← table_at width (place_at width fields) name.1
+  name ← index_at width strings bytes
+  places ← table_at width (index_at width fields) name.1
   Ok (record { name = name.0; fields = places.0 }, places.1)
 
 -- ---- globals
@@ -77,7 +77,7 @@ start_at width records bytes = do
 -- the place of a string that no global has as its name yet
 unfoldable pub new_name_at : Width → List (List ℕ) → NameTest → Reader ℕ
 new_name_at width strings met bytes = do
-  name ← place_at width (length strings) bytes
+  name ← index_at width (length strings) bytes
   if met (slice_index_or strings name.0 []) then Err I4 else Ok name
 
 unfoldable pub global_at : Width → List (List ℕ) → ℕ → NameTest → Reader Global
@@ -106,7 +106,7 @@ front_at width bytes = do
   strings ← table_at width (string_at width) bytes
   csets ← table_at width cset_at strings.1
   integers ← table_at width integer_at csets.1
-  fields ← table_at width (place_at width (length strings.0)) integers.1
+  fields ← table_at width (index_at width (length strings.0)) integers.1
   records ← table_at width (record_at width (length strings.0) (length fields.0)) fields.1
   globals ← globals_at width strings.0 (length records.0) records.1
   Ok (
@@ -139,7 +139,7 @@ locals_at width parameters bytes = do
 -- what an image says of a procedure in front of all instructions
 unfoldable pub head_at : Width → ℕ → Reader Head
 head_at width strings bytes = do
-  name ← place_at width strings bytes
+  name ← index_at width strings bytes
   parameters ← number_at width name.1
   collects ← collects_at parameters.0 parameters.1
   locals ← locals_at width parameters.0 collects.1

@@ -1,7 +1,7 @@
 // Bytes and numbers at the front of an image.
 ghost use Rattle.std.specs.Prelude.{◌<◌, IfOk};
 ghost use Rattle.std.specs.Int.{w16, w32};
-ghost use Rattle.icn_image.specs.Readers.{Gives, byte_at, bytes_at, number_at, place_at};
+ghost use Rattle.icn_image.specs.Readers.{Gives, byte_at, bytes_at, number_at, index_at};
 
 use crate::fault::ImageFault;
 use icn_tree::Rule;
@@ -47,9 +47,9 @@ pub fn label_at(bytes: &[u8]) -> Result<(u32, &[u8]), ImageFault>
 }
 
 // A place in a table of so many entries.
-#[tactic(auto, unfolding(crate::specs::Readers::place_at))]
+#[tactic(auto, unfolding(crate::specs::Readers::index_at))]
 pub fn place_at(count: usize, bytes: &[u8]) -> Result<(u32, &[u8]), ImageFault>
-    ensures gives { Gives (λ x. (x.0, x.1.now)) result (place_at w16 count bytes.now) }
+    ensures gives { Gives (λ x. (x.0, x.1.now)) result (index_at w16 count bytes.now) }
     ensures there { IfOk result (λ x. x.0 < count) }
 {
     let (place, rest) = number_at(bytes)?;

@@ -2,7 +2,7 @@
 ghost use Rattle.std.specs.Prelude.{map};
 ghost use Rattle.std.specs.Int.{w16};
 ghost use Rattle.icn_code.specs.Codes.{record_of, records_of};
-ghost use Rattle.icn_image.specs.Readers.{Gives, place_at, table_at, times};
+ghost use Rattle.icn_image.specs.Readers.{Gives, index_at, table_at, times};
 ghost use Rattle.icn_image.specs.Reading.{cset_at, integer_at, record_at, string_at};
 
 use crate::fault::ImageFault;
@@ -124,7 +124,7 @@ fn so_many_places(
     count: u32,
     bytes: &[u8],
 ) -> Result<(Vec<u32>, &[u8]), ImageFault>
-    ensures { Gives (λ x. (x.0.items, x.1.now)) result (times (place_at w16 among) count bytes.now) }
+    ensures { Gives (λ x. (x.0.items, x.1.now)) result (times (index_at w16 among) count bytes.now) }
 {
     let mut places = Vec::new(alloc);
     let mut rest = bytes;
@@ -139,7 +139,7 @@ fn so_many_places(
 // A table of places in a table of so many entries.
 #[tactic(auto, unfolding(crate::specs::Readers::table_at))]
 pub fn places_at(alloc: Global, among: usize, bytes: &[u8]) -> Result<(Vec<u32>, &[u8]), ImageFault>
-    ensures { Gives (λ x. (x.0.items, x.1.now)) result (table_at w16 (place_at w16 among) bytes.now) }
+    ensures { Gives (λ x. (x.0.items, x.1.now)) result (table_at w16 (index_at w16 among) bytes.now) }
 {
     let (count, rest) = number_at(bytes)?;
     so_many_places(alloc, among, count, rest)

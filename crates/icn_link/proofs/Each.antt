@@ -9,7 +9,7 @@ use Rattle.std.proofs.lemmas.Bool.Decides.{Decides-int_eq}
 use Rattle.std.proofs.lemmas.List.Folds.{list_all-append, list_any-append, find_at}
 use Rattle.std.proofs.lemmas.Option.{get_or_from_slice_get}
 use Rattle.std.proofs.lemmas.Slice.Eq.{bytes_eq-Decides}
-use Rattle.icn_link.specs.Gathering.{with_text, with_texts, with_integer, with_integers, text_place, integer_place}
+use Rattle.icn_link.specs.Gathering.{with_text, with_texts, with_integer, with_integers, text_index, integer_index}
 
 -- for tests in a row
 pub both : {x y : Bool} → x ≡ true → y ≡ true → (x && y) ≡ true
@@ -159,10 +159,10 @@ integers_keep p known (x ∷ xs) h k =
 
 -- what is held has its place
 abbrev pub has_place : List (List ℕ) → List ℕ → Bool
-has_place texts text = nat_lt (text_place texts text) (length texts)
+has_place texts text = nat_lt (text_index texts text) (length texts)
 
 abbrev pub has_integer_place : List ℤ → ℤ → Bool
-has_integer_place integers n = nat_lt (integer_place integers n) (length integers)
+has_integer_place integers n = nat_lt (integer_index integers n) (length integers)
 
 pub text_placed : (texts : List (List ℕ)) (text : List ℕ) → has_text texts text ≡ true → has_place texts text ≡ true
 text_placed texts text h = lt-ltb _ _ (place_within (bytes_eq text) texts h)
@@ -186,6 +186,6 @@ found x (y ∷ ys) h = found_by x y (bytes_eq x y) (find (bytes_eq x) ys) refl
     (λ e. found x ys (or_other (bytes_eq x y) (list_any (bytes_eq x) ys) e h))
 
 pub text_at : (texts : List (List ℕ)) (text : List ℕ) → has_text texts text ≡ true
-    → slice_index_or texts (text_place texts text) [] ≡ text
-text_at texts text h = get_or_from_slice_get texts (text_place texts text) text []
+    → slice_index_or texts (text_index texts text) [] ≡ text
+text_at texts text h = get_or_from_slice_get texts (text_index texts text) text []
     (sym (find_at (bytes_eq text) texts) ∙ found text texts h)

@@ -16,8 +16,8 @@ use Rattle.icn_code.specs.Rules.{keeps_rules}
 use Rattle.icn_unit.specs.declared.unit.UnitInstr.{UnitInstr}
 use Rattle.icn_unit.specs.PlainUnits.{Proc, Decl, Global as GlobalDecl, Procedure, Link, Record, proc_names}
 use Rattle.icn_unit.specs.UnitRules.{is_integer}
-use Rattle.icn_link.specs.Gathering.{with_text, with_texts, text_place}
-use Rattle.icn_link.specs.Joined.{cset_of, global_entry, is_among, joined_of, place_of, proc_entry, records_in, start_by}
+use Rattle.icn_link.specs.Gathering.{with_text, with_texts, text_index}
+use Rattle.icn_link.specs.Joined.{cset_of, global_entry, is_among, joined_of, index_of, proc_entry, records_in, start_by}
 use Rattle.icn_link.specs.JoinableUnits.{is_joinable_proc}
 use Rattle.icn_link.specs.LinkFaults.{over, count_fault, field_counts, record_sizes, size_of, local_counts, static_counts}
 use Rattle.icn_link.specs.Mentions.{Mention, NoMention, AnInteger, AText, ASet, AField, Operands, AllMentions, declared_names, field_in, fields, fields_in, function_named, functions_in, global_in, globals, integer_in, mention_of, all_mentions, mentioned_by, mentioned_in, operands_in, record_name_in, record_names, set_in, string_mentions, strings, text_in}
@@ -109,12 +109,12 @@ next_place None n k f e = absurd (none-some n e)
 next_place (Some m) n k f e = let w = ltb-true _ _ (f m refl) in lt-ltb _ _ (omega (arith, w, same_Some (suc m) n e))
 
 place_by : (name other : List ℕ) (names : List (List ℕ)) (test : Bool) (n : ℕ)
-    → ((m : ℕ) → place_of names name ≡ Some m → nat_lt m (length names) ≡ true)
-    → (if test then Some zero else option_map suc (place_of names name)) ≡ Some n → nat_lt n (suc (length names)) ≡ true
+    → ((m : ℕ) → index_of names name ≡ Some m → nat_lt m (length names) ≡ true)
+    → (if test then Some zero else option_map suc (index_of names name)) ≡ Some n → nat_lt n (suc (length names)) ≡ true
 place_by name other names true n f e = lt-ltb _ _ (omega (arith, same_Some zero n e))
-place_by name other names false n f e = next_place (place_of names name) n (length names) f e
+place_by name other names false n f e = next_place (index_of names name) n (length names) f e
 
-place_within : (names : List (List ℕ)) (name : List ℕ) (n : ℕ) → place_of names name ≡ Some n → nat_lt n (length names) ≡ true
+place_within : (names : List (List ℕ)) (name : List ℕ) (n : ℕ) → index_of names name ≡ Some n → nat_lt n (length names) ≡ true
 place_within [] name n e = absurd (none-some n e)
 place_within (other ∷ names) name n e = place_by name other names (bytes_eq name other) n (place_within names name) e
 
@@ -135,10 +135,10 @@ names_long M (Link text ∷ decls) = names_long M decls
 names_long M (Record name fields ∷ decls) = ap suc (names_long M decls)
 
 field_fits : (M : AllMentions) (strings : ℕ) (fields : ℕ) → fields ≡ length M.fields → (names : List (List ℕ))
-    → list_all (has_place M.fields) names ≡ true → list_all (λ field. nat_lt field fields) (map (text_place M.fields) names) ≡ true
+    → list_all (has_place M.fields) names ≡ true → list_all (λ field. nat_lt field fields) (map (text_index M.fields) names) ≡ true
 field_fits M strings fields e [] h = refl
 field_fits M strings fields e (name ∷ names) h =
-    let t = and_parts _ _ h in both (ap (nat_lt (text_place M.fields name)) e ∙ t.0) (field_fits M strings fields e names t.1)
+    let t = and_parts _ _ h in both (ap (nat_lt (text_index M.fields name)) e ∙ t.0) (field_fits M strings fields e names t.1)
 
 record_fits : (M : AllMentions) (fields : ℕ) → fields ≡ length M.fields → (decl : Decl)
     → list_all (has_place M.strings) (record_name_in decl) ≡ true → list_all (has_place M.fields) (fields_in decl) ≡ true
@@ -148,7 +148,7 @@ record_fits M fields e (GlobalDecl name) a b c = refl
 record_fits M fields e (Procedure name) a b c = refl
 record_fits M fields e (Link text) a b c = refl
 record_fits M fields e (Record name names) a b c =
-    both (both (both (and_parts _ _ a).0 (ap (λ n. nat_le n 65535) (length-map names (text_place M.fields)) ∙ (and_parts _ _ c).0))
+    both (both (both (and_parts _ _ a).0 (ap (λ n. nat_le n 65535) (length-map names (text_index M.fields)) ∙ (and_parts _ _ c).0))
     (field_fits M (length M.strings) fields e names b)) refl
 
 -- What instructions mention is in the tables
@@ -224,7 +224,7 @@ global_fits : (M : AllMentions) (ps rs : List (List ℕ)) (procs records : ℕ) 
     → (name : List ℕ) → has_place M.strings name ≡ true
     → Rules.is_global (length M.strings) records procs (global_entry M ps rs name) ≡ true
 global_fits M ps rs procs records a b name h =
-    both h (started procs records (place_of ps name) (place_of rs name) (is_among M.declared name) (function_named name)
+    both h (started procs records (index_of ps name) (index_of rs name) (is_among M.declared name) (function_named name)
     (λ n e. ap (λ k. nat_lt n k) a ∙ place_within ps name n e) (λ n e. ap (λ k. nat_lt n k) b ∙ place_within rs name n e))
 
 names_back : (M : AllMentions) (ps rs : List (List ℕ)) (names : List (List ℕ)) → list_all (has_text M.strings) names ≡ true
@@ -256,7 +256,7 @@ joined_kept decls procs J =
     let s6 = within 65535 (length M.globals) k7 s5.1 in
     let s7 = within 65535 (length procs) [] s6.1 in
     let n2 = length-map M.sets cset_of in
-    let n4 = length-map M.fields (text_place M.strings) in
+    let n4 = length-map M.fields (text_index M.strings) in
     let n5 = records_long M decls in
     let n6 = length-map M.globals (global_entry M (proc_names procs) (record_names decls)) in
     let n7 = length-map procs (proc_entry M) in
@@ -297,7 +297,7 @@ joined_kept decls procs J =
     let integers : list_all Rules.is_integer T.integers ≡ true =
     all_then is_integer Rules.is_integer unit_integer M.integers (integers_kept decls procs J.joinable_decls J.joinable_procs) in
     let named : list_all (λ name. nat_lt name (length T.strings)) T.fields ≡ true =
-    all_mapped (λ name. nat_lt name (length M.strings)) (text_place M.strings) M.fields (placed M.fields t1.0) in
+    all_mapped (λ name. nat_lt name (length M.strings)) (text_index M.strings) M.fields (placed M.fields t1.0) in
     let records : list_all (Rules.is_record (length T.strings) (length T.fields)) T.records ≡ true =
     records_fit M (length T.fields) n4 decls (all_in_flat (has_place M.strings) record_name_in decls (placed (record_names decls) t2.0))
     (all_in_flat (has_place M.fields) fields_in decls (fielded own f.0))

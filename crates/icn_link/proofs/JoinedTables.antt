@@ -6,7 +6,7 @@ use Rattle.std.proofs.lemmas.List.{length-map}
 use Rattle.icn_code.specs.Codes.{Tables}
 use Rattle.icn_code.specs.Rules.{keeps_rules}
 use Rattle.icn_unit.specs.PlainUnits.{Proc, Decl, proc_names}
-use Rattle.icn_link.specs.Gathering.{text_place}
+use Rattle.icn_link.specs.Gathering.{text_index}
 use Rattle.icn_link.specs.Joined.{cset_of, global_entry, joined_of, locals_in, proc_entry, records_in, statics_in, tables_with}
 use Rattle.icn_link.specs.LinkFaults.{local_counts, record_sizes, size_of, static_counts}
 use Rattle.icn_link.specs.Mentions.{AllMentions, globals, all_mentions, record_names}
@@ -19,7 +19,7 @@ pub record Parts (M : AllMentions) (decls : List Decl) (procs : List Proc) (T : 
   pub strings : T.strings ≡ M.strings
   pub csets : T.csets ≡ map cset_of M.sets
   pub integers : T.integers ≡ M.integers
-  pub fields : T.fields ≡ map (text_place M.strings) M.fields
+  pub fields : T.fields ≡ map (text_index M.strings) M.fields
   pub records : T.records ≡ flat_map (records_in M) decls
   pub globals : T.globals ≡ map (global_entry M (proc_names procs) (record_names decls)) M.globals
   pub entries : T.procs ≡ map (proc_entry M) procs

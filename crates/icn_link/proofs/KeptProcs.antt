@@ -24,7 +24,7 @@ use Rattle.icn_link.specs.declared.variable.Variable.TheVariants.{Local, Static,
 use Rattle.icn_link.specs.Joined.{entry_of, proc_entry, scope_of, scope_with, variable_by, variable_of, variable_instr, locals_behind, statics_behind, variables, variable_at, is_local, is_static, locals_in, statics_in}
 use Rattle.icn_link.specs.JoinableUnits.{is_joinable_instr, is_joinable_proc}
 use Rattle.icn_link.specs.LinkFaults.{is_instruction, size_of}
-use Rattle.icn_link.specs.Gathering.{integer_place, text_place}
+use Rattle.icn_link.specs.Gathering.{integer_index, text_index}
 use Rattle.icn_link.specs.Mentions.{Mention, NoMention, AnInteger, AText, ASet, AField, Operands, AllMentions, mention_of}
 use Rattle.icn_link.specs.Resolving.{Scope, resolve, resolved_one, label_address, label_address_by}
 use Rattle.icn_link.specs.Views.{procs_seen}
@@ -59,7 +59,7 @@ module _ (globals : List (List ℕ)) (L S : ℕ) where
       → l + locals_in globals (entry ∷ entries) ≤ L → s + statics_in globals (entry ∷ entries) ≤ S
       → ((l' s' : ℕ) → l' + locals_in globals entries ≤ L → s' + statics_in globals entries ≤ S
       → list_all (fits_variable (length globals) L S) (variables globals l' s' entries) ≡ true)
-      → list_all (fits_variable (length globals) L S) (variable_instr v l s (text_place globals entry.name)
+      → list_all (fits_variable (length globals) L S) (variable_instr v l s (text_index globals entry.name)
       ∷ variables globals (locals_behind v l) (statics_behind v s) entries) ≡ true
   unfolding fits_variable
   rest_fits l s entry entries Local e h k next =
@@ -237,16 +237,16 @@ instr_fits : (M : AllMentions) (T : Tables) (proc : ProcEntry) (V : List Instr) 
     → list_all (Rules.is_instr T proc) (resolved_one (scope_with M V L) instr) ≡ true
 unfolding has_mention
 instr_fits M T proc V L names F G U.Pnull m o = both refl refl
-instr_fits M T proc V L names F G (U.Int n) m o = both (ap (nat_lt (integer_place M.integers n)) F.integers ∙ m) refl
-instr_fits M T proc V L names F G (U.Str bytes) m o = both (ap (nat_lt (text_place M.strings bytes)) F.strings ∙ m) refl
-instr_fits M T proc V L names F G (U.Cset members) m o = both (ap (nat_lt (text_place M.sets members)) F.sets ∙ m) refl
+instr_fits M T proc V L names F G (U.Int n) m o = both (ap (nat_lt (integer_index M.integers n)) F.integers ∙ m) refl
+instr_fits M T proc V L names F G (U.Str bytes) m o = both (ap (nat_lt (text_index M.strings bytes)) F.strings ∙ m) refl
+instr_fits M T proc V L names F G (U.Cset members) m o = both (ap (nat_lt (text_index M.sets members)) F.sets ∙ m) refl
 instr_fits M T proc V L names F G (U.Var k) m o = both (G.variable k o) refl
 instr_fits M T proc V L names F G (U.Keywd keyword) m o = both refl refl
 instr_fits M T proc V L names F G U.Pop m o = both refl refl
 instr_fits M T proc V L names F G U.Dup m o = both refl refl
 instr_fits M T proc V L names F G (U.Op op) m o = both refl refl
 instr_fits M T proc V L names F G (U.Llist n) m o = both m refl
-instr_fits M T proc V L names F G (U.Field name) m o = both (ap (nat_lt (text_place M.fields name)) F.fields ∙ m) refl
+instr_fits M T proc V L names F G (U.Field name) m o = both (ap (nat_lt (text_index M.fields name)) F.fields ∙ m) refl
 instr_fits M T proc V L names F G (U.Invoke n) m o = both m refl
 instr_fits M T proc V L names F G U.Appl m o = both refl refl
 instr_fits M T proc V L names F G (U.Mark label) m o = both (G.label label) refl
@@ -310,7 +310,7 @@ proc_fits M T F proc kept mentions name locals statics size =
       label = λ l. le-leb _ _ (let w = label_within l proc.instrs in omega (arith, w, long));
     } in
     both
-    (both (both (both (both (ap (λ n. nat_lt (text_place M.strings proc.name) n) F.strings ∙ name)
+    (both (both (both (both (ap (λ n. nat_lt (text_index M.strings proc.name) n) F.strings ∙ name)
     (and_parts (is_name proc.name) collects head).1)
     (le-leb _ _ (omega (arith, few, locals)))) (le-leb _ _ statics)) (lt-ltb _ _ (omega (arith, long, size))))
     (all_of_flat (Rules.is_instr T entry) (resolved_one (scope_of M proc)) proc.instrs

@@ -7,7 +7,7 @@ use Rattle.std.specs.Option.{option_map, option_or}
 use Rattle.std.specs.Str.{bytes_eq}
 use Rattle.std.proofs.lemmas.Bool.{false≢true}
 use Rattle.std.proofs.lemmas.Slice.Eq.{bytes_eq-Decides}
-use Rattle.icn_link.specs.Joined.{global_entry, global_with, place_of}
+use Rattle.icn_link.specs.Joined.{global_entry, global_with, index_of}
 use Rattle.icn_link.specs.Mentions.{AllMentions}
 use Rattle.icn_link.specs.Views.{places_in}
 
@@ -60,7 +60,7 @@ comes has new name x h now other = by (bytes_eq other name) refl
 
 -- where a name stands, behind so many others
 abbrev pub numbered : ℕ → List (List ℕ) → List ℕ → Option ℕ
-numbered n names name = option_map (λ k. n + k) (place_of names name)
+numbered n names name = option_map (λ k. n + k) (index_of names name)
 
 next_by : (n : ℕ) (p : Option ℕ) → option_map (λ k. suc n + k) p ≡ option_map (λ k. n + k) (option_map suc p)
 next_by n None = refl
@@ -73,20 +73,20 @@ numbered_step n x names name (Some k) new e = ap (λ o. option_or o (numbered (s
 numbered_step n x names name None new e = ap (λ o. option_or o (numbered (suc n) names name)) e ∙ by (bytes_eq name x)
   where
     by : (test : Bool) → option_or (if test then Some n else None) (numbered (suc n) names name)
-        ≡ option_map (λ k. n + k) (if test then Some zero else option_map suc (place_of names name))
+        ≡ option_map (λ k. n + k) (if test then Some zero else option_map suc (index_of names name))
     by true = ap Some (omega arith)
-    by false = next_by n (place_of names name)
+    by false = next_by n (index_of names name)
 
 from_zero : (p : Option ℕ) → option_map (λ k. 0 + k) p ≡ p
 from_zero None = refl
 from_zero (Some k) = ap Some (omega arith)
 
-pub numbered_from_zero : (names : List (List ℕ)) (name : List ℕ) → numbered 0 names name ≡ place_of names name
-numbered_from_zero names name = from_zero (place_of names name)
+pub numbered_from_zero : (names : List (List ℕ)) (name : List ℕ) → numbered 0 names name ≡ index_of names name
+numbered_from_zero names name = from_zero (index_of names name)
 
 -- globals by maps that say where names stand first
-pub entries_same : (M : AllMentions) (f g : List ℕ → Option ℕ) (ps rs names : List (List ℕ)) → ((name : List ℕ) → f name ≡ place_of ps name)
-    → ((name : List ℕ) → g name ≡ place_of rs name) → map (global_with M f g) names ≡ map (global_entry M ps rs) names
+pub entries_same : (M : AllMentions) (f g : List ℕ → Option ℕ) (ps rs names : List (List ℕ)) → ((name : List ℕ) → f name ≡ index_of ps name)
+    → ((name : List ℕ) → g name ≡ index_of rs name) → map (global_with M f g) names ≡ map (global_entry M ps rs) names
 entries_same M f g ps rs names h k =
     ap (λ (p : List ℕ → Option ℕ). map (global_with M p g) names) (λ i name. h name i)
-    ∙ ap (λ (r : List ℕ → Option ℕ). map (global_with M (place_of ps) r) names) (λ i name. k name i)
+    ∙ ap (λ (r : List ℕ → Option ℕ). map (global_with M (index_of ps) r) names) (λ i name. k name i)

@@ -23,9 +23,9 @@ with_integers integers [] = integers
 with_integers integers (n ∷ others) = with_integers (with_integer integers n) others
 
 -- where a text or an integer stands in its table
-abbrev pub text_place : List (List ℕ) → List ℕ → ℕ
-text_place texts text = position_or_len (bytes_eq text) texts
+abbrev pub text_index : List (List ℕ) → List ℕ → ℕ
+text_index texts text = position_or_len (bytes_eq text) texts
 
 -- the place of an integer in its table
-abbrev pub integer_place : List ℤ → ℤ → ℕ
-integer_place integers n = position_or_len (int_eq n) integers
+abbrev pub integer_index : List ℤ → ℤ → ℕ
+integer_index integers n = position_or_len (int_eq n) integers

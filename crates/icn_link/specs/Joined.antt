@@ -18,7 +18,7 @@ use Rattle.icn_link.specs.declared.variable.Variable.{Variable}
 use Rattle.icn_link.specs.declared.variable.Variable.TheVariants.{Local, Static, Global}
 use Rattle.icn_unit.specs.declared.unit.UnitName.{UnitName}
 use Rattle.icn_unit.specs.PlainUnits.{Proc, Decl, Global as GlobalDecl, Procedure, Link, Record, UnitRead, params_in, proc_names}
-use Rattle.icn_link.specs.Gathering.{text_place, integer_place}
+use Rattle.icn_link.specs.Gathering.{text_index, integer_index}
 use Rattle.icn_link.specs.Mentions.{AllMentions, all_mentions, function_named, record_names}
 use Rattle.icn_link.specs.Resolving.{Scope, resolve, label_address}
 use Rattle.icn_link.specs.Units.{all_decls, all_procs}
@@ -62,7 +62,7 @@ statics_behind Global statics = statics
 abbrev pub variables : List (List ℕ) → ℕ → ℕ → List UnitName → List Instr
 variables globals locals statics [] = []
 variables globals locals statics (entry ∷ entries) =
-    variable_instr (variable_of globals entry) locals statics (text_place globals entry.name)
+    variable_instr (variable_of globals entry) locals statics (text_index globals entry.name)
     ∷ variables globals (locals_behind (variable_of globals entry) locals)
     (statics_behind (variable_of globals entry) statics) entries
 
@@ -99,10 +99,10 @@ variable_at instrs k = or_local (slice_get instrs k)
 -- where names are these variables and labels have these addresses
 abbrev pub scope_with : AllMentions → List Instr → (ℕ → ℕ) → Scope
 scope_with tables variables label = record {
-  integer = integer_place tables.integers;
-  string = text_place tables.strings;
-  set = text_place tables.sets;
-  field = text_place tables.fields;
+  integer = integer_index tables.integers;
+  string = text_index tables.strings;
+  set = text_index tables.sets;
+  field = text_index tables.fields;
   variable = variable_at variables;
   label = label;
 }
@@ -115,7 +115,7 @@ scope_of tables proc =
 -- where so many names are locals, parameters among them, and so many statics
 abbrev pub entry_of : AllMentions → Proc → ℕ → ℕ → List Instr → ProcEntry
 entry_of tables proc locals statics instrs = record {
-  name = text_place tables.strings proc.name;
+  name = text_index tables.strings proc.name;
   parameters = params_in proc.names;
   collects = proc.collects;
   locals = locals - params_in proc.names;
@@ -134,8 +134,8 @@ proc_entry tables proc =
 -- a record type of linked code
 abbrev pub record_entry : AllMentions → List ℕ → List (List ℕ) → RecordType
 record_entry tables name fields = record {
-  name = text_place tables.strings name;
-  fields = map (text_place tables.fields) fields;
+  name = text_index tables.strings name;
+  fields = map (text_index tables.fields) fields;
 }
 
 -- the record type that a declaration is, if it is one
@@ -154,21 +154,21 @@ start_by None None false (Some function) = Starts.Function function
 start_by None None false None = Starts.Null
 
 -- where a name stands first
-abbrev pub place_of : List (List ℕ) → List ℕ → Option ℕ
-place_of [] name = None
-place_of (other ∷ names) name =
-    if bytes_eq name other then Some zero else option_map suc (place_of names name)
+abbrev pub index_of : List (List ℕ) → List ℕ → Option ℕ
+index_of [] name = None
+index_of (other ∷ names) name =
+    if bytes_eq name other then Some zero else option_map suc (index_of names name)
 
 -- where procedures and records have these numbers by their names
 abbrev pub global_with : AllMentions → (List ℕ → Option ℕ) → (List ℕ → Option ℕ) → List ℕ → GlobalEntry
 global_with tables procs records name = record {
-  name = text_place tables.strings name;
+  name = text_index tables.strings name;
   start = start_by (procs name) (records name) (is_among tables.declared name) (function_named name);
 }
 
 -- a global of linked code, with what it begins with
 abbrev pub global_entry : AllMentions → List (List ℕ) → List (List ℕ) → List ℕ → GlobalEntry
-global_entry tables procs records name = global_with tables (place_of procs) (place_of records) name
+global_entry tables procs records name = global_with tables (index_of procs) (index_of records) name
 
 -- Csets
 
@@ -193,7 +193,7 @@ tables_with tables decls procs = record {
   strings = tables.strings;
   csets = map cset_of tables.sets;
   integers = tables.integers;
-  fields = map (text_place tables.strings) tables.fields;
+  fields = map (text_index tables.strings) tables.fields;
   records = flat_map (records_in tables) decls;
   globals = map (global_entry tables (proc_names procs) (record_names decls)) tables.globals;
   procs = map (proc_entry tables) procs;

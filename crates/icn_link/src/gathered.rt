@@ -6,7 +6,7 @@ ghost use Rattle.icn_unit.specs.declared.unit.UnitInstr.{UnitInstr};
 ghost use Rattle.icn_unit.specs.declared.unit.UnitName.{UnitName};
 ghost use Rattle.icn_unit.specs.PlainUnits.{Decl, Proc, proc_names};
 ghost use Rattle.icn_unit.specs.UnitViews.{decl_seen, proc_seen};
-ghost use Rattle.icn_link.specs.Gathering.{integer_place, text_place, with_integer, with_integers, with_text, with_texts};
+ghost use Rattle.icn_link.specs.Gathering.{integer_index, text_index, with_integer, with_integers, with_text, with_texts};
 ghost use Rattle.icn_link.specs.Mentions.{declared_names, field_in, fields, fields_in, function_in, functions_in, function_named, global_in, globals, integer_in, integers, mention_of, all_mentions, mentioned_by, mentioned_in, record_name_in, record_names, set_in, sets, string_mentions, strings, text_in};
 ghost use Rattle.icn_link.specs.Views.{decls_seen, gathered_seen, procs_seen, texts_seen};
 
@@ -435,9 +435,9 @@ fn enter_integer(found: &mut IndexSet<i64>, n: i64) -> Result<(), AllocError>
 }
 
 /// Where a text stands in a table.
-pub fn text_place(texts: &IndexSet<&[u8]>, text: &[u8]) -> u32
+pub fn text_index(texts: &IndexSet<&[u8]>, text: &[u8]) -> u32
     requires { length (texts_seen texts.now.keys) ≤ most_entries }
-    ensures { result ≡ text_place (texts_seen texts.now.keys) text.now }
+    ensures { result ≡ text_index (texts_seen texts.now.keys) text.now }
 {
     match texts.get_index_of(text) {
         Some(place) => place as u32,
@@ -446,9 +446,9 @@ pub fn text_place(texts: &IndexSet<&[u8]>, text: &[u8]) -> u32
 }
 
 /// Where an integer stands in the table of integers.
-pub fn integer_place(integers: &IndexSet<i64>, n: i64) -> u32
+pub fn integer_index(integers: &IndexSet<i64>, n: i64) -> u32
     requires { length integers.now.keys ≤ most_entries }
-    ensures { result ≡ integer_place integers.now.keys n }
+    ensures { result ≡ integer_index integers.now.keys n }
 {
     match integers.get_index_of(&n) {
         Some(place) => place as u32,

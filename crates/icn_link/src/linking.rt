@@ -9,8 +9,8 @@ ghost use Rattle.icn_code.specs.Seen.{tables_of};
 ghost use Rattle.icn_image.specs.Spelling.{image_of};
 ghost use Rattle.icn_unit.specs.PlainUnits.{params_in, proc_names};
 ghost use Rattle.icn_unit.specs.UnitViews.{decl_seen, proc_seen};
-ghost use Rattle.icn_link.specs.Gathering.{text_place};
-ghost use Rattle.icn_link.specs.Joined.{cset_of, entry_of, global_entry, global_with, is_among, joined_code, joined_of, locals_in, place_of, proc_entry, record_entry, records_in, start_by, statics_in, tables_with, with_bit, with_bits};
+ghost use Rattle.icn_link.specs.Gathering.{text_index};
+ghost use Rattle.icn_link.specs.Joined.{cset_of, entry_of, global_entry, global_with, is_among, joined_code, joined_of, locals_in, index_of, proc_entry, record_entry, records_in, start_by, statics_in, tables_with, with_bit, with_bits};
 ghost use Rattle.icn_link.specs.JoinableUnits.{is_joinable_decl, is_joinable_proc};
 ghost use Rattle.icn_link.specs.LinkFaults.{first_fault, is_instruction, over, size_of, too_large_of, IsFault};
 ghost use Rattle.icn_link.specs.Mentions.{function_named, all_mentions, record_name_in, record_names};
@@ -18,7 +18,7 @@ ghost use Rattle.icn_link.specs.Units.{units_seen};
 ghost use Rattle.icn_link.specs.Views.{decls_seen, gathered_seen, procs_seen, places_in, texts_seen, AreFew, Joinable};
 
 use crate::fault::LinkFault;
-use crate::gathered::{Gathered, function_named, gather, text_place};
+use crate::gathered::{Gathered, function_named, gather, text_index};
 use crate::image_size::image_size;
 use crate::labels::labels_of;
 use crate::lists::{decls_of, procs_of};
@@ -184,11 +184,11 @@ fn put_bit(bits: &mut [u8; 32], byte: u8)
 fn places(alloc: Global, table: &IndexSet<&[u8]>, texts: &[&[u8]]) -> Result<Vec<u32>, AllocError>
     requires few { length (texts_seen table.now.keys) ≤ most_entries }
     ensures { IfOk result
-        (λ places. places.items ≡ map (text_place (texts_seen table.now.keys)) (texts_seen texts.now)) }
+        (λ places. places.items ≡ map (text_index (texts_seen table.now.keys)) (texts_seen texts.now)) }
 {
     let mut places = Vec::new(alloc);
     for text in texts {
-        places.push(text_place(table, text))?;
+        places.push(text_index(table, text))?;
     }
     Ok(places)
 }
@@ -244,7 +244,7 @@ fn record_with(
 {
     let places = field_places(alloc, &tables.fields, fields)?;
     Ok(Record {
-        name: text_place(&tables.strings, name),
+        name: text_index(&tables.strings, name),
         fields: places,
     })
 }
@@ -255,11 +255,11 @@ fn field_places(
     fields: &[Bytes],
 ) -> Result<Vec<u32>, AllocError>
     requires few { length (texts_seen table.now.keys) ≤ most_entries }
-    ensures { IfOk result (λ places. places.items ≡ map (text_place (texts_seen table.now.keys)) fields.now) }
+    ensures { IfOk result (λ places. places.items ≡ map (text_index (texts_seen table.now.keys)) fields.now) }
 {
     let mut places = Vec::new(alloc);
     for field in fields {
-        places.push(text_place(table, field.as_slice()))?;
+        places.push(text_index(table, field.as_slice()))?;
     }
     Ok(places)
 }
@@ -313,7 +313,7 @@ fn global(
         ≡ global_with (gathered_seen tables.now) (places_in procs.now) (places_in records.now) name.now }
 {
     Variable {
-        name: text_place(&tables.strings, name),
+        name: text_index(&tables.strings, name),
         start: start(procs, records, &tables.declared, name),
     }
 }
@@ -360,7 +360,7 @@ fn first_places<'a>(
 ) -> Result<IndexMap<&'a [u8], u32>, AllocError>
     requires few { length (texts_seen names.now) ≤ most_entries }
     ensures { IfOk result
-        (λ places. (name : List ℕ) → places_in places name ≡ place_of (texts_seen names.now) name) }
+        (λ places. (name : List ℕ) → places_in places name ≡ index_of (texts_seen names.now) name) }
 {
     let mut places = IndexMap::new(alloc);
     for (place, name) in names.iter().enumerate() {
@@ -489,7 +489,7 @@ fn entry_with(
 {
     let parameters = params_in(&proc.names) as u32;
     Procedure {
-        name: text_place(&tables.strings, proc.name.as_slice()),
+        name: text_index(&tables.strings, proc.name.as_slice()),
         parameters,
         collects: proc.collects,
         locals: locals - parameters,

@@ -4,7 +4,7 @@ ghost use Rattle.icn_link.specs.Joined.{scope_with, variable_at};
 ghost use Rattle.icn_link.specs.Resolving.{instr_in, instr_list, resolve, resolved_one};
 ghost use Rattle.icn_link.specs.Views.{gathered_seen, address_in, AreFew};
 
-use crate::gathered::{Gathered, integer_place, text_place};
+use crate::gathered::{Gathered, integer_index, text_index};
 use crate::labels::{Labels, place_in};
 use icn_code::Instr;
 use icn_unit::UnitInstr;
@@ -54,16 +54,16 @@ fn instr_in(
 {
     match instr {
         UnitInstr::Pnull => Some(Instr::Pnull),
-        UnitInstr::Int(n) => Some(Instr::Int(integer_place(&tables.integers, *n))),
-        UnitInstr::Str(bytes) => Some(Instr::Str(text_place(&tables.strings, bytes.as_slice()))),
-        UnitInstr::Cset(set) => Some(Instr::Cset(text_place(&tables.sets, set.as_slice()))),
+        UnitInstr::Int(n) => Some(Instr::Int(integer_index(&tables.integers, *n))),
+        UnitInstr::Str(bytes) => Some(Instr::Str(text_index(&tables.strings, bytes.as_slice()))),
+        UnitInstr::Cset(set) => Some(Instr::Cset(text_index(&tables.sets, set.as_slice()))),
         UnitInstr::Var(place) => Some(variable_at(variables, *place)),
         UnitInstr::Keywd(keyword) => Some(Instr::Keywd(*keyword)),
         UnitInstr::Pop => Some(Instr::Pop),
         UnitInstr::Dup => Some(Instr::Dup),
         UnitInstr::Op(op) => Some(Instr::Op(*op)),
         UnitInstr::Llist(count) => Some(Instr::Llist(*count)),
-        UnitInstr::Field(name) => Some(Instr::Field(text_place(&tables.fields, name.as_slice()))),
+        UnitInstr::Field(name) => Some(Instr::Field(text_index(&tables.fields, name.as_slice()))),
         UnitInstr::Invoke(count) => Some(Instr::Invoke(*count)),
         UnitInstr::Appl => Some(Instr::Appl),
         UnitInstr::Mark(label) => Some(Instr::Mark(place_in(labels, *label))),

@@ -5,7 +5,7 @@ ghost use Rattle.icn_unit.specs.declared.unit.UnitName.{UnitName};
 ghost use Rattle.icn_link.specs.Joined.{locals_in, statics_in, variable_of, variables};
 ghost use Rattle.icn_link.specs.Views.{texts_seen};
 
-use crate::gathered::text_place;
+use crate::gathered::text_index;
 use icn_code::Instr;
 use icn_unit::{NameKind, UnitName};
 use indexmap::IndexSet;
@@ -91,7 +91,7 @@ fn put_variable(
             Ok(())
         }
         Variable::Global => {
-            instrs.push(Instr::Global(text_place(globals, entry.name.as_slice())))?;
+            instrs.push(Instr::Global(text_index(globals, entry.name.as_slice())))?;
             Ok(())
         }
     }

@@ -40,13 +40,13 @@ pub struct OwnLocals<'a, K: Stack<Cell> + Drop, B: Earlier> {
 impl<K: Stack<Cell> + Drop, B: Earlier> Locals for OwnLocals<'_, K, B> {
     ghost items = { λ l. flat.locals l.frames.now.flat };
 
-    fn get(&self, place: u64) -> Val {
+    fn get(&self, index: u64) -> Val {
         self.frames.local_count();
-        self.frames.local(place)
+        self.frames.local(index)
     }
 
-    fn set(&mut self, place: u64, val: Val) {
+    fn set(&mut self, index: u64, val: Val) {
         self.frames.local_count();
-        self.frames.set_local(place, val);
+        self.frames.set_local(index, val);
     }
 }

@@ -71,9 +71,9 @@ fn take_instr<K: Stack<Cell> + Drop>(frames: &mut Frames<K>, code: &Code) -> Ins
     ensures flat { frames.new.flat ≡ flat.go (suc frames.old.flat.address) frames.old.flat }
 {
     let instrs = instrs_at(code, frames.proc());
-    let place = frames.place();
-    let instr = instrs[place as usize];
-    frames.go(place + 1);
+    let address = frames.address();
+    let instr = instrs[address as usize];
+    frames.go(address + 1);
     instr
 }
 

@@ -7,7 +7,7 @@ use Rattle.icn_value.specs.Store.{list_at, record_at}
 use Rattle.icn_defs.specs.Conversions.{integer_of, place_of as position_of}
 use Rattle.icn_defs.specs.Running.{number_of}
 use Rattle.icn_defs.specs.StepRows.{Operation, Function, apply, list_row, record_row}
-use Rattle.icn_meaning.specs.Program.{Program, Routine, Kind, Callee, IsRoutine, IsKind, IsFunction, IsNothing, callee_of, place_of}
+use Rattle.icn_meaning.specs.Program.{Program, Routine, Kind, Callee, IsRoutine, IsKind, IsFunction, IsNothing, callee_of, index_of}
 use Rattle.icn_meaning.specs.Contexts.{Form, Operating, Calling, Spreading, Collecting, Taking, Activating, frame_of, activation_of, Works, ◌and_then◌, Choices, ◌or_else◌, Args, Back, Surroundings, InCall, InScan, InLoop, Store, State, eval, succeed, fail, lost}
 use Rattle.icn_meaning.specs.Turns.{turn, errs, setting_in, answer, with_made, value, values, outgoing}
 use Rattle.icn_meaning.specs.Scanning.{restore_pair, exchanged_oldest}
@@ -118,7 +118,7 @@ fields_in None = []
 -- `x.name`
 abbrev pub take_field : Program → List ℕ → Value → Works → Choices → Store → State
 take_field program name (ARecord x) k r st =
-    field_at (place_of name (fields_in (slice_get program.kinds (record_at st.world.heap x).kind))) x k r st
+    field_at (index_of name (fields_in (slice_get program.kinds (record_at st.world.heap x).kind))) x k r st
 take_field program name v k r st = errs 107 (Some v) r st
 
 -- `[ ]`

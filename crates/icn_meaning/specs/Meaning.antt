@@ -3,7 +3,7 @@ use Rattle.std.specs.Prelude.{ℕ, zero, false, List, [], ◌∷◌, length, rep
 use Rattle.icn_tree.specs.Trees.{Empty}
 pub use Rattle.icn_defs.specs.Running.{Observation}
 use Rattle.icn_defs.specs.Running.{Launch, first_world, words_row, after_steps, Observes}
-use Rattle.icn_meaning.specs.Program.{Program, Routine, routine_names, place_of, names_of}
+use Rattle.icn_meaning.specs.Program.{Program, Routine, routine_names, index_of, names_of}
 use Rattle.icn_meaning.specs.Contexts.{Nothing, NoChoice, Active, Store, State, eval, succeed, fail, hop, over, lost, Ending}
 use Rattle.icn_meaning.specs.Turns.{errs, setting_in, with_made}
 use Rattle.icn_meaning.specs.Coexpressions.{pass_failure}
@@ -59,7 +59,7 @@ main_at program None words st = errs 117 None NoChoice st
 
 -- where the evaluation starts: a program without a procedure `main` is error 117
 abbrev pub start : Program → Launch → State
-start program launch = main_at program (place_of (codes "main") (routine_names program.routines)) launch.words
+start program launch = main_at program (index_of (codes "main") (routine_names program.routines)) launch.words
     (first_store program launch)
 
 -- what is seen of an evaluation that is over

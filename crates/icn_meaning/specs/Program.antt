@@ -48,9 +48,9 @@ later None = None
 later (Some n) = Some (suc n)
 
 -- the place of a name
-abbrev pub place_of : List ℕ → List (List ℕ) → Option ℕ
-place_of name [] = None
-place_of name (other ∷ names) = if bytes_eq name other then Some zero else later (place_of name names)
+abbrev pub index_of : List ℕ → List (List ℕ) → Option ℕ
+index_of name [] = None
+index_of name (other ∷ names) = if bytes_eq name other then Some zero else later (index_of name names)
 
 -- the names with one in front, where it passed a test
 abbrev pub with_name : Bool → List ℕ → List (List ℕ) → List (List ℕ)
@@ -269,7 +269,7 @@ start_by procedures records None None false None = Null
 -- the value that a global of this name begins with
 abbrev pub start_of : List (List ℕ) → List (List ℕ) → List (List ℕ) → List ℕ → Value
 start_of procedures records declared name =
-    start_by (length procedures) (length records) (place_of name procedures) (place_of name records)
+    start_by (length procedures) (length records) (index_of name procedures) (index_of name records)
     (has_name name declared) (function_named name)
 
 -- the values that globals begin with
@@ -337,8 +337,8 @@ meant_by first None None None = Local zero
 -- what a name means in a procedure
 abbrev pub meaning_in : List (List ℕ) → List ℕ → Option Routine → Root
 meaning_in globals name None = Local zero
-meaning_in globals name (Some routine) = meant_by routine.first_static (place_of name routine.locals)
-    (place_of name routine.statics) (place_of name globals)
+meaning_in globals name (Some routine) = meant_by routine.first_static (index_of name routine.locals)
+    (index_of name routine.statics) (index_of name globals)
 
 -- the variable that a name means in the procedure of this number
 abbrev pub meaning_of : Program → ℕ → List ℕ → Root

@@ -19,12 +19,12 @@ pub data MarkDrop (M : Type 0) : Type 0 where
   Repeats : M → MarkDrop M
   Outside : M → MarkDrop M
 
--- M is the stack that runs, with its place in the code and with what its calls change; K is a stack that waits.
+-- M is the stack that runs, with its address in the code and with what its calls change; K is a stack that waits.
 pub record Calls (K M : Type 0) : Type 0 where
   -- the stack alone, to be kept, and one that is taken up
   pub kept : M → K
   pub taken_up : K → M → M
-  -- a new stack: its procedure, its locals and its place
+  -- a new stack: its procedure, its locals and its address
   pub begin : ℕ → List Value → ℕ → M → M
   -- the number of the procedure that runs, how deep it is called, whether it has no caller, and its locals
   pub proc : M → ℕ

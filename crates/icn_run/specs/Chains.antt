@@ -5,7 +5,7 @@ use Rattle.std.specs.Option.{option_map}
 use Rattle.icn_run.specs.Rows.{Value, Item}
 use Rattle.icn_run.specs.Calls.{Pair, Why, Alt, Scan, Escan, Proc, MarkDrop, NoMark, Goes, Repeats, Outside, Calls}
 
--- a label, if there is one; or one with the cell that says whether it was changed, and the place of the mark, so that a repeated alternation begins again
+-- a label, if there is one; or one with the cell that says whether it was changed, and the address of the mark, so that a repeated alternation begins again
 -- with its cell
 pub data Label : Type 0 where
   fixed : Option ℕ → Label
@@ -21,24 +21,24 @@ mutual
   pub data Chain : Type 0 where
     chain : List Item → Suspensions → List ℕ → Outer → Chain
 
-  -- a suspension with its place
+  -- a suspension with its address
   pub data Suspensions : Type 0 where
     none : Suspensions
     suspension : Reason → ℕ → Chain → Suspensions
 
-  -- a frame has its procedure and the cell of its locals, and that of a call besides its level and the place in the caller
+  -- a frame has its procedure and the cell of its locals, and that of a call besides its level and the address in the caller
   pub data Outer : Type 0 where
     base : (proc activation : ℕ) → Outer
-    call : (proc activation level place : ℕ) → Chain → Outer
+    call : (proc activation level address : ℕ) → Chain → Outer
     mark : Label → Chain → Outer
     limit : ℕ → Chain → Outer
 
--- a stack that waits: its chain, with its place
+-- a stack that waits: its chain, with its address
 pub record WaitingChain : Type 0 where
   pub chain : Chain
   pub address : ℕ
 
--- The chain that runs with its place; and what changes, each in the list of its type at its number: the locals of each activation; of each repeated
+-- The chain that runs with its address; and what changes, each in the list of its type at its number: the locals of each activation; of each repeated
 -- alternation whether it had a result; other labels that marks got; the results that each limit leaves; and saved pairs.
 pub record LinkedStack : Type 0 where
   pub chain : Chain
@@ -52,12 +52,12 @@ pub record LinkedStack : Type 0 where
 -- the frame of the procedure that runs
 pub data Frame : Type 0 where
   at_base : (proc activation : ℕ) → Frame
-  in_call : (proc activation level place : ℕ) → Chain → Frame
+  in_call : (proc activation level address : ℕ) → Chain → Frame
 
 -- the frame of the procedure that runs, outside all its marks
 abbrev pub frame_of : Outer → Frame
 frame_of (base proc activation) = at_base proc activation
-frame_of (call proc activation level place caller) = in_call proc activation level place caller
+frame_of (call proc activation level address caller) = in_call proc activation level address caller
 frame_of (mark label (chain items s scans outer)) = frame_of outer
 frame_of (limit count (chain items s scans outer)) = frame_of outer
 
@@ -83,31 +83,31 @@ with_saved n pair m = record m { saved = slice_set m.saved n pair }
 
 -- a new chain: a frame with a cell of its own for its locals
 abbrev pub begin : ℕ → List Value → ℕ → LinkedStack → LinkedStack
-begin proc values place m = record m {
+begin proc values address m = record m {
   chain = chain [] none [] (base proc (length m.activations));
-  address = place;
+  address = address;
   activations = m.activations ++ values ∷ [];
 }
 
 -- the procedure of a frame
 abbrev pub proc_of : Frame → ℕ
 proc_of (at_base proc activation) = proc
-proc_of (in_call proc activation level place caller) = proc
+proc_of (in_call proc activation level address caller) = proc
 
 -- how deep the procedure of a frame is called
 abbrev pub level_of : Frame → ℕ
 level_of (at_base proc activation) = 1
-level_of (in_call proc activation level place caller) = level
+level_of (in_call proc activation level address caller) = level
 
 -- the cell with the locals of a frame
 abbrev pub activation_of : Frame → ℕ
 activation_of (at_base proc activation) = activation
-activation_of (in_call proc activation level place caller) = activation
+activation_of (in_call proc activation level address caller) = activation
 
 -- the frame has no caller
 abbrev pub is_base_frame : Frame → Bool
 is_base_frame (at_base proc activation) = true
-is_base_frame (in_call proc activation level place caller) = false
+is_base_frame (in_call proc activation level address caller) = false
 
 -- the locals of the procedure that runs
 abbrev pub locals : LinkedStack → List Value
@@ -157,7 +157,7 @@ first_of_chain (chain (item ∷ items) s scans outer) = Some item
 -- the newest operand outside, if there is one
 abbrev pub below_outer : Outer → Option Item
 below_outer (base proc activation) = None
-below_outer (call proc activation level place caller) = first_of_chain caller
+below_outer (call proc activation level address caller) = first_of_chain caller
 below_outer (mark label outside) = first_of_chain outside
 below_outer (limit count outside) = first_of_chain outside
 
@@ -165,7 +165,7 @@ below_outer (limit count outside) = first_of_chain outside
 abbrev pub below : LinkedStack → Option Item
 below m = below_outer (outer_of m.chain)
 
--- Marks. One whose label may change, which the place of its instruction tells, has a cell.
+-- Marks. One whose label may change, which the address of its instruction tells, has a cell.
 
 -- a mark with this label
 abbrev pub push_mark : Label → LinkedStack → LinkedStack
@@ -196,7 +196,7 @@ abbrev pub label_of : ℕ → List (ℕ × ℕ) → Option ℕ
 label_of flag [] = None
 label_of flag (entry ∷ others) = if entry.0 == flag then Some entry.1 else label_of flag others
 
--- the place of the mark itself raises its flag; another label is kept apart
+-- the address of the mark itself raises its flag; another label is kept apart
 abbrev pub relabelled_if : Bool → ℕ → ℕ → LinkedStack → LinkedStack
 relabelled_if true label flag m =
     record m { flags = slice_set m.flags flag true; relabels = forget_label flag m.relabels }
@@ -205,8 +205,8 @@ relabelled_if false label flag m =
 
 -- the innermost mark gets another label, if it can change
 abbrev pub relabel_in : ℕ → LinkedStack → Outer → Option LinkedStack
-relabel_in label m (mark (flagged old flag place) outside) =
-    Some (relabelled_if (label == place) label flag m)
+relabel_in label m (mark (flagged old flag address) outside) =
+    Some (relabelled_if (label == address) label flag m)
 relabel_in label m outer = None
 
 -- the innermost mark gets another label
@@ -299,19 +299,19 @@ dropped_by m outside label None = dropped_to m outside label
 
 -- where the flag is up it is put down, and the repeated alternation begins again behind its mark
 abbrev pub repeat_mark : Option ℕ → ℕ → ℕ → Chain → LinkedStack → Bool → MarkDrop LinkedStack
-repeat_mark label flag place outside m true =
+repeat_mark label flag address outside m true =
     Repeats (record m {
-      chain = chain [] none (scans_of outside) (mark (flagged label flag place) outside);
-      address = suc place;
+      chain = chain [] none (scans_of outside) (mark (flagged label flag address) outside);
+      address = suc address;
       flags = slice_set m.flags flag false;
     })
-repeat_mark label flag place outside m false = dropped_by m outside label (label_of flag m.relabels)
+repeat_mark label flag address outside m false = dropped_by m outside label (label_of flag m.relabels)
 
 -- where failing goes on once the innermost mark is dropped, by what it is
 abbrev pub drop_from : LinkedStack → Outer → MarkDrop LinkedStack
 drop_from m (mark (fixed label) outside) = dropped_to m outside label
-drop_from m (mark (flagged label flag place) outside) =
-    repeat_mark label flag place outside m (slice_index_or m.flags flag false)
+drop_from m (mark (flagged label flag address) outside) =
+    repeat_mark label flag address outside m (slice_index_or m.flags flag false)
 drop_from m (limit n outside) = Outside (with_chain outside m)
 drop_from m outer = NoMark
 
@@ -360,9 +360,9 @@ suspend_mark m = suspend_outer m (outer_of m.chain)
 -- the procedure is left suspended in its caller, if it has one
 abbrev pub suspend_frame : LinkedStack → Frame → Option LinkedStack
 suspend_frame m (at_base proc activation) = None
-suspend_frame m (in_call proc activation level place caller) =
+suspend_frame m (in_call proc activation level address caller) =
     Some
-    (record m { chain = suspend_in (suspension (because Proc) m.address m.chain) caller; address = place })
+    (record m { chain = suspend_in (suspension (because Proc) m.address m.chain) caller; address = address })
 
 -- the procedure is left suspended in its caller
 abbrev pub suspend_proc : LinkedStack → Option LinkedStack
@@ -376,8 +376,8 @@ why_of (scanning n) m = Scan (saved_at m n)
 -- the newest suspension comes back, if there is one
 abbrev pub resume_from : LinkedStack → Chain → Option (Why × LinkedStack)
 resume_from m (chain items none scans outer) = None
-resume_from m (chain items (suspension reason place inside) scans outer) =
-    Some (why_of reason m, record m { chain = inside; address = place })
+resume_from m (chain items (suspension reason address inside) scans outer) =
+    Some (why_of reason m, record m { chain = inside; address = address })
 
 -- the newest suspension of the innermost mark comes back
 abbrev pub resume : LinkedStack → Option (Why × LinkedStack)
@@ -396,8 +396,8 @@ enter proc values m = record m {
 -- the way back to the caller, if there is one
 abbrev pub leave_frame : LinkedStack → Frame → Option LinkedStack
 leave_frame m (at_base proc activation) = None
-leave_frame m (in_call proc activation level place caller) =
-    Some (record m { chain = caller; address = place })
+leave_frame m (in_call proc activation level address caller) =
+    Some (record m { chain = caller; address = address })
 
 -- the procedure ends and its caller goes on
 abbrev pub leave : LinkedStack → Option LinkedStack
@@ -415,8 +415,8 @@ empty = record {
   saved = [];
 }
 
--- The calls, where it is told at which places of each procedure marks are opened whose labels may change. For translated code these are the places where
--- repeated alternations begin, and then the cells are those of the meaning; where it is said of all places, no code lacks a cell.
+-- The calls, where it is told at which addresses of each procedure marks are opened whose labels may change. For translated code these are the addresses where
+-- repeated alternations begin, and then the cells are those of the meaning; where it is said of all addresses, no code lacks a cell.
 abbrev pub linked_calls : (ℕ → ℕ → Bool) → Calls WaitingChain LinkedStack
 linked_calls repeats = record {
   kept = λ m. record { chain = m.chain; address = m.address };
@@ -428,7 +428,7 @@ linked_calls repeats = record {
   locals = locals;
   set_locals = set_locals;
   address = λ m. m.address;
-  go = λ place m. record m { address = place };
+  go = λ address m. record m { address = address };
   push = push;
   pop = pop;
   take = take_items;

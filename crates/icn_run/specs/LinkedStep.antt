@@ -13,7 +13,7 @@ use Rattle.icn_run.specs.Step.{Program, Observation, Launch, instrs_of}
 abbrev pub State : Type 0
 State = Step.State WaitingChain LinkedStack
 
--- The places at which marks are opened whose labels may change are told by `repeats`.
+-- The addresses at which marks are opened whose labels may change are told by `repeats`.
 abbrev pub step : (ℕ → ℕ → Bool) → Program → State → State
 step repeats P state = Step.step (linked_calls repeats) P state
 
@@ -32,13 +32,13 @@ Runs repeats tables launch seen =
 
 -- a label of a `chfail` stands there
 abbrev pub is_chfail_to : ℕ → Instr → Bool
-is_chfail_to place (Chfail label) = label == place
-is_chfail_to place instr = false
+is_chfail_to address (Chfail label) = label == address
+is_chfail_to address instr = false
 
 -- marks may have their labels changed wherever they are opened
 abbrev pub repeats_anywhere : ℕ → ℕ → Bool
-repeats_anywhere proc place = true
+repeats_anywhere proc address = true
 
--- the mark at this place of a procedure is one of a repeated alternation: a `chfail` names it
+-- the mark at this address of a procedure is one of a repeated alternation: a `chfail` names it
 abbrev pub repeats_of : Tables → ℕ → ℕ → Bool
-repeats_of tables proc place = list_any (is_chfail_to place) (instrs_of tables proc)
+repeats_of tables proc address = list_any (is_chfail_to address) (instrs_of tables proc)

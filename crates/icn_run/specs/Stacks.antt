@@ -15,8 +15,8 @@ pub record Registers : Type 0 where
   -- the frame of the newest open scan of the procedure, which leads to the older ones
   pub scan : Option ℕ
 
--- A frame knows its procedure and how many locals stand above it; a procedure frame besides its level, and the registers and the place of the caller.
--- A mark keeps the registers outside, a suspension frame those that come back with their place. A label that chfail set is marked as changed.
+-- A frame knows its procedure and how many locals stand above it; a procedure frame besides its level, and the registers and the address of the caller.
+-- A mark keeps the registers outside, a suspension frame those that come back with their address. A label that chfail set is marked as changed.
 pub data Cell : Type 0 where
   base : (proc locals : ℕ) → Cell
   call : (proc locals level : ℕ) → Registers → ℕ → Cell
@@ -51,11 +51,11 @@ put_above (value ∷ values) cells = put_above values (local value ∷ cells)
 
 -- a new stack
 abbrev pub begin : ℕ → List Value → ℕ → Frames → Frames
-begin proc values place m =
+begin proc values address m =
     record {
       cells = put_above values (base proc (length values) ∷ []);
       registers = record { base = 1; mark = 1; newest = None; scan = None };
-      address = place;
+      address = address;
     }
 
 -- the procedure
@@ -67,18 +67,18 @@ frame m = cell_at m.registers.base m.cells
 -- the procedure of a frame
 abbrev pub proc_of : Option Cell → ℕ
 proc_of (Some (base proc locals)) = proc
-proc_of (Some (call proc locals level registers place)) = proc
+proc_of (Some (call proc locals level registers address)) = proc
 proc_of cell = 0
 
 -- how deep the procedure of a frame is called
 abbrev pub level_of : Option Cell → ℕ
-level_of (Some (call proc locals level registers place)) = level
+level_of (Some (call proc locals level registers address)) = level
 level_of cell = 1
 
 -- how many locals a frame has
 abbrev pub locals_of : Option Cell → ℕ
 locals_of (Some (base proc locals)) = locals
-locals_of (Some (call proc locals level registers place)) = locals
+locals_of (Some (call proc locals level registers address)) = locals
 locals_of cell = 0
 
 -- the frame has no caller
@@ -123,9 +123,9 @@ set_from height (value ∷ values) cells =
 abbrev pub set_locals : List Value → Frames → Frames
 set_locals values m = record m { cells = set_from m.registers.base values m.cells }
 
--- the code goes on at this place
+-- the code goes on at this address
 abbrev pub go : ℕ → Frames → Frames
-go place m = record m { address = place }
+go address m = record m { address = address }
 
 -- operands
 
@@ -207,12 +207,12 @@ count_down m = count_in m (cell_at m.registers.mark m.cells)
 
 -- the pair that a scan's suspension saved
 abbrev pub pair_of : Option Cell → Option Pair
-pair_of (Some (suspension (Scan pair) registers place)) = Some pair
+pair_of (Some (suspension (Scan pair) registers address)) = Some pair
 pair_of cell = None
 
 -- the open scan that was the newest before this one
 abbrev pub scan_of : Option Cell → Option ℕ
-scan_of (Some (suspension why registers place)) = registers.scan
+scan_of (Some (suspension why registers address)) = registers.scan
 scan_of cell = None
 
 -- the pair that the scan at a height saved, if one is given
@@ -244,8 +244,8 @@ oldest until m = elim (is_same m.registers.scan until) as (λ x. Option ℕ)
 
 -- the saved pair of a scan is exchanged
 abbrev pub with_pair : Pair → ℕ → Frames → Option Cell → Option (Pair × Frames)
-with_pair pair height m (Some (suspension (Scan old) registers place)) =
-    Some (old, record m { cells = set_cell height (suspension (Scan pair) registers place) m.cells })
+with_pair pair height m (Some (suspension (Scan old) registers address)) =
+    Some (old, record m { cells = set_cell height (suspension (Scan pair) registers address) m.cells })
 with_pair pair height m cell = None
 
 -- the saved pair of the scan at a height is exchanged, if one is given
@@ -307,11 +307,11 @@ suspend why m = let height = suc (length m.cells) in record m {
 
 -- a suspension frame on all that stands, then the operands on top of some lower cells, with the registers of these
 abbrev pub suspended_onto : Why → Frames → List Cell → Registers → ℕ → Frames
-suspended_onto why m cells registers place =
+suspended_onto why m cells registers address =
     record {
       cells = copy_up cells (suspension why m.registers m.address ∷ m.cells);
       registers = record registers { newest = Some (suc (length m.cells)) };
-      address = place;
+      address = address;
     }
 
 -- from the mark's cell downward
@@ -327,8 +327,8 @@ suspend_mark m = mark_suspended m (cut m.registers.mark m.cells)
 
 -- from the procedure's frame downward
 abbrev pub proc_suspended : Frames → List Cell → Option Frames
-proc_suspended m (call proc locals level registers place ∷ cells) =
-    Some (suspended_onto Proc m cells registers place)
+proc_suspended m (call proc locals level registers address ∷ cells) =
+    Some (suspended_onto Proc m cells registers address)
 proc_suspended m cells = None
 
 -- the procedure is left suspended in its caller
@@ -337,8 +337,8 @@ suspend_proc m = proc_suspended m (cut m.registers.base m.cells)
 
 -- from the suspension frame downward
 abbrev pub resume_from : List Cell → Option (Why × Frames)
-resume_from (suspension why registers place ∷ cells) =
-    Some (why, record { cells = cells; registers = registers; address = place })
+resume_from (suspension why registers address ∷ cells) =
+    Some (why, record { cells = cells; registers = registers; address = address })
 resume_from cells = None
 
 -- the newest suspension of the innermost mark comes back
@@ -357,8 +357,8 @@ enter proc values m = let height = suc (length m.cells) in record {
 
 -- from the procedure's frame downward
 abbrev pub leave_from : List Cell → Option Frames
-leave_from (call proc locals level registers place ∷ cells) =
-    Some (record { cells = cells; registers = registers; address = place })
+leave_from (call proc locals level registers address ∷ cells) =
+    Some (record { cells = cells; registers = registers; address = address })
 leave_from cells = None
 
 -- the procedure ends and its caller goes on

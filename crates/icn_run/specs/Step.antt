@@ -36,7 +36,7 @@ pub data Status (K : Type 0) : Type 0 where
   Waiting : K → Status K
   Exhausted : Status K
 
--- what entered it last, and what it was made with: values, a procedure, and the place of its first instruction
+-- what entered it last, and what it was made with: values, a procedure, and the address of its first instruction
 pub record Coexp (K : Type 0) : Type 0 where
   pub status : Status K
   pub activator : ℕ
@@ -287,15 +287,15 @@ is_create_body C m st = C.is_base m && not (is_main st.active)
 
 -- one more co-expression, which has not begun
 abbrev pub with_new : {K : Type 0} → List Value → ℕ → ℕ → Store K → Store K
-with_new values proc place st = record st {
+with_new values proc address st = record st {
   coexps = st.coexps
-      ++ record { status = Fresh; activator = zero; values = values; proc = proc; address = place } ∷ [];
+      ++ record { status = Fresh; activator = zero; values = values; proc = proc; address = address } ∷ [];
 }
 
 -- a new one is charged and made
 abbrev pub coexp_made : {K M : Type 0} → Calls K M → List Value → ℕ → ℕ → M → Store K → State K M
-coexp_made C values proc place m st = with_made C (coexpression_row (length values) (here C m st)) m st
-    (λ value m st. push_item C (Val value) m (with_new values proc place st))
+coexp_made C values proc address m st = with_made C (coexpression_row (length values) (here C m st)) m st
+    (λ value m st. push_item C (Val value) m (with_new values proc address st))
 
 -- a new co-expression, made as this one was
 abbrev pub refreshed_from : {K M : Type 0} → Calls K M → Option (Coexp K) → M → Store K → State K M
@@ -326,7 +326,7 @@ activation C value other m st = errs 118 (Some other) st
 
 -- Procedures
 
--- values for so many places, with nulls behind them
+-- values for so many locals, with nulls behind them
 abbrev pub fill_nulls : ℕ → List Value → List Value
 fill_nulls n values = take n (values ++ replicate n Null)
 
@@ -454,8 +454,8 @@ applied_to_elements C P (callee ∷ from ∷ []) m st =
 applied_to_elements C P items m st = stuck
 
 -- the first of the record's fields whose entry is this
-abbrev pub field_place : Tables → ℕ → ℕ → Option ℕ
-field_place tables field kind =
+abbrev pub field_index : Tables → ℕ → ℕ → Option ℕ
+field_index tables field kind =
     option_and_then (λ (entry : RecordType). position (λ other. other == field) entry.fields)
     (slice_get tables.records kind)
 
@@ -467,7 +467,7 @@ field_taken C None n m st = errs 207 (Some (ARecord n)) st
 -- the variable of a record's field; what is no record is error 107
 abbrev pub field_of : {K M : Type 0} → Calls K M → Program → ℕ → Value → M → Store K → State K M
 field_of C P field (ARecord n) m st =
-    field_taken C (field_place P field (record_at st.world.heap n).kind) n m st
+    field_taken C (field_index P field (record_at st.world.heap n).kind) n m st
 field_of C P field value m st = errs 107 (Some value) st
 
 -- a result that is a local, or a part of one, is its value
@@ -595,7 +595,7 @@ coexp_result C P m st = if is_create_body C m st
     (λ item m. turn P st (λ st. with_value C item m st (λ value. result_given C value m st)))
     else stuck
 
--- the place is that of the next instruction
+-- the address is that of the next instruction
 abbrev pub instruction : {K M : Type 0} → Calls K M → Program → Instr → M → Store K → State K M
 instruction C P Instrs.Pnull m st = push_item C (Val Null) m st
 instruction C P (Instrs.Int k) m st =
@@ -681,8 +681,8 @@ observation state = None
 -- the value that a global begins with
 abbrev pub start_value : Tables → Start → Value
 start_value tables Starts.Null = Null
-start_value tables (Starts.Procedure place) = ProcedureValue place
-start_value tables (Starts.Record place) = ProcedureValue (length tables.procs + place)
+start_value tables (Starts.Procedure number) = ProcedureValue number
+start_value tables (Starts.Record number) = ProcedureValue (length tables.procs + number)
 start_value tables (Starts.Function func) =
     ProcedureValue (length tables.procs + length tables.records + pred (func_number func))
 
@@ -727,7 +727,7 @@ first_store P launch = record {
 
 -- the procedure that a global begins with
 abbrev pub procedure_at : Start → Option ℕ
-procedure_at (Starts.Procedure place) = Some place
+procedure_at (Starts.Procedure number) = Some number
 procedure_at start = None
 
 -- the procedure that the global `main` begins with, if there is one

@@ -18,8 +18,8 @@ instr_count (proc ∷ procs) = length proc.instrs + instr_count procs
 
 -- what a label is worth that leads back, of a mark that is due; it is so only where failure came back to the mark
 abbrev pub backward_worth : ℕ → ℕ → Option Instr → ℕ
-backward_worth N place (Some (Instrs.Mark label)) = if nat_le label place then worth N label else 0
-backward_worth N place instr = 0
+backward_worth N address (Some (Instrs.Mark label)) = if nat_le label address then worth N label else 0
+backward_worth N address instr = 0
 
 -- what is left to do before the next turn, at most
 abbrev pub left_of : Tables → State Frames Frames → ℕ

@@ -1,4 +1,4 @@
--- What a flat stack weighs, as a number: the labels and the places of return that it leads to, and what failing has to go through before the next turn.
+-- What a flat stack weighs, as a number: the labels and the addresses of return that it leads to, and what failing has to go through before the next turn.
 use Rattle.std.specs.Prelude.{ℕ, zero, suc, ◌+◌, max, List, [], ◌∷◌, length, Option, Some, None}
 use Rattle.icn_run.specs.Calls.{Why, Alt, Op, Scan, Escan, Proc}
 use Rattle.icn_run.specs.Stacks.{Cell, base, call, local, mark, limit, suspension, operand, Registers, Frames, cut}
@@ -17,24 +17,24 @@ back_weight Proc inside = 0
 abbrev pub outer_weight : ℕ → (List Cell → Registers → ℕ) → List Cell → ℕ
 outer_weight N below_weight [] = 0
 outer_weight N below_weight (base proc locals ∷ below) = 0
-outer_weight N below_weight (call proc locals level registers place ∷ below) =
-    suc (worth N place) + below_weight below registers
+outer_weight N below_weight (call proc locals level registers address ∷ below) =
+    suc (worth N address) + below_weight below registers
 outer_weight N below_weight (local value ∷ below) = 0
 outer_weight N below_weight (mark label changed registers ∷ below) =
     suc (label_weight N label changed) + below_weight below registers
 outer_weight N below_weight (limit count registers ∷ below) = suc (below_weight below registers)
-outer_weight N below_weight (suspension why registers place ∷ below) = 0
+outer_weight N below_weight (suspension why registers address ∷ below) = 0
 outer_weight N below_weight (operand item ∷ below) = 0
 
 -- the same of a suspension
 abbrev pub newest_weight : (List Cell → Registers → ℕ) → List Cell → ℕ
 newest_weight below_weight [] = 0
 newest_weight below_weight (base proc locals ∷ below) = 0
-newest_weight below_weight (call proc locals level registers place ∷ below) = 0
+newest_weight below_weight (call proc locals level registers address ∷ below) = 0
 newest_weight below_weight (local value ∷ below) = 0
 newest_weight below_weight (mark label changed registers ∷ below) = 0
 newest_weight below_weight (limit count registers ∷ below) = 0
-newest_weight below_weight (suspension why registers place ∷ below) =
+newest_weight below_weight (suspension why registers address ∷ below) =
     back_weight why (below_weight below registers)
 newest_weight below_weight (operand item ∷ below) = 0
 

@@ -9,7 +9,7 @@ use Rattle.icn_code.specs.Codes.{Proc as Procedure}
 use Rattle.icn_run.specs.Calls.{Calls}
 use Rattle.icn_run_laws.specs.SameStates.{IsMade}
 use Rattle.icn_run.specs.Step.{Program, Launch, Store, State, running, failing, hopping, over, stuck, with_found, passed_failure, activator_of, instruction, instruction_at, instrs_of, step, start, start_of, first_store, main_of, with_made, here, with_at, begun_if, collect_rest, fill_nulls}
-use Rattle.icn_run_laws.specs.Measure.{worth, Weighs, Fits, Held, IsForward, Forward, Falls, Later, Sound, EndsFrom}
+use Rattle.icn_run_laws.specs.Measure.{worth, Weighs, Fits, FitsStore, IsForward, Forward, Falls, Later, Sound, EndsFrom}
 use Rattle.icn_run_laws.proofs.RowsKeep.{rows_keep}
 use Rattle.icn_run_laws.proofs.Falls.{IsForward', worth_next, when_found, Allows, there, turned, TurnOf, l_instruction, f_fails, a_to_activator}
 
@@ -40,7 +40,7 @@ module _ {K M : Type 0} (C : Calls K M) (N : ℕ) (W : Weighs C N) (P : Program)
   turns_of (hopping m st) = st.turns
   turns_of _ = 0
 
-  at_instruction : (m : M) (st : Store K) (o : Option Instr) → instruction_at C P m ≡ o → Kept (running m st) → (f : Fits C N B W m) → Held C N B W st
+  at_instruction : (m : M) (st : Store K) (o : Option Instr) → instruction_at C P m ≡ o → Kept (running m st) → (f : Fits C N B W m) → FitsStore C N B W st
       → (few : st.turns ≤ B)
       → Later C N B W st.turns (worth N (C.address m) + f.0) (with_found o (λ instr. instruction C P instr (C.go (suc (C.address m)) m) st))
   at_instruction m st None q kept f g few = tt
@@ -114,7 +114,7 @@ module _ {K M : Type 0} (C : Calls K M) (N : ℕ) (W : Weighs C N) (P : Program)
 
   -- no stack runs yet
   abbrev Starts : Store K → Type 0
-  Starts st = Held C N B W st × (st.turns ≤ B)
+  Starts st = FitsStore C N B W st × (st.turns ≤ B)
 
   s_made : (o : Outcome) (m : M) (st : Store K) (next : Value → M → Store K → State K M) → IsMade o → KeepsIn (here C m st) o → Starts st
       → ((v : Value) (a : M) (st' : Store K) → Starts st' → Sound C N B W (next v a st')) → Sound C N B W (with_made C o m st next)

@@ -10,10 +10,10 @@ use Rattle.icn_code.specs.Codes.{Proc as Procedure}
 use Rattle.icn_text.specs.declared.op.Op.{Op}
 use Rattle.icn_run.specs.Rows.{Value, Null, Integer, Text, Chars, Procedure as ProcedureValue, ARecord, AList, ACoexp, Local, Whole, Part, Item, Val, Var, Setting, Outside, Outcome, Fails, Gives, Suspends, Error, Ends, Operation, Function, Ending, apply, again, keyword_item, value_row, list_row, text_row, record_row, coexpression_row, integer_of, number_of, record_at}
 use Rattle.icn_run.specs.Calls.{Pair, Why, Alt, Op as Operating, Scan, Escan, Proc, MarkDrop, NoMark, Goes, Repeats, Outside as WithoutLabel, Calls}
-use Rattle.icn_run.specs.Step.{Program, Status, Fresh, Active, Waiting, Exhausted, Coexp, Store, State, running, failing, hopping, over, stuck, with_found, turn_if, turn, here, with_at, with_given, with_made, with_value, with_values, push_item, outcome, list_made, with_pair, pair_now, scans_left, with_exchange, maybe_exchanged, swapped_back, all_left, coexp_at, status_of, activator_of, with_status, with_activator, fail_by, passed_failure, give_by, passed_value, exhaust_active, counted_result, result_given, is_main, is_create_body, with_new, coexp_made, refreshed_from, refresh, entered_by, entered_if, activation, fill_nulls, collect_rest, called_if, choose_item, pushed_or_fails, integer_called, Callee, IsProc, IsRecord, IsFunc, IsNothing, callee_of, callee_called, invoke_value, invoked_with, elements_called, applied_to_elements, field_place, field_taken, field_of, with_result, return_to, without_mark, mark_dropped, resume_by, resumed_or_dropped, fails, members_of, standing_of, with_popped, with_taken, unmark_then, limit_results, limited_result, scan_opened, initial_if, activation_of, operate, field_applied, instruction}
+use Rattle.icn_run.specs.Step.{Program, Status, Fresh, Active, Waiting, Exhausted, Coexp, Store, State, running, failing, hopping, over, stuck, with_found, turn_if, turn, here, with_at, with_given, with_made, with_value, with_values, push_item, outcome, list_made, with_pair, pair_now, scans_left, with_exchange, maybe_exchanged, swapped_back, all_left, coexp_at, status_of, activator_of, with_status, with_activator, fail_by, passed_failure, give_by, passed_value, exhaust_active, counted_result, result_given, is_main, is_create_body, with_new, coexp_made, refreshed_from, refresh, entered_by, entered_if, activation, fill_nulls, collect_rest, called_if, choose_item, pushed_or_fails, integer_called, Callee, IsProc, IsRecord, IsFunc, IsNothing, callee_of, callee_called, invoke_value, invoked_with, elements_called, applied_to_elements, field_index, field_taken, field_of, with_result, return_to, without_mark, mark_dropped, resume_by, resumed_or_dropped, fails, members_of, standing_of, with_popped, with_taken, unmark_then, limit_results, limited_result, scan_opened, initial_if, activation_of, operate, field_applied, instruction}
 use Rattle.icn_defs.specs.Keeping.{Keeps, KeepsIn}
 use Rattle.icn_run_laws.proofs.RowsKeep.{rows_keep}
-use Rattle.icn_run_laws.specs.Measure.{Held, cost, worth, IfThere, Stays, Pays, Lightens, DropsWell, ResumesWell, Weighs, FitsStatus, FitAll, Fits, After, Later}
+use Rattle.icn_run_laws.specs.Measure.{FitsStore, cost, worth, IfThere, Stays, Pays, Lightens, DropsWell, ResumesWell, Weighs, FitsStatus, FitAll, Fits, After, Later}
 
 pub cost_some : (n : ℕ) → 1 ≤ cost n
 cost_some zero = omega arith
@@ -90,7 +90,7 @@ module _ {K M : Type 0} (C : Calls K M) (N : ℕ) (W : Weighs C N) (P : Program)
   allowed = record { lacks = tt; ends = λ ending outside. tt }
 
   abbrev Holds : Store K → Type 0
-  Holds st = Held C N B W st
+  Holds st = FitsStore C N B W st
 
   -- a stack and a store that may go on after a turn
   abbrev pub Ready : M → Store K → Type 0
@@ -281,7 +281,7 @@ module _ {K M : Type 0} (C : Calls K M) (N : ℕ) (W : Weighs C N) (P : Program)
   a_taken (Some place) k m st h = a_push _ m st h
 
   a_field : (field : ℕ) (v : Value) (m : M) (st : Store K) → Ready m st → A (field_of C P field v m st)
-  a_field field (ARecord k) m st h = a_taken (field_place P field (record_at st.world.heap k).kind) k m st h
+  a_field field (ARecord k) m st h = a_taken (field_index P field (record_at st.world.heap k).kind) k m st h
   a_field field _ m st h = tt
 
   a_field_applied : (field : ℕ) (items : List Item) (m : M) (st : Store K) → Ready m st → A (field_applied C P field items m st)
@@ -315,7 +315,7 @@ module _ {K M : Type 0} (C : Calls K M) (N : ℕ) (W : Weighs C N) (P : Program)
 
   -- the stores of one step before its turn
   pub record Same (st : Store K) : Type 0 where
-    pub fit : Held C N B W st
+    pub fit : FitsStore C N B W st
     pub turns : st.turns ≡ n
 
   abbrev pub TurnOf : Store K → Store K
@@ -339,7 +339,7 @@ module _ {K M : Type 0} (C : Calls K M) (N : ℕ) (W : Weighs C N) (P : Program)
   same_back (Some swap) st s = record { fit = s.fit; turns = s.turns }
 
   -- ready for a turn
-  pub ready : (m : M) (st : Store K) → Fits C N B W m → Same st → Fits C N B W m × Held C N B W st × (suc st.turns ≡ n + 1)
+  pub ready : (m : M) (st : Store K) → Fits C N B W m → Same st → Fits C N B W m × FitsStore C N B W st × (suc st.turns ≡ n + 1)
   ready m st f s = let e = s.turns in (f, s.fit, omega arith)
 
   -- the place is that of the next instruction

@@ -135,7 +135,7 @@ module _ (repeats : ℕ → ℕ → Bool) (Opens : ℕ → ℕ → Option ℕ �
     below = on_below repeats Opens;
     set_locals = on_set_locals;
     go = on_go repeats Opens;
-    go_place = λ q m. refl;
+    go_address = λ q m. refl;
     go_proc = λ q m. refl;
     push = on_push repeats Opens;
     pop = on_pop repeats Opens;

@@ -10,7 +10,7 @@ use Rattle.icn_code.specs.declared.instr.Instr.TheVariants as I
 use Rattle.icn_code.specs.Codes.{Proc as Procedure, RecordType}
 use Rattle.icn_run.specs.Rows.{Value, Null, Integer, Text, Chars, Procedure as ProcedureValue, ARecord, AList, ACoexp, Static, Local, Whole, Part, Item, Val, Var, Setting, World, Outside, Outcome, Fails, Gives, Suspends, Error, Ends, integer_of, number_of, again, apply, keyword_item, value_row, list_row, text_row, record_row, coexpression_row, words_row, record_at, Operation, Function, Ending}
 use Rattle.icn_run.specs.Calls.{Pair, Why, Alt, Op as Operating, Scan, Escan, Proc, MarkDrop, NoMark, Goes, Repeats, Outside as WithoutLabel, Calls}
-use Rattle.icn_run.specs.Step.{Program, Launch, Status, Fresh, Active, Waiting, Exhausted, Coexp, Store, State, running, failing, hopping, over, stuck, with_found, on_pair, turn_if, turn, steps, step, here, with_world, with_at, with_given, with_made, with_value, with_values, push_item, outcome, list_made, instrs_of, statics_before, with_pair, pair_now, scans_left, with_exchange, maybe_exchanged, swapped_back, all_left, coexp_at, status_of, activator_of, with_status, with_activator, make_active, fail_by, passed_failure, begun_by, give_by, passed_value, hop, exhaust_active, counted_result, result_given, is_main, is_create_body, with_new, coexp_made, refreshed_from, refresh, entered_by, entered_if, activation, enter_procedure, fill_nulls, collect_rest, with_parameters, called_if, call_procedure, construct_record, choose_item, pushed_or_fails, integer_called, Callee, IsProc, IsRecord, IsFunc, IsNothing, callee_of, callee_called, invoke_value, invoked_with, elements_called, applied_to_elements, field_place, field_taken, field_of, with_result, return_to, proc_fails, without_mark, mark_dropped, resume_by, resumed_or_dropped, fails, members_of, standing_of, with_popped, with_taken, unmark_then, limit_results, limited_result, scan_opened, initial_if, initial_done, activation_of, operate, field_applied, instruction, instruction_at, begun_if, start_of, start, first_store, main_of}
+use Rattle.icn_run.specs.Step.{Program, Launch, Status, Fresh, Active, Waiting, Exhausted, Coexp, Store, State, running, failing, hopping, over, stuck, with_found, on_pair, turn_if, turn, steps, step, here, with_world, with_at, with_given, with_made, with_value, with_values, push_item, outcome, list_made, instrs_of, statics_before, with_pair, pair_now, scans_left, with_exchange, maybe_exchanged, swapped_back, all_left, coexp_at, status_of, activator_of, with_status, with_activator, make_active, fail_by, passed_failure, begun_by, give_by, passed_value, hop, exhaust_active, counted_result, result_given, is_main, is_create_body, with_new, coexp_made, refreshed_from, refresh, entered_by, entered_if, activation, enter_procedure, fill_nulls, collect_rest, with_parameters, called_if, call_procedure, construct_record, choose_item, pushed_or_fails, integer_called, Callee, IsProc, IsRecord, IsFunc, IsNothing, callee_of, callee_called, invoke_value, invoked_with, elements_called, applied_to_elements, field_index, field_taken, field_of, with_result, return_to, proc_fails, without_mark, mark_dropped, resume_by, resumed_or_dropped, fails, members_of, standing_of, with_popped, with_taken, unmark_then, limit_results, limited_result, scan_opened, initial_if, initial_done, activation_of, operate, field_applied, instruction, instruction_at, begun_if, start_of, start, first_store, main_of}
 use Rattle.icn_defs.specs.Keeping.{KeepsIn}
 use Rattle.icn_run_laws.specs.Laws.{Both, Then, With, SameDropped, Agrees}
 use Rattle.icn_run_laws.specs.SameStates.{IsMade, IsLacking, mark_of, Opens, RowsKeep, SameStatus, SameCoexp, alike, Rests, lift, Ready, Same, same_running, same_failing, same_hopping, same_over, same_stuck, lost}
@@ -485,7 +485,7 @@ module _ {K M K' M' : Type 0} (C' : Calls K' M') (C : Calls K M) (P : Program) (
 
   a_field : (field : ℕ) (v : Value) (m' : M') (m : M) (st : Store K) (ks' : List (Coexp K')) → Rd st.active m' m ks' st.coexps
       → Sm (field_of C' P field v m' (lift st ks')) (field_of C P field v m st)
-  a_field field (ARecord k) m' m st ks' h = a_taken (field_place P field (record_at st.world.heap k).kind) k m' m st ks' h
+  a_field field (ARecord k) m' m st ks' h = a_taken (field_index P field (record_at st.world.heap k).kind) k m' m st ks' h
   a_field field _ m' m st ks' h = same_over
 
   a_field_applied : (field : ℕ) (items : List Item) (m' : M') (m : M) (st : Store K) (ks' : List (Coexp K')) → Rd st.active m' m ks' st.coexps
@@ -919,7 +919,7 @@ module _ {K M K' M' : Type 0} (C' : Calls K' M') (C : Calls K M) (P : Program) (
   at_instruction m' m st ks' h d None e = same_stuck
   at_instruction m' m st ks' h d (Some i) e = l_instruction i (C'.go (suc (C.address m)) m') (C.go (suc (C.address m)) m) st ks'
       (ap (λ p. slice_get (instrs_of P p) (pred (C.address (C.go (suc (C.address m)) m)))) (G.go_proc (suc (C.address m)) m)
-      ∙ ap (λ q. slice_get (instrs_of P (C.proc m)) (pred q)) (G.go_place (suc (C.address m)) m) ∙ e)
+      ∙ ap (λ q. slice_get (instrs_of P (C.proc m)) (pred q)) (G.go_address (suc (C.address m)) m) ∙ e)
       (r_go (suc (C.address m)) st.active m' m ks' st.coexps h) (λ label is. d label (e ∙ ap Some is))
 
   s_running : (m' : M') (m : M) (st : Store K) (ks' : List (Coexp K')) → Rd st.active m' m ks' st.coexps

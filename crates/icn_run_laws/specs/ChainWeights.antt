@@ -6,7 +6,7 @@ use Rattle.icn_run_laws.specs.Measure.{worth, worth_of}
 
 abbrev pub label_weight : ℕ → Label → ℕ
 label_weight N (fixed label) = worth_of N label
-label_weight N (flagged label flag place) = worth_of N label
+label_weight N (flagged label flag address) = worth_of N label
 
 -- what comes back with a suspension, by what it holds down to the mark outside its own, and by what its own mark holds; nothing, where to resume is a turn
 abbrev pub reason_weight : Reason → ℕ → ℕ → ℕ
@@ -23,12 +23,12 @@ abbrev mutual
 
   pub susp_weight : ℕ → Suspensions → ℕ
   susp_weight N none = 0
-  susp_weight N (suspension reason place inside) =
+  susp_weight N (suspension reason address inside) =
       reason_weight reason (inside_weight N inside) (own_weight N inside)
 
   pub outer_weight : ℕ → Outer → ℕ
   outer_weight N (base proc activation) = 0
-  outer_weight N (call proc activation level place caller) = suc (worth N place) + weight_of N caller
+  outer_weight N (call proc activation level address caller) = suc (worth N address) + weight_of N caller
   outer_weight N (mark label outside) = suc (label_weight N label) + weight_of N outside
   outer_weight N (limit n outside) = suc (weight_of N outside)
 
@@ -40,7 +40,7 @@ abbrev mutual
 
   pub above_weight : ℕ → Outer → ℕ
   above_weight N (base proc activation) = 0
-  above_weight N (call proc activation level place caller) = 0
+  above_weight N (call proc activation level address caller) = 0
   above_weight N (mark label outside) = suc (label_weight N label) + own_weight N outside
   above_weight N (limit n outside) = suc (own_weight N outside)
 
@@ -60,10 +60,10 @@ abbrev mutual
 
   pub FitSuspension : ℕ → Suspensions → Outer → Type 0
   FitSuspension N none o = Unit {0}
-  FitSuspension N (suspension reason place inside) o = Fit N inside × Under N reason inside o
+  FitSuspension N (suspension reason address inside) o = Fit N inside × Under N reason inside o
 
   pub FitOuter : ℕ → Outer → Type 0
   FitOuter N (base proc activation) = Unit {0}
-  FitOuter N (call proc activation level place caller) = Fit N caller
+  FitOuter N (call proc activation level address caller) = Fit N caller
   FitOuter N (mark label outside) = Fit N outside
   FitOuter N (limit n outside) = Fit N outside

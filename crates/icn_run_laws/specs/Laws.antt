@@ -47,8 +47,8 @@ pub record Agrees {K M K' M' : Type 0} (C' : Calls K' M') (C : Calls K M) (Opens
   pub kept : (w : W) (s : ℕ) (m' : M') (m : M) → Now w s m' m → Away w s (C'.kept m') (C.kept m)
   pub taken_up : (w : W) (s : ℕ) (k' : K') (k : K) (m' : M') (m : M) → Away w s k' k → Holds w m'
       → Now w s (C'.taken_up k' m') (C.taken_up k m)
-  pub begin : (proc : ℕ) (values : List Value) (place : ℕ) (w : W) (s : ℕ) (m' : M') (m : M) → Holds w m'
-      → Then Next Now w s (C'.begin proc values place m') (C.begin proc values place m)
+  pub begin : (proc : ℕ) (values : List Value) (address : ℕ) (w : W) (s : ℕ) (m' : M') (m : M) → Holds w m'
+      → Then Next Now w s (C'.begin proc values address m') (C.begin proc values address m)
   pub proc : (w : W) (s : ℕ) (m' : M') (m : M) → Now w s m' m → C'.proc m' ≡ C.proc m
   pub level : (w : W) (s : ℕ) (m' : M') (m : M) → Now w s m' m → C'.level m' ≡ C.level m
   pub is_base : (w : W) (s : ℕ) (m' : M') (m : M) → Now w s m' m → C'.is_base m' ≡ C.is_base m
@@ -60,7 +60,7 @@ pub record Agrees {K M K' M' : Type 0} (C' : Calls K' M') (C : Calls K M) (Opens
       → Then Next Now w s (C'.set_locals values m') (C.set_locals values m)
   pub go : (q : ℕ) (w : W) (s : ℕ) (m' : M') (m : M) → Now w s m' m
       → Then Next Now w s (C'.go q m') (C.go q m)
-  pub go_place : (q : ℕ) (m : M) → C.address (C.go q m) ≡ q
+  pub go_address : (q : ℕ) (m : M) → C.address (C.go q m) ≡ q
   pub go_proc : (q : ℕ) (m : M) → C.proc (C.go q m) ≡ C.proc m
   pub push : (item : Item) (w : W) (s : ℕ) (m' : M') (m : M) → Now w s m' m
       → Then Next Now w s (C'.push item m') (C.push item m)

@@ -1,5 +1,5 @@
--- What falls between two turns. Code goes forward, returns, or takes a pending label, which is then gone; so each place weighs four times the next, and
--- the weight of a stack is the sum over what can be reached without a turn: labels, places of return, and what failing has to go through.
+-- What falls between two turns. Code goes forward, returns, or takes a pending label, which is then gone; so each address weighs four times the next, and
+-- the weight of a stack is the sum over what can be reached without a turn: labels, addresses of return, and what failing has to go through.
 use Rattle.std.specs.Prelude.{◌≡◌, ◌⊎◌, ℕ, zero, suc, ◌+◌, ◌-◌, ◌<◌, ◌≤◌, List, [], ◌∷◌, slice_get, Option, Some, None}
 use Rattle.icn_code.specs.declared.instr.Instr.{Instr}
 use Rattle.icn_code.specs.declared.instr.Instr.TheVariants as I
@@ -12,9 +12,9 @@ abbrev pub cost : ℕ → ℕ
 cost zero = 1
 cost (suc n) = cost n + cost n + cost n + cost n
 
--- what a place is worth, where no procedure has more than N instructions
+-- what an address is worth, where no procedure has more than N instructions
 abbrev pub worth : ℕ → ℕ → ℕ
-worth N place = cost (N - place)
+worth N address = cost (N - address)
 
 abbrev pub worth_of : ℕ → Option ℕ → ℕ
 worth_of N None = 0
@@ -26,17 +26,17 @@ IfThere None P = Unit {0}
 IfThere (Some x) P = P x
 
 -- `Fits m v` says that a stack is well formed and weighs v at most. What a call does to a stack that weighs v at most: the weight rises by so much at
--- most, and the place stays.
-pub record Stays {M : Type 0} (Fits : M → ℕ → Type 0) (place : M → ℕ) (extra v : ℕ)
+-- most, and the address stays.
+pub record Stays {M : Type 0} (Fits : M → ℕ → Type 0) (address : M → ℕ) (extra v : ℕ)
     (m after : M) : Type 0 where
   pub fits : (x : ℕ) × Fits after x
   pub weighs : fits.0 ≤ extra + v
-  pub stands : place after ≡ place m
+  pub stands : address after ≡ address m
 
--- it goes on at a place that the weight paid for
-pub record Pays {M : Type 0} (Fits : M → ℕ → Type 0) (place : M → ℕ) (N v : ℕ) (after : M) : Type 0 where
+-- it goes on at an address that the weight paid for
+pub record Pays {M : Type 0} (Fits : M → ℕ → Type 0) (address : M → ℕ) (N v : ℕ) (after : M) : Type 0 where
   pub fits : (x : ℕ) × Fits after x
-  pub weighs : worth N (place after) + fits.0 < v
+  pub weighs : worth N (address after) + fits.0 < v
 
 -- it becomes lighter, and fails there
 pub record Lightens {M : Type 0} (Fits : M → ℕ → Type 0) (v : ℕ) (after : M) : Type 0 where
@@ -44,10 +44,10 @@ pub record Lightens {M : Type 0} (Fits : M → ℕ → Type 0) (v : ℕ) (after 
   pub weighs : fits.0 < v
 
 abbrev pub DropsWell : {M : Type 0} → (M → ℕ → Type 0) → (M → ℕ) → ℕ → ℕ → MarkDrop M → Type 0
-DropsWell Fits place N v NoMark = Unit {0}
-DropsWell Fits place N v (Goes after) = Pays Fits place N v after
-DropsWell Fits place N v (Repeats after) = (x : ℕ) × Fits after x
-DropsWell Fits place N v (Outside after) = Lightens Fits v after
+DropsWell Fits address N v NoMark = Unit {0}
+DropsWell Fits address N v (Goes after) = Pays Fits address N v after
+DropsWell Fits address N v (Repeats after) = (x : ℕ) × Fits after x
+DropsWell Fits address N v (Outside after) = Lightens Fits v after
 
 -- resuming an operation or a procedure is a turn
 abbrev pub ResumesWell : {M : Type 0} → (M → ℕ → Type 0) → ℕ → Why → M → Type 0
@@ -71,12 +71,12 @@ pub record Weighs {K M : Type 0} (C : Calls K M) (N : ℕ) : Type 1 where
   pub FitsAway : K → Type 0
   pub kept : (m : M) (f : (v : ℕ) × Bounded m v) → FitsAway (C.kept m)
   pub taken_up : (k : K) (m : M) → FitsAway k → (v : ℕ) × Bounded (C.taken_up k m) v
-  pub begin : (proc : ℕ) (values : List Value) (place : ℕ) (m : M)
-      → (v : ℕ) × Bounded (C.begin proc values place m) v
+  pub begin : (proc : ℕ) (values : List Value) (address : ℕ) (m : M)
+      → (v : ℕ) × Bounded (C.begin proc values address m) v
   pub set_locals : (values : List Value) (m : M) (f : (v : ℕ) × Bounded m v)
       → Stays Bounded C.address 0 f.0 m (C.set_locals values m)
-  pub go : (place : ℕ) (m : M) (v : ℕ) → Bounded m v → Bounded (C.go place m) v
-  pub go_stands : (place : ℕ) (m : M) → C.address (C.go place m) ≡ place
+  pub go : (address : ℕ) (m : M) (v : ℕ) → Bounded m v → Bounded (C.go address m) v
+  pub go_stands : (address : ℕ) (m : M) → C.address (C.go address m) ≡ address
   pub push : (item : Item) (m : M) (f : (v : ℕ) × Bounded m v)
       → Stays Bounded C.address 0 f.0 m (C.push item m)
   pub pop : (m : M) (f : (v : ℕ) × Bounded m v)
@@ -113,16 +113,17 @@ pub record Weighs {K M : Type 0} (C : Calls K M) (N : ℕ) : Type 1 where
 
 -- labels of marks, `goto` and `init` lie behind their instruction
 abbrev pub IsForward : ℕ → Instr → Type 0
-IsForward place (I.Mark label) = place < label
-IsForward place (I.Goto label) = place < label
-IsForward place (I.Init label) = place < label
-IsForward place instr = Unit {0}
+IsForward address (I.Mark label) = address < label
+IsForward address (I.Goto label) = address < label
+IsForward address (I.Init label) = address < label
+IsForward address instr = Unit {0}
 
 -- no procedure has more than N instructions, and each goes forward
 pub record Forward (N : ℕ) (P : Program) : Type 0 where
-  pub within : (proc place : ℕ) (instr : Instr) → slice_get (instrs_of P proc) place ≡ Some instr → place < N
-  pub forward : (proc place : ℕ) (instr : Instr) → slice_get (instrs_of P proc) place ≡ Some instr
-      → IsForward place instr
+  pub within : (proc address : ℕ) (instr : Instr) → slice_get (instrs_of P proc) address ≡ Some instr
+      → address < N
+  pub forward : (proc address : ℕ) (instr : Instr) → slice_get (instrs_of P proc) address ≡ Some instr
+      → IsForward address instr
 
 -- stacks that wait are well formed
 abbrev pub FitsStatus : {K : Type 0} → (K → Type 0) → Status K → Type 0
@@ -142,14 +143,14 @@ module _ {K M : Type 0} (C : Calls K M) (N B : ℕ) (W : Weighs C N) where
   Fits m = (v : ℕ) × W.Bounded m v
 
   -- stacks that wait are well formed, and the bound on turns is B
-  abbrev pub Held : Store K → Type 0
-  Held st = FitAll W.FitsAway st.coexps × (st.world.heap.bounds.turns ≡ B)
+  abbrev pub FitsStore : Store K → Type 0
+  FitsStore st = FitAll W.FitsAway st.coexps × (st.world.heap.bounds.turns ≡ B)
 
   -- a state after one turn more than n
   abbrev pub After : ℕ → State K M → Type 0
-  After n (running m st) = Fits m × Held st × (st.turns ≡ n + 1)
-  After n (failing m st) = Fits m × Held st × (st.turns ≡ n + 1)
-  After n (hopping m st) = Held st × (st.turns ≡ n + 1)
+  After n (running m st) = Fits m × FitsStore st × (st.turns ≡ n + 1)
+  After n (failing m st) = Fits m × FitsStore st × (st.turns ≡ n + 1)
+  After n (hopping m st) = FitsStore st × (st.turns ≡ n + 1)
   After n (over ending outside) = Unit {0}
   After n stuck = Unit {0}
 
@@ -159,17 +160,17 @@ module _ {K M : Type 0} (C : Calls K M) (N B : ℕ) (W : Weighs C N) where
 
   -- a state after one turn more than n, or one that is lighter than w after n turns
   abbrev pub Later : (n w : ℕ) → State K M → Type 0
-  Later n w (running m st) = (f : Fits m) × Held st × Falls st.turns (worth N (C.address m) + f.0) n w
-  Later n w (failing m st) = (f : Fits m) × Held st × Falls st.turns f.0 n w
-  Later n w (hopping m st) = Held st × ((st.turns ≡ n + 1) × (n < B))
+  Later n w (running m st) = (f : Fits m) × FitsStore st × Falls st.turns (worth N (C.address m) + f.0) n w
+  Later n w (failing m st) = (f : Fits m) × FitsStore st × Falls st.turns f.0 n w
+  Later n w (hopping m st) = FitsStore st × ((st.turns ≡ n + 1) × (n < B))
   Later n w (over ending outside) = Unit {0}
   Later n w stuck = Unit {0}
 
   -- the stacks of a state are well formed, and it made no more turns than it may
   abbrev pub Sound : State K M → Type 0
-  Sound (running m st) = Fits m × Held st × (st.turns ≤ B)
-  Sound (failing m st) = Fits m × Held st × (st.turns ≤ B)
-  Sound (hopping m st) = Held st × (st.turns ≤ B)
+  Sound (running m st) = Fits m × FitsStore st × (st.turns ≤ B)
+  Sound (failing m st) = Fits m × FitsStore st × (st.turns ≤ B)
+  Sound (hopping m st) = FitsStore st × (st.turns ≤ B)
   Sound (over ending outside) = Unit {0}
   Sound stuck = Unit {0}
 

@@ -14,19 +14,19 @@ is_transfer Instrs.Coret = true
 is_transfer Instrs.Cofail = true
 is_transfer instr = false
 
--- a co-expression that was just made with these values, for this procedure and place, and that nothing has entered
+-- a co-expression that was just made with these values, for this procedure and address, and that nothing has entered
 abbrev pub IsNew : {K : Type 0} → List Value → ℕ → ℕ → Coexp K → Type 0
-IsNew values proc place coexp =
-    coexp ≡ record { status = Fresh; activator = zero; values = values; proc = proc; address = place }
+IsNew values proc address coexp =
+    coexp ≡ record { status = Fresh; activator = zero; values = values; proc = proc; address = address }
 
--- what is made again from one that is there: with the values, the procedure and the place of its creation
+-- what is made again from one that is there: with the values, the procedure and the address of its creation
 pub record IsMadeAgain {K : Type 0} (coexps : List (Coexp K)) (new : Coexp K) : Type 0 where
   pub number : ℕ
   pub old : Coexp K
   pub there : slice_get coexps number ≡ Some old
   pub again : IsNew old.values old.proc old.address new
 
--- The co-expression that an instruction may add: `create` one with the present locals, at the place behind itself, refreshing one that is made again, and
+-- The co-expression that an instruction may add: `create` one with the present locals, at the address behind itself, refreshing one that is made again, and
 -- any other instruction none.
 abbrev pub Adds : {K M : Type 0} → Calls K M → Instr → M → Store K → Coexp K → Type 0
 Adds C (Instrs.Create label) m st new = IsNew (C.locals m) (C.proc m) (C.address m) new
@@ -63,7 +63,7 @@ pub record EndsBody {K M : Type 0} (C : Calls K M) (m : M) (st : Store K) : Type
   pub no_mark : is_no_mark (C.drop_mark m) ≡ true
   pub in_body : is_create_body C m st ≡ true
 
--- Of both machines: an instruction that is no transfer leaves the others as they were, and so does failure that does not end a create body. The place of
+-- Of both machines: an instruction that is no transfer leaves the others as they were, and so does failure that does not end a create body. The address of
 -- the stack is that of the next instruction when an instruction is done.
 pub record OthersStay {K M : Type 0} (C : Calls K M) (P : Program) : Type 0 where
   pub instructions : (m : M) (st : Store K) (instr : Instr) → instruction_at C P m ≡ Some instr

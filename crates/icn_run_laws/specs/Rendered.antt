@@ -54,7 +54,7 @@ memory_of m = record {
   saved = m.saved;
 }
 
--- a chain at a place, with what is held beside it
+-- a chain at an address, with what is held beside it
 abbrev pub linked_with : Memory → Chain → ℕ → LinkedStack
 linked_with F c q = record {
   chain = c;
@@ -119,9 +119,9 @@ pub record IsOwned (w : World) (n : Name) (s h : ℕ) (k : Content) : Type 0 whe
 -- How a numbered cell looks
 
 abbrev pub shown_label : Option Content → Option ℕ → ℕ → Registers → Cell
-shown_label (Some (Flag true)) label place r = c_mark (Some place) true r
-shown_label (Some (Changed other)) label place r = c_mark (Some other) true r
-shown_label kept label place r = c_mark label false r
+shown_label (Some (Flag true)) label address r = c_mark (Some address) true r
+shown_label (Some (Changed other)) label address r = c_mark (Some other) true r
+shown_label kept label address r = c_mark label false r
 
 abbrev pub count_of : Option Content → ℕ
 count_of (Some (Count n)) = n
@@ -171,7 +171,7 @@ AllOk w s (cell ∷ cells) = Ok w s (suc (length cells)) cell × AllOk w s cells
 
 -- How a chain lies flat
 
--- so many locals of an activation from a place on, above other cells
+-- so many locals of an activation from an index on, above other cells
 abbrev pub locs : ℕ → ℕ → ℕ → List NCell → List NCell
 locs a i zero cells = cells
 locs a i (suc n) cells = locs a (suc i) n (n_local a i ∷ cells)
@@ -188,7 +188,7 @@ pub data FlatScans : List ℕ → List NCell → Option ℕ → Type 0 where
       → cells ≡ above ++ n_suspension (scanning n) r q ∷ below → h ≡ suc (length below)
       → FlatScans scans below r.scan → FlatScans (n ∷ scans) cells (Some h)
 
--- what is known of the label of a mark of a procedure: the mark stands at a place, which is not told as one where labels may change, or which the label has
+-- what is known of the label of a mark of a procedure: the mark stands at an address, which is not told as one where labels may change, or which the label has
 abbrev pub LabelOk : (ℕ → ℕ → Bool) → (ℕ → ℕ → Option ℕ → Type 0) → ℕ → Label → Type 0
 LabelOk repeats Opens proc (fixed l) = (q : ℕ) × (repeats proc q ≡ false) × Opens proc q l
 LabelOk repeats Opens proc (flagged l f q) = Opens proc q l

@@ -10,13 +10,13 @@ use Rattle.icn_run.specs.Calls.{Calls}
 use Rattle.icn_run.specs.Step.{Program, Status, Fresh, Active, Waiting, Exhausted, Coexp, Store, State, running, failing, hopping, over, stuck, instrs_of, instruction_at}
 use Rattle.icn_run_laws.specs.Laws.{Agrees}
 
--- A mark with this label, or with none, stands at the place.
+-- A mark with this label, or with none, stands at the address.
 abbrev pub mark_of : Option ℕ → Instr
 mark_of (Some label) = Instrs.Mark label
 mark_of None = Instrs.Mark0
 
 abbrev pub Opens : Program → ℕ → ℕ → Option ℕ → Type 0
-Opens P proc place label = slice_get (instrs_of P proc) place ≡ Some (mark_of label)
+Opens P proc address label = slice_get (instrs_of P proc) address ≡ Some (mark_of label)
 
 -- a label is to be set, and the stack lacks what that wants
 abbrev pub IsLacking : {K M : Type 0} → Calls K M → Program → (M → Type 0) → State K M → Type 0

@@ -17,10 +17,10 @@ pub record LinkedStuck (repeats : ℕ → ℕ → Bool) (tables : Tables) (launc
   pub count : ℕ
   pub is : Linked.steps repeats tables count (Linked.start repeats tables launch) ≡ stuck
 
--- The innermost mark has no cell for its label: the procedure has a mark at a place that is not told as one where labels may change.
+-- The innermost mark has no cell for its label: the procedure has a mark at an address that is not told as one where labels may change.
 abbrev pub LacksCell : (ℕ → ℕ → Bool) → (ℕ → ℕ → Option ℕ → Type 0) → Outer → ℕ → Type 0
 LacksCell repeats IsMark (mark (fixed label) outside) proc =
-    (place : ℕ) × (label : Option ℕ) × (repeats proc place ≡ false) × IsMark proc place label
+    (address : ℕ) × (label : Option ℕ) × (repeats proc address ≡ false) × IsMark proc address label
 LacksCell repeats IsMark outer proc = ⊥
 
 -- The run on linked marks comes to a `chfail` in a mark that has no cell for its label.

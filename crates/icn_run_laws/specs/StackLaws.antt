@@ -27,13 +27,13 @@ IsMarkOn outside (mark label changed registers) = registers ≡ outside
 IsMarkOn outside (limit count registers) = registers ≡ outside
 IsMarkOn outside cell = ⊥
 
--- the frame of a procedure whose caller goes on with these registers at this place
+-- the frame of a procedure whose caller goes on with these registers at this address
 abbrev pub IsCallFrom : Registers → ℕ → Cell → Type 0
-IsCallFrom outside back (call proc locals level registers place) = (registers ≡ outside) × (place ≡ back)
+IsCallFrom outside back (call proc locals level registers address) = (registers ≡ outside) × (address ≡ back)
 IsCallFrom outside back cell = ⊥
 
 -- All that stood is as it was. On it are the frame, the operands of the mark that goes on, and the result; that mark's registers are those that it had, but
--- that the frame is its newest suspension, and the code goes on at this place.
+-- that the frame is its newest suspension, and the code goes on at this address.
 pub record SuspendsTo (why : Why) (before : Frames) (outside : Registers) (back : ℕ) (operands : List Item)
     (result : Item)
     (after : Frames) : Type 0 where
@@ -60,13 +60,13 @@ pub record Suspends : Type 0 where
       → suspend_mark m ≡ Some after → cut m.registers.mark m.cells ≡ cell ∷ outside → IsMarkOn registers cell
       → AreOnTop operands outside
       → SuspendsTo Alt m registers m.address operands result (push result after)
-  pub proc : (m after : Frames) (cell : Cell) (outside : List Cell) (registers : Registers) (place : ℕ)
+  pub proc : (m after : Frames) (cell : Cell) (outside : List Cell) (registers : Registers) (address : ℕ)
       (operands : List Item) (result : Item)
       → suspend_proc m ≡ Some after → cut m.registers.base m.cells ≡ cell ∷ outside
-      → IsCallFrom registers place cell
-      → AreOnTop operands outside → SuspendsTo Proc m registers place operands result (push result after)
+      → IsCallFrom registers address cell
+      → AreOnTop operands outside → SuspendsTo Proc m registers address operands result (push result after)
 
--- The newest suspension of the innermost mark came back: what stood above the start of its frame is gone with the frame, its registers and its place are
+-- The newest suspension of the innermost mark came back: what stood above the start of its frame is gone with the frame, its registers and its address are
 -- there again, and each cell below, locals among them, is as it is now.
 pub record ResumesTo (before : Frames) (why : Why) (after : Frames) : Type 0 where
   pub height : ℕ

@@ -27,8 +27,8 @@ mutual
   pub data Newest (N : ℕ) : List Cell → Option ℕ → ℕ → ℕ → Type 0 where
     nothing : {cells : List Cell} {newest : Option ℕ} {s o : ℕ} → newest ≡ None → Newest N cells newest s o
     newest_at : {cells : List Cell} {newest : Option ℕ} {s o : ℕ} (h : ℕ) (why : Why) (r : Registers)
-        (place : ℕ) (below : List Cell) (s' o' : ℕ)
-        → newest ≡ Some h → cut h cells ≡ suspension why r place ∷ below → suc (length below) ≡ h
+        (address : ℕ) (below : List Cell) (s' o' : ℕ)
+        → newest ≡ Some h → cut h cells ≡ suspension why r address ∷ below → suc (length below) ≡ h
         → Fit N below r s' o' → Back why (s' + o') (s + o) → Newest N cells newest s o
 
   pub data Outer (N : ℕ) : List Cell → ℕ → ℕ → ℕ → Type 0 where
@@ -40,10 +40,11 @@ mutual
     at_limit : {cells : List Cell} {m b o : ℕ} (count : ℕ) (r : Registers) (below : List Cell) (s' o' : ℕ)
         → cut m cells ≡ limit count r ∷ below → suc (length below) ≡ m → Fit N below r s' o'
         → o ≡ suc (s' + o') → r.base ≡ b → Outer N cells m b o
-    at_call : {cells : List Cell} {m b o : ℕ} (proc locals level : ℕ) (r : Registers) (place : ℕ)
+    at_call : {cells : List Cell} {m b o : ℕ} (proc locals level : ℕ) (r : Registers) (address : ℕ)
         (below : List Cell) (s' o' : ℕ)
-        → cut m cells ≡ call proc locals level r place ∷ below → suc (length below) ≡ m → Fit N below r s' o'
-        → o ≡ suc (worth N place) + (s' + o') → m ≡ b → Outer N cells m b o
+        → cut m cells ≡ call proc locals level r address ∷ below → suc (length below) ≡ m
+        → Fit N below r s' o'
+        → o ≡ suc (worth N address) + (s' + o') → m ≡ b → Outer N cells m b o
     at_base : {cells : List Cell} {m b o : ℕ} (proc locals : ℕ) (below : List Cell)
         → cut m cells ≡ base proc locals ∷ below → suc (length below) ≡ m → m ≡ b → Outer N cells m b o
 
@@ -53,6 +54,6 @@ pub data Like : Cell → Cell → Type 0 where
   relabelled : (old new : Option ℕ) (changed : Bool) (r : Registers)
       → Like (mark old changed r) (mark new true r)
   counted : (old new : ℕ) (r : Registers) → Like (limit old r) (limit new r)
-  exchanged : (old new : Pair) (r : Registers) (place : ℕ)
-      → Like (suspension (Scan old) r place) (suspension (Scan new) r place)
+  exchanged : (old new : Pair) (r : Registers) (address : ℕ)
+      → Like (suspension (Scan old) r address) (suspension (Scan new) r address)
   assigned : (old new : Value) → Like (local old) (local new)

@@ -16,11 +16,11 @@ WhyNamed names Proc = Unit {0}
 
 abbrev pub CellNamed : Names → Cell → Type 0
 CellNamed names (base proc locals) = Unit {0}
-CellNamed names (call proc locals level registers place) = Unit {0}
+CellNamed names (call proc locals level registers address) = Unit {0}
 CellNamed names (local value) = ValueNamed names value
 CellNamed names (mark label changed registers) = Unit {0}
 CellNamed names (limit count registers) = Unit {0}
-CellNamed names (suspension why registers place) = WhyNamed names why
+CellNamed names (suspension why registers address) = WhyNamed names why
 CellNamed names (operand item) = ItemNamed names item
 
 -- what the cells of a stack name has a name

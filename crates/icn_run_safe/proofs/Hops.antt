@@ -10,7 +10,7 @@ use Rattle.icn_run.specs.Chains.{Chain, LinkedStack, WaitingChain}
 use Rattle.icn_run.specs.Step.{Program, Status, Fresh, Active, Waiting, Exhausted, Coexp, Store, running, failing, hopping, here, with_at, with_made, outcome, push_item, pair_now, with_pair, with_exchange, maybe_exchanged, swapped_back, all_left, coexp_at, status_of, activator_of, with_coexp, with_status, with_activator, make_active, fail_by, passed_failure, give_by, passed_value, hop, exhaust_active, counted_result, result_given, is_main, is_create_body, with_new, coexp_made, refreshed_from, refresh, entered_by, entered_if, activation, return_to, proc_fails, without_mark, mark_dropped, resume_by, resumed_or_dropped, fails}
 use Rattle.icn_run_laws.proofs.RowsKeep.{rows_keep}
 use Rattle.icn_run_safe.specs.Within.{ValueWithin, CreatedWithin, RowsStayWithin}
-use Rattle.icn_run_safe.specs.Shaped.{Knowledge, MemoryOf, LocalsOk, ParkedOk, StatusOk, IsFresh, Entered, StoreOk, KeepsShapes}
+use Rattle.icn_run_safe.specs.Shaped.{Knowledge, MemoryOf, LocalsOk, ParkedOk, StatusOk, IsFresh, IsEntered, StoreOk, KeepsShapes}
 use Rattle.icn_run_safe.proofs.Entries.{stands, index_there, set_length}
 use Rattle.icn_run_safe.proofs.Growing.{grow_chain}
 use Rattle.icn_run_safe.proofs.Keeping.{with_activation, grow_activation, here_create, set_locals_ok, locals_ok}
@@ -34,7 +34,7 @@ module _ (P : Program) (sh : ℕ → ℕ → Option PlainShape) (given : KeepsSh
   Set w p S m st = Ready P sh given keep w p S m st
 
   abbrev pub HasBegun : Store WaitingChain → ℕ → Type 0
-  HasBegun st n = Entered P sh st.coexps n
+  HasBegun st n = IsEntered P sh st.coexps n
 
   -- no co-expression is active
   pub record Idle (w : Knowledge) (m : LinkedStack) (st : Store WaitingChain) : Type 0 where
@@ -126,7 +126,7 @@ module _ (P : Program) (sh : ℕ → ℕ → Option PlainShape) (given : KeepsSh
       → (IsFresh P sh s → ⊥) → (n : ℕ)
       → HasBegun st n → HasBegun (with_status st.active s st) n
   begun_then s w p S m st h f n ent = let a = h.store.coexps.there in
-      subst (λ (x : Coexp WaitingChain). Entered P sh (slice_set st.coexps st.active (record x { status = s })) n)
+      subst (λ (x : Coexp WaitingChain). IsEntered P sh (slice_set st.coexps st.active (record x { status = s })) n)
       (sym (read_coexp st st.active a.coexp a.stands))
       (entered_set P sh st.coexps st.active a.coexp (record a.coexp { status = s }) n a.stands (λ q. absurd (f q)) ent)
 

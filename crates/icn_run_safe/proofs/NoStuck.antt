@@ -16,7 +16,7 @@ use Rattle.icn_run_laws.proofs.Lists.{some_inj, no_some}
 use Rattle.icn_run_laws.proofs.RowsKeep.{rows_keep}
 use Rattle.icn_run_laws.proofs.SecondLaw.{everywhere, covered}
 use Rattle.icn_run_safe.specs.Within.{Each, ValueWithin, SettingWithin, OutcomeWithin, RowsStayWithin}
-use Rattle.icn_run_safe.specs.Shaped.{Knowledge, MemoryOk, MemoryOf, StatusOk, Entered, CoexpOk, StoreOk, Safe, KeepsShapes}
+use Rattle.icn_run_safe.specs.Shaped.{Knowledge, MemoryOk, MemoryOf, StatusOk, IsEntered, CoexpOk, StoreOk, Safe, KeepsShapes}
 use Rattle.icn_run_safe.specs.NoStuck.{TablesOk, IsNeverStuck}
 use Rattle.icn_run_safe.specs.Facts.{shapes_by, shapes_of}
 use Rattle.icn_run_safe.proofs.Entries.{each_append, each_replicate, each_drop, stands, set_length}
@@ -156,7 +156,7 @@ module _ (P : Program) (sh : ℕ → ℕ → Option PlainShape) (given : KeepsSh
   abbrev main_coexp : Coexp WaitingChain
   main_coexp = record { status = Active; activator = zero; values = []; proc = zero; address = zero }
 
-  main_entered : Entered P sh (main_coexp ∷ []) 0
+  main_entered : IsEntered P sh (main_coexp ∷ []) 0
   main_entered = record { coexp = main_coexp; stands = refl; begun = λ z. z }
 
   main_each : (i : ℕ) (c : Coexp WaitingChain) → slice_get (main_coexp ∷ []) i ≡ Some c → CoexpOk P sh none_known (main_coexp ∷ []) i c

@@ -4,7 +4,7 @@ use Rattle.std.specs.Prelude.{ℤ, pos, negsuc, slice_get, slice_set, unwrap_or,
 use Rattle.std.specs.declared.cmp.Ordering.{Ordering}
 use Rattle.std.specs.Ordering.{is_lt}
 use Rattle.icn_structs.specs.Numbered.{NumberedList, item_at, items_with, after_first, with_left, with_right}
-use Rattle.icn_structs.specs.PairLists.{stored}
+use Rattle.icn_structs.specs.PairLists.{with_value_of}
 use Rattle.icn_value.specs.Values.{Value, Null, Integer, Text, Chars, Std, ARecord, AList, ASet, ATable, File, Element, Field, Key, Variable, Whole, Part, Item, Val, Var}
 use Rattle.icn_value.specs.Store.{Table, Record, Setting, new_list, value_at}
 use Rattle.icn_defs.specs.Conversions.{same, has_value, with_member, sorted_in, sorted_onto, sort_list}
@@ -218,15 +218,15 @@ module _ (n : ℕ) where
   -- Pairs
 
   each_stored : (ps : List (Value × Value)) (k v : Value) → ValueWithin n k → ValueWithin n v → Each (PairWithin n) ps
-      → Each (PairWithin n) (stored same ps k v)
+      → Each (PairWithin n) (with_value_of same ps k v)
   each_stored [] k v g q h = ((g, q), tt)
   each_stored (p ∷ ps) k v g q h = by (same k p.0) (each_stored ps k v g q h.1)
     where
-      by : (b : Bool) → Each (PairWithin n) (stored same ps k v) → Each (PairWithin n) (if b then (p.0, v) ∷ ps else p ∷ stored same ps k v)
+      by : (b : Bool) → Each (PairWithin n) (with_value_of same ps k v) → Each (PairWithin n) (if b then (p.0, v) ∷ ps else p ∷ with_value_of same ps k v)
       by true z = ((h.0.0, q), h.1)
       by false z = (h.0, z)
 
-  pub ps_stored : (ps : List (Value × Value)) (k v : Value) → Ps n ps → V n k → V n v → Ps n (stored same ps k v)
+  pub ps_stored : (ps : List (Value × Value)) (k v : Value) → Ps n ps → V n k → V n v → Ps n (with_value_of same ps k v)
   ps_stored ps k v h g q = record { is = each_stored ps k v g.is q.is h.is }
 
   -- Structures by their numbers

@@ -17,7 +17,7 @@ use Rattle.icn_run.specs.Calls as Cs
 use Rattle.icn_run.specs.Chains as C
 use Rattle.icn_run.specs.Chains.{Chain, LinkedStack, WaitingChain, linked_calls, with_chain, outer_of}
 use Rattle.icn_run.specs.LinkedStep.{repeats_anywhere}
-use Rattle.icn_run.specs.Step.{Program, Store, State, running, failing, with_found, on_pair, turn_if, turn, here, with_world, with_at, with_given, with_made, with_value, with_values, push_item, outcome, list_made, with_pair, scans_left, with_popped, with_taken, unmark_then, fill_nulls, collect_rest, with_parameters, enter_procedure, called_if, call_procedure, construct_record, argument_at, choose_item, pushed_or_fails, integer_called, Callee, IsProc, IsRecord, IsFunc, IsNothing, func_callee, record_among, callee_among, callee_of, callee_called, invoke_value, invoked_with, plain, elements_called, applied_to_elements, field_place, field_taken, field_of}
+use Rattle.icn_run.specs.Step.{Program, Store, State, running, failing, with_found, on_pair, turn_if, turn, here, with_world, with_at, with_given, with_made, with_value, with_values, push_item, outcome, list_made, with_pair, scans_left, with_popped, with_taken, unmark_then, fill_nulls, collect_rest, with_parameters, enter_procedure, called_if, call_procedure, construct_record, argument_at, choose_item, pushed_or_fails, integer_called, Callee, IsProc, IsRecord, IsFunc, IsNothing, func_callee, record_among, callee_among, callee_of, callee_called, invoke_value, invoked_with, plain, elements_called, applied_to_elements, field_index, field_taken, field_of}
 use Rattle.icn_defs.specs.Numbers.{func_of}
 use Rattle.icn_run_laws.proofs.RowsKeep.{rows_keep}
 use Rattle.icn_run_safe.specs.Within.{Each, ValueWithin, ItemWithin, ListWithin, RecordWithin, WorldWithin, SettingWithin, OutcomeWithin, RowsStayWithin}
@@ -377,7 +377,7 @@ module _ (P : Program) (sh : ℕ → ℕ → Option PlainShape) (given : KeepsSh
 
   pub ok_field : (k : ℕ) (v : Value) (w : Knowledge) (p : ℕ) (S : PlainShape) (m : LinkedStack) (st : Store WaitingChain) → Ready w p S m st
       → sh p m.address ≡ Some (with_more 1 S) → Ok (field_of M P k v m st)
-  ok_field k (ARecord x) w p S m st h e = field_ok x (field_place P k (record_at st.world.heap x).kind) w p S m st h e
+  ok_field k (ARecord x) w p S m st h e = field_ok x (field_index P k (record_at st.world.heap x).kind) w p S m st h e
   ok_field k Null w p S m st h e = tt
   ok_field k (Integer x) w p S m st h e = tt
   ok_field k (Text x) w p S m st h e = tt

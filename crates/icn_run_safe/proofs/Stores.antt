@@ -8,7 +8,7 @@ use Rattle.icn_run.specs.Chains.{WaitingChain}
 use Rattle.icn_run.specs.Step.{Status, Fresh, Active, Waiting, Exhausted, Coexp, Store, with_coexp}
 use Rattle.icn_run_laws.proofs.Lists.{some_inj, get_more, get_set_same, get_set_other}
 use Rattle.icn_run_safe.specs.Within.{WorldWithin}
-use Rattle.icn_run_safe.specs.Shaped.{Knowledge, LocalsOk, MemoryOk, ParkedOk, StatusOk, IsFresh, Entered, CoexpOk, CoexpsOk, StoreOk}
+use Rattle.icn_run_safe.specs.Shaped.{Knowledge, LocalsOk, MemoryOk, ParkedOk, StatusOk, IsFresh, IsEntered, CoexpOk, CoexpsOk, StoreOk}
 use Rattle.icn_run_safe.proofs.Entries.{got_more, got_set, more_length, set_length, is_same, within}
 use Rattle.icn_run_safe.proofs.Growing.{Grow, grow_chain, grow_locals, grow_relabels}
 
@@ -50,10 +50,10 @@ module _ (tables : Tables) (sh : ℕ → ℕ → Option PlainShape) where
   -- one co-expression is another, and has begun
 
   pub entered_set : (ks : List (Coexp WaitingChain)) (n : ℕ) (c c' : Coexp WaitingChain) (x : ℕ) → slice_get ks n ≡ Some c
-      → (IsFresh tables sh c'.status → IsFresh tables sh c.status) → Entered tables sh ks x → Entered tables sh (slice_set ks n c') x
+      → (IsFresh tables sh c'.status → IsFresh tables sh c.status) → IsEntered tables sh ks x → IsEntered tables sh (slice_set ks n c') x
   entered_set ks n c c' x e f h = by (is_same x n)
     where
-      by : (x ≡ n) ⊎ (x ≢ n) → Entered tables sh (slice_set ks n c') x
+      by : (x ≡ n) ⊎ (x ≢ n) → IsEntered tables sh (slice_set ks n c') x
       by (inl z) =
           let same : h.coexp ≡ c = some_inj (sym h.stands ∙ ap (slice_get ks) z ∙ e) in
           record {
@@ -64,14 +64,14 @@ module _ (tables : Tables) (sh : ℕ → ℕ → Option PlainShape) where
       by (inr d) = record { coexp = h.coexp; stands = get_set_other ks x n c' d ∙ h.stands; begun = h.begun }
 
   pub entered_at : (ks : List (Coexp WaitingChain)) (n : ℕ) (c c' : Coexp WaitingChain) → slice_get ks n ≡ Some c → (IsFresh tables sh c'.status → ⊥)
-      → Entered tables sh (slice_set ks n c') n
+      → IsEntered tables sh (slice_set ks n c') n
   entered_at ks n c c' e f = record { coexp = c'; stands = get_set_same ks n c c' e; begun = f }
 
   pub set_coexps : (w : Knowledge) (May May' : ℕ → Type 0) (a a' : ℕ) (ks : List (Coexp WaitingChain)) (n : ℕ) (c c' : Coexp WaitingChain)
       → CoexpsOk tables sh w May a ks
       → slice_get ks n ≡ Some c → (IsFresh tables sh c'.status → IsFresh tables sh c.status) → (n ≢ 0 → LocalsOk tables sh w c'.proc c'.values)
-      → (n ≢ 0 → sh c'.proc c'.address ≡ Some (start_shape true)) → Entered tables sh ks c'.activator → ((May' n → ⊥) → StatusOk tables sh w n c'.status)
-      → ((i : ℕ) → i ≢ n → (May' i → ⊥) → May i → ⊥) → Entered tables sh (slice_set ks n c') a'
+      → (n ≢ 0 → sh c'.proc c'.address ≡ Some (start_shape true)) → IsEntered tables sh ks c'.activator → ((May' n → ⊥) → StatusOk tables sh w n c'.status)
+      → ((i : ℕ) → i ≢ n → (May' i → ⊥) → May i → ⊥) → IsEntered tables sh (slice_set ks n c') a'
       → CoexpsOk tables sh w May' a' (slice_set ks n c')
   set_coexps w May May' a a' ks n c c' h e f values origin act status may there = record {
     count = set_length ks n c' ∙ h.count;
@@ -105,7 +105,7 @@ module _ (tables : Tables) (sh : ℕ → ℕ → Option PlainShape) where
   -- another activator, where none is active
   pub set_activator : (w : Knowledge) (st : Store WaitingChain) (n a : ℕ) (c : Coexp WaitingChain) → StoreOk tables sh w (λ i. ⊥) st
       → slice_get st.coexps n ≡ Some c
-      → Entered tables sh st.coexps a
+      → IsEntered tables sh st.coexps a
       → StoreOk tables sh w (λ i. ⊥) (with_coexp n (record c { activator = a }) st)
   set_activator w st n a c h e act = let o = h.coexps.each n c e in record {
     world = h.world;
@@ -115,7 +115,7 @@ module _ (tables : Tables) (sh : ℕ → ℕ → Option PlainShape) where
 
   -- none is active, and one becomes so
   pub set_active : (w : Knowledge) (st : Store WaitingChain) (n : ℕ) (c : Coexp WaitingChain) → StoreOk tables sh w (λ i. ⊥) st → slice_get st.coexps n ≡ Some c
-      → Entered tables sh st.coexps c.activator
+      → IsEntered tables sh st.coexps c.activator
       → StoreOk tables sh w (λ i. i ≡ n) (with_coexp n (record c { status = Active }) (record st { active = n }))
   set_active w st n c h e act = let o = h.coexps.each n c e in record {
     world = h.world;
@@ -125,7 +125,7 @@ module _ (tables : Tables) (sh : ℕ → ℕ → Option PlainShape) where
 
   -- one more co-expression
 
-  entered_more : (ks : List (Coexp WaitingChain)) (c : Coexp WaitingChain) (x : ℕ) → Entered tables sh ks x → Entered tables sh (ks ++ c ∷ []) x
+  entered_more : (ks : List (Coexp WaitingChain)) (c : Coexp WaitingChain) (x : ℕ) → IsEntered tables sh ks x → IsEntered tables sh (ks ++ c ∷ []) x
   entered_more ks c x h = record { coexp = h.coexp; stands = get_more ks c x h.coexp h.stands; begun = h.begun }
 
   pub memory_one : (w : Knowledge) (acts : List (List Value)) (flags : List Bool) (relabels : List (ℕ × ℕ)) → MemoryOk tables sh w acts flags relabels

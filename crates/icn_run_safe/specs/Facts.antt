@@ -22,15 +22,15 @@ operands_of (chain operands suspensions scans outer) = operands
 -- how many marks are open in the procedure that runs
 abbrev pub mark_count : Outer → ℕ
 mark_count (base proc activation) = 0
-mark_count (call proc activation level place caller) = 0
+mark_count (call proc activation level address caller) = 0
 mark_count (mark label (chain operands suspensions scans outer)) = suc (mark_count outer)
 mark_count (limit count (chain operands suspensions scans outer)) = suc (mark_count outer)
 
 abbrev pub marks : Calls WaitingChain LinkedStack
 marks = linked_calls repeats_anywhere
 
--- The stack has the shape of the place: as many operands and marks, its open scans, and a create body where the shape says so. The instruction there finds
--- what it takes and asks for, each place to which it leads has its shape, and the procedure has all its locals.
+-- The stack has the shape of the address: as many operands and marks, its open scans, and a create body where the shape says so. The instruction there finds
+-- what it takes and asks for, each address to which it leads has its shape, and the procedure has all its locals.
 pub record IsShapedAt (tables : Tables) (shapes : ℕ → ℕ → Option PlainShape) (m : LinkedStack)
     (st : Store WaitingChain) : Type 0 where
   pub shape : PlainShape
@@ -81,12 +81,12 @@ pub record AreShaped (tables : Tables) (shapes : ℕ → ℕ → Option PlainSha
 abbrev pub HasFacts : Tables → Type 0
 HasFacts tables = (shapes : ℕ → ℕ → Option PlainShape) × AreShaped tables shapes
 
--- the shapes of a procedure by its number; where there is no such procedure, no place has one
+-- the shapes of a procedure by its number; where there is no such procedure, no address has one
 abbrev pub shapes_by : (entry : Option Procedure)
     → ((proc : Procedure) → entry ≡ Some proc
     → (shapes : ℕ → Option PlainShape) × HasShapes proc.instrs shapes) → ℕ → Option PlainShape
-shapes_by None given place = None
-shapes_by (Some proc) given place = (given proc refl).0 place
+shapes_by None given address = None
+shapes_by (Some proc) given address = (given proc refl).0 address
 
 -- the shapes of all procedures of a code that has them
 abbrev pub shapes_of : (tables : Tables) → HaveShapes tables → ℕ → ℕ → Option PlainShape

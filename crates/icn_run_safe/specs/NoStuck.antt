@@ -10,7 +10,7 @@ use Rattle.icn_run_safe.specs.Shaped.{InRange}
 
 -- what tables keep, as far as a run needs it
 pub record TablesOk (tables : Tables) : Type 0 where
-  pub instrs : (p place : ℕ) (instr : Instr) → slice_get (instrs_of tables p) place ≡ Some instr
+  pub instrs : (p address : ℕ) (instr : Instr) → slice_get (instrs_of tables p) address ≡ Some instr
       → InRange tables instr
   pub collects : (p : ℕ) (entry : Procedure) → slice_get tables.procs p ≡ Some entry → entry.collects ≡ true
       → 0 < entry.parameters

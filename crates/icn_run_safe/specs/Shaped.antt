@@ -1,5 +1,5 @@
--- What verified code keeps while it runs on linked marks, from the start on: each chain has the shape of the place where it goes on, each activation has
--- as many locals as its procedure, each label leads to a place of its shape, and each value names what is there.
+-- What verified code keeps while it runs on linked marks, from the start on: each chain has the shape of the address where it goes on, each activation has
+-- as many locals as its procedure, each label leads to an address of its shape, and each value names what is there.
 use Rattle.std.specs.Prelude.{◌≡◌, ◌≢◌, ℕ, suc, ◌+◌, ◌<◌, ◌≤◌, Bool, true, false, not, List, [], ◌∷◌, length, Option, Some, None, slice_get}
 use Rattle.std.specs.Option.{option_map_or}
 use Rattle.icn_code.specs.Codes.{Tables, Proc as Procedure}
@@ -35,7 +35,7 @@ locals_in entry = entry.parameters + entry.locals
 abbrev pub local_count : Tables → ℕ → ℕ
 local_count tables proc = option_map_or locals_in (slice_get tables.procs proc) 0
 
--- the shapes of the places of each procedure
+-- the shapes of the addresses of each procedure
 module _ (tables : Tables) (sh : ℕ → ℕ → Option PlainShape) where
   -- where code that fails goes on, it finds the shape before the mark
   abbrev pub LabelTo : ℕ → PlainShape → Option ℕ → Type 0
@@ -44,22 +44,22 @@ module _ (tables : Tables) (sh : ℕ → ℕ → Option PlainShape) where
 
   abbrev pub LabelOk : Knowledge → ℕ → PlainShape → Label → Type 0
   LabelOk w p S (fixed label) = ⊥
-  LabelOk w p S (flagged label flag place) =
-      IsBefore w flag p S × LabelTo p S label × (sh p (suc place) ≡ Some (with_mark Levels.Plain S))
+  LabelOk w p S (flagged label flag address) =
+      IsBefore w flag p S × LabelTo p S label × (sh p (suc address) ≡ Some (with_mark Levels.Plain S))
 
   abbrev pub ReasonOk : Knowledge → ℕ → PlainShape → ℕ → Reason → Type 0
-  ReasonOk w p S place (because Alt) = Unit {0}
-  ReasonOk w p S place (because (Op residual)) =
-      ResidualWithin w.coexps residual × (sh p place ≡ Some (with_more 1 S))
-  ReasonOk w p S place (because (Scan pair)) = Unit {0}
-  ReasonOk w p S place (because Escan) = 0 < S.inner.scans
-  ReasonOk w p S place (because Proc) = sh p place ≡ Some S
-  ReasonOk w p S place (scanning n) = Unit {0}
+  ReasonOk w p S address (because Alt) = Unit {0}
+  ReasonOk w p S address (because (Op residual)) =
+      ResidualWithin w.coexps residual × (sh p address ≡ Some (with_more 1 S))
+  ReasonOk w p S address (because (Scan pair)) = Unit {0}
+  ReasonOk w p S address (because Escan) = 0 < S.inner.scans
+  ReasonOk w p S address (because Proc) = sh p address ≡ Some S
+  ReasonOk w p S address (scanning n) = Unit {0}
 
   abbrev pub level_shape : Bool → Level → List Level → PlainShape
   level_shape cr l ls = record { in_create = cr; inner = l; outer = ls }
 
-  -- A chain of stack s in a procedure has a shape. A suspension has any, as it is to fail, or for an operation or a procedure that of the place where it
+  -- A chain of stack s in a procedure has a shape. A suspension has any, as it is to fail, or for an operation or a procedure that of the address where it
   -- goes on.
   abbrev mutual
     pub ChainOk : Knowledge → ℕ → ℕ → PlainShape → Chain → Type 0
@@ -69,15 +69,15 @@ module _ (tables : Tables) (sh : ℕ → ℕ → Option PlainShape) where
 
     pub SuspsOk : Knowledge → ℕ → Suspensions → Type 0
     SuspsOk w s none = Unit {0}
-    SuspsOk w s (suspension reason place inside) =
-        (p : ℕ) × (S : PlainShape) × ReasonOk w p S place reason × ChainOk w s p S inside
+    SuspsOk w s (suspension reason address inside) =
+        (p : ℕ) × (S : PlainShape) × ReasonOk w p S address reason × ChainOk w s p S inside
 
     pub OuterOk : Knowledge → ℕ → ℕ → Bool → LevelKind → List Level → Outer → Type 0
     OuterOk w s p cr kind ls (base proc a) =
         (proc ≡ p) × (cr ≡ not (is_main s)) × (kind ≡ Levels.Base) × (ls ≡ []) × IsOf w a p
-    OuterOk w s p cr kind ls (call proc a level place caller) =
+    OuterOk w s p cr kind ls (call proc a level address caller) =
         (proc ≡ p) × (cr ≡ false) × (kind ≡ Levels.Base) × (ls ≡ []) × IsOf w a p
-        × ((p' : ℕ) × (S : PlainShape) × (sh p' place ≡ Some (with_more 1 S)) × ChainOk w s p' S caller)
+        × ((p' : ℕ) × (S : PlainShape) × (sh p' address ≡ Some (with_more 1 S)) × ChainOk w s p' S caller)
     OuterOk w s p cr kind ls (mark label outside) =
         (l : Level) × (ls' : List Level) × (ls ≡ l ∷ ls') × (kind ≡ Levels.Plain)
         × LabelOk w p (level_shape cr l ls') label × ChainOk w s p (level_shape cr l ls') outside
@@ -88,9 +88,9 @@ module _ (tables : Tables) (sh : ℕ → ℕ → Option PlainShape) where
   -- the frame of the procedure that runs
   abbrev pub FrameOk : Knowledge → ℕ → ℕ → Bool → Frame → Type 0
   FrameOk w s p cr (at_base proc a) = (proc ≡ p) × (cr ≡ not (is_main s)) × IsOf w a p
-  FrameOk w s p cr (in_call proc a level place caller) =
+  FrameOk w s p cr (in_call proc a level address caller) =
       (proc ≡ p) × (cr ≡ false) × IsOf w a p
-      × ((p' : ℕ) × (S : PlainShape) × (sh p' place ≡ Some (with_more 1 S)) × ChainOk w s p' S caller)
+      × ((p' : ℕ) × (S : PlainShape) × (sh p' address ≡ Some (with_more 1 S)) × ChainOk w s p' S caller)
 
   -- the locals of an activation
   pub record LocalsOk (w : Knowledge) (p : ℕ) (values : List Value) : Type 0 where
@@ -132,17 +132,17 @@ module _ (tables : Tables) (sh : ℕ → ℕ → Option PlainShape) where
   IsFresh status = ⊥
 
   -- this one has begun
-  pub record Entered (coexps : List (Coexp WaitingChain)) (n : ℕ) : Type 0 where
+  pub record IsEntered (coexps : List (Coexp WaitingChain)) (n : ℕ) : Type 0 where
     pub coexp : Coexp WaitingChain
     pub stands : slice_get coexps n ≡ Some coexp
     pub begun : IsFresh coexp.status → ⊥
 
-  -- the place and the values with which it began, and which of them entered it last
+  -- the address and the values with which it began, and which of them entered it last
   pub record CoexpOk (w : Knowledge) (coexps : List (Coexp WaitingChain)) (i : ℕ)
       (c : Coexp WaitingChain) : Type 0 where
     pub values : i ≢ 0 → LocalsOk w c.proc c.values
     pub origin : i ≢ 0 → sh c.proc c.address ≡ Some (start_shape true)
-    pub activator : Entered coexps c.activator
+    pub activator : IsEntered coexps c.activator
 
   -- those wait of which it may not be that they run
   pub record CoexpsOk (w : Knowledge) (May : ℕ → Type 0) (active : ℕ)
@@ -151,8 +151,8 @@ module _ (tables : Tables) (sh : ℕ → ℕ → Option PlainShape) where
     pub each : (i : ℕ) (c : Coexp WaitingChain) → slice_get coexps i ≡ Some c → CoexpOk w coexps i c
     pub waits : (i : ℕ) (c : Coexp WaitingChain) → slice_get coexps i ≡ Some c → (May i → ⊥)
         → StatusOk w i c.status
-    pub there : Entered coexps active
-    pub first : Entered coexps 0
+    pub there : IsEntered coexps active
+    pub first : IsEntered coexps 0
 
   pub record StoreOk (w : Knowledge) (May : ℕ → Type 0) (st : Store WaitingChain) : Type 0 where
     pub world : WorldWithin w.coexps st.world
@@ -171,16 +171,17 @@ module _ (tables : Tables) (sh : ℕ → ℕ → Option PlainShape) where
   Safe (over ending outside) = Unit {0}
   Safe stuck = ⊥
 
--- each place with a shape is fine, in each procedure; and a last parameter collects only where there is one
+-- each address with a shape is fine, in each procedure; and a last parameter collects only where there is one
 pub record KeepsShapes (tables : Tables) (sh : ℕ → ℕ → Option PlainShape) : Type 0 where
   pub collects : (p : ℕ) (entry : Procedure) → slice_get tables.procs p ≡ Some entry → entry.collects ≡ true
       → 0 < entry.parameters
   pub starts : (p : ℕ) → p < length tables.procs → sh p 0 ≡ Some (start_shape false)
-  pub fine : (p place : ℕ) (S : PlainShape) → sh p place ≡ Some S → IsFine (instrs_of tables p) (sh p) place S
+  pub fine : (p address : ℕ) (S : PlainShape) → sh p address ≡ Some S
+      → IsFine (instrs_of tables p) (sh p) address S
 
 -- what an instruction names of the tables is there
 abbrev pub InRange : Tables → Instr → Type 0
-InRange tables (Instrs.Int place) = place < length tables.integers
-InRange tables (Instrs.Str place) = place < length tables.strings
-InRange tables (Instrs.Cset place) = place < length tables.csets
+InRange tables (Instrs.Int index) = index < length tables.integers
+InRange tables (Instrs.Str index) = index < length tables.strings
+InRange tables (Instrs.Cset index) = index < length tables.csets
 InRange tables instr = Unit {0}

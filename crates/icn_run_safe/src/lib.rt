@@ -30,7 +30,7 @@ pub fn never_stuck_over_any_outside()
         → IsNeverStuckOver tables (flat.start tables launch) }
 {}
 
-/// At each state in which a run of verified code has an instruction due, the instruction finds what it wants, the stack has the shape of the place, whatever
+/// At each state in which a run of verified code has an instruction due, the instruction finds what it wants, the stack has the shape of the address, whatever
 /// shapes the verifier gave, and the procedure has all its locals. On flat stacks the shape is left unsaid where a mark is due that failure came back to.
 pub fn reached_states()
     ensures verified { (tables : Tables) → keeps_rules tables ≡ true → IsVerified tables → HasFacts tables }

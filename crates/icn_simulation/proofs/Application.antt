@@ -406,7 +406,7 @@ module _ (G : Ground) where
   on_take : {first : Bool} {k : Works} {r : Choices} {xs : List Item} {s : Suspensions} {z : List ℕ}
       {o : Outer} (name : List ℕ) (field : ℕ) (x : Value) (p : ℕ) (st : M.Store)
       (ls : List (S.Coexp WaitingChain)) → ((kind : ℕ)
-      → MP.place_of name (MC.fields_in (slice_get G.L.program.kinds kind)) ≡ S.field_place G.L.tables field
+      → MP.index_of name (MC.fields_in (slice_get G.L.program.kinds kind)) ≡ S.field_index G.L.tables field
       kind) → Live G first st.active st.coexpressions ls → OfWorks G.L first k p xs z o
       → OfChoices G.L first r s z o →
       Reach G (MC.take_field G.L.program name x k r st)
@@ -415,13 +415,13 @@ module _ (G : Ground) where
       let kind = (record_at st.world.heap x).kind in
       subst (λ place. Reach G (MC.take_field G.L.program name (V.ARecord x) k' r' st)
       (S.field_taken (machine G) place x (linked_of (chain xs s z o) p st) (store_of st ls))) (e kind)
-      (on_field_at (MP.place_of name (MC.fields_in (slice_get G.L.program.kinds kind))) x p st ls live k r)
+      (on_field_at (MP.index_of name (MC.fields_in (slice_get G.L.program.kinds kind))) x p st ls live k r)
   on_take {r = r'} name field x p st ls e live k r = errored G r' 107 (Some x) st ls
 
   on_taking : {first : Bool} {n' : Nest} {v : Surroundings} {k : Works} {r : Choices} {xs : List Item}
       {s : Suspensions} {z : List ℕ} {o : Outer} (name : List ℕ) (field : ℕ) (items : List Item) (p : ℕ)
       (st : M.Store) (ls : List (S.Coexp WaitingChain)) → 1 ≡ length items
-      → ((kind : ℕ) → MP.place_of name (MC.fields_in (slice_get G.L.program.kinds kind)) ≡ S.field_place
+      → ((kind : ℕ) → MP.index_of name (MC.fields_in (slice_get G.L.program.kinds kind)) ≡ S.field_index
       G.L.tables field kind) → Live G first st.active st.coexpressions ls
       → OfSurroundings G.L first n' v z o → OfWorks G.L first k p xs z o → OfChoices G.L first r s z o →
       Reach G (MC.apply_form G.L.program (Taking name) items v k r st)

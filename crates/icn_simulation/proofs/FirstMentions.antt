@@ -12,9 +12,9 @@ use Rattle.std.proofs.lemmas.List.Folds.{find_at, list_any-append}
 use Rattle.std.proofs.lemmas.Iterator.Adapters.{position_from-zero}
 use Rattle.std.proofs.lemmas.Option.{get_or_from_slice_get}
 use Rattle.std.proofs.lemmas.Slice.Eq.{bytes_eq-Decides}
-use Rattle.icn_meaning.specs.Program.{place_of, later}
+use Rattle.icn_meaning.specs.Program.{index_of, later}
 use Rattle.icn_simulation.specs.Mentions.{firsts}
-use Rattle.icn_simulation.specs.Joined.{text_place}
+use Rattle.icn_simulation.specs.Joined.{text_index}
 
 -- a test that is true, or false
 pub test_by : {P : Type 0} (b : Bool) → (b ≡ true → P) → (b ≡ false → P) → P
@@ -102,13 +102,13 @@ module _ {A : Type 0} (same : A → A → Bool) (decides : (x y : A) → Decides
 -- Texts
 
 pub text_at : (text : List ℕ) (texts : List (List ℕ)) → list_any (bytes_eq text) texts ≡ true
-    → slice_index_or (firsts bytes_eq texts) (text_place (firsts bytes_eq texts) text) [] ≡ text
+    → slice_index_or (firsts bytes_eq texts) (text_index (firsts bytes_eq texts) text) [] ≡ text
 text_at text texts h = get_or_from_slice_get (firsts bytes_eq texts)
-    (text_place (firsts bytes_eq texts) text) text [] (at_first bytes_eq bytes_eq-Decides text texts h)
+    (text_index (firsts bytes_eq texts) text) text [] (at_first bytes_eq bytes_eq-Decides text texts h)
 
 -- names are told apart by their places
 place_tells_by : (table : List (List ℕ)) (name other : List ℕ) (a b : Bool)
-    → list_any (bytes_eq other) table ≡ true → (text_place table other == text_place table name) ≡ a
+    → list_any (bytes_eq other) table ≡ true → (text_index table other == text_index table name) ≡ a
     → bytes_eq name other ≡ b → a ≡ b
 place_tells_by table name other true true h e f = refl
 place_tells_by table name other false false h e f = refl
@@ -119,8 +119,8 @@ place_tells_by table name other true false h e f =
     equal_of : (a b : ℕ) → (a == b) ≡ true → a ≡ b
     equal_of a b e = grind (arith, nat_tests)
 place_tells_by table name other false true h e f = sym e
-    ∙ (ap (λ o. text_place table o == text_place table name) (sym ((bytes_eq-Decides name other).0 f))
-    ∙ equal_self (text_place table name))
+    ∙ (ap (λ o. text_index table o == text_index table name) (sym ((bytes_eq-Decides name other).0 f))
+    ∙ equal_self (text_index table name))
 
 shifted : (i : ℕ) (o : Option ℕ) → option_map (λ k. i + 1 + k) o ≡ option_map (λ k. i + k) (later o)
 shifted i None = refl
@@ -150,14 +150,14 @@ among_head name names table h =
     (itself bytes_eq bytes_eq-Decides name))
 
 from_place : (table : List (List ℕ)) (name : List ℕ) (names : List (List ℕ)) (i : ℕ) → AreAmong names table
-    → position_from (λ k. k == text_place table name) i (map (text_place table) names) ≡ option_map
-    (λ k. i + k) (place_of name names)
+    → position_from (λ k. k == text_index table name) i (map (text_index table) names) ≡ option_map
+    (λ k. i + k) (index_of name names)
 from_place table name [] i h = refl
 from_place table name (other ∷ names) i h =
-    ap (λ o. cond (text_place table other == text_place table name) (Some i) o)
+    ap (λ o. cond (text_index table other == text_index table name) (Some i) o)
     (from_place table name names (i + 1) (among_tail other names table h))
-    ∙ first_by i (text_place table other == text_place table name) (bytes_eq name other)
-    (place_of name names) (place_tells_by table name other _ _ (among_head other names table h) refl refl)
+    ∙ first_by i (text_index table other == text_index table name) (bytes_eq name other)
+    (index_of name names) (place_tells_by table name other _ _ (among_head other names table h) refl refl)
 
 unshifted : (o : Option ℕ) → option_map (λ k. 0 + k) o ≡ o
 unshifted None = refl
@@ -165,7 +165,7 @@ unshifted (Some k) = ap (λ n. Some n) (omega arith)
 
 -- the place of a name among others is that of its place among theirs
 pub same_position : (table : List (List ℕ)) (name : List ℕ) (names : List (List ℕ)) → AreAmong names table
-    → place_of name names ≡ position (λ k. k == text_place table name) (map (text_place table) names)
+    → index_of name names ≡ position (λ k. k == text_index table name) (map (text_index table) names)
 same_position table name names h =
-    sym (position_from-zero (λ k. k == text_place table name) (map (text_place table) names)
-    ∙ from_place table name names 0 h ∙ unshifted (place_of name names))
+    sym (position_from-zero (λ k. k == text_index table name) (map (text_index table) names)
+    ∙ from_place table name names 0 h ∙ unshifted (index_of name names))

@@ -26,11 +26,11 @@ use Rattle.icn_decls.specs.Contexts.{Fault, Context, outermost, create_context, 
 use Rattle.icn_decls.specs.Faults.{faults, maybe_faults, all_faults, clauses_faults, initial_faults, is_default, next_in_control}
 use Rattle.icn_value.specs.declared.cset.Cset.{Cset}
 use Rattle.icn_value.specs.Values.{Value, Chars, Val, Var, Whole}
-use Rattle.icn_meaning.specs.Program.{meaning_of, place_of}
+use Rattle.icn_meaning.specs.Program.{meaning_of, index_of}
 use Rattle.icn_meaning.specs.Calls.{fields_in}
 use Rattle.icn_meaning.specs.Evaluate.{literal, keyword_among, step_of}
 use Rattle.icn_meaning.specs.Succeed.{default_of}
-use Rattle.icn_run.specs.Step.{field_place, members_of}
+use Rattle.icn_run.specs.Step.{field_index, members_of}
 use Rattle.icn_simulation.specs.Translation.{Names, literal_code}
 use Rattle.icn_simulation.specs.Linkage.{Linkage, Loads, l_integer, l_string, l_cset}
 use Rattle.icn_simulation.specs.Mentions.{Mention, AnInteger, AText, ASet, AField, literal_mention, mentions, all_mentions, maybe_mentions, step_mentions, guarded_mentions, default_mentions, initial_mentions}
@@ -356,7 +356,7 @@ IsKept L N (AField name) = Unit {0}
 pub record AreNamed (L : Linkage) (N : Names) (j : ℕ) : Type 0 where
   pub variables : (name : List ℕ) → Loads L j (N.variable name) (Var (Whole (meaning_of L.program j name)))
   pub fields : (name : List ℕ) (kind : ℕ)
-      → place_of name (fields_in (slice_get L.program.kinds kind)) ≡ field_place L.tables (N.field name) kind
+      → index_of name (fields_in (slice_get L.program.kinds kind)) ≡ field_index L.tables (N.field name) kind
   pub keywords : (name : List ℕ) → N.keyword name ≡ unwrap_or (keyword_among name keywords_of_all)
       Keywords.Null
 

@@ -24,14 +24,14 @@ use Rattle.icn_code.specs.declared.code.Start.TheVariants as Starts
 use Rattle.icn_code.specs.Codes.{RecordType, Proc, Tables}
 use Rattle.icn_code.specs.Rules.{name_of}
 use Rattle.icn_meaning.specs.Program as M
-use Rattle.icn_meaning.specs.Program.{Routine, Kind, program_of, joined_declarations, place_of, later, has_name, with_more_names, with_name, function_named, globals_of, global_names, procedures_of, kinds_of, kind_names, routine_names, routines_of, routine_of, statics_among, statics_in, start_of, starts_of, meant_by, meaning_in, texts}
+use Rattle.icn_meaning.specs.Program.{Routine, Kind, program_of, joined_declarations, index_of, later, has_name, with_more_names, with_name, function_named, globals_of, global_names, procedures_of, kinds_of, kind_names, routine_names, routines_of, routine_of, statics_among, statics_in, start_of, starts_of, meant_by, meaning_in, texts}
 use Rattle.icn_meaning.specs.Calls.{fields_in}
 use Rattle.icn_run.specs.Step as S
 use Rattle.icn_run.specs.Step.{members_of}
 use Rattle.icn_simulation.specs.Translation.{Names, procedure}
 use Rattle.icn_simulation.specs.Linkage.{Linkage, Loads, l_local, l_static, l_global}
 use Rattle.icn_simulation.specs.Mentions.{Mention, AnInteger, AText, ASet, AField, all_mentions, initial_mentions, integers_among, texts_among, sets_among, fields_among, firsts}
-use Rattle.icn_simulation.specs.Joined.{routines, routine_mentions, code_mentions, record_fields, fields_of, string_mentions, strings_of, integers_of, sets_of, text_place, variable_by, names_in, record_entry, start_by, start, global_entry, procedure_entry, code_with}
+use Rattle.icn_simulation.specs.Joined.{routines, routine_mentions, code_mentions, record_fields, fields_of, string_mentions, strings_of, integers_of, sets_of, text_index, variable_by, names_in, record_entry, start_by, start, global_entry, procedure_entry, code_with}
 use Rattle.icn_simulation.specs.Translated.{linkage, TranslatedRoutine, Routines, u_none, u_more, Kinds, d_none, d_more, IsTranslated}
 use Rattle.icn_simulation.specs.Begins.{OfMain, no_main, a_main, Begins}
 use Rattle.icn_simulation.proofs.FirstMentions.{test_by, or_other, any_left, any_right, itself, at_first, among_firsts, text_at, AreAmong, among_head, among_tail, same_position}
@@ -143,11 +143,11 @@ procedures_among globals first (ProcedureOf p ∷ D) name h =
     (or_other (bytes_eq name p.name.text) _ e h)))
 
 -- where a name has a place, there is a procedure
-routine_there : (name : List ℕ) (rs : List Routine) (n : ℕ) → place_of name (routine_names rs) ≡ Some n
+routine_there : (name : List ℕ) (rs : List Routine) (n : ℕ) → index_of name (routine_names rs) ≡ Some n
     → (r : Routine) × (slice_get rs n ≡ Some r)
 routine_there name [] n e = absurd (cc)
 routine_there name (r ∷ rs) n e =
-    by (bytes_eq name r.name) n (place_of name (routine_names rs)) e (routine_there name rs)
+    by (bytes_eq name r.name) n (index_of name (routine_names rs)) e (routine_there name rs)
   where
     at_later : (n : ℕ) (o : Option ℕ) → later o ≡ Some n
         → ((k : ℕ) → o ≡ Some k → (s : Routine) × (slice_get rs k ≡ Some s)) → (s : Routine)
@@ -165,11 +165,11 @@ routine_there name (r ∷ rs) n e =
     by false n o e h = at_later n o e h
 
 -- a name that has a place stands there
-placed_among : (name : List ℕ) (names : List (List ℕ)) (n : ℕ) → place_of name names ≡ Some n
+placed_among : (name : List ℕ) (names : List (List ℕ)) (n : ℕ) → index_of name names ≡ Some n
     → list_any (bytes_eq name) names ≡ true
 placed_among name [] n e = absurd (cc)
 placed_among name (other ∷ names) n e =
-    by (bytes_eq name other) n (place_of name names) e (placed_among name names)
+    by (bytes_eq name other) n (index_of name names) e (placed_among name names)
   where
     at_later : (n : ℕ) (o : Option ℕ) → later o ≡ Some n
         → ((k : ℕ) → o ≡ Some k → list_any (bytes_eq name) names ≡ true)
@@ -264,7 +264,7 @@ module _ (D : List Declaration) (csets : List Cset) (members : map members_of cs
   set_kept : (r : Routine) (set : List ℕ) → list_any (bytes_eq set) (sets_among all) ≡ true
       → IsKept L (names_in D r) (ASet set)
   set_kept r set h =
-      let place = text_place (sets_of D) set in
+      let place = text_index (sets_of D) set in
       unmapped (slice_get csets place) set
       (sym (slice_get-map members_of csets place) ∙ ap (λ sets. slice_get sets place) members
       ∙ at_first bytes_eq bytes_eq-Decides set (sets_among all) h)
@@ -309,8 +309,8 @@ module _ (D : List Declaration) (csets : List Cset) (members : map members_of cs
   loads_by n r None None None e = l_local
 
   field_by : (name : List ℕ) (kind : ℕ) (o : Option Kind) → slice_get (kinds_of D) kind ≡ o
-      → place_of name (fields_in o) ≡ option_and_then
-      (λ (entry : RecordType). position (λ other. other == text_place (fields_of D) name) entry.fields)
+      → index_of name (fields_in o) ≡ option_and_then
+      (λ (entry : RecordType). position (λ other. other == text_index (fields_of D) name) entry.fields)
       (option_map (record_entry D) o)
   field_by name kind None e = refl
   field_by name kind (Some k) e = same_position (fields_of D) name k.fields (λ other h.
@@ -322,11 +322,11 @@ module _ (D : List Declaration) (csets : List Cset) (members : map members_of cs
   named_at n r e = record {
     variables = λ name. subst (λ o.
         Loads L n ((names_in D r).variable name) (Var (Whole (meaning_in (globals_of D) name o)))) (sym e)
-        (loads_by n r (place_of name r.locals) (place_of name r.statics) (place_of name (globals_of D))
+        (loads_by n r (index_of name r.locals) (index_of name r.statics) (index_of name (globals_of D))
         (first_static_at n r e));
     fields = λ name kind. field_by name kind (slice_get (kinds_of D) kind) refl
         ∙ ap (λ o. option_and_then (λ (entry : RecordType).
-        position (λ other. other == text_place (fields_of D) name) entry.fields) o)
+        position (λ other. other == text_index (fields_of D) name) entry.fields) o)
         (sym (slice_get-map (record_entry D) (kinds_of D) kind));
     keywords = λ name. refl;
   }
@@ -365,7 +365,7 @@ module _ (D : List Declaration) (csets : List Cset) (members : map members_of cs
 
   kinds_from : (ks : List Kind) → Kinds ks (map (record_entry D) ks)
   kinds_from [] = d_none
-  kinds_from (k ∷ ks) = d_more (sym (length-map k.fields (text_place (fields_of D)))) (kinds_from ks)
+  kinds_from (k ∷ ks) = d_more (sym (length-map k.fields (text_index (fields_of D)))) (kinds_from ks)
 
   pub is_translated : IsTranslated (program_of D) code
   is_translated = record {
@@ -378,7 +378,7 @@ module _ (D : List Declaration) (csets : List Cset) (members : map members_of cs
   -- The start
 
   string_at : (name : List ℕ) → list_any (bytes_eq name) (string_mentions D) ≡ true
-      → slice_index_or code.strings (text_place (strings_of D) name) [] ≡ name
+      → slice_index_or code.strings (text_index (strings_of D) name) [] ≡ name
   string_at name h = text_at name (string_mentions D) h
 
   kinds_in_strings : AreAmong (kind_names (kinds_of D)) (string_mentions D)
@@ -403,7 +403,7 @@ module _ (D : List Declaration) (csets : List Cset) (members : map members_of cs
       ap (λ v. v ∷ starts_of (routine_names (routines D)) (kind_names (kinds_of D)) (global_names D) names)
       (value_of_start (length (routine_names (routines D))) (length (kind_names (kinds_of D))) code
       (names_counted (routines D) (procedure_entry D)) (kinds_counted (kinds_of D) (record_entry D))
-      (place_of name (routine_names (routines D))) (place_of name (kind_names (kinds_of D)))
+      (index_of name (routine_names (routines D))) (index_of name (kind_names (kinds_of D)))
       (has_name name (global_names D)) (function_named name))
       ∙ ap (λ vs. S.global_value code (global_entry D name) ∷ vs) (starts_same names)
 
@@ -439,18 +439,18 @@ module _ (D : List Declaration) (csets : List Cset) (members : map members_of cs
 
   main_found : (names : List (List ℕ)) → AreAmong names (string_mentions D)
       → main_among (map (global_entry D) names) ≡ cond (list_any (λ name. bytes_eq name main) names)
-      (place_of main (routine_names (routines D))) None
+      (index_of main (routine_names (routines D))) None
   main_found [] h = refl
   main_found (name ∷ names) h =
       let later : List GlobalEntry = map (global_entry D) names in
       let rest = list_any (λ name. bytes_eq name main) names in
-      let procedure = place_of main (routine_names (routines D)) in
+      let procedure = index_of main (routine_names (routines D)) in
       let named = string_at name (among_head name names (string_mentions D) h) in
       ap (λ text. main_by (bytes_eq text main) (global_entry D name) later) named
       ∙ test_by (bytes_eq name main)
       (λ t. ap (λ b. main_by b (global_entry D name) later) t
       ∙ ap (λ x. S.procedure_at (start D x)) ((bytes_eq-Decides name main).0 t)
-      ∙ procedure_of_start procedure (place_of main (kind_names (kinds_of D)))
+      ∙ procedure_of_start procedure (index_of main (kind_names (kinds_of D)))
       (has_name main (global_names D)) (function_named main)
       ∙ ap (λ b. cond (b || rest) procedure None) (sym t))
       (λ t. ap (λ b. main_by b (global_entry D name) later) t
@@ -458,7 +458,7 @@ module _ (D : List Declaration) (csets : List Cset) (members : map members_of cs
       ∙ ap (λ b. cond (b || rest) procedure None) (sym t))
 
   -- a procedure is a global
-  main_global : (n : ℕ) → place_of main (routine_names (routines D)) ≡ Some n
+  main_global : (n : ℕ) → index_of main (routine_names (routines D)) ≡ Some n
       → list_any (λ name. bytes_eq name main) (globals_of D) ≡ true
   main_global n e =
       let declared : List (List ℕ) = with_more_names [] (global_names D) in
@@ -467,17 +467,17 @@ module _ (D : List Declaration) (csets : List Cset) (members : map members_of cs
       (procedures_among (globals_of D) 0 D main (placed_among main (routine_names (routines D)) n e))))
 
   main_by_place : (place : Option ℕ) (b : Bool) → list_any (λ name. bytes_eq name main) (globals_of D) ≡ b
-      → place_of main (routine_names (routines D)) ≡ place → cond b place None ≡ place
+      → index_of main (routine_names (routines D)) ≡ place → cond b place None ≡ place
   main_by_place place true t e = refl
   main_by_place None false t e = refl
   main_by_place (Some n) false t e = absurd (false≢true (sym t ∙ main_global n e))
 
-  main_same : S.main_of code ≡ place_of main (routine_names (routines D))
+  main_same : S.main_of code ≡ index_of main (routine_names (routines D))
   main_same = main_found (globals_of D) globals_in_strings
-      ∙ main_by_place (place_of main (routine_names (routines D)))
+      ∙ main_by_place (index_of main (routine_names (routines D)))
       (list_any (λ name. bytes_eq name main) (globals_of D)) refl refl
 
-  main_at : (place : Option ℕ) → place_of main (routine_names (routines D)) ≡ place → OfMain L place place
+  main_at : (place : Option ℕ) → index_of main (routine_names (routines D)) ≡ place → OfMain L place place
   main_at None e = no_main
   main_at (Some n) e = let r = routine_there main (routines D) n e in
       a_main r.1 (slice_get-map (procedure_entry D) (routines D) n
@@ -493,6 +493,6 @@ module _ (D : List Declaration) (csets : List Cset) (members : map members_of cs
         (procedure_names (routines D) routines_in_strings)
         ∙ ap (λ names. record { procedures = map (S.proc_name code) code.procs; records = names })
         (record_names (kinds_of D) kinds_in_strings);
-    main = subst (λ place. OfMain L (place_of main (routine_names (routines D))) place) (sym main_same)
-        (main_at (place_of main (routine_names (routines D))) refl);
+    main = subst (λ place. OfMain L (index_of main (routine_names (routines D))) place) (sym main_same)
+        (main_at (index_of main (routine_names (routines D))) refl);
   }

@@ -17,7 +17,7 @@ use Rattle.icn_code.specs.declared.code.Start.TheVariants as Starts
 use Rattle.icn_code.specs.declared.instr.Instr.{Instr}
 use Rattle.icn_code.specs.declared.instr.Instr.TheVariants as Instrs
 use Rattle.icn_code.specs.Codes.{RecordType, Proc, Tables}
-use Rattle.icn_meaning.specs.Program.{Routine, Kind, joined_declarations, place_of, has_name, function_named, globals_of, global_names, procedures_of, kinds_of, kind_names, routine_names, routines_of}
+use Rattle.icn_meaning.specs.Program.{Routine, Kind, joined_declarations, index_of, has_name, function_named, globals_of, global_names, procedures_of, kinds_of, kind_names, routine_names, routines_of}
 use Rattle.icn_meaning.specs.Evaluate.{keyword_among}
 use Rattle.icn_run.specs.Step.{members_of}
 use Rattle.icn_simulation.specs.Translation.{Names, procedure}
@@ -62,11 +62,11 @@ sets_of declarations = firsts bytes_eq (sets_among (code_mentions declarations))
 
 -- Places in the tables
 
-abbrev pub text_place : List (List ℕ) → List ℕ → ℕ
-text_place texts text = position_or_len (bytes_eq text) texts
+abbrev pub text_index : List (List ℕ) → List ℕ → ℕ
+text_index texts text = position_or_len (bytes_eq text) texts
 
-abbrev pub integer_place : List ℤ → ℤ → ℕ
-integer_place integers n = position_or_len (int_eq n) integers
+abbrev pub integer_index : List ℤ → ℤ → ℕ
+integer_index integers n = position_or_len (int_eq n) integers
 
 -- the instruction of a name: it is a local of the procedure, a static of it, or a global
 abbrev pub variable_by : Option ℕ → Option ℕ → Option ℕ → Instr
@@ -78,13 +78,13 @@ variable_by None None None = Instrs.Local 0
 -- what the names and the literals of a procedure stand for in its code
 abbrev pub names_in : List Declaration → Routine → Names
 names_in declarations routine = record {
-  integer = integer_place (integers_of declarations);
-  string = text_place (strings_of declarations);
-  set = text_place (sets_of declarations);
-  variable = λ name. variable_by (place_of name routine.locals) (place_of name routine.statics)
-      (place_of name (globals_of declarations));
+  integer = integer_index (integers_of declarations);
+  string = text_index (strings_of declarations);
+  set = text_index (sets_of declarations);
+  variable = λ name. variable_by (index_of name routine.locals) (index_of name routine.statics)
+      (index_of name (globals_of declarations));
   keyword = λ name. unwrap_or (keyword_among name keywords) NullKeyword;
-  field = text_place (fields_of declarations);
+  field = text_index (fields_of declarations);
 }
 
 -- The entries of the tables
@@ -92,9 +92,9 @@ names_in declarations routine = record {
 abbrev pub record_entry : List Declaration → Kind → RecordType
 record_entry declarations kind =
     record {
-      name = text_place (strings_of declarations) kind.name;
+      name = text_index (strings_of declarations) kind.name;
       fields =
-          map (text_place (fields_of declarations)) kind.fields;
+          map (text_index (fields_of declarations)) kind.fields;
     }
 
 -- What a global begins with: the procedure or the record of its name, or else, where no file declares it,
@@ -107,17 +107,17 @@ start_by None None false (Some function) = Starts.Function function
 start_by None None false None = Starts.Null
 
 abbrev pub start : List Declaration → List ℕ → Start
-start declarations name = start_by (place_of name (routine_names (routines declarations)))
-    (place_of name (kind_names (kinds_of declarations)))
+start declarations name = start_by (index_of name (routine_names (routines declarations)))
+    (index_of name (kind_names (kinds_of declarations)))
     (has_name name (global_names declarations)) (function_named name)
 
 abbrev pub global_entry : List Declaration → List ℕ → Global
 global_entry declarations name =
-    record { name = text_place (strings_of declarations) name; start = start declarations name }
+    record { name = text_index (strings_of declarations) name; start = start declarations name }
 
 abbrev pub procedure_entry : List Declaration → Routine → Proc
 procedure_entry declarations routine = record {
-  name = text_place (strings_of declarations) routine.name;
+  name = text_index (strings_of declarations) routine.name;
   parameters = routine.parameters;
   collects = routine.collects;
   locals = length routine.locals - routine.parameters;
@@ -131,7 +131,7 @@ code_with declarations csets = record {
   strings = strings_of declarations;
   csets = csets;
   integers = integers_of declarations;
-  fields = map (text_place (strings_of declarations)) (fields_of declarations);
+  fields = map (text_index (strings_of declarations)) (fields_of declarations);
   records = map (record_entry declarations) (kinds_of declarations);
   globals = map (global_entry declarations) (globals_of declarations);
   procs = map (procedure_entry declarations) (routines declarations);

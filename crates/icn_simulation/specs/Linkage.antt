@@ -6,10 +6,10 @@ use Rattle.icn_code.specs.declared.instr.Instr.{Instr}
 use Rattle.icn_code.specs.declared.instr.Instr.TheVariants as I
 use Rattle.icn_code.specs.Codes.{Tables}
 use Rattle.icn_value.specs.Values.{Null, Integer, Text, Chars, Item, Val, Var, Whole, Global, Static, Local}
-use Rattle.icn_meaning.specs.Program.{Program, place_of}
+use Rattle.icn_meaning.specs.Program.{Program, index_of}
 use Rattle.icn_meaning.specs.Contexts.{Form, Operating, Calling, Spreading, Collecting, Taking, Activating}
 use Rattle.icn_meaning.specs.Calls.{fields_in}
-use Rattle.icn_run.specs.Step.{instrs_of, statics_before, members_of, field_place}
+use Rattle.icn_run.specs.Step.{instrs_of, statics_before, members_of, field_index}
 
 -- a program, the tables of its code, and at which places of each procedure marks are opened that have a flag
 pub record Linkage : Type 0 where
@@ -40,7 +40,7 @@ pub data Applies (L : Linkage) : Form → ℕ → Instr → Type 0 where
   f_spread : Applies L Spreading 2 I.Appl
   f_list : {n : ℕ} → Applies L Collecting n (I.Llist n)
   f_field : {name : List ℕ} {k : ℕ}
-      → ((kind : ℕ) → place_of name (fields_in (slice_get L.program.kinds kind)) ≡ field_place L.tables k
+      → ((kind : ℕ) → index_of name (fields_in (slice_get L.program.kinds kind)) ≡ field_index L.tables k
       kind) → Applies L (Taking name) 1 (I.Field k)
   f_activate : Applies L Activating 2 I.Coact
 

@@ -16,12 +16,12 @@ use Rattle.icn_tree.specs.declared.tree.LoopKind.TheVariants.{While, Until, Ever
 use Rattle.icn_tree.specs.Trees as T
 use Rattle.icn_tree.specs.Trees.{Tree, Trees, MaybeTree, Clauses, Absent, Present, NoTrees, More, Default, Guarded, NoClauses, MoreClauses, elements_of, Initial, NoInitial, Initially}
 use Rattle.icn_value.specs.Values.{Val, Var, Whole}
-use Rattle.icn_meaning.specs.Program.{meaning_of, place_of}
+use Rattle.icn_meaning.specs.Program.{meaning_of, index_of}
 use Rattle.icn_meaning.specs.Calls.{fields_in}
 use Rattle.icn_meaning.specs.Evaluate.{literal, keyword_among, step_of}
 use Rattle.icn_meaning.specs.Succeed.{default_of}
 use Rattle.icn_simulation.specs.Translation.{Names, Depth, Ways, loop_of, deeper, ways, literal_code}
-use Rattle.icn_run.specs.Step.{field_place}
+use Rattle.icn_run.specs.Step.{field_index}
 use Rattle.icn_simulation.specs.Linkage.{Linkage, Loads}
 use Rattle.icn_simulation.specs.Standing.{Nest, top, in_create, in_mark, in_scan, in_loop, in_control, in_each, Proper, is_empty}
 
@@ -152,7 +152,7 @@ mutual
     fits_section : {n : Nest} {place : Place} {kind : SectionKind} {x i e : Tree} → Fits L N j n x
         → Fits L N j n i → Fits L N j n e → Fits L N j n (T.Section place kind x i e)
     fits_field : {n : Nest} {place : Place} {x : Tree} {name : Name} → Fits L N j n x
-        → ((kind : ℕ) → place_of name.text (fields_in (slice_get L.program.kinds kind)) ≡ field_place
+        → ((kind : ℕ) → index_of name.text (fields_in (slice_get L.program.kinds kind)) ≡ field_index
         L.tables (N.field name.text) kind) → Fits L N j n (T.Field place x name)
     fits_prefix : {n : Nest} {place : Place} {o : Operator} {e : Tree} → is_prefix_sign o ≡ true
         → Fits L N j n e → Fits L N j n (T.Prefix place o e)

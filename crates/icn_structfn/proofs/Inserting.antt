@@ -5,7 +5,7 @@ use Rattle.std.specs.List.{All, slice_get}
 use Rattle.std.specs.Option.{option_map}
 use Rattle.std.proofs.lemmas.Option.{same_Some}
 use Rattle.std.proofs.lemmas.Bool.{false≢true}
-use Rattle.icn_structs.specs.PairLists.{stored}
+use Rattle.icn_structs.specs.PairLists.{with_value_of}
 use Rattle.icn_value.specs.declared.full.Full.{Full}
 use Rattle.icn_value.specs.declared.full.Full.TheVariants.{NoMemory}
 use Rattle.icn_value.specs.declared.item.Pair.{Pair}
@@ -126,7 +126,7 @@ member_after id value heap paid is =
     ap (λ (sets : List (List Value)). with_set id (with_member (unwrap_or (slice_get sets id) []) value) paid) (sym is.sets)
 
 pub pair_after : (id : ℕ) (key value : Value) (heap paid : Heap) → IsCharged heap paid
-    → with_table id (record (table_at heap id) { pairs = stored same (table_at heap id).pairs key value }) paid ≡ with_pair id key value paid
+    → with_table id (record (table_at heap id) { pairs = with_value_of same (table_at heap id).pairs key value }) paid ≡ with_pair id key value paid
 pair_after id key value heap paid is =
-    ap (λ (table : Table). with_table id (record table { pairs = stored same table.pairs key value }) paid)
+    ap (λ (table : Table). with_table id (record table { pairs = with_value_of same table.pairs key value }) paid)
     (ap (λ tables. table_at (record heap { tables = tables }) id) (sym is.tables))

@@ -2,7 +2,7 @@
 use Rattle.std.proofs.Common.{◌≡◌, Bool, true, false, List, [], ◌∷◌, Option, None, Some, if◌then◌else◌, refl, ap, sym, ◌∙◌, true≢false}
 use Rattle.std.proofs.lemmas.Map.{lookup-remove_entry}
 use Rattle.std.specs.Cmp.{IsEquivalence}
-use Rattle.icn_structs.specs.PairLists.{value_of, stored, without, KeysDiffer}
+use Rattle.icn_structs.specs.PairLists.{value_of, with_value_of, without, KeysDiffer}
 
 -- at the pair of the key that is stored, which other keys are equal to as they are to the key itself
 here : {X : Type 0} (asked found : Bool) (new old rest : X) → found ≡ asked
@@ -22,8 +22,8 @@ elsewhere false found new old rest apart = refl
 module _ {K V : Type 0} (eq : K → K → Bool) (laws : IsEquivalence eq) (key other : K) where
   -- the value at the other key once the first pair's key was looked at
   step : (pair : K × V) (pairs : List (K × V)) (value : V) (b : Bool) → eq key pair.0 ≡ b
-      → value_of eq (stored eq pairs key value) other ≡ (if eq key other then Some value else value_of eq pairs other)
-      → value_of eq (if b then (pair.0, value) ∷ pairs else pair ∷ stored eq pairs key value) other
+      → value_of eq (with_value_of eq pairs key value) other ≡ (if eq key other then Some value else value_of eq pairs other)
+      → value_of eq (if b then (pair.0, value) ∷ pairs else pair ∷ with_value_of eq pairs key value) other
       ≡ (if eq key other then Some value else value_of eq (pair ∷ pairs) other)
   step pair pairs value true e later =
       here (eq key other) (eq other pair.0) (Some value) (Some pair.1) (value_of eq pairs other)
@@ -34,7 +34,7 @@ module _ {K V : Type 0} (eq : K → K → Bool) (laws : IsEquivalence eq) (key o
       (λ same. sym (laws.congr key other pair.0 same) ∙ e)
 
   pub value_of-stored : (pairs : List (K × V)) (value : V)
-      → value_of eq (stored eq pairs key value) other ≡ (if eq key other then Some value else value_of eq pairs other)
+      → value_of eq (with_value_of eq pairs key value) other ≡ (if eq key other then Some value else value_of eq pairs other)
   value_of-stored [] value = ap (λ (b : Bool). if b then Some value else None) (laws.symm other key)
   value_of-stored (pair ∷ pairs) value = step pair pairs value (eq key pair.0) refl (value_of-stored pairs value)
 

@@ -9,10 +9,10 @@ module _ {K V : Type 0} (eq : K → K → Bool) where
   value_of pairs key = lookup (eq key) pairs
 
   -- the pairs with this value at this key: a key that is there is kept, in its place, and a new one goes last
-  abbrev pub stored : List (K × V) → K → V → List (K × V)
-  stored [] key value = (key, value) ∷ []
-  stored (pair ∷ pairs) key value =
-      if eq key pair.0 then (pair.0, value) ∷ pairs else pair ∷ stored pairs key value
+  abbrev pub with_value_of : List (K × V) → K → V → List (K × V)
+  with_value_of [] key value = (key, value) ∷ []
+  with_value_of (pair ∷ pairs) key value =
+      if eq key pair.0 then (pair.0, value) ∷ pairs else pair ∷ with_value_of pairs key value
 
   -- the pairs without the one of this key
   abbrev pub without : List (K × V) → K → List (K × V)

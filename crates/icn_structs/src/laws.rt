@@ -1,7 +1,7 @@
 // Laws of the definitions that contracts cite.
 ghost use Rattle.std.specs.Prelude.{◌≡◌, ◌≢◌, ℤ, ℕ, List, None, Some, IsSome, slice_get, pos, ◌+ℤ◌, ◌-ℤ◌, ◌<ℤ◌, ◌≤ℤ◌, if◌then◌else◌};
 ghost use Rattle.icn_structs.specs.Numbered.{NumberedList, number_after, item_numbered, with_numbered, with_left, with_right, without_left, without_right};
-ghost use Rattle.icn_structs.specs.PairLists.{value_of, stored, without, KeysDiffer};
+ghost use Rattle.icn_structs.specs.PairLists.{value_of, with_value_of, without, KeysDiffer};
 
 /// The numbers of a list follow without a gap, and an item's number stays with it, whatever joins, leaves or is set beside
 /// it.
@@ -25,7 +25,7 @@ pub fn numbers_stay<T>()
 /// A value stays at its key, whatever is stored at another key or removed there.
 pub fn values_stay<K: Eq, V>()
     ensures stored { (pairs : List (K × V)) (key other : K) (value : V)
-        → value_of K.eq (stored K.eq pairs key value) other ≡ (if K.eq key other
+        → value_of K.eq (with_value_of K.eq pairs key value) other ≡ (if K.eq key other
         then Some value else value_of K.eq pairs other) }
     ensures removed { (pairs : List (K × V)) (key other : K)
         → KeysDiffer K.eq pairs → value_of K.eq (without K.eq pairs key) other ≡ (if K.eq key other

@@ -1,7 +1,7 @@
 // Pairs of a key and a value, in the order in which the keys came.
 ghost use Rattle.std.specs.Prelude.{◌≡◌, ◌<◌, ◌^◌, [], length, is_some, is_none, slice_get, IfOk, OnOk, OnErr};
 ghost use Rattle.std.specs.Option.{option_map};
-ghost use Rattle.icn_structs.specs.PairLists.{value_of, stored, without, KeysDiffer};
+ghost use Rattle.icn_structs.specs.PairLists.{value_of, with_value_of, without, KeysDiffer};
 
 use indexmap::IndexMap;
 use std::alloc::{AllocError, Global};
@@ -46,7 +46,7 @@ impl<K: Eq + Hash + Drop, V: Copy> Pairs<K, V> {
     /// The answer is whether the key is new. An error is want of memory, and the pairs are as they were.
     pub fn store(&mut self, k: K, v: V) -> Result<bool, AllocError>
         ensures new_key { IfOk result (λ is_new. is_new ≡ is_none (value_of K.eq self.old k)) }
-        ensures pairs { OnOk result (self.new ≡ stored K.eq self.old k v) }
+        ensures pairs { OnOk result (self.new ≡ with_value_of K.eq self.old k v) }
         ensures keys_differ { KeysDiffer K.eq self.new }
         ensures unchanged { OnErr result (self.new ≡ self.old) }
     {

@@ -3,7 +3,7 @@ use Rattle.std.proofs.Common.{◌≡◌, ℕ, ◌+◌, Bool, true, false, cond, 
 use Rattle.std.specs.List.{list_any, position_or_len}
 use Rattle.std.specs.Str.{bytes_eq}
 use Rattle.indexmap.specs.IndexSet.{insert_key}
-use Rattle.icn_translate.specs.Drafts.{with_name, name_place}
+use Rattle.icn_translate.specs.Drafts.{with_name, name_index}
 
 abbrev seen : List (Bor (List ℕ)) → List (List ℕ)
 seen keys = map (λ key. key.now) keys
@@ -34,5 +34,5 @@ entered keys new key e =
 
 -- its place
 pub placed : (keys : List (Bor (List ℕ))) (key : Bor (List ℕ)) (n place : ℕ) → n ≡ position_or_len (λ other. bytes_eq key.now other.now) keys → place ≡ n
-    → place ≡ name_place (seen keys) key.now
+    → place ≡ name_index (seen keys) key.now
 placed keys key n place e f = f ∙ (e ∙ place_seen key.now keys)

@@ -57,13 +57,13 @@ with_names names [] = names
 with_names names (name ∷ others) = with_names (with_name names name) others
 
 -- the place of a name, which is behind all others where the name is new
-abbrev pub name_place : List (List ℕ) → List ℕ → ℕ
-name_place names name = position_or_len (bytes_eq name) names
+abbrev pub name_index : List (List ℕ) → List ℕ → ℕ
+name_index names name = position_or_len (bytes_eq name) names
 
 -- the variable of a name
 unfoldable pub put_variable : List ℕ → Draft → Draft
 put_variable name d = record {
-  instrs = d.instrs ++ Var (name_place d.names name) ∷ [];
+  instrs = d.instrs ++ Var (name_index d.names name) ∷ [];
   labels = d.labels;
   names = with_name d.names name;
   loops = d.loops;

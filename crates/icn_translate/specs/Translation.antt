@@ -173,7 +173,7 @@ abbrev mutual
   translate o (If place c a b) d = d ▹ if_mark b ▹ translate (Marked o) c ▹ put I.Unmark ▹ translate o a
       ▹ otherwise o b (next_label d)
   translate o (Case place e clauses) d = d ▹ put I.Mark0 ▹ translate (Marked o) e ▹ put I.Eret
-      ▹ case_of (guarded o clauses) (default_part o clauses)
+      ▹ case_of (guarded_part o clauses) (default_part o clauses)
   translate o (Loop place kind c b) d = d ▹ control_part kind (translate (in_control kind o) c)
       ▹ looped_part (Marked (in_body kind o)) b ▹ loop_end (back kind (next_label d))
   translate o (Repeat place b) d = d ▹ with_label ▹ put (I.Lab (next_label d)) ▹ in_loop no_ways
@@ -251,9 +251,9 @@ abbrev mutual
   suspended_part o (Present b) d = d ▹ bounded_code (translate o b)
 
   -- the clauses but the default
-  pub guarded : Open → Clauses → Draft → Draft
-  guarded o NoClauses d = d
-  guarded o (MoreClauses clause clauses) d = d ▹ guarded_clause o clause ▹ guarded o clauses
+  pub guarded_part : Open → Clauses → Draft → Draft
+  guarded_part o NoClauses d = d
+  guarded_part o (MoreClauses clause clauses) d = d ▹ guarded_clause o clause ▹ guarded_part o clauses
 
   pub guarded_clause : Open → Clause → Draft → Draft
   guarded_clause o (Default place e) d = d

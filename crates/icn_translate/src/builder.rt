@@ -1,7 +1,7 @@
 // The code of a procedure as far as it is written.
 ghost use Rattle.std.specs.Prelude.{◌≡◌, ◌+◌, ◌<◌, ◌≤◌, [], IfOk, OnOk, length, map};
 ghost use Rattle.icn_unit.specs.declared.unit.UnitInstr.TheVariants.{Cofail, Coret, Create as CreateInstr, Efail, Field as FieldInstr, Goto as GotoInstr, Lab as LabInstr, Loop as LoopInstr, Mark as MarkInstr};
-ghost use Rattle.icn_translate.specs.Drafts.{case_end, end_number, in_case, in_loop, innermost, last_number, name_place, next_label, next_number, number_of, with_number, outside_case, outside_loop, put, put_end, put_last, put_next, put_variable, no_ways, with_end, with_label, with_last, with_name, with_next, ◌▹◌};
+ghost use Rattle.icn_translate.specs.Drafts.{case_end, end_number, in_case, in_loop, innermost, last_number, name_index, next_label, next_number, number_of, with_number, outside_case, outside_loop, put, put_end, put_last, put_next, put_variable, no_ways, with_end, with_label, with_last, with_name, with_next, ◌▹◌};
 ghost use Rattle.icn_translate.specs.Instructions.{literal_instr};
 ghost use Rattle.icn_translate.specs.Open.{unmarks_for_break, unmarks_for_next};
 ghost use Rattle.icn_translate.specs.Room.{IsRoomFor, TakesAtMost, numbers_given};
@@ -441,7 +441,7 @@ pub const UNMENTIONED: Ways = Ways {
 pub fn enter_name<'a>(names: &mut IndexSet<&'a [u8]>, name: &'a [u8]) -> Result<u32, AllocError>
     requires { length names.old.keys < 4294967296 }
     ensures place { IfOk result
-        (λ place. place ≡ name_place (map (λ name. name.now) names.old.keys) name.now) }
+        (λ place. place ≡ name_index (map (λ name. name.now) names.old.keys) name.now) }
     ensures names { OnOk result
         (map (λ name. name.now) names.new.keys ≡ with_name (map (λ name. name.now) names.old.keys) name.now) }
     ensures given { OnOk result (length names.new.keys ≤ length names.old.keys + 1) }

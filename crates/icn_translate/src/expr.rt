@@ -5,7 +5,7 @@ ghost use Rattle.icn_translate.specs.Drafts.{next_label};
 ghost use Rattle.icn_translate.specs.Open.{Marked, Outermost as OutermostOpen};
 ghost use Rattle.icn_translate.specs.Numbers.{all_numbers, clause_numbers, numbers};
 ghost use Rattle.icn_translate.specs.Room.{IsRoomFor, TakesAtMost, default_numbers, guard_numbers, guarded_numbers};
-ghost use Rattle.icn_translate.specs.Translation.{alternative, arguments, back, bounded_code, case_of, compound, conjunction, control_part, create_code, creations, default_part, either_step, elements, guarded, guarded_clause, in_body, in_control, is_empty, is_no_element, looped_body, operands, other_creations, prefix_by, subscripts, translate, unless_empty};
+ghost use Rattle.icn_translate.specs.Translation.{alternative, arguments, back, bounded_code, case_of, compound, conjunction, control_part, create_code, creations, default_part, either_step, elements, guarded_part, guarded_clause, in_body, in_control, is_empty, is_no_element, looped_body, operands, other_creations, prefix_by, subscripts, translate, unless_empty};
 ghost use Rattle.icn_translate.specs.Views.{draft_of, open_of};
 
 use crate::builder::{Builder, UNMENTIONED, counted};
@@ -562,7 +562,7 @@ impl<'a> Builder<'a> {
     fn put_clauses(&mut self, clauses: &'a [Clause], within: Open<'_>) -> Result<(), AllocError>
         requires { IsRoomFor (1 + clause_numbers (all_clauses_of clauses.now)) (draft_of self.old) }
         ensures draft { OnOk result
-            (draft_of self.new ≡ case_of (guarded (open_of within.entry) (all_clauses_of clauses.now))
+            (draft_of self.new ≡ case_of (guarded_part (open_of within.entry) (all_clauses_of clauses.now))
             (default_part (open_of within.entry) (all_clauses_of clauses.now)) (draft_of self.old)) }
         ensures given { OnOk result
             (TakesAtMost (1 + clause_numbers (all_clauses_of clauses.now)) (draft_of self.old)
@@ -580,7 +580,7 @@ impl<'a> Builder<'a> {
     fn put_guarded(&mut self, clauses: &'a [Clause], within: Open<'_>) -> Result<(), AllocError>
         requires { IsRoomFor (guarded_numbers (all_clauses_of clauses.now)) (draft_of self.old) }
         ensures draft { OnOk result (draft_of self.new
-            ≡ guarded (open_of within.entry) (all_clauses_of clauses.now) (draft_of self.old)) }
+            ≡ guarded_part (open_of within.entry) (all_clauses_of clauses.now) (draft_of self.old)) }
         ensures given { OnOk result
             (TakesAtMost (guarded_numbers (all_clauses_of clauses.now)) (draft_of self.old)
             (draft_of self.new)) }

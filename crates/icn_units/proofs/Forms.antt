@@ -24,7 +24,7 @@ use Rattle.icn_translate.specs.declared.forms.PrefixForm.TheVariants.{Activation
 use Rattle.icn_translate.specs.Drafts.{Draft, ◌▹◌, put, next_label, with_label, no_ways, in_loop, outside_loop, aside, put_next, put_last, in_case, put_end}
 use Rattle.icn_translate.specs.Instructions.{literal_instr, known_keyword, keyword_by, keyword_instr, section_op, infix_form, prefix_form}
 use Rattle.icn_translate.specs.Open.{Open, Outermost, Marked, Looped, Each, unmarks_for_break, unmarks_for_next, around}
-use Rattle.icn_translate.specs.Translation.{is_empty, is_nothing, is_no_element, elements, bounded_code, create_code, if_mark, unless_empty, either_step, control_part, in_control, in_body, back, loop_end, prefix_by, plain_form, update, augmented_form, case_of, looped_body, translate, operands, arguments, conjunction, conjuncts, compound, creations, other_creations, subscripts, to_step, otherwise, looped_part, suspended_part, guarded, guarded_clause, default_part, default_clause, initially, body}
+use Rattle.icn_translate.specs.Translation.{is_empty, is_nothing, is_no_element, elements, bounded_code, create_code, if_mark, unless_empty, either_step, control_part, in_control, in_body, back, loop_end, prefix_by, plain_form, update, augmented_form, case_of, looped_body, translate, operands, arguments, conjunction, conjuncts, compound, creations, other_creations, subscripts, to_step, otherwise, looped_part, suspended_part, guarded_part, guarded_clause, default_part, default_clause, initially, body}
 use Rattle.icn_units.specs.Written.{operand_fits, name_fits, literal_fits, tree_fits, maybe_fits, trees_fit, clause_fits, clauses_fit, initial_fits}
 use Rattle.icn_units.proofs.WrittenTrees.{first_of, second_of}
 use Rattle.icn_units.proofs.Chains.{variable_in, Told, Keeps, Runs, Chain, ◌▸◌, here, on, plainly, label, labelled, placed, second_placed, outer_runs}
@@ -644,7 +644,7 @@ module _ (S : Keeps) where
 
     guarded_run : (o : Open) (c : Context) (has : Bool) (clauses : Clauses) → clauses_faults c has clauses ≡ []
         → Told S.asks (clauses_fit S.passes clauses)
-        → CaseRuns (length c.loops) (guarded o clauses)
+        → CaseRuns (length c.loops) (guarded_part o clauses)
     guarded_run o c has NoClauses x w = record { run = λ d h w. S.none d }
     guarded_run o c has (MoreClauses clause clauses) x w =
         cases_then (guarded_clause_runs o c has clause (none_before _ _ x) (first_told _ _ w))

@@ -6,7 +6,7 @@ use Rattle.icn_unit.specs.declared.unit.UnitInstr.{UnitInstr}
 use Rattle.icn_unit.specs.declared.unit.UnitInstr.TheVariants as I
 use Rattle.icn_unit.specs.UnitOperands.{is_name}
 use Rattle.icn_translate.specs.declared.builder.Ways.{Ways}
-use Rattle.icn_translate.specs.Drafts.{Draft, put, with_label, with_number, name_place, put_variable, no_ways, in_loop, outside_loop, innermost, next_number, with_next, put_next, last_number, with_last, put_last, case_end, in_case, outside_case, end_number, with_end, put_end}
+use Rattle.icn_translate.specs.Drafts.{Draft, put, with_label, with_number, name_index, put_variable, no_ways, in_loop, outside_loop, innermost, next_number, with_next, put_next, last_number, with_last, put_last, case_end, in_case, outside_case, end_number, with_end, put_end}
 use Rattle.icn_translate.specs.Translation.{loop_end}
 use Rattle.icn_units.specs.Written.{operand_fits}
 use Rattle.icn_units.proofs.Chains.{Keeps, Told}
@@ -125,7 +125,7 @@ module _ (texts_pass : List ℕ → Bool) where
   variable_kept : (name : List ℕ) (d : Draft) → is_name name ≡ true → Kept d (put_variable name d) []
   unfolding put_variable
   variable_kept name d h = record {
-    instrs = λ a. all_last (operand_fits texts_pass) d.instrs (I.Var (name_place d.names name)) a refl;
+    instrs = λ a. all_last (operand_fits texts_pass) d.instrs (I.Var (name_index d.names name)) a refl;
     names = λ a. with_name_kept d.names name (list_any (bytes_eq name) d.names) h a;
   }
 

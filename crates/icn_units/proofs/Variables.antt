@@ -5,7 +5,7 @@ use Rattle.std.specs.Str.{bytes_eq}
 use Rattle.icn_unit.specs.declared.unit.UnitInstr.{UnitInstr}
 use Rattle.icn_unit.specs.declared.unit.UnitInstr.TheVariants as I
 use Rattle.icn_translate.specs.declared.builder.Ways.{Ways}
-use Rattle.icn_translate.specs.Drafts.{Draft, put, with_label, with_number, with_name, name_place, put_variable, no_ways, in_loop, outside_loop, innermost, next_number, with_next, put_next, last_number, with_last, put_last, case_end, in_case, outside_case, end_number, with_end, put_end}
+use Rattle.icn_translate.specs.Drafts.{Draft, put, with_label, with_number, with_name, name_index, put_variable, no_ways, in_loop, outside_loop, innermost, next_number, with_next, put_next, last_number, with_last, put_last, case_end, in_case, outside_case, end_number, with_end, put_end}
 use Rattle.icn_translate.specs.Translation.{loop_end}
 use Rattle.icn_units.proofs.Chains.{Keeps, variable_in}
 
@@ -161,7 +161,7 @@ place_most test (name ∷ names) = most_by test name names (test name) refl (pla
 
 -- a name is one of the names with it, and they are no fewer
 name_among : (names : List (List ℕ)) (name : List ℕ) (b : Bool) → list_any (bytes_eq name) names ≡ b
-    → name_place names name < length (if b then names else names ++ name ∷ [])
+    → name_index names name < length (if b then names else names ++ name ∷ [])
 name_among names name true e = place_there (bytes_eq name) names e
 name_among names name false e = let most = place_most (bytes_eq name) names in let long =
     length-append names (name ∷ []) in omega arith
@@ -178,7 +178,7 @@ variable_vars name d =
     let more = no_fewer d.names name b in
     record {
       more = more;
-      below = λ a. all_behind (length (with_name d.names name)) d.instrs (I.Var (name_place d.names name))
+      below = λ a. all_behind (length (with_name d.names name)) d.instrs (I.Var (name_index d.names name))
           (all_more d.instrs more a) (name_among d.names name b refl);
     }
 

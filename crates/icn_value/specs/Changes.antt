@@ -1,7 +1,7 @@
 -- The changes of a heap, each charged or refused as a whole, and what they leave.
 use Rattle.std.specs.Prelude.{◌≡◌, ℕ, ◌+◌, Bool, true, false, not, nat_le, List, [], ◌∷◌, ◌++◌, length, filter, slice_set, Option, is_some, Result, Ok, Err, ◌⊎◌, if◌then◌else◌}
 use Rattle.icn_structs.specs.Numbered.{with_left, with_right}
-use Rattle.icn_structs.specs.PairLists.{value_of, stored, without}
+use Rattle.icn_structs.specs.PairLists.{value_of, with_value_of, without}
 use Rattle.icn_value.specs.Values.{Value, AList, ASet, ATable, ARecord, ACoexp}
 use Rattle.icn_value.specs.Store.{Heap, new_list, list_at, set_at, table_at, record_at, count_at, with_list, with_set, with_table, with_record}
 use Rattle.icn_value.specs.Sameness.{same, has_value, with_member}
@@ -123,7 +123,8 @@ value_at_key heap id key = value_of same (table_at heap id).pairs key
 
 abbrev pub with_pair : ℕ → Value → Value → Heap → Heap
 with_pair id key value heap =
-    with_table id (record (table_at heap id) { pairs = stored same (table_at heap id).pairs key value }) heap
+    with_table id
+    (record (table_at heap id) { pairs = with_value_of same (table_at heap id).pairs key value }) heap
 
 -- a table with a value at a key; a new key costs a cell
 abbrev pub stored_in : Heap → ℕ → Value → Value → ChangedHeap

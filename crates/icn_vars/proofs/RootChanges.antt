@@ -5,7 +5,7 @@ use Rattle.std.specs.List.{All, slice_get}
 use Rattle.std.proofs.lemmas.List.{map-set}
 use Rattle.std.proofs.lemmas.List.Elements.{All-set}
 use Rattle.icn_structs.specs.Numbered.{NumberedList, item_at, item_numbered, items_with, with_numbered}
-use Rattle.icn_structs.specs.PairLists.{stored}
+use Rattle.icn_structs.specs.PairLists.{with_value_of}
 use Rattle.icn_value.specs.declared.full.Full.{Full}
 use Rattle.icn_value.specs.declared.full.Full.TheVariants.{Cells, NoMemory, Strings}
 use Rattle.icn_value.specs.declared.item.Pair.{Pair}
@@ -139,7 +139,7 @@ module _ (outside : Outside) (old new : HeldHeap) (pair : Pair) (random : ℕ) (
       let nothing : Bool = is_some (value_at_key (heap_of old) id key) in
       let made = charged_then (with_pair id key value) (charged_unless nothing (heap_of old)) (heap_of new) step in
       let table : Table = table_at (heap_of old) id in
-      let put : Table → Row = λ one. changes_heap (with_table id (record one { pairs = stored same one.pairs key value })) next in
+      let put : Table → Row = λ one. changes_heap (with_table id (record one { pairs = with_value_of same one.pairs key value })) next in
       let none : Table = record { default = Null; pairs = [] } in
       (unless_change nothing).ok setting made.0 made.1 (put table)
       ∙ (ap (λ (tables : List Table). put (unwrap_or (slice_get tables id) none) (having_heap (λ heap. made.0) setting))
@@ -162,9 +162,9 @@ key_refused all setting id key value full step refused =
     by : (full : Full) → StopsPassing all (costs_unless (is_some (value_at_key setting.world.heap id key))) setting setting (stop_of full)
         → StopsPassing all (assigns_root refused (Key id key) value) setting setting (stop_of full)
     by (Strings sum limit) is = λ next. is
-        (changes_heap (with_table id (record (table_at setting.world.heap id) { pairs = stored same (table_at setting.world.heap id).pairs key value })) next)
+        (changes_heap (with_table id (record (table_at setting.world.heap id) { pairs = with_value_of same (table_at setting.world.heap id).pairs key value })) next)
     by (Cells sum limit) is = λ next. is
-        (changes_heap (with_table id (record (table_at setting.world.heap id) { pairs = stored same (table_at setting.world.heap id).pairs key value })) next)
+        (changes_heap (with_table id (record (table_at setting.world.heap id) { pairs = with_value_of same (table_at setting.world.heap id).pairs key value })) next)
     by NoMemory is = tt
 
 pub key_stops : (outside : Outside) (old new : HeldHeap) (pair : Pair) (random : ℕ) (globals statics locals : List Val) → Keeps (extent_of old) (extent_of new)

@@ -92,7 +92,7 @@ pub have_one_fault : HaveOneFault
 have_one_fault procs rule number place rule' number' place' one other = record {
   rules = same_first one.proc.instrs rule place rule' place' one.here moved;
   numbers = numbers;
-  places = same_place one.proc.instrs rule place rule' place' one.here moved;
+  addresses = same_place one.proc.instrs rule place rule' place' one.here moved;
 }
   where
     numbers : number ≡ number'

@@ -26,7 +26,7 @@ IsLowSeen most unseen = Unit {0}
 IsLowSeen most (one shape) = IsLowShape most shape
 IsLowSeen most (several fewest) = Unit {0}
 
--- each level of what came to each place
+-- each level of what came to each address
 abbrev pub IsLowTable : ℕ → List Arrival → Type 0
 IsLowTable most [] = Unit {0}
 IsLowTable most (seen ∷ table) = IsLowSeen most seen × IsLowTable most table

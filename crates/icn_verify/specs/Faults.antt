@@ -8,11 +8,11 @@ use Rattle.icn_verify.specs.Shapes.{PlainShape, look_of}
 use Rattle.icn_verify.specs.Rows.{row_of, lacks, meets, back, strays}
 use Rattle.icn_verify.specs.Reaching.{Reaches}
 
-module _ (instrs : List Instr) (place : ℕ) where
-  -- this instruction stands at the place, and this shape reaches it
+module _ (instrs : List Instr) (address : ℕ) where
+  -- this instruction stands at the address, and this shape reaches it
   pub record IsMet (instr : Instr) (shape : PlainShape) : Type 0 where
-    pub stands : slice_get instrs place ≡ Some instr
-    pub reaches : Reaches instrs place shape
+    pub stands : slice_get instrs address ≡ Some instr
+    pub reaches : Reaches instrs address shape
 
   -- an operand is missing
   pub record LacksOperand : Type 0 where
@@ -21,15 +21,15 @@ module _ (instrs : List Instr) (place : ℕ) where
     pub met : IsMet instr shape
     pub lacking : lacks instr shape ≡ true
 
-  -- two shapes reach the place
+  -- two shapes reach the address
   pub record HasTwoShapes : Type 0 where
     pub one : PlainShape
     pub other : PlainShape
-    pub reaches : Reaches instrs place one
-    pub reaches_too : Reaches instrs place other
+    pub reaches : Reaches instrs address one
+    pub reaches_too : Reaches instrs address other
     pub differ : one ≢ other
 
-  -- a label leads back to a place that the wanted shape doesn't reach
+  -- a label leads back to an address that the wanted shape doesn't reach
   pub record LacksShape : Type 0 where
     pub instr : Instr
     pub shape : PlainShape
@@ -37,7 +37,7 @@ module _ (instrs : List Instr) (place : ℕ) where
     pub label : ℕ
     pub wanted : PlainShape
     pub leads : back instr shape ≡ Some (label, wanted)
-    pub earlier : label ≤ place
+    pub earlier : label ≤ address
     pub absent : Reaches instrs label wanted → ⊥
 
   -- a label lies in the wrong direction
@@ -45,7 +45,7 @@ module _ (instrs : List Instr) (place : ℕ) where
     pub instr : Instr
     pub shape : PlainShape
     pub met : IsMet instr shape
-    pub straying : strays instr place ≡ true
+    pub straying : strays instr address ≡ true
 
   -- what an instruction asks for isn't there
   pub record LacksWhatItAsks : Type 0 where
@@ -57,10 +57,10 @@ module _ (instrs : List Instr) (place : ℕ) where
   -- the end of the code is reached
   pub record EndIsReached : Type 0 where
     pub shape : PlainShape
-    pub reaches : Reaches instrs place shape
-    pub ends : place ≡ length instrs
+    pub reaches : Reaches instrs address shape
+    pub ends : address ≡ length instrs
 
-  -- this rule is broken at the place
+  -- this rule is broken at the address
   abbrev pub Breaks : Rule → Type 0
   Breaks V1 = LacksOperand
   Breaks V2 = HasTwoShapes ⊎ LacksShape
@@ -78,28 +78,28 @@ number_of V4 = 4
 number_of V5 = 5
 number_of _ = 0
 
--- the rule is broken at the place of these instructions, and none before it
-pub record IsFirstOf (instrs : List Instr) (rule : Rule) (place : ℕ) : Type 0 where
-  pub breaks : Breaks instrs place rule
-  pub first : (place' : ℕ) (rule' : Rule) → Breaks instrs place' rule'
-      → (place' < place) ⊎ ((place' ≡ place) × (number_of rule' < number_of rule)) → ⊥
+-- the rule is broken at the address of these instructions, and none before it
+pub record IsFirstOf (instrs : List Instr) (rule : Rule) (address : ℕ) : Type 0 where
+  pub breaks : Breaks instrs address rule
+  pub first : (address' : ℕ) (rule' : Rule) → Breaks instrs address' rule'
+      → (address' < address) ⊎ ((address' ≡ address) × (number_of rule' < number_of rule)) → ⊥
 
--- no rule is broken at any place of these instructions
+-- no rule is broken at any address of these instructions
 abbrev pub IsSound : List Instr → Type 0
-IsSound instrs = (place : ℕ) (rule : Rule) → Breaks instrs place rule → ⊥
+IsSound instrs = (address : ℕ) (rule : Rule) → Breaks instrs address rule → ⊥
 
 -- the same of each procedure
 abbrev pub AreSound : List Proc → Type 0
 AreSound procs = (number : ℕ) (proc : Proc) → slice_get procs number ≡ Some proc → IsSound proc.instrs
 
--- no rule is broken at any place of any procedure: every reached place has one shape, and its instruction fits
+-- no rule is broken at any address of any procedure: every reached address has one shape, and its instruction fits
 abbrev pub IsVerified : Tables → Type 0
 IsVerified tables = AreSound tables.procs
 
--- the rule is broken at the place of the procedure, and none before it, by procedure, place and number of the rule
-pub record IsFirstFault (procs : List Proc) (rule : Rule) (number : ℕ) (place : ℕ) : Type 0 where
+-- the rule is broken at the address of the procedure, and none before it, by procedure, address and number of the rule
+pub record IsFirstFault (procs : List Proc) (rule : Rule) (number : ℕ) (address : ℕ) : Type 0 where
   pub proc : Proc
   pub stands : slice_get procs number ≡ Some proc
-  pub here : IsFirstOf proc.instrs rule place
+  pub here : IsFirstOf proc.instrs rule address
   pub earlier : (number' : ℕ) (proc' : Proc) → number' < number → slice_get procs number' ≡ Some proc'
       → IsSound proc'.instrs

@@ -9,10 +9,10 @@ use Rattle.icn_verify.specs.Faults.{IsFirstFault}
 
 -- a rule is the first that is broken; want of memory says nothing
 abbrev pub Refuses : List Proc → VerifyFault → Type 0
-Refuses procs (V rule proc place) = IsFirstFault procs rule proc place
+Refuses procs (V rule proc address) = IsFirstFault procs rule proc address
 Refuses procs NoMemory = Unit {0}
 
--- what the rules of tables say of procedures: their labels are places, and their numbers have 32 bits
+-- what the rules of tables say of procedures: their labels are addresses, and their numbers have 32 bits
 pub record AreBounded (procs : List Proc) : Type 0 where
   pub few : length procs ≤ most_entries
   pub short : (number : ℕ) (proc : Proc) → slice_get procs number ≡ Some proc → length proc.instrs < 2 ^ 32

@@ -38,18 +38,18 @@ way_only asks way = record { takes = 0; leaves = 0; asks = asks; change = Keeps;
 -- the row of an instruction in the table
 abbrev pub row_of : Instr → Row
 row_of Pnull = works 0 1
-row_of (Int place) = works 0 1
-row_of (Str place) = works 0 1
-row_of (Cset place) = works 0 1
-row_of (Local place) = works 0 1
-row_of (Static place) = works 0 1
-row_of (Global place) = works 0 1
+row_of (Int index) = works 0 1
+row_of (Str index) = works 0 1
+row_of (Cset index) = works 0 1
+row_of (Local index) = works 0 1
+row_of (Static index) = works 0 1
+row_of (Global index) = works 0 1
 row_of (Keywd keyword) = works 0 1
 row_of Pop = works 1 0
 row_of Dup = works 1 2
 row_of (Op op) = works (arity op) 1
 row_of (Llist count) = works count 1
-row_of (Field place) = works 1 1
+row_of (Field index) = works 1 1
 row_of (Invoke count) = works (count + 1) 1
 row_of Appl = works 2 1
 row_of (Mark label) = record { takes = 0; leaves = 0; asks = Nothing; change = OpensPlain; way = Fails label }
@@ -119,14 +119,14 @@ after row shape = with_more row.leaves (change_levels row.change (with_fewer row
 
 -- the next instruction, if the code goes on there, and the shape there
 abbrev pub next_by : Way → ℕ → PlainShape → Option (ℕ × PlainShape)
-next_by On place left = Some (place + 1, left)
-next_by Ends place left = None
-next_by (Fails label) place left = Some (place + 1, left)
-next_by (Jumps label) place left = None
-next_by (Returns label) place left = None
-next_by (Retries label) place left = Some (place + 1, left)
-next_by (Skips label) place left = Some (place + 1, left)
-next_by (Forks label) place left = Some (place + 1, start_shape true)
+next_by On address left = Some (address + 1, left)
+next_by Ends address left = None
+next_by (Fails label) address left = Some (address + 1, left)
+next_by (Jumps label) address left = None
+next_by (Returns label) address left = None
+next_by (Retries label) address left = Some (address + 1, left)
+next_by (Skips label) address left = Some (address + 1, left)
+next_by (Forks label) address left = Some (address + 1, start_shape true)
 
 -- the label to which the code goes forward, if there is one, and the shape there: where a mark fails, that before the mark
 abbrev pub forward_by : Way → PlainShape → PlainShape → Option (ℕ × PlainShape)
@@ -155,9 +155,9 @@ back_by (Retries label) shape = with_label label (before_mark shape)
 back_by (Skips label) shape = None
 back_by (Forks label) shape = None
 
--- the same of the instruction at a place with a shape
+-- the same of the instruction at an address with a shape
 abbrev pub next : Instr → ℕ → PlainShape → Option (ℕ × PlainShape)
-next instr place shape = next_by (row_of instr).way place (after (row_of instr) shape)
+next instr address shape = next_by (row_of instr).way address (after (row_of instr) shape)
 
 abbrev pub forward : Instr → PlainShape → Option (ℕ × PlainShape)
 forward instr shape = forward_by (row_of instr).way shape (after (row_of instr) shape)
@@ -167,17 +167,17 @@ back instr shape = back_by (row_of instr).way shape
 
 -- a label that should lie after the instruction does not, or one that should not does
 abbrev pub strays_by : Way → ℕ → Bool
-strays_by On place = false
-strays_by Ends place = false
-strays_by (Fails label) place = nat_le label place
-strays_by (Jumps label) place = nat_le label place
-strays_by (Returns label) place = nat_lt place label
-strays_by (Retries label) place = nat_lt place label
-strays_by (Skips label) place = nat_le label place
-strays_by (Forks label) place = nat_le label place
+strays_by On address = false
+strays_by Ends address = false
+strays_by (Fails label) address = nat_le label address
+strays_by (Jumps label) address = nat_le label address
+strays_by (Returns label) address = nat_lt address label
+strays_by (Retries label) address = nat_lt address label
+strays_by (Skips label) address = nat_le label address
+strays_by (Forks label) address = nat_le label address
 
 abbrev pub strays : Instr → ℕ → Bool
-strays instr place = strays_by (row_of instr).way place
+strays instr address = strays_by (row_of instr).way address
 
 -- the label of a way, if it has one, is at most this count
 abbrev pub is_within_by : Way → ℕ → Bool
@@ -190,6 +190,6 @@ is_within_by (Retries label) count = nat_le label count
 is_within_by (Skips label) count = nat_le label count
 is_within_by (Forks label) count = nat_le label count
 
--- the label of an instruction, if it has one, is a place of a procedure with so many instructions, or its end
+-- the label of an instruction, if it has one, is an address of a procedure with so many instructions, or its end
 abbrev pub is_within : ℕ → Instr → Bool
 is_within count instr = is_within_by (row_of instr).way count

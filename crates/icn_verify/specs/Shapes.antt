@@ -1,4 +1,4 @@
--- Shapes: what is open at a place of a procedure, and how many operands and open scans each level has.
+-- Shapes: what is open at an address of a procedure, and how many operands and open scans each level has.
 use Rattle.std.specs.Prelude.{ℕ, ◌+◌, ◌-◌, Bool, true, false, ◌&&◌, nat_eq, List, [], ◌∷◌, Option, None, Some, slice_get}
 use Rattle.icn_verify.specs.declared.shape.Level.{Level}
 use Rattle.icn_verify.specs.declared.shape.LevelKind.{LevelKind}
@@ -6,7 +6,7 @@ use Rattle.icn_verify.specs.declared.shape.LevelKind.TheVariants.{Base, Plain, L
 use Rattle.icn_verify.specs.declared.shape.Look.{Look}
 use Rattle.icn_verify.specs.declared.shape.Shape.{Shape}
 
--- a shape: whether the place is in a create body, the innermost level, and the levels outside it, the next one first. The
+-- a shape: whether the address is in a create body, the innermost level, and the levels outside it, the next one first. The
 -- outermost level is the base.
 pub record PlainShape : Type 0 where
   pub in_create : Bool

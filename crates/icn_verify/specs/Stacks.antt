@@ -45,7 +45,7 @@ module _ (stacks : List (List Level)) where
   abbrev pub IsHeld : Flat → Type 0
   IsHeld flat = flat.outer < length stacks
 
-  -- what came to a place, with the stacks of their numbers
+  -- what came to an address, with the stacks of their numbers
   abbrev pub seen_in : Slot → Arrival
   seen_in Free = unseen
   seen_in (One flat) = one (shape_in flat)
@@ -61,10 +61,10 @@ module _ (stacks : List (List Level)) where
   pub record AreKept (slots : List Slot) : Type 0 where
     pub each : All IsKept slots
 
-  -- what came to each place
+  -- what came to each address
   abbrev pub table_in : List Slot → List Arrival
   table_in slots = map seen_in slots
 
-  -- a place and the shape that goes there
+  -- an address and the shape that goes there
   abbrev pub sent_in : Option (ℕ × Flat) → Option (ℕ × PlainShape)
   sent_in to = option_map (λ p. (p.0, shape_in p.1)) to

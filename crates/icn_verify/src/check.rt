@@ -13,7 +13,7 @@ use icn_code::{Code, Instr, Procedure};
 use icn_tree::Rule;
 use std::alloc::{AllocError, Global};
 
-// The first rule that a procedure's instructions break, and its place.
+// The first rule that a procedure's instructions break, and its address.
 fn first_fault(alloc: Global, instrs: &[Instr]) -> Result<Option<(Rule, usize)>, AllocError>
     requires short { length instrs.now < 2 ^ 32 }
     requires labels { AreWithin instrs.now }
@@ -33,11 +33,11 @@ fn check_procs(alloc: Global, procs: &[Procedure]) -> Result<(), VerifyFault>
     for (number, proc) in procs.iter().enumerate() {
         let found = first_fault(alloc, &proc.instrs)?;
         match found {
-            Some((rule, place)) => {
+            Some((rule, address)) => {
                 return Err(VerifyFault::V {
                     rule,
                     proc: number as u32,
-                    place: place as u32,
+                    address: address as u32,
                 });
             }
             None => {}

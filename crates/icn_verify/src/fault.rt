@@ -8,9 +8,9 @@ use std::alloc::AllocError;
 /// Why code is refused.
 #[derive(Clone, Copy, Debug, PartialEq, Eq)]
 pub enum VerifyFault {
-    /// The first rule that the code breaks, by procedure, place and number of the rule. The place counts instructions of the
+    /// The first rule that the code breaks, by procedure, address and number of the rule. The address counts instructions of the
     /// procedure, and at its end is their count.
-    V { rule: Rule, proc: u32, place: u32 },
+    V { rule: Rule, proc: u32, address: u32 },
     /// Memory ran out.
     NoMemory,
 }

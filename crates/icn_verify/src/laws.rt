@@ -1,7 +1,7 @@
 // Laws of the shapes and of the first fault.
 ghost use Rattle.icn_verify.specs.Laws.{AreLeast, AreSoundOrBroken, GiveShapes, HaveNoFault, HaveOneFault, HaveOneShape};
 
-/// At most one shape reaches a place that is not refused for it, and the shapes that reach are the least that hold at the start
+/// At most one shape reaches an address that is not refused for it, and the shapes that reach are the least that hold at the start
 /// and are carried on.
 pub fn least_shapes()
     ensures one_shape { HaveOneShape }

@@ -1,4 +1,4 @@
-//! The check of linked code: at every place that is reached the stack has one shape, and each instruction finds there what it
+//! The check of linked code: at every address that is reached the stack has one shape, and each instruction finds there what it
 //! takes and asks for.
 #![tactic(auto)]
 

@@ -99,15 +99,15 @@ fn after(arena: &mut Arena, row: Row, flat: Flat) -> Result<Flat, AllocError>
 }
 
 // The next instruction, if the code goes on there, and the shape there.
-fn next_by(arena: &Arena, way: Way, place: usize, left: Flat) -> Option<(usize, Flat)>
+fn next_by(arena: &Arena, way: Way, address: usize, left: Flat) -> Option<(usize, Flat)>
     requires held { IsHeld arena.now left }
-    requires room { place < 2 ^ 32 }
-    ensures to { sent_in arena.now result ≡ next_by way place (shape_in arena.now left) }
+    requires room { address < 2 ^ 32 }
+    ensures to { sent_in arena.now result ≡ next_by way address (shape_in arena.now left) }
     ensures held { ForSome result (λ p. IsHeld arena.now p.1) }
 {
     match way {
-        Way::On | Way::Fails(_) | Way::Retries(_) | Way::Skips(_) => Some((place + 1, left)),
-        Way::Forks(_) => Some((place + 1, arena.start(true))),
+        Way::On | Way::Fails(_) | Way::Retries(_) | Way::Skips(_) => Some((address + 1, left)),
+        Way::Forks(_) => Some((address + 1, arena.start(true))),
         Way::Ends | Way::Jumps(_) | Way::Returns(_) => None,
     }
 }
@@ -143,26 +143,26 @@ fn back_by(arena: &Arena, way: Way, flat: Flat) -> Option<(usize, Flat)>
 }
 
 // Whether a label lies in the wrong direction.
-fn strays_by(way: Way, place: usize) -> bool
-    ensures { result ≡ strays_by way place }
+fn strays_by(way: Way, address: usize) -> bool
+    ensures { result ≡ strays_by way address }
 {
     match way {
         Way::Fails(label) | Way::Jumps(label) | Way::Skips(label) | Way::Forks(label) => {
-            label as usize <= place
+            label as usize <= address
         }
-        Way::Returns(label) | Way::Retries(label) => place < label as usize,
+        Way::Returns(label) | Way::Retries(label) => address < label as usize,
         Way::On | Way::Ends => false,
     }
 }
 
-// Whether a label leads back to a place to which the wanted shape didn't come.
-fn misses(arena: &Arena, slots: &[Slot], place: usize, back: Option<(usize, Flat)>) -> bool
+// Whether a label leads back to an address to which the wanted shape didn't come.
+fn misses(arena: &Arena, slots: &[Slot], address: usize, back: Option<(usize, Flat)>) -> bool
     requires kept { AreKept arena.now slots.now }
     requires held { ForSome back (λ p. IsHeld arena.now p.1) }
-    ensures { result ≡ misses (table_in arena.now slots.now) place (sent_in arena.now back) }
+    ensures { result ≡ misses (table_in arena.now slots.now) address (sent_in arena.now back) }
 {
     match back {
-        Some((label, wanted)) => label <= place && !holds(arena, slot_at(slots, label), wanted),
+        Some((label, wanted)) => label <= address && !holds(arena, slot_at(slots, label), wanted),
         None => false,
     }
 }
@@ -171,21 +171,21 @@ fn misses(arena: &Arena, slots: &[Slot], place: usize, back: Option<(usize, Flat
 fn rule_of_one(
     arena: &Arena,
     slots: &[Slot],
-    place: usize,
+    address: usize,
     instr: Instr,
     flat: Flat,
 ) -> Option<Rule>
     requires kept { AreKept arena.now slots.now }
     requires held { IsHeld arena.now flat }
-    ensures { result ≡ rule_of_one (table_in arena.now slots.now) place instr (shape_in arena.now flat) }
+    ensures { result ≡ rule_of_one (table_in arena.now slots.now) address instr (shape_in arena.now flat) }
 {
     let row = row_of(instr);
     let back = back_by(arena, row.way, flat);
     if u64::from(flat.inner.operands) < row.takes {
         Some(Rule::V1)
-    } else if misses(arena, slots, place, back) {
+    } else if misses(arena, slots, address, back) {
         Some(Rule::V2)
-    } else if strays_by(row.way, place) {
+    } else if strays_by(row.way, address) {
         Some(Rule::V3)
     } else if meets(row.asks, arena.look(flat)) {
         None
@@ -194,15 +194,16 @@ fn rule_of_one(
     }
 }
 
-// The least rule that is broken at a place, where what came before is known.
-fn rule_at(arena: &Arena, slots: &[Slot], place: usize, instr: Instr) -> Option<Rule>
+// The least rule that is broken at an address, where what came before is known.
+fn rule_at(arena: &Arena, slots: &[Slot], address: usize, instr: Instr) -> Option<Rule>
     requires { AreKept arena.now slots.now }
     ensures { result
-        ≡ rule_at (table_in arena.now slots.now) place instr (seen_at (table_in arena.now slots.now) place) }
+        ≡ rule_at (table_in arena.now slots.now) address instr
+        (seen_at (table_in arena.now slots.now) address) }
 {
-    match slot_at(slots, place) {
+    match slot_at(slots, address) {
         Slot::Free => None,
-        Slot::One(flat) => rule_of_one(arena, slots, place, instr, flat),
+        Slot::One(flat) => rule_of_one(arena, slots, address, instr, flat),
         Slot::Several(fewest) => {
             if u64::from(fewest) < row_of(instr).takes {
                 Some(Rule::V1)
@@ -217,40 +218,46 @@ fn rule_at(arena: &Arena, slots: &[Slot], place: usize, instr: Instr) -> Option<
 fn send_one(
     arena: &mut Arena,
     slots: &mut [Slot],
-    place: usize,
+    address: usize,
     instr: Instr,
     flat: Flat,
 ) -> Result<(), AllocError>
     requires kept { AreKept arena.old slots.old }
     requires held { IsHeld arena.old flat }
-    requires room { place < 2 ^ 32 }
+    requires room { address < 2 ^ 32 }
     requires few { length arena.old < 2 ^ 32 }
     requires counts { HasRoom (row_of instr) (shape_in arena.old flat) }
     ensures more { OnOk result (length arena.new ≤ length arena.old + 1) }
     ensures table { OnOk result (table_in arena.new slots.new
-        ≡ pass_on (table_in arena.old slots.old) place instr (one (shape_in arena.old flat))) }
+        ≡ pass_on (table_in arena.old slots.old) address instr (one (shape_in arena.old flat))) }
     ensures kept { OnOk result (AreKept arena.new slots.new) }
 {
     let row = row_of(instr);
     let left = after(arena, row, flat)?;
-    arrive(arena, slots, next_by(arena, row.way, place, left));
+    arrive(arena, slots, next_by(arena, row.way, address, left));
     arrive(arena, slots, forward_by(row.way, flat, left));
     Ok(())
 }
 
 // Sends out what came to an instruction.
-fn send(arena: &mut Arena, slots: &mut [Slot], place: usize, instr: Instr) -> Result<(), AllocError>
+fn send(
+    arena: &mut Arena,
+    slots: &mut [Slot],
+    address: usize,
+    instr: Instr,
+) -> Result<(), AllocError>
     requires kept { AreKept arena.old slots.old }
-    requires room { place < 2 ^ 32 }
+    requires room { address < 2 ^ 32 }
     requires few { length arena.old < 2 ^ 32 }
-    requires counts { FindsRoom instr (seen_at (table_in arena.old slots.old) place) }
+    requires counts { FindsRoom instr (seen_at (table_in arena.old slots.old) address) }
     ensures more { OnOk result (length arena.new ≤ length arena.old + 1) }
     ensures table { OnOk result (table_in arena.new slots.new
-        ≡ pass_on (table_in arena.old slots.old) place instr (seen_at (table_in arena.old slots.old) place)) }
+        ≡ pass_on (table_in arena.old slots.old) address instr
+        (seen_at (table_in arena.old slots.old) address)) }
     ensures kept { OnOk result (AreKept arena.new slots.new) }
 {
-    match slot_at(slots, place) {
-        Slot::One(flat) => send_one(arena, slots, place, instr, flat),
+    match slot_at(slots, address) {
+        Slot::One(flat) => send_one(arena, slots, address, instr, flat),
         Slot::Free | Slot::Several(_) => Ok(()),
     }
 }
@@ -276,7 +283,7 @@ fn first_slots(alloc: Global, arena: &Arena, count: usize) -> Result<Vec<Slot>, 
     Ok(slots)
 }
 
-// The first rule that is broken from the table on, and its place.
+// The first rule that is broken from the table on, and its address.
 fn judge(
     arena: &mut Arena,
     slots: &mut [Slot],
@@ -288,10 +295,10 @@ fn judge(
     requires low { IsLowTable 0 (table_in arena.old slots.old) }
     ensures { IfOk result (λ found. found ≡ first_fault (table_in arena.old slots.old) 0 instrs.now) }
 {
-    for (place, instr) in instrs.iter().enumerate() {
-        match rule_at(arena, slots, place, *instr) {
-            Some(rule) => return Ok(Some((rule, place))),
-            None => send(arena, slots, place, *instr)?,
+    for (address, instr) in instrs.iter().enumerate() {
+        match rule_at(arena, slots, address, *instr) {
+            Some(rule) => return Ok(Some((rule, address))),
+            None => send(arena, slots, address, *instr)?,
         }
     }
     match rule_at_end(slot_at(slots, instrs.len())) {
@@ -300,7 +307,7 @@ fn judge(
     }
 }
 
-/// The first rule that a procedure's instructions break, and its place.
+/// The first rule that a procedure's instructions break, and its address.
 pub fn fault_of(alloc: Global, instrs: &[Instr]) -> Result<Option<(Rule, usize)>, AllocError>
     requires { length instrs.now < 2 ^ 32 }
     ensures { IfOk result (λ found. found ≡ fault_of instrs.now) }

@@ -24,9 +24,9 @@ pub enum Asks {
     OpenScan,
     /// An open mark, and an operand in the level outside it.
     OperandOutside,
-    /// A place outside create bodies.
+    /// An address outside create bodies.
     OutsideCreate,
-    /// A place inside a create body.
+    /// An address inside a create body.
     InsideCreate,
 }
 

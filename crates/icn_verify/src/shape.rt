@@ -43,7 +43,7 @@ impl Level {
 /// A shape of a stack.
 #[derive(Debug, Drop)]
 pub struct Shape {
-    /// Whether the place is in a create body.
+    /// Whether the address is in a create body.
     pub in_create: bool,
     /// Its levels, the base first. A shape without any is that of the base alone, empty.
     pub marks: Vec<Level>,
@@ -81,7 +81,7 @@ fn look_at(shape: &Shape) -> Look
     }
 }
 
-/// Whether an instruction finds the operands that it takes and what it asks for at a place with this shape. It takes no
+/// Whether an instruction finds the operands that it takes and what it asks for at an address with this shape. It takes no
 /// memory.
 pub fn fits(shape: &Shape, at: Instr) -> bool
     ensures { result ≡ fits (plain_of shape.now) at }

@@ -1,4 +1,4 @@
-// What came to the places of a procedure.
+// What came to the addresses of a procedure.
 ghost use Rattle.std.specs.Prelude.{◌≡◌, slice_index_or};
 ghost use Rattle.std.specs.Option.{ForSome};
 ghost use Rattle.icn_verify.specs.Passing.{with_shape, with_arrival, is_one};
@@ -7,7 +7,7 @@ ghost use Rattle.icn_verify.specs.Stacks.{shape_in, seen_in, table_in, sent_in, 
 use crate::arena::Arena;
 use crate::flat::Flat;
 
-/// What came to a place.
+/// What came to an address.
 #[derive(Clone, Copy)]
 pub enum Slot {
     Free,
@@ -16,11 +16,11 @@ pub enum Slot {
     Several(u32),
 }
 
-/// What came to a place. Nothing comes past the end.
-pub fn slot_at(slots: &[Slot], place: usize) -> Slot
-    ensures { result ≡ slice_index_or slots.now place Slot.Free }
+/// What came to an address. Nothing comes past the end.
+pub fn slot_at(slots: &[Slot], address: usize) -> Slot
+    ensures { result ≡ slice_index_or slots.now address Slot.Free }
 {
-    slots.get(place).copied().unwrap_or(Slot::Free)
+    slots.get(address).copied().unwrap_or(Slot::Free)
 }
 
 fn joined(arena: &Arena, slot: Slot, flat: Flat) -> Slot
@@ -42,7 +42,7 @@ fn joined(arena: &Arena, slot: Slot, flat: Flat) -> Slot
     }
 }
 
-/// A shape comes to a place.
+/// A shape comes to an address.
 pub fn arrive(arena: &Arena, slots: &mut [Slot], to: Option<(usize, Flat)>)
     requires kept { AreKept arena.now slots.old }
     requires held { ForSome to (λ p. IsHeld arena.now p.1) }
@@ -50,15 +50,15 @@ pub fn arrive(arena: &Arena, slots: &mut [Slot], to: Option<(usize, Flat)>)
         ≡ with_arrival (table_in arena.now slots.old) (sent_in arena.now to) }
     ensures kept { AreKept arena.now slots.new }
 {
-    if let Some((place, flat)) = to {
-        let slot = joined(arena, slot_at(slots, place), flat);
-        if place < slots.len() {
-            slots[place] = slot;
+    if let Some((address, flat)) = to {
+        let slot = joined(arena, slot_at(slots, address), flat);
+        if address < slots.len() {
+            slots[address] = slot;
         }
     }
 }
 
-/// Whether this one shape came to a place.
+/// Whether this one shape came to an address.
 pub fn holds(arena: &Arena, slot: Slot, flat: Flat) -> bool
     requires kept { IsKept arena.now slot }
     requires held { IsHeld arena.now flat }

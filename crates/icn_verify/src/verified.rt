@@ -5,7 +5,7 @@ ghost use Rattle.icn_verify.specs.Given.{HaveShapes};
 
 use icn_code::Code;
 
-/// Code that breaks no rule of verified code: at every place that is reached the stack has one shape.
+/// Code that breaks no rule of verified code: at every address that is reached the stack has one shape.
 #[derive(Debug, Drop)]
 pub struct Verified {
     code: Code,

@@ -13,7 +13,7 @@ use Rattle.icn_simulation.specs.Faultless.{IsFaultless}
 use Rattle.icn_simulation.specs.Joined.{IsJoined}
 use Rattle.icn_simulation.specs.Law.{IsLinked}
 use Rattle.link_laws.specs.TranslatedUnits.{translated_units}
-use Rattle.icont_units.specs.Loading.{IsFaultlessMember, ucode_place}
+use Rattle.icont_units.specs.Loading.{IsFaultlessMember, ucode_index}
 use Rattle.icont_units.specs.Units.{Member, FromSource, FromUcode, unit_named, units_of}
 use Rattle.icont_top.specs.Programs.{files_of, first_ucode, linked_code, with_file}
 
@@ -79,10 +79,10 @@ no_place None f e = f refl
 no_place (Some place) f e = absurd (none-some (suc place) (sym e))
 
 -- where no unit was read as ucode, all are sources
-pub all_files : (members : List Member) → ucode_place members ≡ None → (files : List (List Declaration)) × (files_of members ≡ Some files)
+pub all_files : (members : List Member) → ucode_index members ≡ None → (files : List (List Declaration)) × (files_of members ≡ Some files)
 all_files [] e = ([], refl)
 all_files (FromSource base file ∷ members) e =
-    no_place (ucode_place members) (λ none. let rest = all_files members none in (file ∷ rest.0, ap (with_file file) rest.1)) e
+    no_place (ucode_index members) (λ none. let rest = all_files members none in (file ∷ rest.0, ap (with_file file) rest.1)) e
 all_files (FromUcode unit ∷ members) e = absurd (none-some 0 (sym e))
 
 -- The unit at a place
@@ -100,9 +100,9 @@ by_place : (unit : UnitRead) (units : List UnitRead) (found : Option ℕ) (first
 by_place unit units None first place f e = absurd (none-some place e)
 by_place unit units (Some p) first place f e = subst (λ n. first ≡ Some (unit_named (unit ∷ units) n)) (same_Some (suc p) place e) (f p refl)
 
-pub first_named : (members : List Member) (place : ℕ) → ucode_place members ≡ Some place → first_ucode members ≡ Some (unit_named (units_of members) place)
+pub first_named : (members : List Member) (place : ℕ) → ucode_index members ≡ Some place → first_ucode members ≡ Some (unit_named (units_of members) place)
 first_named [] place e = absurd (none-some place e)
 first_named (FromSource base file ∷ members) place e =
-    by_place (translated_unit base file) (units_of members) (ucode_place members) (first_ucode members) place (first_named members) e
+    by_place (translated_unit base file) (units_of members) (ucode_index members) (first_ucode members) place (first_named members) e
 first_named (FromUcode unit ∷ members) place e =
     subst (λ n. Some unit.name ≡ Some (unit_named (unit ∷ units_of members) n)) (same_Some 0 place e) refl

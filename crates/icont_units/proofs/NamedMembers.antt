@@ -19,18 +19,18 @@ use Rattle.icont_units.specs.declared.members.Members.{Members}
 use Rattle.icont_units.specs.Fetching.{file_seen, files_seen, IsOfLinked, IsOfLoading, IsOfNamed}
 use Rattle.icont_units.specs.declared.files.File.{File as HeldFile}
 use Rattle.icont_units.specs.Files.{File, source, ucode}
-use Rattle.icont_units.specs.Loading.{ComesBehind, IsCome, IsLoaded, IsFaultlessMember, IsRead, IsSound, Stands, kept_of, ucode_place, with_source, with_ucode}
+use Rattle.icont_units.specs.Loading.{ComesBehind, IsCome, IsLoaded, IsFaultlessMember, IsRead, IsSound, Stands, kept_of, ucode_index, with_source, with_ucode}
 use Rattle.icont_units.specs.Sources.{IsOfRead}
 use Rattle.icont_units.specs.Units.{Come, none, one_more, first_refused, later_refused, Comes, Gather, Load, refused as load_first, gathered as load_then, FromSource, FromUcode, Member, links_in, unit_of, units_of}
 
 -- One member more
 
 ucode_behind : (members : List Member) (unit : UnitRead)
-    → ucode_place (members ++ FromUcode unit ∷ []) ≡ Some
-    (unwrap_or (ucode_place members) (length (units_of members)))
+    → ucode_index (members ++ FromUcode unit ∷ []) ≡ Some
+    (unwrap_or (ucode_index members) (length (units_of members)))
 ucode_behind [] unit = refl
 ucode_behind (FromSource base file ∷ members) unit = ap (option_map (λ place. suc place))
-    (ucode_behind members unit) ∙ later (ucode_place members) where
+    (ucode_behind members unit) ∙ later (ucode_index members) where
       later : (place : Option ℕ) → Some (suc (unwrap_or place (length (units_of members)))) ≡ Some
           (unwrap_or (option_map (λ place. suc place) place) (length (units_of (FromSource base file ∷ members))))
       later None = refl
@@ -38,7 +38,7 @@ ucode_behind (FromSource base file ∷ members) unit = ap (option_map (λ place.
 ucode_behind (FromUcode first ∷ members) unit = refl
 
 source_behind : (members : List Member) (base : List ℕ) (file : List Declaration)
-    → ucode_place (members ++ FromSource base file ∷ []) ≡ ucode_place members
+    → ucode_index (members ++ FromSource base file ∷ []) ≡ ucode_index members
 source_behind [] base file = refl
 source_behind (FromSource other first ∷ members) base file = ap (option_map (λ place. suc place))
     (source_behind members base file)
@@ -67,7 +67,7 @@ ucode_added old new members unit stands added = record {
   place =
       ap (λ kept. kept.first_ucode) added
       ∙ (ap (λ place. Some (unwrap_or place (length (units_seen old.units.items)))) stands.place
-      ∙ (ap (λ units. Some (unwrap_or (ucode_place members) (length units))) stands.units ∙ sym (ucode_behind members unit)));
+      ∙ (ap (λ units. Some (unwrap_or (ucode_index members) (length units))) stands.units ∙ sym (ucode_behind members unit)));
   faultless = All-push IsFaultlessMember members (FromUcode unit) stands.faultless tt;
 }
 

@@ -20,10 +20,10 @@ use Rattle.icont_units.specs.Units.{Come, Comes, FromSource, FromUcode, Gather, 
 -- Units, and the members that they are
 
 -- the place of the first unit that was read as ucode
-abbrev pub ucode_place : List Member → Option ℕ
-ucode_place [] = None
-ucode_place (FromSource base file ∷ members) = option_map (λ place. suc place) (ucode_place members)
-ucode_place (FromUcode unit ∷ members) = Some 0
+abbrev pub ucode_index : List Member → Option ℕ
+ucode_index [] = None
+ucode_index (FromSource base file ∷ members) = option_map (λ place. suc place) (ucode_index members)
+ucode_index (FromUcode unit ∷ members) = Some 0
 
 -- a source breaks no rule
 abbrev pub IsFaultlessMember : Member → Type 0
@@ -33,7 +33,7 @@ IsFaultlessMember (FromUcode unit) = Unit {0}
 -- these units are those of the members, of which each source breaks no rule
 pub record Stands (held : Members) (members : List Member) : Type 0 where
   pub units : units_seen held.units.items ≡ units_of members
-  pub place : held.first_ucode ≡ ucode_place members
+  pub place : held.first_ucode ≡ ucode_index members
   pub faultless : All IsFaultlessMember members
 
 -- the units are those of some members, whatever the files tell

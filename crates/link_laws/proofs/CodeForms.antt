@@ -15,7 +15,7 @@ use Rattle.icn_translate.specs.Drafts.{Draft, ◌▹◌, put, aside, put_next, p
 use Rattle.icn_translate.specs.Instructions.{literal_instr, keyword_instr, section_op, infix_form, prefix_form}
 use Rattle.icn_translate.specs.Open.{Open, Outermost, Marked, Looped, Each, unmarks_for_break, unmarks_for_next, around}
 use Rattle.icn_translate.specs.Translation as T
-use Rattle.icn_translate.specs.Translation.{translate, operands, arguments, conjunction, compound, creations, other_creations, subscripts, to_step, looped_part, suspended_part, guarded, guarded_clause, default_part}
+use Rattle.icn_translate.specs.Translation.{translate, operands, arguments, conjunction, compound, creations, other_creations, subscripts, to_step, looped_part, suspended_part, guarded_part, guarded_clause, default_part}
 use Rattle.icn_units.proofs.Forms.{none_before, none_behind}
 use Rattle.icn_link.specs.Resolving.{Scope, resolved_one}
 use Rattle.icn_simulation.specs.Translation as X
@@ -314,7 +314,7 @@ module _ {S : Scope} {N : X.Names} {F : List (List ℕ)} (agree : AgreeOn S N F)
 
     guarded_give : (o : Open) (c : Context) (has : Bool) (clauses : Clauses) → clauses_faults c has clauses ≡ [] → (V R : List X.Ways) → Within o c V
         → {last : ℕ} {E : List ℕ}
-        → Gives S F (V ++ R) (last ∷ E) (guarded o clauses) (X.clauses_size (depths o) clauses) (λ p. X.clauses_code N (depths o) V p last clauses) none
+        → Gives S F (V ++ R) (last ∷ E) (guarded_part o clauses) (X.clauses_size (depths o) clauses) (λ p. X.clauses_code N (depths o) V p last clauses) none
     guarded_give o c has NoClauses x V R w = nothing
     guarded_give o c has (MoreClauses clause clauses) x V R w =
         plainly (guarded_clause_gives o c has clause (none_before _ _ x) V R w

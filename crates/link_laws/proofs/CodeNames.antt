@@ -12,7 +12,7 @@ use Rattle.icn_code.specs.declared.instr.Instr.{Instr}
 use Rattle.icn_code.specs.declared.instr.Instr.TheVariants as I
 use Rattle.icn_unit.specs.declared.unit.UnitInstr.TheVariants as U
 use Rattle.icn_unit.specs.UnitOperands.{keyword_of}
-use Rattle.icn_translate.specs.Drafts.{put_variable, name_place}
+use Rattle.icn_translate.specs.Drafts.{put_variable, name_index}
 use Rattle.icn_translate.specs.Instructions.{literal_instr, keyword_by, keyword_instr}
 use Rattle.icn_tree.specs.declared.tree.Literal.{Literal}
 use Rattle.icn_tree.specs.declared.tree.Literal.TheVariants as Literals
@@ -27,7 +27,7 @@ pub record AgreeOn (S : Scope) (N : X.Names) (F : List (List ℕ)) : Type 0 wher
   pub string : (bytes : List ℕ) → S.string bytes ≡ N.string bytes
   pub set : (members : List ℕ) → S.set members ≡ N.set members
   pub field : (name : List ℕ) → S.field name ≡ N.field name
-  pub variable : (name : List ℕ) → list_any (bytes_eq name) F ≡ true → S.variable (name_place F name) ≡ N.variable name
+  pub variable : (name : List ℕ) → list_any (bytes_eq name) F ≡ true → S.variable (name_index F name) ≡ N.variable name
   pub keyword : (name : List ℕ) → N.keyword name ≡ unwrap_or (keyword_among name keywords) K.Null
 
 -- Where a name stands
@@ -67,14 +67,14 @@ new_stands test (name ∷ names) new rest h t = by (test name) refl (λ k. new_s
     by false e later = rw e (stands_later test name ((names ++ new ∷ []) ++ rest) (position_or_len test names) e (later (rw e at h)))
 
 name_stands : (names F : List (List ℕ)) (name : List ℕ) (b : Bool) → list_any (bytes_eq name) names ≡ b
-    → Front (if b then names else names ++ name ∷ []) F → Stands (bytes_eq name) (name_place names name) F × Front names F
+    → Front (if b then names else names ++ name ∷ []) F → Stands (bytes_eq name) (name_index names name) F × Front names F
 name_stands names F name true e h = (
-  subst (λ (all : List (List ℕ)). Stands (bytes_eq name) (name_place names name) all) h.is
+  subst (λ (all : List (List ℕ)). Stands (bytes_eq name) (name_index names name) all) h.is
       (old_stands (bytes_eq name) names h.rest e),
   h,
 )
 name_stands names F name false e h = (
-  subst (λ (all : List (List ℕ)). Stands (bytes_eq name) (name_place names name) all) h.is (new_stands (bytes_eq name) names name h.rest e (same_bytes name)),
+  subst (λ (all : List (List ℕ)). Stands (bytes_eq name) (name_index names name) all) h.is (new_stands (bytes_eq name) names name h.rest e (same_bytes name)),
   record { rest = name ∷ h.rest; is = sym (append_assoc names (name ∷ []) h.rest) ∙ h.is },
 )
 
@@ -145,10 +145,10 @@ pub puts_variable : {S : Scope} {N : X.Names} {F : List (List ℕ)} {W : List X.
 unfolding put_variable
 puts_variable {S = S} {N = N} {F = F} agree name = record {
   long = λ d.
-      let k = U.Var (name_place d.names name) in
+      let k = U.Var (name_index d.names name) in
       ap length (resolved-more S d.instrs k) ∙ long (resolve S d.instrs) (resolved_one S k) refl;
   at = λ d h.
-      let k = name_place d.names name in
+      let k = name_index d.names name in
       let known = name_stands d.names F name (list_any (bytes_eq name) d.names) refl h.names in
       let same : S.variable k ≡ N.variable name = ap S.variable known.0.first ∙ agree.variable name known.0.there in
       record {

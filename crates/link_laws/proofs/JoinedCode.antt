@@ -21,20 +21,20 @@ use Rattle.icn_unit.specs.UnitOperands.{ascends}
 use Rattle.icn_unit.specs.UnitRules.{is_byte}
 use Rattle.icn_decls.specs.Faults.{names_after, declarations_faults}
 use Rattle.icn_tree.specs.NameSets.{NameTest, none_met}
-use Rattle.icn_link.specs.Gathering.{text_place, integer_place, with_texts}
+use Rattle.icn_link.specs.Gathering.{text_index, integer_index, with_texts}
 use Rattle.icn_link.specs.Joined as Linked
 use Rattle.icn_link.specs.Joined.{records_in, proc_entry, cset_of, joined_of, scope_of}
 use Rattle.icn_link.specs.Mentions.{AllMentions, all_mentions, mention_of, mentioned_in, mentioned_by, set_in, global_in, record_names, declared_names}
 use Rattle.icn_link.specs.Mentions as Mentions
 use Rattle.icn_link.specs.Units.{all_decls, all_procs}
-use Rattle.icn_meaning.specs.Program.{joined_declarations, texts, has_name, global_names, procedures_of, kinds_of, kind_names, routine_names, routine_of, routines_of, function_named, globals_of, statics_among, place_of, later}
+use Rattle.icn_meaning.specs.Program.{joined_declarations, texts, has_name, global_names, procedures_of, kinds_of, kind_names, routine_names, routine_of, routines_of, function_named, globals_of, statics_among, index_of, later}
 use Rattle.icn_run.specs.Step.{members_of}
 use Rattle.icn_simulation.specs.Faultless.{IsFaultless}
 use Rattle.icn_simulation.specs.Joined as Law
 use Rattle.icn_simulation.specs.Joined.{IsCodeOf, IsJoined, code_with, names_in, routines, procedure_entry, record_entry, global_entry}
 use Rattle.icn_simulation.specs.Mentions.{firsts}
 use Rattle.icn_simulation.proofs.Checked.{Each, IsSoundProcedure, sound_files}
-use Rattle.icn_translate.specs.Drafts.{name_place}
+use Rattle.icn_translate.specs.Drafts.{name_index}
 use Rattle.icn_translate.specs.FileUnits.{codes_in, proc_codes, item_text, lines_in, unit_decls, translated_unit}
 use Rattle.icn_translate.specs.ProcCodes.{texts_of, draft_of, proc_code}
 use Rattle.icn_units.specs.Written.{is_short, file_fits, declaration_fits, procedure_fits, collects_fits, operand_fits}
@@ -52,10 +52,10 @@ use Rattle.link_laws.proofs.SetBits.{set_members}
 
 -- Where names stand
 
-place_same : (name : List ℕ) (names : List (List ℕ)) → Linked.place_of names name ≡ place_of name names
+place_same : (name : List ℕ) (names : List (List ℕ)) → Linked.index_of names name ≡ index_of name names
 place_same name [] = refl
 place_same name (other ∷ names) = ap (λ o. if bytes_eq name other then Some zero else o)
-    (moved (Linked.place_of names name) ∙ ap later (place_same name names))
+    (moved (Linked.index_of names name) ∙ ap later (place_same name names))
   where
     moved : (o : Option ℕ) → option_map suc o ≡ later o
     moved None = refl
@@ -82,12 +82,12 @@ module _ (file : List Declaration) (fit : Fit (procedures_of file)) where
   agrees : (procedure : Procedure) → IsFit procedure → (first : ℕ)
       → AgreeOn (scope_of M (proc_code procedure)) (names_in file (routine_of (globals_of file) first procedure)) (draft_of procedure).names
   agrees procedure h first = record {
-    integer = λ n. ap (λ t. integer_place t n) (table_integers file fit);
-    string = λ bytes. ap (λ t. text_place t bytes) (table_strings file fit);
-    set = λ members. ap (λ t. text_place t members) (table_sets file fit);
-    field = λ name. ap (λ t. text_place t name) (table_fields file fit);
+    integer = λ n. ap (λ t. integer_index t n) (table_integers file fit);
+    string = λ bytes. ap (λ t. text_index t bytes) (table_strings file fit);
+    set = λ members. ap (λ t. text_index t members) (table_sets file fit);
+    field = λ name. ap (λ t. text_index t name) (table_fields file fit);
     variable = λ name among.
-        let place = name_place (draft_of procedure).names name in
+        let place = name_index (draft_of procedure).names name in
         ap (λ g. Linked.variable_at (Linked.variables g 0 0 (proc_code procedure).names) place) (table_globals file fit)
         ∙ variable_same (globals_of file) procedure h name among;
     keyword = λ name. refl;
@@ -107,7 +107,7 @@ module _ (file : List Declaration) (fit : Fit (procedures_of file)) where
       let instrs = code_is (scope_of M (proc_code procedure)) (names_in file (routine_of (globals_of file) first procedure)) h.met procedure h.faultless
       (agrees procedure h first) (λ label. refl) in
       λ i. record {
-        name = text_place (table_strings file fit i) procedure.name.text;
+        name = text_index (table_strings file fit i) procedure.name.text;
         parameters = parameters i;
         collects = procedure.is_variadic;
         locals = locals i - parameters i;
@@ -139,8 +139,8 @@ module _ (file : List Declaration) (fit : Fit (procedures_of file)) where
   record_same : (name : Name) (fields : List Name)
       → Linked.record_entry M name.text (texts_of fields) ≡ record_entry file (record { name = name.text; fields = texts fields })
   record_same name fields = λ i. record {
-    name = text_place (table_strings file fit i) name.text;
-    fields = map (text_place (table_fields file fit i)) (texts_same fields i);
+    name = text_index (table_strings file fit i) name.text;
+    fields = map (text_index (table_fields file fit i)) (texts_same fields i);
   }
 
   records_of : (declarations : List Declaration) → flat_map (records_in M) (unit_decls declarations) ≡ map (record_entry file) (kinds_of declarations)
@@ -162,19 +162,19 @@ module _ (file : List Declaration) (fit : Fit (procedures_of file)) where
   global_same : (name : List ℕ)
       → Linked.global_entry M (proc_names (proc_codes file)) (record_names (unit_decls file)) name ≡ global_entry file name
   global_same name =
-      let procs : Linked.place_of (proc_names (proc_codes file)) name ≡ place_of name (routine_names (routines file)) =
-      place_same name (proc_names (proc_codes file)) ∙ ap (place_of name) (procedures_same file) in
-      let records : Linked.place_of (record_names (unit_decls file)) name ≡ place_of name (kind_names (kinds_of file)) =
-      place_same name (record_names (unit_decls file)) ∙ ap (place_of name) (records_same file) in
+      let procs : Linked.index_of (proc_names (proc_codes file)) name ≡ index_of name (routine_names (routines file)) =
+      place_same name (proc_names (proc_codes file)) ∙ ap (index_of name) (procedures_same file) in
+      let records : Linked.index_of (record_names (unit_decls file)) name ≡ index_of name (kind_names (kinds_of file)) =
+      place_same name (record_names (unit_decls file)) ∙ ap (index_of name) (records_same file) in
       let known : list_any (bytes_eq name) (declared_names (unit_decls file)) ≡ has_name name (global_names file) =
       texts_any (flat_map global_in (unit_decls file)) name ∙ ap (list_any (bytes_eq name)) (globals_same file)
       ∙ sym (has_any name (global_names file)) in
-      let start : Linked.start_by (Linked.place_of (proc_names (proc_codes file)) name) (Linked.place_of (record_names (unit_decls file)) name)
+      let start : Linked.start_by (Linked.index_of (proc_names (proc_codes file)) name) (Linked.index_of (record_names (unit_decls file)) name)
       (list_any (bytes_eq name) (declared_names (unit_decls file))) (Mentions.function_named name) ≡ Law.start file name =
       (λ i. Linked.start_by (procs i) (records i) (known i) (function_same name i))
-      ∙ start_same (place_of name (routine_names (routines file))) (place_of name (kind_names (kinds_of file))) (has_name name (global_names file))
+      ∙ start_same (index_of name (routine_names (routines file))) (index_of name (kind_names (kinds_of file))) (has_name name (global_names file))
       (function_named name) in
-      λ i. record { name = text_place (table_strings file fit i) name; start = start i }
+      λ i. record { name = text_index (table_strings file fit i) name; start = start i }
 
   all_globals_same : map (Linked.global_entry M (proc_names (proc_codes file)) (record_names (unit_decls file))) M.globals
       ≡ map (global_entry file) (globals_of file)
@@ -189,7 +189,7 @@ module _ (file : List Declaration) (fit : Fit (procedures_of file)) where
     strings = table_strings file fit i;
     csets = map cset_of M.sets;
     integers = table_integers file fit i;
-    fields = map (text_place (table_strings file fit i)) (table_fields file fit i);
+    fields = map (text_index (table_strings file fit i)) (table_fields file fit i);
     records = records_of file i;
     globals = all_globals_same i;
     procs = procs_same i;

@@ -31,7 +31,7 @@ use Rattle.icn_translate.specs.declared.forms.PrefixForm.TheVariants.{Activation
 use Rattle.icn_translate.specs.Drafts.{Draft, ◌▹◌, put, next_label, with_label, with_number, with_name, with_names, put_variable, no_ways, in_loop, outside_loop, innermost, aside, put_next, put_last, case_end, in_case, outside_case, put_end}
 use Rattle.icn_translate.specs.Instructions.{literal_instr, known_keyword, keyword_by, keyword_instr, section_op, infix_form, prefix_form}
 use Rattle.icn_translate.specs.Open.{Open, Outermost, Marked, Looped, Each, unmarks_for_break, unmarks_for_next, around}
-use Rattle.icn_translate.specs.Translation.{is_empty, is_nothing, is_no_element, elements, bounded_code, create_code, if_mark, unless_empty, either_step, control_part, in_control, in_body, back, loop_end, prefix_by, plain_form, update, augmented_form, case_of, looped_body, translate, operands, arguments, conjunction, conjuncts, compound, creations, other_creations, subscripts, to_step, otherwise, looped_part, suspended_part, guarded, default_part, initially, body}
+use Rattle.icn_translate.specs.Translation.{is_empty, is_nothing, is_no_element, elements, bounded_code, create_code, if_mark, unless_empty, either_step, control_part, in_control, in_body, back, loop_end, prefix_by, plain_form, update, augmented_form, case_of, looped_body, translate, operands, arguments, conjunction, conjuncts, compound, creations, other_creations, subscripts, to_step, otherwise, looped_part, suspended_part, guarded_part, default_part, initially, body}
 use Rattle.link_laws.proofs.FirstsOnce.{names_more}
 
 -- what an instruction of a unit takes from a table, as the first law has it
@@ -550,7 +550,7 @@ mutual
   suspended_part_adds o (Present b) f = bounded_adds (tree_adds o b f)
 
   guarded_adds : (o : Open) (clauses : Clauses) → FormedClauses clauses
-      → AddsAlways (guarded_mentions clauses) (names_in_guarded clauses) (guarded o clauses)
+      → AddsAlways (guarded_mentions clauses) (names_in_guarded clauses) (guarded_part o clauses)
   guarded_adds o NoClauses f = nothing_adds
   guarded_adds o (MoreClauses (Default place e) clauses) f = guarded_adds o clauses f.1
   guarded_adds o (MoreClauses (Guarded place s b) clauses) f =

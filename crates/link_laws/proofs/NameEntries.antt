@@ -24,9 +24,9 @@ use Rattle.icn_unit.specs.PlainUnits.{entry_names, is_parameter, params_in}
 use Rattle.icn_unit.specs.UnitRules.{names_differ}
 use Rattle.icn_link.specs.declared.variable.Variable.{Variable}
 use Rattle.icn_link.specs.declared.variable.Variable.TheVariants.{Local, Static, Global}
-use Rattle.icn_link.specs.Gathering.{text_place}
+use Rattle.icn_link.specs.Gathering.{text_index}
 use Rattle.icn_link.specs.Joined.{is_among, variable_by as variable_of_kind, variable_of, variable_instr, locals_behind, statics_behind, variables, variable_at, is_local, is_static, locals_in, statics_in}
-use Rattle.icn_meaning.specs.Program.{place_of, later, texts, locals_among, statics_among, own_names, undeclared_names, without_names, names_in_initial, names_in_all}
+use Rattle.icn_meaning.specs.Program.{index_of, later, texts, locals_among, statics_among, own_names, undeclared_names, without_names, names_in_initial, names_in_all}
 use Rattle.icn_simulation.specs.Joined.{variable_by}
 use Rattle.icn_simulation.specs.Mentions.{firsts}
 use Rattle.icn_simulation.proofs.TreeForms.{FormedInitial, FormedAll}
@@ -78,34 +78,34 @@ shifted_later n (Some k) = ap (λ n. Some n) (omega arith)
 shifted_first : (n : ℕ) → shifted n (Some zero) ≡ Some n
 shifted_first n = ap (λ n. Some n) (omega arith)
 
-place_first : (name x : List ℕ) (xs : List (List ℕ)) → bytes_eq name x ≡ true → place_of name (x ∷ xs) ≡ Some zero
-place_first name x xs h = ap (λ b. if b then Some zero else later (place_of name xs)) h
+place_first : (name x : List ℕ) (xs : List (List ℕ)) → bytes_eq name x ≡ true → index_of name (x ∷ xs) ≡ Some zero
+place_first name x xs h = ap (λ b. if b then Some zero else later (index_of name xs)) h
 
-place_later : (name x : List ℕ) (xs : List (List ℕ)) → bytes_eq name x ≡ false → place_of name (x ∷ xs) ≡ later (place_of name xs)
-place_later name x xs h = ap (λ b. if b then Some zero else later (place_of name xs)) h
+place_later : (name x : List ℕ) (xs : List (List ℕ)) → bytes_eq name x ≡ false → index_of name (x ∷ xs) ≡ later (index_of name xs)
+place_later name x xs h = ap (λ b. if b then Some zero else later (index_of name xs)) h
 
 -- a name that none of the entries has
 not_placed : (name : List ℕ) (test : UnitName → Bool) (entries : List UnitName)
-    → list_any (bytes_eq name) (entry_names entries) ≡ false → place_of name (entry_names (filter test entries)) ≡ None
+    → list_any (bytes_eq name) (entry_names entries) ≡ false → index_of name (entry_names (filter test entries)) ≡ None
 not_placed name test [] h = refl
 not_placed name test (entry ∷ entries) h =
     let none = neither_of (bytes_eq name entry.name) (list_any (bytes_eq name) (entry_names entries)) h in
     kept (test entry) none.0 (not_placed name test entries none.1)
   where
-    kept : (b : Bool) → bytes_eq name entry.name ≡ false → place_of name (entry_names (filter test entries)) ≡ None
-        → place_of name (entry_names (cond b (entry ∷ filter test entries) (filter test entries))) ≡ None
+    kept : (b : Bool) → bytes_eq name entry.name ≡ false → index_of name (entry_names (filter test entries)) ≡ None
+        → index_of name (entry_names (cond b (entry ∷ filter test entries) (filter test entries))) ≡ None
     kept true e n = place_later name entry.name (entry_names (filter test entries)) e ∙ ap later n
     kept false e n = n
 
 -- a name that is among some has its place there
 placed_by : (name x : List ℕ) (xs : List (List ℕ)) (b : Bool) → bytes_eq name x ≡ b
-    → (list_any (bytes_eq name) xs ≡ true → place_of name xs ≡ Some (text_place xs name))
-    → list_any (bytes_eq name) (x ∷ xs) ≡ true → place_of name (x ∷ xs) ≡ Some (text_place (x ∷ xs) name)
+    → (list_any (bytes_eq name) xs ≡ true → index_of name xs ≡ Some (text_index xs name))
+    → list_any (bytes_eq name) (x ∷ xs) ≡ true → index_of name (x ∷ xs) ≡ Some (text_index (x ∷ xs) name)
 placed_by name x xs true e h a = place_first name x xs e ∙ rw e (ap (λ n. Some n) (omega arith))
 placed_by name x xs false e h a = place_later name x xs e
     ∙ ap later (h (ap (λ b. b || list_any (bytes_eq name) xs) (sym e) ∙ a)) ∙ rw e (ap (λ n. Some n) (omega arith))
 
-placed : (name : List ℕ) (xs : List (List ℕ)) → list_any (bytes_eq name) xs ≡ true → place_of name xs ≡ Some (text_place xs name)
+placed : (name : List ℕ) (xs : List (List ℕ)) → list_any (bytes_eq name) xs ≡ true → index_of name xs ≡ Some (text_index xs name)
 placed name [] h = absurd (cc)
 placed name (x ∷ xs) h = placed_by name x xs (bytes_eq name x) refl (placed name xs) h
 
@@ -135,27 +135,27 @@ global_placed globals Kinds.Undeclared name h = by (is_among globals name) refl 
 -- what a name is among locals and statics, where so many of both were before
 abbrev found_in : List (List ℕ) → List ℕ → ℕ → ℕ → List (List ℕ) → List (List ℕ) → Instr
 found_in globals name locals statics ls ss =
-    variable_by (shifted locals (place_of name ls)) (shifted statics (place_of name ss)) (place_of name globals)
+    variable_by (shifted locals (index_of name ls)) (shifted statics (index_of name ss)) (index_of name globals)
 
 -- the first entry has the name
 first_variable : (globals : List (List ℕ)) (name : List ℕ) (locals statics : ℕ) (text : List ℕ) (ls ss : List (List ℕ))
     (v : Variable) → bytes_eq name text ≡ true → (v ≡ Global → list_any (bytes_eq text) globals ≡ true)
-    → place_of name ls ≡ None → place_of name ss ≡ None
-    → variable_instr v locals statics (text_place globals text)
+    → index_of name ls ≡ None → index_of name ss ≡ None
+    → variable_instr v locals statics (text_index globals text)
     ≡ found_in globals name locals statics (with_head (is_local v) text ls) (with_head (is_static v) text ss)
 first_variable globals name locals statics text ls ss Local e g l s =
-    sym (ap (λ o. variable_by o (shifted statics (place_of name ss)) (place_of name globals))
+    sym (ap (λ o. variable_by o (shifted statics (index_of name ss)) (index_of name globals))
     (ap (shifted locals) (place_first name text ls e) ∙ shifted_first locals))
 first_variable globals name locals statics text ls ss Static e g l s =
-    sym (ap (λ o. variable_by (shifted locals o) (shifted statics (place_of name (text ∷ ss))) (place_of name globals)) l
-    ∙ ap (λ o. variable_by None o (place_of name globals))
+    sym (ap (λ o. variable_by (shifted locals o) (shifted statics (index_of name (text ∷ ss))) (index_of name globals)) l
+    ∙ ap (λ o. variable_by None o (index_of name globals))
     (ap (shifted statics) (place_first name text ss e) ∙ shifted_first statics))
 first_variable globals name locals statics text ls ss Global e g l s =
     let same : text ≡ name = sym ((bytes_eq-Decides name text).0 e) in
     let there : list_any (bytes_eq name) globals ≡ true = ap (λ t. list_any (bytes_eq t) globals) (sym same) ∙ g refl in
-    ap (λ t. Instrs.Global (text_place globals t)) same
-    ∙ sym (ap (λ o. variable_by (shifted locals o) (shifted statics (place_of name ss)) (place_of name globals)) l
-    ∙ ap (λ o. variable_by None (shifted statics o) (place_of name globals)) s
+    ap (λ t. Instrs.Global (text_index globals t)) same
+    ∙ sym (ap (λ o. variable_by (shifted locals o) (shifted statics (index_of name ss)) (index_of name globals)) l
+    ∙ ap (λ o. variable_by None (shifted statics o) (index_of name globals)) s
     ∙ ap (λ o. variable_by None None o) (placed name globals there))
 
 -- a later entry has it
@@ -164,11 +164,11 @@ later_variable : (globals : List (List ℕ)) (name : List ℕ) (locals statics :
     → found_in globals name (locals_behind v locals) (statics_behind v statics) ls ss
     ≡ found_in globals name locals statics (with_head (is_local v) text ls) (with_head (is_static v) text ss)
 later_variable globals name locals statics text ls ss Local e =
-    sym (ap (λ o. variable_by o (shifted statics (place_of name ss)) (place_of name globals))
-    (ap (shifted locals) (place_later name text ls e) ∙ shifted_later locals (place_of name ls)))
+    sym (ap (λ o. variable_by o (shifted statics (index_of name ss)) (index_of name globals))
+    (ap (shifted locals) (place_later name text ls e) ∙ shifted_later locals (index_of name ls)))
 later_variable globals name locals statics text ls ss Static e =
-    sym (ap (λ o. variable_by (shifted locals (place_of name ls)) o (place_of name globals))
-    (ap (shifted statics) (place_later name text ss e) ∙ shifted_later statics (place_of name ss)))
+    sym (ap (λ o. variable_by (shifted locals (index_of name ls)) o (index_of name globals))
+    (ap (shifted statics) (place_later name text ss e) ∙ shifted_later statics (index_of name ss)))
 later_variable globals name locals statics text ls ss Global e = refl
 
 both_headed : (globals : List (List ℕ)) (name : List ℕ) (locals statics : ℕ) (entry : UnitName) (entries : List UnitName)
@@ -475,15 +475,15 @@ statics_same globals procedure =
 pub variable_same : (globals : List (List ℕ)) (procedure : Procedure) (h : IsFit procedure) (name : List ℕ)
     → list_any (bytes_eq name) (draft_of procedure).names ≡ true
     → variable_at (variables globals 0 0 (proc_code procedure).names) (position_or_len (bytes_eq name) (draft_of procedure).names)
-    ≡ variable_by (place_of name (own_names procedure ++ without_names globals (undeclared_names procedure)))
-    (place_of name (statics_among procedure.locals)) (place_of name globals)
+    ≡ variable_by (index_of name (own_names procedure ++ without_names globals (undeclared_names procedure)))
+    (index_of name (statics_among procedure.locals)) (index_of name globals)
 variable_same globals procedure h name among =
     let entries = (proc_code procedure).names in
     let same : entry_names entries ≡ (draft_of procedure).names = code_names h.met procedure h.faultless in
     let there : list_any (bytes_eq name) (entry_names entries) ≡ true = ap (list_any (bytes_eq name)) same ∙ among in
     ap (λ l. variable_at (variables globals 0 0 entries) (position_or_len (bytes_eq name) l)) (sym same)
     ∙ stands globals name entries 0 0 (there, code_names_differ h.met procedure h.faultless)
-    ∙ ap (λ o. variable_by o (shifted 0 (place_of name (static_names globals entries))) (place_of name globals))
-    (unshifted (place_of name (local_names globals entries)) ∙ ap (place_of name) (locals_same globals procedure h))
-    ∙ ap (λ o. variable_by (place_of name (own_names procedure ++ without_names globals (undeclared_names procedure))) o (place_of name globals))
-    (unshifted (place_of name (static_names globals entries)) ∙ ap (place_of name) (statics_same globals procedure))
+    ∙ ap (λ o. variable_by o (shifted 0 (index_of name (static_names globals entries))) (index_of name globals))
+    (unshifted (index_of name (local_names globals entries)) ∙ ap (index_of name) (locals_same globals procedure h))
+    ∙ ap (λ o. variable_by (index_of name (own_names procedure ++ without_names globals (undeclared_names procedure))) o (index_of name globals))
+    (unshifted (index_of name (static_names globals entries)) ∙ ap (index_of name) (statics_same globals procedure))

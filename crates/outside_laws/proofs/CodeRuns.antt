@@ -226,7 +226,7 @@ module _ {H M : Type 0} (C : Calls H M) (P : Program) (b : Lasting) where
   field_taken None n m st k = errs 207 (Some (ARecord n)) st k
 
   field_of : (field : ℕ) (v : Value) (m : M) (st : Store H) → K st → G (S.field_of C P field v m st)
-  field_of field (ARecord n) m st k = field_taken (S.field_place P field (record_at st.world.heap n).kind) n m st k
+  field_of field (ARecord n) m st k = field_taken (S.field_index P field (record_at st.world.heap n).kind) n m st k
   field_of field v m st k = errs 107 (Some v) st k
 
   result : (x : Item) (m : M) (st : Store H) (go : Item → State H M) → K st → ((x : Item) → G (go x)) → G (S.with_result C x m st go)

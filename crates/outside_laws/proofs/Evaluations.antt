@@ -22,7 +22,7 @@ use Rattle.icn_defs.specs.Keywords.{keyword_item}
 use Rattle.icn_defs.specs.Errors.{error_report}
 use Rattle.icn_defs.specs.Running.{Errored, AtBound, bound_report, Launch, Observation, words_row, number_of, after_steps}
 use Rattle.icn_defs.specs.StepRows.{Operation, Function, apply, value_row, list_row, text_row, record_row, coexpression_row}
-use Rattle.icn_meaning.specs.Program.{Program, Routine, Kind, Callee, IsRoutine, IsKind, IsFunction, IsNothing, callee_of, place_of, routine_names}
+use Rattle.icn_meaning.specs.Program.{Program, Routine, Kind, Callee, IsRoutine, IsKind, IsFunction, IsNothing, callee_of, index_of, routine_names}
 use Rattle.icn_meaning.specs.Contexts.{Form, Operating, Calling, Spreading, Collecting, Taking, Activating, frame_of, activation_of, Works, Nothing, ◌and_then◌, Choices, NoChoice, ◌or_else◌, Work, Args, Then, Cut, Raise, Limit, Count, Scan, Leave, Update, Each, Select, Returning, Suspending, Result, Do, Again, Resume, Restore, Reenter, Back, Exhaust, Action, Go, Give, Pass, Body, Try, Rest, Off, Surroundings, InCall, InScan, InLoop, Status, Fresh, Active, Waiting, AfterResult, Exhausted, Coexpression, Store, State, eval, succeed, fail, hop, over, lost, Ending}
 use Rattle.icn_meaning.specs.Contexts as C
 use Rattle.icn_meaning.specs.Turns as U
@@ -473,7 +473,7 @@ module _ (b : Lasting) where
     main_at None lines st k = errs 117 None NoChoice st k
 
     start : (launch : Launch) → b.is launch.outside → G (M.start p launch)
-    start launch k = main_at (place_of (codes "main") (routine_names p.routines)) launch.words (M.first_store p launch) k
+    start launch k = main_at (index_of (codes "main") (routine_names p.routines)) launch.words (M.first_store p launch) k
 
     abbrev record_of : Ending → Store → Observation
     record_of ending st = record { ending = ending; outside = st.outside }

@@ -4,7 +4,7 @@ use Rattle.std.specs.Prelude.{slice_get, slice_set, slice_range, unwrap_or, is_s
 use Rattle.std.proofs.lemmas.Option.{none-some, same_Some}
 use Rattle.std.proofs.lemmas.List.Folds.{drop_split}
 use Rattle.std.proofs.Math.Seq.{take-append_seam, drop-append_seam}
-use Rattle.icn_structs.specs.PairLists.{value_of, stored}
+use Rattle.icn_structs.specs.PairLists.{value_of, with_value_of}
 use Rattle.icn_structs.specs.Numbered.{NumberedList, item_at, items_with, item_numbered, with_numbered}
 use Rattle.icn_value.specs.Values.{Value, Root, Global, Static, Local, Element, Field, Key, Keyword, Whole}
 use Rattle.icn_value.specs.Store.{Setting, Table, Record, value_at, list_at, record_at, with_list, having_globals, having_statics, having_heap, new_list}
@@ -58,16 +58,16 @@ part_back text new place size some within =
 
 -- Keys of tables
 
-stored_read : (pairs : List (Value × Value)) (key value : Value) → value_of same (stored same pairs key value) key ≡ Some value
+stored_read : (pairs : List (Value × Value)) (key value : Value) → value_of same (with_value_of same pairs key value) key ≡ Some value
 stored_read [] key value = ap (λ t. cond t (Some value) None) (same_self key)
 stored_read (pair ∷ pairs) key value = by (same key pair.0) refl (stored_read pairs key value)
   where
-    by : (t : Bool) → same key pair.0 ≡ t → value_of same (stored same pairs key value) key ≡ Some value
-        → value_of same (stored same (pair ∷ pairs) key value) key ≡ Some value
+    by : (t : Bool) → same key pair.0 ≡ t → value_of same (with_value_of same pairs key value) key ≡ Some value
+        → value_of same (with_value_of same (pair ∷ pairs) key value) key ≡ Some value
     by true e later = rw e (ap (λ t. cond t (Some value) (value_of same pairs key)) e)
-    by false e later = rw e (ap (λ t. cond t (Some pair.1) (value_of same (stored same pairs key value) key)) e ∙ later)
+    by false e later = rw e (ap (λ t. cond t (Some pair.1) (value_of same (with_value_of same pairs key value) key)) e ∙ later)
 
-pub key_back : (table : Table) (key value : Value) → table_value (record table { pairs = stored same table.pairs key value }) key ≡ value
+pub key_back : (table : Table) (key value : Value) → table_value (record table { pairs = with_value_of same table.pairs key value }) key ≡ value
 key_back table key value = ap (λ found. unwrap_or found table.default) (stored_read table.pairs key value)
 
 -- Whole variables

@@ -3,7 +3,7 @@ use Rattle.std.specs.Prelude.{◌+◌, ◌-◌, ℕ, Bool, true, false, List, sl
 use Rattle.icn_value.specs.Values.{Value, Root, Global, Static, Local, Element, Field, Key, Keyword, Whole}
 use Rattle.icn_value.specs.Sameness.{same}
 use Rattle.icn_value.specs.Store.{Table}
-use Rattle.icn_structs.specs.PairLists.{stored}
+use Rattle.icn_structs.specs.PairLists.{with_value_of}
 use Rattle.icn_defs.specs.Rows.{Row}
 use Rattle.icn_defs.specs.Reading.{assigns, undoes}
 
@@ -23,7 +23,7 @@ assigned_and_undone root value old next = assigns (Whole root) value (λ now. un
 
 -- a table with a value at a key
 abbrev pub with_value : Table → Value → Value → Table
-with_value table key value = record table { pairs = stored same table.pairs key value }
+with_value table key value = record table { pairs = with_value_of same table.pairs key value }
 
 -- the bytes of a part, by the place of the first, from 1 on, and by its length
 abbrev pub part_at : List ℕ → ℕ → ℕ → List ℕ

@@ -13,14 +13,14 @@ use std::alloc::{AllocError, Global};
 use std::process::Abort;
 
 /// Whether an instruction names what is there: one of three strings or two globals, the one integer or field, no cset, local or
-/// static, and a label that is a place of its procedure.
+/// static, and a label that is a address of its procedure.
 fn is_known(count: usize, instr: Instr) -> bool
     ensures { result ≡ is_known count instr }
 {
     match instr {
-        Instr::Str(place) => place < 3,
-        Instr::Global(place) => place < 2,
-        Instr::Int(place) | Instr::Field(place) => place < 1,
+        Instr::Str(index) => index < 3,
+        Instr::Global(index) => index < 2,
+        Instr::Int(index) | Instr::Field(index) => index < 1,
         Instr::Cset(_) | Instr::Local(_) | Instr::Static(_) => false,
         Instr::Llist(operands) | Instr::Invoke(operands) => operands <= 65535,
         Instr::Mark(label)
@@ -112,10 +112,10 @@ pub fn code_of(alloc: Global, procs: Vec<Procedure>) -> Result<Code, AllocError>
     })
 }
 
-/// What the check must say of code: the rule, the procedure and the place, or nothing where it takes the code.
+/// What the check must say of code: the rule, the procedure and the address, or nothing where it takes the code.
 pub type Expected = Option<(Rule, u32, u32)>;
 
-/// Checks that the code of these procedures is taken, or refused with this rule at this place.
+/// Checks that the code of these procedures is taken, or refused with this rule at this address.
 pub fn check_procs(
     rt: &impl Abort,
     alloc: Global,
@@ -134,11 +134,11 @@ pub fn check_procs(
             assert_eq!(rt; verified.code().procs.len(), count);
         }
         Err(fault) => {
-            let Some((rule, proc, place)) = expected else {
+            let Some((rule, proc, address)) = expected else {
                 assert!(rt; false, "{bodies:?} {fault:?}");
                 return Ok(());
             };
-            assert_eq!(rt; fault, VerifyFault::V { rule, proc, place }, "{bodies:?}");
+            assert_eq!(rt; fault, VerifyFault::V { rule, proc, address }, "{bodies:?}");
         }
     }
     Ok(())
@@ -152,7 +152,7 @@ pub fn check_proc(
     fault: Option<(Rule, u32)>,
 ) -> Result<(), AllocError> {
     let expected = match fault {
-        Some((rule, place)) => Some((rule, 0, place)),
+        Some((rule, address)) => Some((rule, 0, address)),
         None => None,
     };
     check_procs(rt, alloc, &[body], expected)

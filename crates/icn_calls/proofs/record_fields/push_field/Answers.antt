@@ -31,17 +31,17 @@ returns-in_default g c =
       halt = c.in_ok-val.ensures.live;
     }
 
-pub returns-in_default-field_place-clause-step : goal.returns-in_default-field_place-clause-step
-returns-in_default-field_place-clause-step g c st same =
+pub returns-in_default-field_index-clause-step : goal.returns-in_default-field_index-clause-step
+returns-in_default-field_index-clause-step g c st same =
     no_such_field c.args.world.now (tables_of c.args.code.now) c.args.field c.args.item c.args.frames.now.flat c.in_ok-val.val c.in-Rec.rec c.kind.result
-    c.field_place.result st same (c.in_ok-val.ensures.value st same) c.in-Rec.is
-    c.kind.ensures c.field_place.ensures.place c.in_default-field_place.is
+    c.field_index.result st same (c.in_ok-val.ensures.value st same) c.in-Rec.is
+    c.kind.ensures c.field_index.ensures.place c.in_default-field_index.is
 
 pub returns-in-Ok-clause-step : goal.returns-in-Ok-clause-step
 returns-in-Ok-clause-step g c st same =
     field_runs c.args.world.now (tables_of c.args.code.now) c.args.field c.args.item c.args.frames.now.flat c.value_of.new.frames.flat c.push.new.self.flat
-    c.in_ok-val.val c.in-Rec.rec c.kind.result c.in-Some.place c.field_place.result st same
-    (c.in_ok-val.ensures.value st same) c.in-Rec.is c.kind.ensures c.field_place.ensures.place c.in-Some.is c.value_of.ensures.same c.in-Ok.ensures.ok
+    c.in_ok-val.val c.in-Rec.rec c.kind.result c.in-Some.place c.field_index.result st same
+    (c.in_ok-val.ensures.value st same) c.in-Rec.is c.kind.ensures c.field_index.ensures.place c.in-Some.is c.value_of.ensures.same c.in-Ok.ensures.ok
 
 pub returns-in-Ok-clause-live : goal.returns-in-Ok-clause-live
 returns-in-Ok-clause-live g c t k =

@@ -14,6 +14,6 @@ pub returns : goal.returns
 returns g c =
     adds_here c.args.stacks.now.table c.create.new.self.table _ c.frames-frames.result.now.flat c.frames-frames.result.now.flat
     c.frames-frames-2.result.now.flat c.push.new.self.flat c.deref.result.now
-    c.proc-proc.result c.place-place.result c.in_ok-id.id c.args.label c.frames-frames.ensures.running refl
-    (c.deref.ensures.value ∙ c.in_ok-locals.ensures) c.proc-proc.ensures c.place-place.ensures c.in_ok-id.ensures.made c.in_ok-id.ensures.number
+    c.proc-proc.result c.address-address.result c.in_ok-id.id c.args.label c.frames-frames.ensures.running refl
+    (c.deref.ensures.value ∙ c.in_ok-locals.ensures) c.proc-proc.ensures c.address-address.ensures c.in_ok-id.ensures.made c.in_ok-id.ensures.number
     c.frames-frames-2.ensures.running (c.in_ok-push.ensures.ok ∙ ap (held.push (HeldVal (HeldCoexp c.in_ok-id.id))) c.go.ensures.flat) refl

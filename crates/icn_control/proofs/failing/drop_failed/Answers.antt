@@ -21,25 +21,25 @@ returns-in-None-clause-live g c t reach k = (live_unmark t reach c.args.frames.n
 pub returns-then-again-clause-step : goal.returns-then-again-clause-step
 returns-then-again-clause-step g c =
     drops_beginning c.args.frames.now.flat c.unmark.new.self.flat c.go.new.self.flat c.unmark.result c.label-label.result c.relabelled-again.result
-    c.in-Some.place c.unmark.ensures.flat c.label-label.ensures c.relabelled-again.ensures
+    c.in-Some.address c.unmark.ensures.flat c.label-label.ensures c.relabelled-again.ensures
     c.in-Some.is c.if-again.true c.go.ensures.flat
 
 pub returns-then-again-clause-live : goal.returns-then-again-clause-live
 returns-then-again-clause-live g c t reach k =
     subst (λ (x : FlatStack). IsLiveStack t reach x) (sym c.go.ensures.flat)
-    (live_go t reach c.unmark.new.self.flat c.in-Some.place
+    (live_go t reach c.unmark.new.self.flat c.in-Some.address
     (live_unmark t reach c.args.frames.now.flat c.unmark.new.self.flat c.unmark.result c.unmark.ensures.flat k).rest)
 
 pub returns-else-again-clause-step : goal.returns-else-again-clause-step
 returns-else-again-clause-step g c =
     drops_running c.args.frames.now.flat c.unmark.new.self.flat c.go.new.self.flat c.unmark.result c.label-label.result c.relabelled-again.result
-    c.in-Some.place c.unmark.ensures.flat c.label-label.ensures c.relabelled-again.ensures
+    c.in-Some.address c.unmark.ensures.flat c.label-label.ensures c.relabelled-again.ensures
     c.in-Some.is c.if-again.false c.go.ensures.flat
 
 pub returns-else-again-clause-live : goal.returns-else-again-clause-live
 returns-else-again-clause-live g c t reach k =
     subst (λ (x : FlatStack). IsLiveStack t reach x) (sym c.go.ensures.flat)
-    (live_go t reach c.unmark.new.self.flat c.in-Some.place
+    (live_go t reach c.unmark.new.self.flat c.in-Some.address
     (live_unmark t reach c.args.frames.now.flat c.unmark.new.self.flat c.unmark.result c.unmark.ensures.flat k).rest)
 
 pub returns-in-None-clause-less : goal.returns-in-None-clause-less
@@ -53,8 +53,8 @@ returns-in-None-clause-named g c all = unmark_falls all c.args.frames.now.flat c
 
 pub returns-then-again-clause-named : goal.returns-then-again-clause-named
 returns-then-again-clause-named g c all =
-    repeats_falls all c.args.frames.now.flat c.unmark.new.self.flat c.go.new.self.flat c.unmark.result c.in-Some.place c.unmark.ensures.flat c.go.ensures.flat
+    repeats_falls all c.args.frames.now.flat c.unmark.new.self.flat c.go.new.self.flat c.unmark.result c.in-Some.address c.unmark.ensures.flat c.go.ensures.flat
 
 pub returns-else-again-clause-named : goal.returns-else-again-clause-named
 returns-else-again-clause-named g c all =
-    goes_falls all c.args.frames.now.flat c.unmark.new.self.flat c.go.new.self.flat c.unmark.result c.in-Some.place c.unmark.ensures.flat c.go.ensures.flat
+    goes_falls all c.args.frames.now.flat c.unmark.new.self.flat c.go.new.self.flat c.unmark.result c.in-Some.address c.unmark.ensures.flat c.go.ensures.flat

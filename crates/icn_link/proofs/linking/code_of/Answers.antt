@@ -1,7 +1,7 @@
 use Rattle.std.proofs.Common.{List, map, ap, ◌∙◌}
 use Rattle.icn_code.specs.Codes.{Tables, procs_of, records_of}
 use Rattle.icn_unit.specs.PlainUnits.{Decl, Proc}
-use Rattle.icn_link.specs.Gathering.{text_place}
+use Rattle.icn_link.specs.Gathering.{text_index}
 use Rattle.icn_link.specs.Joined.{cset_of}
 use Rattle.icn_link.specs.Mentions.{AllMentions}
 use Rattle.icn_link.specs.Views.{AreFew, decls_seen, gathered_seen, procs_seen, texts_seen}
@@ -61,7 +61,7 @@ invariant_of-result c =
       strings = c.in_ok-strings.ensures ∙ ap texts_seen c.as_slice.ensures.keys;
       csets = c.in_ok-csets.ensures ∙ ap (λ sets. map cset_of (texts_seen sets)) c.as_slice-2.ensures.keys;
       integers = c.in_ok-integers.ensures.items ∙ c.as_slice-3.ensures.keys;
-      fields = c.in_ok-fields.ensures ∙ ap (λ names. map (text_place M.strings) (texts_seen names)) c.as_slice-4.ensures.keys;
+      fields = c.in_ok-fields.ensures ∙ ap (λ names. map (text_index M.strings) (texts_seen names)) c.as_slice-4.ensures.keys;
       records = c.in_ok-records.ensures;
       globals = c.in_ok-globals.ensures;
       entries = c.in_ok-procs.ensures;
@@ -86,7 +86,7 @@ returns c =
       strings = c.in_ok-strings.ensures ∙ ap texts_seen c.as_slice.ensures.keys;
       csets = c.in_ok-csets.ensures ∙ ap (λ sets. map cset_of (texts_seen sets)) c.as_slice-2.ensures.keys;
       integers = c.in_ok-integers.ensures.items ∙ c.as_slice-3.ensures.keys;
-      fields = c.in_ok-fields.ensures ∙ ap (λ names. map (text_place M.strings) (texts_seen names)) c.as_slice-4.ensures.keys;
+      fields = c.in_ok-fields.ensures ∙ ap (λ names. map (text_index M.strings) (texts_seen names)) c.as_slice-4.ensures.keys;
       records = c.in_ok-records.ensures;
       globals = c.in_ok-globals.ensures;
       entries = c.in_ok-procs.ensures;

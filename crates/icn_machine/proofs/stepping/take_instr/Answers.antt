@@ -5,16 +5,16 @@ use Rattle.icn_run.specs.Step.{instrs_of}
 use Rattle.icn_machine.proofs.CodeRules.{few_instrs, index_as}
 use Rattle.icn_machine.proofs.stepping.take_instr.Goals as goal
 
-pub overflow_add-place : goal.overflow_add-place
-overflow_add-place g c =
+pub overflow_add-address : goal.overflow_add-address
+overflow_add-address g c =
     let few : length (instrs_of (tables_of c.args.code.now) (flat.proc c.args.frames.now.flat)) < 2 ^ 32
     = few_instrs (tables_of c.args.code.now) (flat.proc c.args.frames.now.flat) c.args.code.now.rules in
-    let here : c.place-place.result ≡ c.args.frames.now.flat.address = c.place-place.ensures in
+    let here : c.address-address.result ≡ c.args.frames.now.flat.address = c.address-address.ensures in
     let there = c.requires.there in
     omega (arith, few, here, there)
 
 pub returns-clause-instr : goal.returns-clause-instr
 returns-clause-instr g c =
-    index_as (instrs_of (tables_of c.args.code.now) (flat.proc c.args.frames.now.flat)) c.instrs_at-instrs.result.now c.place-place.result
+    index_as (instrs_of (tables_of c.args.code.now) (flat.proc c.args.frames.now.flat)) c.instrs_at-instrs.result.now c.address-address.result
     c.args.frames.now.flat.address _
-    (c.instrs_at-instrs.ensures ∙ ap (instrs_of (tables_of c.args.code.now)) c.proc.ensures) c.place-place.ensures c.requires.there
+    (c.instrs_at-instrs.ensures ∙ ap (instrs_of (tables_of c.args.code.now)) c.proc.ensures) c.address-address.ensures c.requires.there

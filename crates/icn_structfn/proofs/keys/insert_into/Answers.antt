@@ -5,7 +5,7 @@ use Rattle.icn_heap.specs.Extents.{value_in}
 use Rattle.icn_heap.specs.Heaps.{extent_of, heap_of}
 use Rattle.icn_vars.specs.Worlds.{setting_of}
 use Rattle.std.proofs.Common.{is_some}
-use Rattle.icn_structs.specs.PairLists.{stored}
+use Rattle.icn_structs.specs.PairLists.{with_value_of}
 use Rattle.icn_value.specs.Sameness.{has_value, same, with_member}
 use Rattle.icn_value.specs.Store.{with_set, with_table}
 use Rattle.icn_value.specs.Changes.{having_member, value_at_key, with_pair}
@@ -71,7 +71,7 @@ returns-in_err-store-in-Table-clause-step g c outside =
     c.args.w.now.sound c.requires.locals
     (unless_change (is_some (value_at_key (heap_of c.args.w.now.heap) c.in-Table.table (value_in (extent_of c.args.w.now.heap) c.args.key))))
     (with_table c.in-Table.table (record (table_at (heap_of c.args.w.now.heap) c.in-Table.table) {
-      pairs = stored same (table_at (heap_of c.args.w.now.heap) c.in-Table.table).pairs (value_in (extent_of c.args.w.now.heap) c.args.key)
+      pairs = with_value_of same (table_at (heap_of c.args.w.now.heap) c.in-Table.table).pairs (value_in (extent_of c.args.w.now.heap) c.args.key)
           (value_in (extent_of c.args.w.now.heap) c.args.val);
     })) (with_pair c.in-Table.table (value_in (extent_of c.args.w.now.heap) c.args.key) (value_in (extent_of c.args.w.now.heap) c.args.val))
     c.in_err-store-in-Table.field-0.0 c.from_residual-in_err-store-in-Table.result c.in_err-store-in-Table.ensures.unchanged
@@ -86,7 +86,7 @@ returns-in_ok-store-in-Table-clause-step g c outside next =
     c.args.w.now.sound c.requires.locals
     (unless_change (is_some (value_at_key (heap_of c.args.w.now.heap) c.in-Table.table (value_in (extent_of c.args.w.now.heap) c.args.key))))
     (with_table c.in-Table.table (record (table_at (heap_of c.args.w.now.heap) c.in-Table.table) {
-      pairs = stored same (table_at (heap_of c.args.w.now.heap) c.in-Table.table).pairs (value_in (extent_of c.args.w.now.heap) c.args.key)
+      pairs = with_value_of same (table_at (heap_of c.args.w.now.heap) c.in-Table.table).pairs (value_in (extent_of c.args.w.now.heap) c.args.key)
           (value_in (extent_of c.args.w.now.heap) c.args.val);
     })) (with_pair c.in-Table.table (value_in (extent_of c.args.w.now.heap) c.args.key) (value_in (extent_of c.args.w.now.heap) c.args.val))
     (pair_after c.in-Table.table (value_in (extent_of c.args.w.now.heap) c.args.key) (value_in (extent_of c.args.w.now.heap) c.args.val)

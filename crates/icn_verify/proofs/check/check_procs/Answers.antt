@@ -19,7 +19,7 @@ first_fault-requires-clause-labels c =
 
 pub overflow_cast-result-in-Some : goal.overflow_cast-result-in-Some
 overflow_cast-result-in-Some c =
-    let within : c.in-Some.place
+    let within : c.in-Some.address
     ≤ length c.deref.result.now = subst (λ found. IfSome found (λ f. f.1 ≤ length c.deref.result.now)) c.in-Some.is c.in_ok-found.ensures.within in
     let short : length c.deref.result.now < 2 ^ 32 =
     subst (λ instrs. length instrs < 2 ^ 32) (sym c.deref.ensures.value)
@@ -31,7 +31,7 @@ pub returns-in-Some-clause-refused : goal.returns-in-Some-clause-refused
 returns-in-Some-clause-refused c = record {
   proc = proc_of c.index-procs-number.result;
   stands = proc_at c.args.procs.now c.loop-number.number c.index-procs-number.result c.loop-number-test.true c.index-procs-number.is;
-  here = subst (λ instrs. IsFirstOf instrs c.in-Some.rule c.in-Some.place) c.deref.ensures.value
+  here = subst (λ instrs. IsFirstOf instrs c.in-Some.rule c.in-Some.address) c.deref.ensures.value
       (subst (λ found. MatchOption found (IsSound c.deref.result.now) (λ f. IsFirstOf c.deref.result.now f.0 f.1)) c.in-Some.is c.in_ok-found.ensures.first);
   earlier = c.loop-number.invariant;
 }

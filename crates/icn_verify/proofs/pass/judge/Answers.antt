@@ -7,31 +7,31 @@ use Rattle.icn_verify.proofs.Rising.{finds_room, low_sent}
 use Rattle.icn_verify.proofs.Tables.{judged_on, judged_all}
 use Rattle.icn_verify.proofs.pass.judge.Goals as goal
 
-pub loop-place-preserved : goal.loop-place-preserved
-loop-place-preserved c = record {
+pub loop-address-preserved : goal.loop-address-preserved
+loop-address-preserved c = record {
   kept = c.in_ok-send-in-None.ensures.kept;
-  few = omega (arith, c.in_ok-send-in-None.ensures.more, c.loop-place.invariant.few);
-  low = subst (IsLowTable (c.loop-place.place + 1)) (sym c.in_ok-send-in-None.ensures.table)
-      (low_sent c.loop-place.place (table_in c.loop-place.arena c.loop-place.slots) c.loop-place.invariant.low c.loop-place.place _ (sym c.in-None.ensures));
-  is = judged_on (table_in c.loop-place.arena c.loop-place.slots) (table_in c.send.new.arena c.send.new.slots) c.loop-place.place
-      (drop c.loop-place.place c.args.instrs.now) _ (drop (c.loop-place.place + 1) c.args.instrs.now) _ c.loop-place.invariant.is
-      (drop_more c.args.instrs.now c.loop-place.place _ c.loop-place-test.true) (sym c.in-None.ensures) c.in_ok-send-in-None.ensures.table;
+  few = omega (arith, c.in_ok-send-in-None.ensures.more, c.loop-address.invariant.few);
+  low = subst (IsLowTable (c.loop-address.address + 1)) (sym c.in_ok-send-in-None.ensures.table)
+      (low_sent c.loop-address.address (table_in c.loop-address.arena c.loop-address.slots) c.loop-address.invariant.low c.loop-address.address _ (sym c.in-None.ensures));
+  is = judged_on (table_in c.loop-address.arena c.loop-address.slots) (table_in c.send.new.arena c.send.new.slots) c.loop-address.address
+      (drop c.loop-address.address c.args.instrs.now) _ (drop (c.loop-address.address + 1) c.args.instrs.now) _ c.loop-address.invariant.is
+      (drop_more c.args.instrs.now c.loop-address.address _ c.loop-address-test.true) (sym c.in-None.ensures) c.in_ok-send-in-None.ensures.table;
 }
 
 pub returns-in-Some-rule_at_end : goal.returns-in-Some-rule_at_end
 returns-in-Some-rule_at_end c =
-    judged_all c.loop-place.arena c.loop-place.slots c.args.instrs.now c.loop-place.place c.slot_at.result
-    (Some c.in-Some-rule_at_end.rule) _ c.loop-place.invariant.is c.loop-place-test.false c.loop-place.auto.place-end c.slot_at.ensures
-    (c.in-Some-rule_at_end.ensures c.loop-place.arena)
+    judged_all c.loop-address.arena c.loop-address.slots c.args.instrs.now c.loop-address.address c.slot_at.result
+    (Some c.in-Some-rule_at_end.rule) _ c.loop-address.invariant.is c.loop-address-test.false c.loop-address.auto.address-end c.slot_at.ensures
+    (c.in-Some-rule_at_end.ensures c.loop-address.arena)
 
 pub returns-in-None-rule_at_end : goal.returns-in-None-rule_at_end
 returns-in-None-rule_at_end c =
-    judged_all c.loop-place.arena c.loop-place.slots c.args.instrs.now c.loop-place.place c.slot_at.result None
-    _ c.loop-place.invariant.is c.loop-place-test.false c.loop-place.auto.place-end c.slot_at.ensures
-    (c.in-None-rule_at_end.ensures c.loop-place.arena)
+    judged_all c.loop-address.arena c.loop-address.slots c.args.instrs.now c.loop-address.address c.slot_at.result None
+    _ c.loop-address.invariant.is c.loop-address-test.false c.loop-address.auto.address-end c.slot_at.ensures
+    (c.in-None-rule_at_end.ensures c.loop-address.arena)
 
 pub send-requires-clause-counts : goal.send-requires-clause-counts
 send-requires-clause-counts c =
-    finds_room c.loop-place.place (table_in c.loop-place.arena c.loop-place.slots) c.loop-place.invariant.low c.loop-place.place
-    (slice_index_or c.args.instrs.now c.loop-place.place Pnull)
-    (omega (arith, c.requires.room, c.loop-place-test.true)) (sym c.in-None.ensures)
+    finds_room c.loop-address.address (table_in c.loop-address.arena c.loop-address.slots) c.loop-address.invariant.low c.loop-address.address
+    (slice_index_or c.args.instrs.now c.loop-address.address Pnull)
+    (omega (arith, c.requires.room, c.loop-address-test.true)) (sym c.in-None.ensures)

@@ -4,10 +4,10 @@ use Rattle.icn_verify.specs.Stacks.{AreKept, table_in}
 use Rattle.icn_verify.specs.Counting.{IsLowTable}
 use Rattle.icn_verify.proofs.pass.judge.Given as goal
 
-abbrev pub invariant-loop-place : goal.invariant-loop-place
-invariant-loop-place l = record {
+abbrev pub invariant-loop-address : goal.invariant-loop-address
+invariant-loop-address l = record {
   kept : AreKept l.arena l.slots;
-  few : length l.arena ≤ l.place + 1;
-  low : IsLowTable l.place (table_in l.arena l.slots);
-  is : first_fault (table_in l.arena l.slots) l.place (drop l.place l.instrs) ≡ first_fault (table_in l.fn.arena l.fn.slots) 0 l.instrs;
+  few : length l.arena ≤ l.address + 1;
+  low : IsLowTable l.address (table_in l.arena l.slots);
+  is : first_fault (table_in l.arena l.slots) l.address (drop l.address l.instrs) ≡ first_fault (table_in l.fn.arena l.fn.slots) 0 l.instrs;
 }

@@ -9,5 +9,5 @@ arrive-requires-2-clause-held c =
 pub returns-clause-table : goal.returns-clause-table
 returns-clause-table c =
     sent_by c.args.arena.now c.after.new.arena c.in_ok-left.ensures.grows c.args.slots.now c.arrive.new.slots c.arrive-2.new.slots c.requires.kept c.args.flat
-    c.in_ok-left.left c.requires.held c.row_of-row.result c.args.instr c.row_of-row.ensures c.args.place
+    c.in_ok-left.left c.requires.held c.row_of-row.result c.args.instr c.row_of-row.ensures c.args.address
     c.in_ok-left.ensures.shape _ _ c.next_by.ensures.to (c.forward_by.ensures.to c.after.new.arena) c.arrive.ensures.table c.arrive-2.ensures.table

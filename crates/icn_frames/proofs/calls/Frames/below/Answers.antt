@@ -5,12 +5,12 @@ use Rattle.icn_frames.proofs.calls.Frames.below.Goals as goal
 
 pub overflow_sub-self-inside : goal.overflow_sub-self-inside
 overflow_sub-self-inside g c =
-    let m : FlatStack = record { cells = g.K.Stack.cells c.self.inside.cells; registers = c.self.inside.registers; address = c.self.inside.place } in
+    let m : FlatStack = record { cells = g.K.Stack.cells c.self.inside.cells; registers = c.self.inside.registers; address = c.self.inside.address } in
     below_high m (within _ _ c.self.invariant.stands.leads.mark.to) (rw (← c.self.view_is) at c.requires)
 
 pub unreachable-requires : goal.unreachable-requires
 unreachable-requires g c =
-    let m : FlatStack = record { cells = g.K.Stack.cells c.self.inside.cells; registers = c.self.inside.registers; address = c.self.inside.place } in
+    let m : FlatStack = record { cells = g.K.Stack.cells c.self.inside.cells; registers = c.self.inside.registers; address = c.self.inside.address } in
     let n = within _ _ c.self.invariant.stands.leads.mark.to in
     let r = rw (← c.self.view_is) at c.requires in
     let w = operand_is c.get.result (subst IsSome (below_get m _ (below_high m n r) n c.get.ensures) r) in
@@ -18,7 +18,7 @@ unreachable-requires g c =
 
 pub returns : goal.returns
 returns g c =
-    let m : FlatStack = record { cells = g.K.Stack.cells c.self.inside.cells; registers = c.self.inside.registers; address = c.self.inside.place } in
+    let m : FlatStack = record { cells = g.K.Stack.cells c.self.inside.cells; registers = c.self.inside.registers; address = c.self.inside.address } in
     let n = within _ _ c.self.invariant.stands.leads.mark.to in
     let r = rw (← c.self.view_is) at c.requires in
     rw (← c.self.view_is) (below_get m _ (below_high m n r) n c.in-Operand.ensures)

@@ -21,5 +21,5 @@ pub returns-clause-flat : goal.returns-clause-flat
 returns-clause-flat g c =
     let k = frame_kind _ _ c.self.invariant.stands.leads.base in
     rw (← c.self.view_is) (leave_is
-    (record { cells = g.K.Stack.cells c.self.inside.cells; registers = c.self.inside.registers; address = c.self.inside.place })
+    (record { cells = g.K.Stack.cells c.self.inside.cells; registers = c.self.inside.registers; address = c.self.inside.address })
     _ _ _ _ _ _ k.from (within _ _ k.to) c.in-Call.ensures c.cut.ensures.cells)

@@ -18,5 +18,5 @@ pub returns-in-Suspension-clause-flat : goal.returns-in-Suspension-clause-flat
 returns-in-Suspension-clause-flat g c =
     let k = newest_at _ _ _ c.self.invariant c.in-Some.is in
     rw (← c.self.view_is) (resume_is
-    (record { cells = g.K.Stack.cells c.self.inside.cells; registers = c.self.inside.registers; address = c.self.inside.place })
+    (record { cells = g.K.Stack.cells c.self.inside.cells; registers = c.self.inside.registers; address = c.self.inside.address })
     _ _ _ _ _ c.in-Some.is k.from (within _ _ k.to) c.in-Suspension.ensures c.cut.ensures.cells)

@@ -12,20 +12,20 @@ invariant_of-self g c =
     let s = g.K.Stack.cells c.self.inside.cells in
     let r = c.self.inside.registers in
     let n = rw (← c.self.view_is) at c.requires in
-    let k : c.args.place < count_of (cell_at r.base (map shape s)) = subst (λ (w : ℕ). c.args.place < w) (count_at s r.base) n in
-    sound_set_shape s _ r _ _ c.self.invariant (c.self.invariant.stands.leads.base.locals c.args.place k) c.set.ensures.cells
+    let k : c.args.index < count_of (cell_at r.base (map shape s)) = subst (λ (w : ℕ). c.args.index < w) (count_at s r.base) n in
+    sound_set_shape s _ r _ _ c.self.invariant (c.self.invariant.stands.leads.base.locals c.args.index k) c.set.ensures.cells
 
 pub returns-clause-flat : goal.returns-clause-flat
 returns-clause-flat g c =
-    let m : FlatStack = record { cells = g.K.Stack.cells c.self.inside.cells; registers = c.self.inside.registers; address = c.self.inside.place } in
-    rw (← c.self.view_is) (set_local_is m c.args.place c.args.v _ c.self.invariant (rw (← c.self.view_is) at c.requires) c.set.ensures.cells)
+    let m : FlatStack = record { cells = g.K.Stack.cells c.self.inside.cells; registers = c.self.inside.registers; address = c.self.inside.address } in
+    rw (← c.self.view_is) (set_local_is m c.args.index c.args.v _ c.self.invariant (rw (← c.self.view_is) at c.requires) c.set.ensures.cells)
 
 pub returns-clause-locals : goal.returns-clause-locals
 returns-clause-locals g c =
-    let m : FlatStack = record { cells = g.K.Stack.cells c.self.inside.cells; registers = c.self.inside.registers; address = c.self.inside.place } in
+    let m : FlatStack = record { cells = g.K.Stack.cells c.self.inside.cells; registers = c.self.inside.registers; address = c.self.inside.address } in
     let s = g.K.Stack.cells c.self.inside.cells in
     let r = c.self.inside.registers in
     let n = rw (← c.self.view_is) at c.requires in
-    let k : c.args.place < count_of (cell_at r.base (map shape s)) = subst (λ (w : ℕ). c.args.place < w) (count_at s r.base) n in
-    let after = sound_set_shape s _ r _ _ c.self.invariant (c.self.invariant.stands.leads.base.locals c.args.place k) c.set.ensures.cells in
-    rw (← c.self.view_is) (locals_set m c.args.place c.args.v _ c.self.invariant after n c.set.ensures.cells)
+    let k : c.args.index < count_of (cell_at r.base (map shape s)) = subst (λ (w : ℕ). c.args.index < w) (count_at s r.base) n in
+    let after = sound_set_shape s _ r _ _ c.self.invariant (c.self.invariant.stands.leads.base.locals c.args.index k) c.set.ensures.cells in
+    rw (← c.self.view_is) (locals_set m c.args.index c.args.v _ c.self.invariant after n c.set.ensures.cells)

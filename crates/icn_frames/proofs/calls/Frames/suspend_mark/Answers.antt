@@ -38,8 +38,8 @@ invariant_of-self-2 g c =
     let n : r.mark ≤ length s = within _ _ k.to in
     let o = c.saved_by-saved.result in
     let u : Sound (cut (r.mark - 1) s) o = sound_cut s _ r _ _ _ c.self.invariant k.from n c.get.ensures (ap outer_of c.saved_by-saved.ensures) refl in
-    sound_hung Alt s _ r o c.self.inside.place _ _ (r.mark - 1) c.args.given o.scan c.self.invariant u (omega arith)
-    c.bottom_of-from.ensures c.in_ok-height.ensures.height (scan_lower Alt s (r.mark - 1) c.self.inside.place r o u) c.in_ok-height.ensures.ok
+    sound_hung Alt s _ r o c.self.inside.address _ _ (r.mark - 1) c.args.given o.scan c.self.invariant u (omega arith)
+    c.bottom_of-from.ensures c.in_ok-height.ensures.height (scan_lower Alt s (r.mark - 1) c.self.inside.address r o u) c.in_ok-height.ensures.ok
 
 pub returns-clause-ok : goal.returns-clause-ok
 returns-clause-ok g c =
@@ -49,6 +49,6 @@ returns-clause-ok g c =
     let n : r.mark ≤ length s = within _ _ k.to in
     let o = c.saved_by-saved.result in
     let u : Sound (cut (r.mark - 1) s) o = sound_cut s _ r _ _ _ c.self.invariant k.from n c.get.ensures (ap outer_of c.saved_by-saved.ensures) refl in
-    let m : FlatStack = record { cells = g.K.Stack.cells c.self.inside.cells; registers = c.self.inside.registers; address = c.self.inside.place } in
+    let m : FlatStack = record { cells = g.K.Stack.cells c.self.inside.cells; registers = c.self.inside.registers; address = c.self.inside.address } in
     rw (← c.self.view_is) (suspend_mark_is m _ _ o _ _ c.args.given c.self.invariant c.get.ensures c.saved_by-saved.ensures u
     c.bottom_of-from.ensures c.in_ok-height.ensures.height c.in_ok-height.ensures.ok)

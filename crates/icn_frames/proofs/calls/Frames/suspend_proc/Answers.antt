@@ -37,10 +37,10 @@ invariant_of-self-in-Call g c =
     let r = c.self.inside.registers in
     let k = frame_kind _ _ c.self.invariant.stands.leads.base in
     let u : Sound (cut (r.base - 1) s) c.in-Call.saved = sound_cut s _ r _ _ _ c.self.invariant k.from (within _ _ k.to) c.in-Call.ensures refl refl in
-    sound_hung Proc s _ r c.in-Call.saved c.self.inside.place _ _ (r.base - 1) c.args.given c.in-Call.saved.scan c.self.invariant u
+    sound_hung Proc s _ r c.in-Call.saved c.self.inside.address _ _ (r.base - 1) c.args.given c.in-Call.saved.scan c.self.invariant u
     (omega (arith, within _ _ k.to))
     c.bottom_of-from.ensures c.in_ok-height-in-Call.ensures.height
-    (scan_lower Proc s (r.base - 1) c.self.inside.place r c.in-Call.saved u) c.in_ok-height-in-Call.ensures.ok
+    (scan_lower Proc s (r.base - 1) c.self.inside.address r c.in-Call.saved u) c.in_ok-height-in-Call.ensures.ok
 
 pub returns-clause-ok : goal.returns-clause-ok
 returns-clause-ok g c =
@@ -48,6 +48,6 @@ returns-clause-ok g c =
     let r = c.self.inside.registers in
     let k = frame_kind _ _ c.self.invariant.stands.leads.base in
     let u : Sound (cut (r.base - 1) s) c.in-Call.saved = sound_cut s _ r _ _ _ c.self.invariant k.from (within _ _ k.to) c.in-Call.ensures refl refl in
-    let m : FlatStack = record { cells = g.K.Stack.cells c.self.inside.cells; registers = c.self.inside.registers; address = c.self.inside.place } in
+    let m : FlatStack = record { cells = g.K.Stack.cells c.self.inside.cells; registers = c.self.inside.registers; address = c.self.inside.address } in
     rw (← c.self.view_is) (suspend_proc_is m _ _ _ _ _ c.in-Call.saved _ _ c.args.given c.self.invariant c.in-Call.ensures u
     c.bottom_of-from.ensures c.in_ok-height-in-Call.ensures.height c.in_ok-height-in-Call.ensures.ok)

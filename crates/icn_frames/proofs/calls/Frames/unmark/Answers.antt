@@ -16,7 +16,7 @@ invariant_of-self g c =
 
 pub returns-clause-flat : goal.returns-clause-flat
 returns-clause-flat g c =
-    let m : FlatStack = record { cells = g.K.Stack.cells c.self.inside.cells; registers = c.self.inside.registers; address = c.self.inside.place } in
+    let m : FlatStack = record { cells = g.K.Stack.cells c.self.inside.cells; registers = c.self.inside.registers; address = c.self.inside.address } in
     let F : SeenStack → Type 0 = λ v. c.pair_since-pair.result ≡ pair_at v.flat.cells (oldest c.saved_by-saved.result.scan v.flat) in
     rw (← c.self.view_is)
     (unmark_is m _ _ _ _ c.self.invariant c.get.ensures c.saved_by-saved.ensures c.cut.ensures.cells (subst F (sym c.self.view_is) c.pair_since-pair.ensures))

@@ -1,6 +1,6 @@
 use Rattle.std.proofs.Common.{◌≡◌, ◌+◌, ◌≤◌, drop}
 use Rattle.icn_tree.specs.TreeOf.{all_clauses_of, all_of}
-use Rattle.icn_translate.specs.Translation.{compound, conjuncts, default_part, guarded, operands, other_creations, subscripts}
+use Rattle.icn_translate.specs.Translation.{compound, conjuncts, default_part, guarded_part, operands, other_creations, subscripts}
 use Rattle.icn_translate.specs.Numbers.{all_numbers}
 use Rattle.icn_translate.specs.Room.{default_numbers, guarded_numbers, numbers_given}
 use Rattle.icn_translate.specs.Views.{draft_of, open_of}
@@ -42,8 +42,8 @@ invariant-put_default-loop-clause l = record {
 
 abbrev pub invariant-put_guarded-loop-clause : goal.invariant-put_guarded-loop-clause
 invariant-put_guarded-loop-clause l = record {
-  draft : guarded (open_of l.within) (all_clauses_of (drop l.clause-index l.clauses)) (draft_of l.self)
-      ≡ guarded (open_of l.within) (all_clauses_of l.clauses) (draft_of l.initial.self);
+  draft : guarded_part (open_of l.within) (all_clauses_of (drop l.clause-index l.clauses)) (draft_of l.self)
+      ≡ guarded_part (open_of l.within) (all_clauses_of l.clauses) (draft_of l.initial.self);
   given : numbers_given (draft_of l.self) + guarded_numbers (all_clauses_of (drop l.clause-index l.clauses))
       ≤ numbers_given (draft_of l.initial.self) + guarded_numbers (all_clauses_of l.clauses);
 }

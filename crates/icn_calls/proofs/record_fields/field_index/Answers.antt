@@ -2,7 +2,7 @@ use Rattle.std.proofs.Common.{◌<◌, ◌≤◌, ℕ, List, IfSome, length, sym
 use Rattle.icn_code.specs.Seen.{tables_of}
 use Rattle.icn_calls.proofs.RecordSteps.{count_found, kind_there, place_absent, place_found}
 use Rattle.icn_calls.proofs.RuleSteps.{few_fields}
-use Rattle.icn_calls.proofs.record_fields.field_place.Goals as goal
+use Rattle.icn_calls.proofs.record_fields.field_index.Goals as goal
 
 pub returns-then-place-records-clause-place : goal.returns-then-place-records-clause-place
 returns-then-place-records-clause-place c =

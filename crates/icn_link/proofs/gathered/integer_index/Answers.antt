@@ -5,7 +5,7 @@ use Rattle.std.specs.List.{position}
 use Rattle.std.specs.Ordering.{int_eq}
 use Rattle.std.proofs.lemmas.Int.{to_z-of_z}
 use Rattle.icn_link.proofs.Places.{found_place, no_place}
-use Rattle.icn_link.proofs.gathered.integer_place.Goals as goal
+use Rattle.icn_link.proofs.gathered.integer_index.Goals as goal
 
 pub returns-in-Some : goal.returns-in-Some
 returns-in-Some c =

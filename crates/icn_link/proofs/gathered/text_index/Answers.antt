@@ -1,6 +1,6 @@
 use Rattle.std.proofs.Common.{sym, ◌∙◌}
 use Rattle.icn_link.proofs.Places.{found_text, no_text}
-use Rattle.icn_link.proofs.gathered.text_place.Goals as goal
+use Rattle.icn_link.proofs.gathered.text_index.Goals as goal
 
 pub returns-in-Some : goal.returns-in-Some
 returns-in-Some c = found_text c.args.text.now c.args.texts.now.keys c.in-Some.place (sym c.in-Some.ensures.index)
