@@ -14,7 +14,7 @@ use Rattle.icn_prep.specs.FileLines.{begins_with, put_before, lines_of}
 use Rattle.icn_prep.specs.LiteralStates.{after, next_line_state}
 use Rattle.icn_prep.specs.Outcomes.{◌>>=◌}
 use Rattle.icn_prep.specs.PlainFiles.{has_no_directive, numbered_lines}
-use Rattle.icn_prep.specs.Places.{Place}
+use Rattle.icn_prep.specs.Cursors.{Cursor}
 use Rattle.icn_prep.specs.Replacement.{ReplacedText, behind, begins_word, as_it_stands, read_from, replace_words}
 use Rattle.icn_prep.specs.Sizes.{ended_len}
 use Rattle.icn_prep.specs.SourceLines.{State, Outcome, IncludeStep, first_state, give_line, line_read, lines_read, named_file, include_file, source_of, source_lines}
@@ -82,8 +82,8 @@ plain_first false b h = (refl, h)
 
 -- Reading them.
 
-abbrev place_at : ℕ → ℕ → Place
-place_at file number = record { file = file; line = number; taken = true; conditionals = [] }
+abbrev cursor_at : ℕ → ℕ → Cursor
+cursor_at file number = record { file = file; line = number; taken = true; conditionals = [] }
 
 abbrev line_at : ℕ → ℕ → List ℕ → SourceLine
 line_at file number line = record { bytes = line; file = file; number = number }
@@ -99,12 +99,12 @@ state_behind s file number line = record s { lines = s.lines ++ line_at file num
 
 line_own : (includes : IncludeStep) (s : State) (file number : ℕ) (line : List ℕ) → s.texts ≡ no_texts → begins_directive line ≡ false
     → ended_len s.lines + length line ≤ 16777216
-    → line_read includes s (place_at file number) line ≡ Ok (state_behind s file number line, place_at file (number + 1))
+    → line_read includes s (cursor_at file number) line ≡ Ok (state_behind s file number line, cursor_at file (number + 1))
 line_own includes s file number line none plain l =
     let literal = next_line_state (read_of s line).state in
     cond-false (is_directive s.literal line) _ _ (no_directive s.literal line plain)
-    ∙ (ap (λ bytes. give_line s (place_at file number) bytes literal >>= λ s'. Ok (s', place_at file (number + 1))) (read_own s line none)
-    ∙ ap (λ o. o >>= λ s'. Ok (s', place_at file (number + 1))) (given_short s (place_at file number) line literal (ended_len s.lines) refl l))
+    ∙ (ap (λ bytes. give_line s (cursor_at file number) bytes literal >>= λ s'. Ok (s', cursor_at file (number + 1))) (read_own s line none)
+    ∙ ap (λ o. o >>= λ s'. Ok (s', cursor_at file (number + 1))) (given_short s (cursor_at file number) line literal (ended_len s.lines) refl l))
 
 ended_more : (lines : List SourceLine) (line : SourceLine) → ended_len (lines ++ line ∷ []) ≡ ended_len lines + (length line.bytes + 1)
 ended_more lines line = sum_by-append (λ line. length line.bytes + 1) lines (line ∷ []) ∙ ap (λ n. ended_len lines + n) (omega arith)
@@ -112,7 +112,7 @@ ended_more lines line = sum_by-append (λ line. length line.bytes + 1) lines (li
 lines_own : (includes : IncludeStep) (s : State) (file number : ℕ) (lines : List (List ℕ)) → s.texts ≡ no_texts → has_no_directive lines ≡ true
     → ended_len s.lines + bytes_with_ends lines ≤ 16777217
     → (literal : LiteralState)
-    × (lines_read includes s (place_at file number) lines ≡ Ok (record s { lines = s.lines ++ numbered_lines file number lines; literal = literal }))
+    × (lines_read includes s (cursor_at file number) lines ≡ Ok (record s { lines = s.lines ++ numbered_lines file number lines; literal = literal }))
 lines_own includes s file number [] none plain l =
     (s.literal, ap (λ lines. let outcome : Outcome = Ok (record s { lines = lines; literal = s.literal }) in outcome) (sym (append-nil s.lines)))
 lines_own includes s file number (line ∷ rest) none plain l =

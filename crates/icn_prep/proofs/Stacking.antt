@@ -12,8 +12,8 @@ use Rattle.icn_prep.specs.declared.fault.PrepFault.{PrepFault}
 use Rattle.icn_prep.specs.declared.open_file.OpenFile.{OpenFile}
 use Rattle.icn_prep.specs.FileLines.{lines_of}
 use Rattle.icn_prep.specs.Outcomes.{◌>>=◌}
-use Rattle.icn_prep.specs.Places.{Place, next_line, start_of}
-use Rattle.icn_prep.specs.PlaceViews.{place_of}
+use Rattle.icn_prep.specs.Cursors.{Cursor, next_line, start_of}
+use Rattle.icn_prep.specs.CursorViews.{cursor_of}
 use Rattle.icn_prep.specs.Refusals.{Refuses, rest_of_line, rest_of_lines}
 use Rattle.icn_prep.specs.SourceLines.{State, Outcome, Step, IncludeStep, line_read, lines_read, first_state, left_empty, file_read, include_file, include_found, named_file, source_of}
 
@@ -22,39 +22,39 @@ then_then (Ok a) f g = refl
 then_then (Err e) f g = refl
 
 -- so far reading the lines of a file gives what reading all of them gives
-pub record LinesSo (includes : IncludeStep) (s : State) (place : Place) (lines : List (List ℕ)) (s' : State) (place' : Place)
+pub record LinesSo (includes : IncludeStep) (s : State) (cursor : Cursor) (lines : List (List ℕ)) (s' : State) (cursor' : Cursor)
     (rest : List (List ℕ)) : Type 0 where
-  pub same : lines_read includes s place lines ≡ lines_read includes s' place' rest
+  pub same : lines_read includes s cursor lines ≡ lines_read includes s' cursor' rest
 
 -- the next line
-step_of : (includes : IncludeStep) (s : State) (place : Place) (line : List ℕ) (rest : List (List ℕ)) (step : Step) → line_read includes s place line ≡ step
-    → lines_read includes s place (line ∷ rest) ≡ (step >>= λ after. lines_read includes after.0 after.1 rest)
-step_of includes s place line rest step is = ap (λ o. o >>= λ after. lines_read includes after.0 after.1 rest) is
+step_of : (includes : IncludeStep) (s : State) (cursor : Cursor) (line : List ℕ) (rest : List (List ℕ)) (step : Step) → line_read includes s cursor line ≡ step
+    → lines_read includes s cursor (line ∷ rest) ≡ (step >>= λ after. lines_read includes after.0 after.1 rest)
+step_of includes s cursor line rest step is = ap (λ o. o >>= λ after. lines_read includes after.0 after.1 rest) is
 
-pub passes_line : (includes : IncludeStep) (s s' : State) (place place' : Place) (line : List ℕ) (lines rest : List (List ℕ)) → lines ≡ line ∷ rest
-    → line_read includes s place line ≡ Ok (s', place')
-    → lines_read includes s place lines ≡ lines_read includes s' place' rest
-passes_line includes s s' place place' line lines rest cut is = ap (lines_read includes s place) cut ∙ step_of includes s place line rest (Ok (s', place')) is
+pub passes_line : (includes : IncludeStep) (s s' : State) (cursor cursor' : Cursor) (line : List ℕ) (lines rest : List (List ℕ)) → lines ≡ line ∷ rest
+    → line_read includes s cursor line ≡ Ok (s', cursor')
+    → lines_read includes s cursor lines ≡ lines_read includes s' cursor' rest
+passes_line includes s s' cursor cursor' line lines rest cut is = ap (lines_read includes s cursor) cut ∙ step_of includes s cursor line rest (Ok (s', cursor')) is
 
-pub stops_line : (includes : IncludeStep) (s s' : State) (place place' : Place) (line name : List ℕ) (lines rest : List (List ℕ)) → lines ≡ line ∷ rest
-    → line_read includes s place line ≡ rest_of_line includes (Some name) s' place'
-    → lines_read includes s place lines ≡ (includes name s' place' >>= λ t. lines_read includes t (next_line place') rest)
-stops_line includes s s' place place' line name lines rest cut is =
-    ap (lines_read includes s place) cut
-    ∙ (step_of includes s place line rest (rest_of_line includes (Some name) s' place') is
-    ∙ then_then (includes name s' place') (λ t. Ok (t, next_line place')) (λ after. lines_read includes after.0 after.1 rest))
+pub stops_line : (includes : IncludeStep) (s s' : State) (cursor cursor' : Cursor) (line name : List ℕ) (lines rest : List (List ℕ)) → lines ≡ line ∷ rest
+    → line_read includes s cursor line ≡ rest_of_line includes (Some name) s' cursor'
+    → lines_read includes s cursor lines ≡ (includes name s' cursor' >>= λ t. lines_read includes t (next_line cursor') rest)
+stops_line includes s s' cursor cursor' line name lines rest cut is =
+    ap (lines_read includes s cursor) cut
+    ∙ (step_of includes s cursor line rest (rest_of_line includes (Some name) s' cursor') is
+    ∙ then_then (includes name s' cursor') (λ t. Ok (t, next_line cursor')) (λ after. lines_read includes after.0 after.1 rest))
 
-pub refuses_line : (includes : IncludeStep) (s : State) (place : Place) (line : List ℕ) (lines rest : List (List ℕ)) (fault : PrepFault) → lines ≡ line ∷ rest
-    → Refuses (line_read includes s place line) fault
-    → Refuses (lines_read includes s place lines) fault
-refuses_line includes s place line lines rest fault cut (inl e) = inl e
-refuses_line includes s place line lines rest fault cut (inr e) = inr (ap (lines_read includes s place) cut ∙ step_of includes s place line rest (Err fault) e)
+pub refuses_line : (includes : IncludeStep) (s : State) (cursor : Cursor) (line : List ℕ) (lines rest : List (List ℕ)) (fault : PrepFault) → lines ≡ line ∷ rest
+    → Refuses (line_read includes s cursor line) fault
+    → Refuses (lines_read includes s cursor lines) fault
+refuses_line includes s cursor line lines rest fault cut (inl e) = inl e
+refuses_line includes s cursor line lines rest fault cut (inr e) = inr (ap (lines_read includes s cursor) cut ∙ step_of includes s cursor line rest (Err fault) e)
 
 -- the lines of the files on a stack, the innermost first
 abbrev pub stack_read : FileMap → List OpenFile → State → Outcome
 stack_read files [] s = Ok s
 stack_read files (f ∷ outer) s =
-    lines_read (include_file files (32 - length outer)) s (place_of f.place) (lines_of (drop f.at f.content.items)) >>= stack_read files outer
+    lines_read (include_file files (32 - length outer)) s (cursor_of f.cursor) (lines_of (drop f.at f.content.items)) >>= stack_read files outer
 
 -- so far reading files gives what reading them all gives
 abbrev pub StackSo : FileMap → Outcome → List OpenFile → State → Type 0
@@ -70,101 +70,101 @@ top_of stack others f is = ap reverse is ∙ reverse-append others (f ∷ [])
 -- the file on top
 pub on_top : (files : FileMap) (whole : Outcome) (stack others : List OpenFile) (f : OpenFile) (s : State) → StackSo files whole stack s
     → stack ≡ others ++ f ∷ []
-    → whole ≡ (lines_read (include_file files (32 - length others)) s (place_of f.place) (lines_of (drop f.at f.content.items))
+    → whole ≡ (lines_read (include_file files (32 - length others)) s (cursor_of f.cursor) (lines_of (drop f.at f.content.items))
     >>= stack_read files (reverse others))
 on_top files whole stack others f s so is =
     so ∙ (ap (λ fs. stack_read files fs s) (top_of stack others f is)
-    ∙ ap (λ n. lines_read (include_file files (32 - n)) s (place_of f.place) (lines_of (drop f.at f.content.items)) >>= stack_read files (reverse others))
+    ∙ ap (λ n. lines_read (include_file files (32 - n)) s (cursor_of f.cursor) (lines_of (drop f.at f.content.items)) >>= stack_read files (reverse others))
     (length-reverse others))
 
 -- the file on top ended
 pub file_ended : (files : FileMap) (whole : Outcome) (stack others : List OpenFile) (f : OpenFile) (s s' : State) → StackSo files whole stack s
     → stack ≡ others ++ f ∷ []
-    → lines_read (include_file files (32 - length others)) s (place_of f.place) (lines_of (drop f.at f.content.items)) ≡ Ok s' → StackSo files whole others s'
+    → lines_read (include_file files (32 - length others)) s (cursor_of f.cursor) (lines_of (drop f.at f.content.items)) ≡ Ok s' → StackSo files whole others s'
 file_ended files whole stack others f s s' so is step =
     on_top files whole stack others f s so is ∙ ap (λ o. o >>= stack_read files (reverse others)) step
 
 -- it was refused
 pub file_refused : (files : FileMap) (whole : Outcome) (stack others : List OpenFile) (f : OpenFile) (s : State) (fault : PrepFault)
     → StackSo files whole stack s → stack ≡ others ++ f ∷ []
-    → Refuses (lines_read (include_file files (32 - length others)) s (place_of f.place) (lines_of (drop f.at f.content.items))) fault → IsAnswer whole fault
+    → Refuses (lines_read (include_file files (32 - length others)) s (cursor_of f.cursor) (lines_of (drop f.at f.content.items))) fault → IsAnswer whole fault
 file_refused files whole stack others f s fault so is (inl e) = inl (inr e)
 file_refused files whole stack others f s fault so is (inr e) =
     inr (on_top files whole stack others f s so is ∙ ap (λ o. o >>= stack_read files (reverse others)) e)
 
 -- it includes a file: what including gives, and then the rest
-abbrev pub including_so : FileMap → Outcome → List OpenFile → Place → List ℕ → Outcome → Type 0
-including_so files whole others place rest outcome =
-    whole ≡ ((outcome >>= λ t. lines_read (include_file files (32 - length others)) t (next_line place) (lines_of rest)) >>= stack_read files (reverse others))
+abbrev pub including_so : FileMap → Outcome → List OpenFile → Cursor → List ℕ → Outcome → Type 0
+including_so files whole others cursor rest outcome =
+    whole ≡ ((outcome >>= λ t. lines_read (include_file files (32 - length others)) t (next_line cursor) (lines_of rest)) >>= stack_read files (reverse others))
 
-pub file_includes : (files : FileMap) (whole : Outcome) (stack others : List OpenFile) (f : OpenFile) (s s' : State) (place : Place) (name : List ℕ) (at : ℕ)
+pub file_includes : (files : FileMap) (whole : Outcome) (stack others : List OpenFile) (f : OpenFile) (s s' : State) (cursor : Cursor) (name : List ℕ) (at : ℕ)
     → StackSo files whole stack s → stack ≡ others ++ f ∷ []
-    → lines_read (include_file files (32 - length others)) s (place_of f.place) (lines_of (drop f.at f.content.items))
-    ≡ rest_of_lines (include_file files (32 - length others)) (Some (name, at)) s' place f.content.items
-    → including_so files whole others place (drop at f.content.items) (include_file files (32 - length others) name s' place)
-file_includes files whole stack others f s s' place name at so is step =
+    → lines_read (include_file files (32 - length others)) s (cursor_of f.cursor) (lines_of (drop f.at f.content.items))
+    ≡ rest_of_lines (include_file files (32 - length others)) (Some (name, at)) s' cursor f.content.items
+    → including_so files whole others cursor (drop at f.content.items) (include_file files (32 - length others) name s' cursor)
+file_includes files whole stack others f s s' cursor name at so is step =
     on_top files whole stack others f s so is ∙ ap (λ o. o >>= stack_read files (reverse others)) step
 
 -- including gives a fault
-pub including_refused : (files : FileMap) (whole : Outcome) (others : List OpenFile) (place : Place) (rest : List ℕ) (outcome : Outcome) (fault : PrepFault)
-    → including_so files whole others place rest outcome → IsAnswer outcome fault → IsAnswer whole fault
-including_refused files whole others place rest outcome fault so (inl e) = inl e
-including_refused files whole others place rest outcome fault so (inr e) =
+pub including_refused : (files : FileMap) (whole : Outcome) (others : List OpenFile) (cursor : Cursor) (rest : List ℕ) (outcome : Outcome) (fault : PrepFault)
+    → including_so files whole others cursor rest outcome → IsAnswer outcome fault → IsAnswer whole fault
+including_refused files whole others cursor rest outcome fault so (inl e) = inl e
+including_refused files whole others cursor rest outcome fault so (inr e) =
     inr (so
-    ∙ ap (λ o. (o >>= λ t. lines_read (include_file files (32 - length others)) t (next_line place) (lines_of rest)) >>= stack_read files (reverse others)) e)
+    ∙ ap (λ o. (o >>= λ t. lines_read (include_file files (32 - length others)) t (next_line cursor) (lines_of rest)) >>= stack_read files (reverse others)) e)
 
 -- the file is there
-pub included_is : (files : FileMap) (depth : ℕ) (name bytes : List ℕ) (s : State) (place : Place) → depth < 32 → files name ≡ Some bytes
+pub included_is : (files : FileMap) (depth : ℕ) (name bytes : List ℕ) (s : State) (cursor : Cursor) → depth < 32 → files name ≡ Some bytes
     → length bytes ≤ 16777216
-    → include_file files (32 - depth) name s place ≡ (left_empty s place >>= λ t. file_read (include_file files (32 - (depth + 1))) name t bytes)
-included_is files depth name bytes s place l there short =
+    → include_file files (32 - depth) name s cursor ≡ (left_empty s cursor >>= λ t. file_read (include_file files (32 - (depth + 1))) name t bytes)
+included_is files depth name bytes s cursor l there short =
     let level : 32 - depth ≡ suc (32 - (depth + 1)) = omega arith in
     let within : nat_lt 16777216 (length bytes) ≡ false = grind (arith, nat_tests) in
-    ap (λ n. include_file files n name s place) level
-    ∙ (ap (include_found (include_file files (32 - (depth + 1))) name s place) there
+    ap (λ n. include_file files n name s cursor) level
+    ∙ (ap (include_found (include_file files (32 - (depth + 1))) name s cursor) there
     ∙ cond-false (nat_lt 16777216 (length bytes)) _ _ within)
 
-pub line_refused : (files : FileMap) (depth : ℕ) (name bytes : List ℕ) (s : State) (place : Place) (fault : PrepFault) → depth < 32 → files name ≡ Some bytes
+pub line_refused : (files : FileMap) (depth : ℕ) (name bytes : List ℕ) (s : State) (cursor : Cursor) (fault : PrepFault) → depth < 32 → files name ≡ Some bytes
     → length bytes ≤ 16777216
-    → Refuses (left_empty s place) fault → IsAnswer (include_file files (32 - depth) name s place) fault
-line_refused files depth name bytes s place fault l there short (inl e) = inl (inr e)
-line_refused files depth name bytes s place fault l there short (inr e) =
-    inr (included_is files depth name bytes s place l there short ∙ ap (λ o. o >>= λ t. file_read (include_file files (32 - (depth + 1))) name t bytes) e)
+    → Refuses (left_empty s cursor) fault → IsAnswer (include_file files (32 - depth) name s cursor) fault
+line_refused files depth name bytes s cursor fault l there short (inl e) = inl (inr e)
+line_refused files depth name bytes s cursor fault l there short (inr e) =
+    inr (included_is files depth name bytes s cursor l there short ∙ ap (λ o. o >>= λ t. file_read (include_file files (32 - (depth + 1))) name t bytes) e)
 
 -- the included file stands on top, and behind it the file that goes on
-pub file_begun : (files : FileMap) (whole : Outcome) (others : List OpenFile) (place : Place) (name bytes rest : List ℕ) (s t u : State)
+pub file_begun : (files : FileMap) (whole : Outcome) (others : List OpenFile) (cursor : Cursor) (name bytes rest : List ℕ) (s t u : State)
     (onward next : OpenFile)
-    → including_so files whole others place rest (include_file files (32 - length others) name s place) → length others < 32 → files name ≡ Some bytes
+    → including_so files whole others cursor rest (include_file files (32 - length others) name s cursor) → length others < 32 → files name ≡ Some bytes
     → length bytes ≤ 16777216
-    → left_empty s place ≡ Ok t → u ≡ record t { names = t.names ++ name ∷ [] }
-    → place_of onward.place ≡ next_line place → drop onward.at onward.content.items ≡ rest
-    → place_of next.place ≡ start_of (length t.names) → drop next.at next.content.items ≡ bytes
+    → left_empty s cursor ≡ Ok t → u ≡ record t { names = t.names ++ name ∷ [] }
+    → cursor_of onward.cursor ≡ next_line cursor → drop onward.at onward.content.items ≡ rest
+    → cursor_of next.cursor ≡ start_of (length t.names) → drop next.at next.content.items ≡ bytes
     → StackSo files whole ((others ++ onward ∷ []) ++ next ∷ []) u
-file_begun files whole others place name bytes rest s t u onward next so l there short given named goes left starts all =
+file_begun files whole others cursor name bytes rest s t u onward next so l there short given named goes left starts all =
     let m = 32 - (length others + 1) in
-    let inner : include_file files (32 - length others) name s place
-    ≡ lines_read (include_file files m) u (place_of next.place) (lines_of (drop next.at next.content.items)) =
-    included_is files (length others) name bytes s place l there short
+    let inner : include_file files (32 - length others) name s cursor
+    ≡ lines_read (include_file files m) u (cursor_of next.cursor) (lines_of (drop next.at next.content.items)) =
+    included_is files (length others) name bytes s cursor l there short
     ∙ (ap (λ o. o >>= λ v. file_read (include_file files m) name v bytes) given
     ∙ (ap (λ v. lines_read (include_file files m) v (start_of (length t.names)) (lines_of bytes)) (sym named)
     ∙ (ap (λ p. lines_read (include_file files m) u p (lines_of bytes)) (sym starts)
-    ∙ ap (λ b. lines_read (include_file files m) u (place_of next.place) (lines_of b)) (sym all)))) in
+    ∙ ap (λ b. lines_read (include_file files m) u (cursor_of next.cursor) (lines_of b)) (sym all)))) in
     let len : length (reverse others) ≡ length others = length-reverse others in
     let outer : length (onward ∷ reverse others) ≡ length others + 1 = omega arith in
     let back : reverse ((others ++ onward ∷ []) ++ next ∷ []) ≡ next ∷ onward ∷ reverse others =
     reverse-append (others ++ onward ∷ []) (next ∷ []) ∙ ap (λ fs. next ∷ fs) (reverse-append others (onward ∷ [])) in
     so
-    ∙ (ap (λ o. (o >>= λ v. lines_read (include_file files (32 - length others)) v (next_line place) (lines_of rest)) >>= stack_read files (reverse others))
+    ∙ (ap (λ o. (o >>= λ v. lines_read (include_file files (32 - length others)) v (next_line cursor) (lines_of rest)) >>= stack_read files (reverse others))
     inner
-    ∙ (then_then (lines_read (include_file files m) u (place_of next.place) (lines_of (drop next.at next.content.items)))
-    (λ v. lines_read (include_file files (32 - length others)) v (next_line place) (lines_of rest)) (stack_read files (reverse others))
-    ∙ (ap (λ p. lines_read (include_file files m) u (place_of next.place) (lines_of (drop next.at next.content.items))
+    ∙ (then_then (lines_read (include_file files m) u (cursor_of next.cursor) (lines_of (drop next.at next.content.items)))
+    (λ v. lines_read (include_file files (32 - length others)) v (next_line cursor) (lines_of rest)) (stack_read files (reverse others))
+    ∙ (ap (λ p. lines_read (include_file files m) u (cursor_of next.cursor) (lines_of (drop next.at next.content.items))
     >>= λ v. lines_read (include_file files (32 - length others)) v p (lines_of rest) >>= stack_read files (reverse others)) (sym goes)
-    ∙ (ap (λ b. lines_read (include_file files m) u (place_of next.place) (lines_of (drop next.at next.content.items))
-    >>= λ v. lines_read (include_file files (32 - length others)) v (place_of onward.place) (lines_of b) >>= stack_read files (reverse others)) (sym left)
-    ∙ (ap (λ n. lines_read (include_file files m) u (place_of next.place) (lines_of (drop next.at next.content.items)) >>= λ v. lines_read (include_file files
-    (32 - n)) v (place_of onward.place) (lines_of (drop onward.at onward.content.items)) >>= stack_read files (reverse others)) (sym len)
-    ∙ (ap (λ n. lines_read (include_file files (32 - n)) u (place_of next.place) (lines_of (drop next.at next.content.items))
+    ∙ (ap (λ b. lines_read (include_file files m) u (cursor_of next.cursor) (lines_of (drop next.at next.content.items))
+    >>= λ v. lines_read (include_file files (32 - length others)) v (cursor_of onward.cursor) (lines_of b) >>= stack_read files (reverse others)) (sym left)
+    ∙ (ap (λ n. lines_read (include_file files m) u (cursor_of next.cursor) (lines_of (drop next.at next.content.items)) >>= λ v. lines_read (include_file files
+    (32 - n)) v (cursor_of onward.cursor) (lines_of (drop onward.at onward.content.items)) >>= stack_read files (reverse others)) (sym len)
+    ∙ (ap (λ n. lines_read (include_file files (32 - n)) u (cursor_of next.cursor) (lines_of (drop next.at next.content.items))
     >>= stack_read files (onward ∷ reverse others)) (sym outer)
     ∙ ap (λ fs. stack_read files fs u) (sym back)))))))
 
@@ -181,15 +181,15 @@ answered_ok files whole stack s so none = ap source_of (so ∙ ap (λ fs. stack_
 
 pub first_file : (files : FileMap) (name bytes : List ℕ) (s : State) (f : OpenFile) → files name ≡ Some bytes → length bytes ≤ 16777216
     → s ≡ record first_state { names = name ∷ [] }
-    → place_of f.place ≡ start_of 0 → drop f.at f.content.items ≡ bytes → StackSo files (named_file files name (files name)) (f ∷ []) s
+    → cursor_of f.cursor ≡ start_of 0 → drop f.at f.content.items ≡ bytes → StackSo files (named_file files name (files name)) (f ∷ []) s
 first_file files name bytes s f there short is starts all =
     let within : nat_lt 16777216 (length bytes) ≡ false = grind (arith, nat_tests) in
     ap (named_file files name) there
     ∙ (cond-false (nat_lt 16777216 (length bytes)) _ _ within
     ∙ (ap (λ v. lines_read (include_file files 32) v (start_of 0) (lines_of bytes)) (sym is)
     ∙ (ap (λ p. lines_read (include_file files 32) s p (lines_of bytes)) (sym starts)
-    ∙ (ap (λ b. lines_read (include_file files 32) s (place_of f.place) (lines_of b)) (sym all)
-    ∙ sym (then_ok (lines_read (include_file files 32) s (place_of f.place) (lines_of (drop f.at f.content.items))))))))
+    ∙ (ap (λ b. lines_read (include_file files 32) s (cursor_of f.cursor) (lines_of b)) (sym all)
+    ∙ sym (then_ok (lines_read (include_file files 32) s (cursor_of f.cursor) (lines_of (drop f.at f.content.items))))))))
 
 -- what the exit of a `?` returns
 pub answered : (whole : Outcome) (result : Result Lines PrepFault) (fault given : PrepFault) → result ≡ Err given → given ≡ fault → IsAnswer whole fault
@@ -198,22 +198,22 @@ answered whole result fault given is same h = subst (λ r. IsOutside r ⊎ (outc
 
 -- the files' names stand among the names
 abbrev pub AllNamed : ℕ → List OpenFile → Type 0
-AllNamed names files = All (λ f. f.place.file < names) files
+AllNamed names files = All (λ f. f.cursor.file < names) files
 
 pub named_front : (names more : ℕ) (stack others : List OpenFile) (f : OpenFile) → AllNamed names stack → stack ≡ others ++ f ∷ [] → names ≤ more
     → AllNamed more others
 named_front names more stack others f all is l = λ k d h.
     let len : length stack ≡ length others + 1 = ap length is ∙ length-append others (f ∷ []) in
     let same : get_or stack k d ≡ get_or others k d = ap (λ fs. get_or fs k d) is ∙ get_or_append_left others (f ∷ []) d k h in
-    let there : (get_or stack k d).place.file < names = all k d (omega arith) in
-    let here : (get_or others k d).place.file < names = rw same at there in
+    let there : (get_or stack k d).cursor.file < names = all k d (omega arith) in
+    let here : (get_or others k d).cursor.file < names = rw same at there in
     omega arith
 
-alone : (more : ℕ) (f : OpenFile) → f.place.file < more → AllNamed more (f ∷ [])
+alone : (more : ℕ) (f : OpenFile) → f.cursor.file < more → AllNamed more (f ∷ [])
 alone more f h zero d g = h
 alone more f h (suc k) d g = absurd (omega arith)
 
-pub named_push : (names more : ℕ) (others : List OpenFile) (f : OpenFile) → AllNamed names others → names ≤ more → f.place.file < more
+pub named_push : (names more : ℕ) (others : List OpenFile) (f : OpenFile) → AllNamed names others → names ≤ more → f.cursor.file < more
     → AllNamed more (others ++ f ∷ [])
 named_push names more others f all l h =
-    All-append (λ f. f.place.file < more) others (f ∷ []) (λ k d g. let there = all k d g in omega (arith, there)) (alone more f h)
+    All-append (λ f. f.cursor.file < more) others (f ∷ []) (λ k d g. let there = all k d g in omega (arith, there)) (alone more f h)

@@ -10,7 +10,7 @@ use Rattle.icn_tree.specs.declared.rule.Rule.TheVariants.{P6, P9}
 use Rattle.icn_prep.specs.declared.fault.PrepFault.{PrepFault}
 use Rattle.icn_prep.specs.declared.fault.PrepFault.TheVariants.{Broken, NoMemory}
 use Rattle.icn_prep.specs.Answers.{IsAnswer}
-use Rattle.icn_prep.specs.Places.{Place}
+use Rattle.icn_prep.specs.Cursors.{Cursor}
 use Rattle.icn_prep.specs.SourceLines.{State, Outcome, name_at, refuse, unless_long, named_file, include_file, include_found, too_deep}
 
 pub if_some_weaker : {X : Type 0} (o : Option X) {P Q : X → Type 0} → ((x : X) → P x → Q x) → IfSome o P → IfSome o Q
@@ -50,22 +50,22 @@ pub named_there : (files : FileMap) (name bytes : List ℕ) → files name ≡ S
 named_there files name bytes there = (_, ap (named_file files name) there)
 
 -- an included file is there, and not too deep
-pub included_there : (files : FileMap) (depth : ℕ) (name bytes : List ℕ) (s : State) (place : Place) → depth < 32 → files name ≡ Some bytes
-    → (inner : Outcome) × (include_file files (32 - depth) name s place ≡ unless_long name bytes inner)
-included_there files depth name bytes s place l there =
+pub included_there : (files : FileMap) (depth : ℕ) (name bytes : List ℕ) (s : State) (cursor : Cursor) → depth < 32 → files name ≡ Some bytes
+    → (inner : Outcome) × (include_file files (32 - depth) name s cursor ≡ unless_long name bytes inner)
+included_there files depth name bytes s cursor l there =
     let level : 32 - depth ≡ suc (31 - depth) = omega arith in
-    (_, ap (λ n. include_file files n name s place) level ∙ ap (include_found (include_file files (31 - depth)) name s place) there)
+    (_, ap (λ n. include_file files n name s cursor) level ∙ ap (include_found (include_file files (31 - depth)) name s cursor) there)
 
-absent_by : (files : FileMap) (n : ℕ) (name : List ℕ) (s : State) (place : Place) → files name ≡ None → include_file files n name s place ≡ refuse s place P6
-absent_by files zero name s place none = ap (too_deep name s place) none
-absent_by files (suc n) name s place none = ap (include_found (include_file files n) name s place) none
+absent_by : (files : FileMap) (n : ℕ) (name : List ℕ) (s : State) (cursor : Cursor) → files name ≡ None → include_file files n name s cursor ≡ refuse s cursor P6
+absent_by files zero name s cursor none = ap (too_deep name s cursor) none
+absent_by files (suc n) name s cursor none = ap (include_found (include_file files n) name s cursor) none
 
 -- an included file is not there
-pub absent_answers : (files : FileMap) (n : ℕ) (name : List ℕ) (s : State) (place : Place) (fault : PrepFault) → files name ≡ None
-    → (fault ≡ NoMemory) ⊎ (fault ≡ Broken P6 (name_at s place.file) place.line)
-    → IsAnswer (include_file files n name s place) fault
-absent_answers files n name s place fault none (inl e) = inl (inr e)
-absent_answers files n name s place fault none (inr e) = inr (absent_by files n name s place none ∙ ap Err (sym e))
+pub absent_answers : (files : FileMap) (n : ℕ) (name : List ℕ) (s : State) (cursor : Cursor) (fault : PrepFault) → files name ≡ None
+    → (fault ≡ NoMemory) ⊎ (fault ≡ Broken P6 (name_at s cursor.file) cursor.line)
+    → IsAnswer (include_file files n name s cursor) fault
+absent_answers files n name s cursor fault none (inl e) = inl (inr e)
+absent_answers files n name s cursor fault none (inr e) = inr (absent_by files n name s cursor none ∙ ap Err (sym e))
 
 pub if_some_told : {X : Type 0} (o : Option X) (Q : X → Type 0) → ((x : X) → o ≡ Some x → Q x) → IfSome o Q
 if_some_told None Q h = tt

@@ -7,9 +7,9 @@ pub mod LineBounds
 pub mod LiteralStates
 pub mod Operands
 pub mod Outcomes
-pub mod PlaceViews
+pub mod CursorViews
 pub mod PlainFiles
-pub mod Places
+pub mod Cursors
 pub mod Refusals
 pub mod Replacement
 pub mod Sizes

@@ -3,15 +3,15 @@ ghost use Rattle.std.specs.Prelude.{◌≡◌, ◌≢◌, ◌⊎◌, ◌≤◌, 
 ghost use Rattle.icn_tree.specs.declared.rule.Rule.TheVariants.{P6};
 ghost use Rattle.icn_prep.specs.declared.fault.PrepFault.TheVariants.{Broken, NoMemory};
 ghost use Rattle.icn_prep.specs.declared.literal.LiteralState.TheVariants.{Outside};
-ghost use Rattle.icn_prep.specs.PlaceViews.{place_of};
-ghost use Rattle.icn_prep.specs.Places.{next_line};
+ghost use Rattle.icn_prep.specs.CursorViews.{cursor_of};
+ghost use Rattle.icn_prep.specs.Cursors.{next_line};
 ghost use Rattle.icn_prep.specs.Refusals.{Refuses, IsOfText};
 ghost use Rattle.icn_prep.specs.SourceLines.{first_state, name_at, give_line, left_empty};
 ghost use Rattle.icn_prep.specs.StateViews.{state_of};
 
+use crate::cursor::Cursor;
 use crate::fault::PrepFault;
 use crate::literal::LiteralState;
-use crate::place::Place;
 use crate::reading::Reading;
 use crate::texts::Texts;
 use icn_profile::MOST_BYTES_OF_SOURCE;
@@ -36,7 +36,7 @@ pub fn start(alloc: Global) -> Reading
     }
 }
 
-/// The name at this place among the names of files, or no bytes.
+/// The name at this index among the names of files, or no bytes.
 pub fn name_at(reading: &Reading, file: u32) -> &[u8]
     ensures { result.now ≡ name_at (state_of reading.now) file }
 {
@@ -56,28 +56,28 @@ pub fn broken(alloc: Global, rule: Rule, file: &[u8], line: u32) -> PrepFault
     }
 }
 
-/// The refusal of the line at the place.
-pub fn refusal(reading: &Reading, place: &Place, rule: Rule) -> PrepFault
+/// The refusal of the line at the cursor.
+pub fn refusal(reading: &Reading, cursor: &Cursor, rule: Rule) -> PrepFault
     ensures { (result ≡ NoMemory)
-        ⊎ (result ≡ Broken rule (name_at (state_of reading.now) place.now.file) place.now.line) }
+        ⊎ (result ≡ Broken rule (name_at (state_of reading.now) cursor.now.file) cursor.now.line) }
 {
     broken(
         reading.alloc,
         rule,
-        name_at(reading, place.file),
-        place.line,
+        name_at(reading, cursor.file),
+        cursor.line,
     )
 }
 
 /// Gives a line.
 pub fn give(
     reading: &mut Reading,
-    place: &Place,
+    cursor: &Cursor,
     bytes: Vec<u8>,
     literal: LiteralState,
 ) -> Result<(), PrepFault>
-    requires { place.now.file < vec_len reading.old.names }
-    ensures exact { let step = give_line (state_of reading.old) (place_of place.now) bytes.items literal in
+    requires { cursor.now.file < vec_len reading.old.names }
+    ensures exact { let step = give_line (state_of reading.old) (cursor_of cursor.now) bytes.items literal in
         MatchResult result (λ _. step ≡ Ok (state_of reading.new)) (Refuses step) }
     ensures fault { IfErr result IsOfText }
     ensures names { OnOk result (reading.new.names.items ≡ reading.old.names.items) }
@@ -89,8 +89,8 @@ pub fn give(
     let size = reading.size + bytes.len() + 1;
     let line = SourceLine {
         bytes: Bytes::new(bytes),
-        file: place.file,
-        number: place.line,
+        file: cursor.file,
+        number: cursor.line,
     };
     reading.lines.push(line)?;
     reading.size = size;
@@ -99,22 +99,22 @@ pub fn give(
 }
 
 /// Leaves a line empty.
-pub fn leave_empty(reading: &mut Reading, place: &Place) -> Result<(), PrepFault>
-    requires { place.now.file < vec_len reading.old.names }
-    ensures exact { let step = left_empty (state_of reading.old) (place_of place.now) in
+pub fn leave_empty(reading: &mut Reading, cursor: &Cursor) -> Result<(), PrepFault>
+    requires { cursor.now.file < vec_len reading.old.names }
+    ensures exact { let step = left_empty (state_of reading.old) (cursor_of cursor.now) in
         MatchResult result (λ _. step ≡ Ok (state_of reading.new)) (Refuses step) }
     ensures fault { IfErr result IsOfText }
     ensures names { OnOk result (reading.new.names.items ≡ reading.old.names.items) }
     ensures longer { OnOk result (reading.old.size < reading.new.size) }
 {
     let none = Vec::new(reading.alloc);
-    give(reading, place, none, LiteralState::Outside)
+    give(reading, cursor, none, LiteralState::Outside)
 }
 
-/// Adds the name of a file, and answers its place. A line was given for each name before it, so that places have room.
+/// Adds the name of a file, and answers its index. A line was given for each name before it, so that indices have room.
 pub fn add_name(reading: &mut Reading, name: &[u8]) -> Result<u32, PrepFault>
     requires { vec_len reading.old.names ≤ reading.old.size }
-    ensures place { IfOk result (λ place. place ≡ length reading.old.names.items) }
+    ensures cursor { IfOk result (λ cursor. cursor ≡ length reading.old.names.items) }
     ensures state { OnOk result (state_of reading.new
         ≡ record (state_of reading.old) { names = reading.old.names.items ++ name.now ∷ [] }) }
     ensures fault { IfErr result (λ fault. fault ≡ NoMemory) }
@@ -123,8 +123,8 @@ pub fn add_name(reading: &mut Reading, name: &[u8]) -> Result<u32, PrepFault>
         → slice_get reading.new.names.items 0 ≡ slice_get reading.old.names.items 0) }
     ensures kept { OnOk result (vec_len reading.new.names ≡ vec_len reading.old.names + 1) }
 {
-    let place = reading.names.len() as u32;
+    let cursor = reading.names.len() as u32;
     let name = Bytes::from_slice(reading.alloc, name)?;
     reading.names.push(name)?;
-    Ok(place)
+    Ok(cursor)
 }

@@ -2,6 +2,7 @@
 #![tactic(auto)]
 
 mod bytes;
+mod cursor;
 mod cut;
 mod directive;
 mod fault;
@@ -13,7 +14,6 @@ mod line;
 mod literal;
 mod open_file;
 mod operand;
-mod place;
 mod reading;
 mod replace;
 mod source;

@@ -2,7 +2,7 @@
 ghost use Rattle.std.specs.Prelude.{◌≤◌, ◌+◌, ◌-◌, vec_len};
 ghost use Rattle.icn_profile.specs.Numbers.{greatest_line, most_bytes_of_source};
 
-use crate::place::Place;
+use crate::cursor::Cursor;
 
 /// A file that is read.
 #[derive(Drop)]
@@ -12,8 +12,8 @@ pub struct OpenFile {
     /// How many of them were read.
     pub at: usize,
     /// Where reading is.
-    pub place: Place,
+    pub cursor: Cursor,
     ghost short: { vec_len content ≤ most_bytes_of_source },
     ghost within: { at ≤ vec_len content },
-    ghost numbered: { place.line + (vec_len content - at) ≤ greatest_line },
+    ghost numbered: { cursor.line + (vec_len content - at) ≤ greatest_line },
 }

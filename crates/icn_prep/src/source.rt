@@ -4,16 +4,16 @@ ghost use Rattle.icn_profile.specs.Numbers.{most_bytes_of_source};
 ghost use Rattle.icn_host.specs.Counts.{CountsOnce, HasCause};
 ghost use Rattle.icn_prep.specs.declared.fault.PrepFault.TheVariants.{Broken, FileFault, NoMemory};
 ghost use Rattle.icn_prep.specs.Answers.{IsOutside, IsAbsence, IsAnswer, outcome_of};
-ghost use Rattle.icn_prep.specs.PlaceViews.{place_of};
-ghost use Rattle.icn_prep.specs.Places.{start_of};
+ghost use Rattle.icn_prep.specs.CursorViews.{cursor_of};
+ghost use Rattle.icn_prep.specs.Cursors.{start_of};
 ghost use Rattle.icn_prep.specs.SourceLines.{include_file, named_file, source_lines};
 ghost use Rattle.icn_prep.specs.StateViews.{state_of};
 
+use crate::cursor::Cursor;
 use crate::fault::PrepFault;
 use crate::file::read_lines;
 use crate::give::{LONGEST, add_name, broken, leave_empty, refusal, start};
 use crate::open_file::OpenFile;
-use crate::place::Place;
 use crate::reading::Reading;
 use icn_host::{Files, Look};
 use icn_tree::{Lines, Rule};
@@ -47,15 +47,19 @@ pub fn preprocess<F: Files>(alloc: Global, name: &str, files: &mut F) -> Result<
         let OpenFile {
             content,
             at,
-            mut place,
+            mut cursor,
         } = file;
-        let stop = read_lines(&mut reading, &mut place, &content, at)?;
+        let stop = read_lines(&mut reading, &mut cursor, &content, at)?;
         if let Some((name, at)) = stop {
-            let included = included_content(&reading, &place, stack.len(), &name, files)?;
-            leave_empty(&mut reading, &place)?;
-            place.line += 1;
+            let included = included_content(&reading, &cursor, stack.len(), &name, files)?;
+            leave_empty(&mut reading, &cursor)?;
+            cursor.line += 1;
             let next = begin_file(&mut reading, &name, included)?;
-            stack.push(OpenFile { content, at, place })?;
+            stack.push(OpenFile {
+                content,
+                at,
+                cursor,
+            })?;
             stack.push(next)?;
         }
     }
@@ -69,10 +73,10 @@ pub fn preprocess<F: Files>(alloc: Global, name: &str, files: &mut F) -> Result<
 fn begin_file(reading: &mut Reading, name: &str, content: Vec<u8>) -> Result<OpenFile, PrepFault>
     requires short { vec_len content ≤ most_bytes_of_source }
     requires few { vec_len reading.old.names ≤ reading.old.size }
-    ensures place { IfOk result (λ file. place_of file.place ≡ start_of (length reading.old.names.items)) }
+    ensures cursor { IfOk result (λ file. cursor_of file.cursor ≡ start_of (length reading.old.names.items)) }
     ensures content { IfOk result (λ file. file.content.items ≡ content.items) }
     ensures at { IfOk result (λ file. file.at ≡ 0) }
-    ensures named { IfOk result (λ file. file.place.file < vec_len reading.new.names) }
+    ensures named { IfOk result (λ file. file.cursor.file < vec_len reading.new.names) }
     ensures state { OnOk result (state_of reading.new
         ≡ record (state_of reading.old) { names = reading.old.names.items ++ name.now ∷ [] }) }
     ensures fault { IfErr result (λ fault. fault ≡ NoMemory) }
@@ -83,7 +87,7 @@ fn begin_file(reading: &mut Reading, name: &str, content: Vec<u8>) -> Result<Ope
 {
     let alloc = reading.alloc;
     let file = add_name(reading, name.as_bytes())?;
-    let place = Place {
+    let cursor = Cursor {
         file,
         line: 1,
         taken: true,
@@ -92,7 +96,7 @@ fn begin_file(reading: &mut Reading, name: &str, content: Vec<u8>) -> Result<Ope
     Ok(OpenFile {
         content,
         at: 0,
-        place,
+        cursor,
     })
 }
 
@@ -115,17 +119,17 @@ fn named_content<F: Files>(alloc: Global, name: &str, files: &mut F) -> Result<V
     }
 }
 
-// The content of a file that the line at the place includes. So many files stand round the file of that line.
+// The content of a file that the line at the cursor includes. So many files stand round the file of that line.
 fn included_content<F: Files>(
     reading: &Reading,
-    place: &Place,
+    cursor: &Cursor,
     depth: usize,
     name: &str,
     files: &mut F,
 ) -> Result<Vec<u8>, PrepFault>
     ensures exact { IfSome (F.held files.old) (λ held. MatchResult result
         (λ content. held name.now ≡ Some content.items)
-        (IsAnswer (include_file held (32 - depth) name.now (state_of reading.now) (place_of place.now)))) }
+        (IsAnswer (include_file held (32 - depth) name.now (state_of reading.now) (cursor_of cursor.now)))) }
     ensures deep { OnOk result (depth < 32) }
     ensures short { IfOk result (λ content. vec_len content ≤ most_bytes_of_source) }
     ensures file_fault { CountsOnce (F.faults files.old) (F.faults files.new) (IsErrOf result FileFault) }
@@ -134,9 +138,9 @@ fn included_content<F: Files>(
 {
     let mut content = Vec::new(reading.alloc);
     match files.read(name, LONGEST as u64, &mut content) {
-        Ok(()) if depth >= DEEPEST => Err(refusal(reading, place, Rule::P7)),
+        Ok(()) if depth >= DEEPEST => Err(refusal(reading, cursor, Rule::P7)),
         Ok(()) => not_longer(reading.alloc, name, content),
-        Err(Look::NotThere) => Err(refusal(reading, place, Rule::P6)),
+        Err(Look::NotThere) => Err(refusal(reading, cursor, Rule::P6)),
         Err(Look::Failed) => Err(PrepFault::FileFault),
         Err(Look::NoMemory) => Err(PrepFault::NoMemory),
     }

@@ -11,13 +11,13 @@ use Rattle.icn_prep.specs.declared.fault.PrepFault.TheVariants.{Broken}
 use Rattle.icn_prep.specs.declared.keyword.Keyword.{Keyword}
 use Rattle.icn_prep.specs.declared.keyword.Keyword.TheVariants.{Define, Undef, Include, Ifdef, Ifndef, Else, Endif, Line, Error}
 use Rattle.icn_prep.specs.declared.literal.LiteralState.{LiteralState}
-use Rattle.icn_prep.specs.declared.place.Conditional.{Conditional}
+use Rattle.icn_prep.specs.declared.cursor.Conditional.{Conditional}
 use Rattle.icn_prep.specs.Directives.{is_directive, directive_name, operand, keyword_of}
 use Rattle.icn_prep.specs.FileLines.{lines_of}
 use Rattle.icn_prep.specs.LiteralStates.{next_line_state}
 use Rattle.icn_prep.specs.Operands.{is_empty, name_operand, define_operand, file_operand, line_operand}
 use Rattle.icn_prep.specs.Outcomes.{◌>>=◌}
-use Rattle.icn_prep.specs.Places.{Place, start_of, next_line}
+use Rattle.icn_prep.specs.Cursors.{Cursor, start_of, next_line}
 use Rattle.icn_prep.specs.Replacement.{ReplacedText, replace_words}
 use Rattle.icn_prep.specs.Texts.{with_text, without_text}
 use Rattle.icn_prep.specs.SourceLines.{State, Source, Outcome, Step, first_state, name_at, IncludeStep, give_line, given_more, left_empty, pass_line, text_line, define_again, define_line, undef_line, include_line, if_line, else_line, endif_line, renumber, line_line, where_taken, directive_line, line_read, end_file, lines_read, file_read, too_deep, include_found, include_file, named_file, source_of, source_lines}
@@ -32,14 +32,14 @@ record Bounded {A : Type 0} (state : A → State) (outcome : Result A PrepFault)
 abbrev of_outcome : State → State
 of_outcome s = s
 
-abbrev of_step : State × Place → State
+abbrev of_step : State × Cursor → State
 of_step after = after.0
 
 breaks : {A : Type 0} {state : A → State} (fault : PrepFault) → Bounded state (Err fault)
 breaks fault = record { lines = tt }
 
 abbrev IncludesBounded : IncludeStep → Type 0
-IncludesBounded includes = (name : List ℕ) (s : State) (place : Place) → Within s → Bounded of_outcome (includes name s place)
+IncludesBounded includes = (name : List ℕ) (s : State) (cursor : Cursor) → Within s → Bounded of_outcome (includes name s cursor)
 
 then_bound : {A B : Type 0} {at : A → State} {state : B → State} (a : Result A PrepFault) (f : A → Result B PrepFault) → Bounded at a
     → ((x : A) → Within (at x) → Bounded state (f x)) → Bounded state (a >>= f)
@@ -57,103 +57,103 @@ more_bound s literal lines = by_test (nat_lt 16777216 (joined_len lines)) refl w
   by_test true e = breaks _
   by_test false e = record { lines = grind (arith, nat_tests) }
 
-given_bound : (s : State) (place : Place) (bytes : List ℕ) (literal : LiteralState) → Bounded of_outcome (give_line s place bytes literal)
-given_bound s place bytes literal = more_bound s literal _
+given_bound : (s : State) (cursor : Cursor) (bytes : List ℕ) (literal : LiteralState) → Bounded of_outcome (give_line s cursor bytes literal)
+given_bound s cursor bytes literal = more_bound s literal _
 
-passed_bound : (s : State) (place onward : Place) → Bounded of_step (pass_line s place onward)
-passed_bound s place onward = then_bound (left_empty s place) _ (given_bound s place [] _) (λ s' w. record { lines = w })
+passed_bound : (s : State) (cursor onward : Cursor) → Bounded of_step (pass_line s cursor onward)
+passed_bound s cursor onward = then_bound (left_empty s cursor) _ (given_bound s cursor [] _) (λ s' w. record { lines = w })
 
-taken_bound : (s : State) (place : Place) (step : Step) → Bounded of_step step → Bounded of_step (where_taken s place step)
-taken_bound s place step h = either place.taken _ _ h (passed_bound s place (next_line place))
+taken_bound : (s : State) (cursor : Cursor) (step : Step) → Bounded of_step step → Bounded of_step (where_taken s cursor step)
+taken_bound s cursor step h = either cursor.taken _ _ h (passed_bound s cursor (next_line cursor))
 
-again_bound : (s : State) (place : Place) (name text : List ℕ) (old : Option (List ℕ)) → Bounded of_step (define_again s place name text old)
-again_bound s place name text None = passed_bound (record s { texts = with_text s.texts name text }) place (next_line place)
-again_bound s place name text (Some old) = either _ _ _ (passed_bound s place (next_line place)) (breaks _)
+again_bound : (s : State) (cursor : Cursor) (name text : List ℕ) (old : Option (List ℕ)) → Bounded of_step (define_again s cursor name text old)
+again_bound s cursor name text None = passed_bound (record s { texts = with_text s.texts name text }) cursor (next_line cursor)
+again_bound s cursor name text (Some old) = either _ _ _ (passed_bound s cursor (next_line cursor)) (breaks _)
 
-define_bound : (s : State) (place : Place) (named : Option (List ℕ × List ℕ)) → Bounded of_step (define_line s place named)
-define_bound s place None = breaks _
-define_bound s place (Some named) = again_bound s place named.0 named.1 (s.texts.text_of named.0)
+define_bound : (s : State) (cursor : Cursor) (named : Option (List ℕ × List ℕ)) → Bounded of_step (define_line s cursor named)
+define_bound s cursor None = breaks _
+define_bound s cursor (Some named) = again_bound s cursor named.0 named.1 (s.texts.text_of named.0)
 
-undef_bound : (s : State) (place : Place) (name : Option (List ℕ)) → Bounded of_step (undef_line s place name)
-undef_bound s place None = breaks _
-undef_bound s place (Some name) = passed_bound (record s { texts = without_text s.texts name }) place (next_line place)
+undef_bound : (s : State) (cursor : Cursor) (name : Option (List ℕ)) → Bounded of_step (undef_line s cursor name)
+undef_bound s cursor None = breaks _
+undef_bound s cursor (Some name) = passed_bound (record s { texts = without_text s.texts name }) cursor (next_line cursor)
 
-include_bound : (includes : IncludeStep) → IncludesBounded includes → (s : State) (place : Place) (name : Option (List ℕ)) → Within s
-    → Bounded of_step (include_line includes s place name)
-include_bound includes h s place None w = breaks _
-include_bound includes h s place (Some name) w = then_bound (includes name s place) _ (h name s place w) (λ s' v. record { lines = v })
+include_bound : (includes : IncludeStep) → IncludesBounded includes → (s : State) (cursor : Cursor) (name : Option (List ℕ)) → Within s
+    → Bounded of_step (include_line includes s cursor name)
+include_bound includes h s cursor None w = breaks _
+include_bound includes h s cursor (Some name) w = then_bound (includes name s cursor) _ (h name s cursor w) (λ s' v. record { lines = v })
 
-if_bound : (s : State) (place : Place) (wanted : Bool) (name : Option (List ℕ)) → Bounded of_step (if_line s place wanted name)
-if_bound s place wanted None = breaks _
-if_bound s place wanted (Some name) = passed_bound s place _
+if_bound : (s : State) (cursor : Cursor) (wanted : Bool) (name : Option (List ℕ)) → Bounded of_step (if_line s cursor wanted name)
+if_bound s cursor wanted None = breaks _
+if_bound s cursor wanted (Some name) = passed_bound s cursor _
 
-else_bound : (s : State) (place : Place) (conditionals : List Conditional) → Bounded of_step (else_line s place conditionals)
-else_bound s place [] = breaks _
-else_bound s place (innermost ∷ others) = either innermost.in_else _ _ (breaks _) (passed_bound s place _)
+else_bound : (s : State) (cursor : Cursor) (conditionals : List Conditional) → Bounded of_step (else_line s cursor conditionals)
+else_bound s cursor [] = breaks _
+else_bound s cursor (innermost ∷ others) = either innermost.in_else _ _ (breaks _) (passed_bound s cursor _)
 
-endif_bound : (s : State) (place : Place) (conditionals : List Conditional) → Bounded of_step (endif_line s place conditionals)
-endif_bound s place [] = breaks _
-endif_bound s place (innermost ∷ others) = passed_bound s place _
+endif_bound : (s : State) (cursor : Cursor) (conditionals : List Conditional) → Bounded of_step (endif_line s cursor conditionals)
+endif_bound s cursor [] = breaks _
+endif_bound s cursor (innermost ∷ others) = passed_bound s cursor _
 
-renumbered_bound : (s : State) (place : Place) (number : ℕ) (name : Option (List ℕ)) → Bounded of_step (renumber s place number name)
-renumbered_bound s place number None = passed_bound s place (record place { line = number })
-renumbered_bound s place number (Some name) =
-    passed_bound (record s { names = s.names ++ name ∷ [] }) place (record place { file = length s.names; line = number })
+renumbered_bound : (s : State) (cursor : Cursor) (number : ℕ) (name : Option (List ℕ)) → Bounded of_step (renumber s cursor number name)
+renumbered_bound s cursor number None = passed_bound s cursor (record cursor { line = number })
+renumbered_bound s cursor number (Some name) =
+    passed_bound (record s { names = s.names ++ name ∷ [] }) cursor (record cursor { file = length s.names; line = number })
 
-line_bound : (s : State) (place : Place) (numbered : Option (ℕ × Option (List ℕ))) → Bounded of_step (line_line s place numbered)
-line_bound s place None = breaks _
-line_bound s place (Some numbered) = renumbered_bound s place numbered.0 numbered.1
+line_bound : (s : State) (cursor : Cursor) (numbered : Option (ℕ × Option (List ℕ))) → Bounded of_step (line_line s cursor numbered)
+line_bound s cursor None = breaks _
+line_bound s cursor (Some numbered) = renumbered_bound s cursor numbered.0 numbered.1
 
-directive_bound : (includes : IncludeStep) → IncludesBounded includes → (s : State) (place : Place) (keyword : Option Keyword) (text : List ℕ) → Within s
-    → Bounded of_step (directive_line includes s place keyword text)
-directive_bound includes h s place None text w = taken_bound s place _ (breaks _)
-directive_bound includes h s place (Some Define) text w = taken_bound s place _ (define_bound s place (define_operand text))
-directive_bound includes h s place (Some Undef) text w = taken_bound s place _ (undef_bound s place (name_operand text))
-directive_bound includes h s place (Some Include) text w = taken_bound s place _ (include_bound includes h s place (file_operand text) w)
-directive_bound includes h s place (Some Ifdef) text w = if_bound s place true (name_operand text)
-directive_bound includes h s place (Some Ifndef) text w = if_bound s place false (name_operand text)
-directive_bound includes h s place (Some Else) text w = either (is_empty text) _ _ (else_bound s place place.conditionals) (breaks _)
-directive_bound includes h s place (Some Endif) text w = either (is_empty text) _ _ (endif_bound s place place.conditionals) (breaks _)
-directive_bound includes h s place (Some Line) text w = taken_bound s place _ (line_bound s place (line_operand text))
-directive_bound includes h s place (Some Error) text w = taken_bound s place _ (breaks _)
+directive_bound : (includes : IncludeStep) → IncludesBounded includes → (s : State) (cursor : Cursor) (keyword : Option Keyword) (text : List ℕ) → Within s
+    → Bounded of_step (directive_line includes s cursor keyword text)
+directive_bound includes h s cursor None text w = taken_bound s cursor _ (breaks _)
+directive_bound includes h s cursor (Some Define) text w = taken_bound s cursor _ (define_bound s cursor (define_operand text))
+directive_bound includes h s cursor (Some Undef) text w = taken_bound s cursor _ (undef_bound s cursor (name_operand text))
+directive_bound includes h s cursor (Some Include) text w = taken_bound s cursor _ (include_bound includes h s cursor (file_operand text) w)
+directive_bound includes h s cursor (Some Ifdef) text w = if_bound s cursor true (name_operand text)
+directive_bound includes h s cursor (Some Ifndef) text w = if_bound s cursor false (name_operand text)
+directive_bound includes h s cursor (Some Else) text w = either (is_empty text) _ _ (else_bound s cursor cursor.conditionals) (breaks _)
+directive_bound includes h s cursor (Some Endif) text w = either (is_empty text) _ _ (endif_bound s cursor cursor.conditionals) (breaks _)
+directive_bound includes h s cursor (Some Line) text w = taken_bound s cursor _ (line_bound s cursor (line_operand text))
+directive_bound includes h s cursor (Some Error) text w = taken_bound s cursor _ (breaks _)
 
-text_bound : (s : State) (place : Place) (read : ReplacedText) → Bounded of_step (text_line s place read)
-text_bound s place read = then_bound (give_line s place read.bytes (next_line_state read.state)) _ (given_bound s place read.bytes (next_line_state read.state))
+text_bound : (s : State) (cursor : Cursor) (read : ReplacedText) → Bounded of_step (text_line s cursor read)
+text_bound s cursor read = then_bound (give_line s cursor read.bytes (next_line_state read.state)) _ (given_bound s cursor read.bytes (next_line_state read.state))
     (λ s' w. record { lines = w })
 
-read_bound : (includes : IncludeStep) → IncludesBounded includes → (s : State) (place : Place) (line : List ℕ) → Within s
-    → Bounded of_step (line_read includes s place line)
-read_bound includes h s place line w =
-    either (is_directive s.literal line) _ _ (directive_bound includes h s place (keyword_of (directive_name line)) (operand line) w)
-    (taken_bound s place _ (text_bound s place (replace_words s.texts.count s.texts.text_of s.literal line)))
+read_bound : (includes : IncludeStep) → IncludesBounded includes → (s : State) (cursor : Cursor) (line : List ℕ) → Within s
+    → Bounded of_step (line_read includes s cursor line)
+read_bound includes h s cursor line w =
+    either (is_directive s.literal line) _ _ (directive_bound includes h s cursor (keyword_of (directive_name line)) (operand line) w)
+    (taken_bound s cursor _ (text_bound s cursor (replace_words s.texts.count s.texts.text_of s.literal line)))
 
 ended_bound : (s : State) (conditionals : List Conditional) → Within s → Bounded of_outcome (end_file s conditionals)
 ended_bound s [] w = record { lines = w }
 ended_bound s (innermost ∷ others) w = breaks _
 
-lines_bound : (includes : IncludeStep) → IncludesBounded includes → (s : State) (place : Place) (lines : List (List ℕ)) → Within s
-    → Bounded of_outcome (lines_read includes s place lines)
-lines_bound includes h s place [] w = ended_bound s place.conditionals w
-lines_bound includes h s place (line ∷ rest) w =
-    then_bound (line_read includes s place line) _ (read_bound includes h s place line w) (λ after v. lines_bound includes h after.0 after.1 rest v)
+lines_bound : (includes : IncludeStep) → IncludesBounded includes → (s : State) (cursor : Cursor) (lines : List (List ℕ)) → Within s
+    → Bounded of_outcome (lines_read includes s cursor lines)
+lines_bound includes h s cursor [] w = ended_bound s cursor.conditionals w
+lines_bound includes h s cursor (line ∷ rest) w =
+    then_bound (line_read includes s cursor line) _ (read_bound includes h s cursor line w) (λ after v. lines_bound includes h after.0 after.1 rest v)
 
 file_bound : (includes : IncludeStep) → IncludesBounded includes → (name : List ℕ) (s : State) (bytes : List ℕ) → Within s
     → Bounded of_outcome (file_read includes name s bytes)
 file_bound includes h name s bytes w = lines_bound includes h (record s { names = s.names ++ name ∷ [] }) (start_of (length s.names)) (lines_of bytes) w
 
-deep_bound : (name : List ℕ) (s : State) (place : Place) (content : Option (List ℕ)) → Bounded of_outcome (too_deep name s place content)
-deep_bound name s place None = breaks _
-deep_bound name s place (Some bytes) = breaks _
+deep_bound : (name : List ℕ) (s : State) (cursor : Cursor) (content : Option (List ℕ)) → Bounded of_outcome (too_deep name s cursor content)
+deep_bound name s cursor None = breaks _
+deep_bound name s cursor (Some bytes) = breaks _
 
-found_bound : (includes : IncludeStep) → IncludesBounded includes → (name : List ℕ) (s : State) (place : Place) (content : Option (List ℕ))
-    → Bounded of_outcome (include_found includes name s place content)
-found_bound includes h name s place None = breaks _
-found_bound includes h name s place (Some bytes) =
-    either _ _ _ (breaks _) (then_bound (left_empty s place) _ (given_bound s place [] _) (λ s' w. file_bound includes h name s' bytes w))
+found_bound : (includes : IncludeStep) → IncludesBounded includes → (name : List ℕ) (s : State) (cursor : Cursor) (content : Option (List ℕ))
+    → Bounded of_outcome (include_found includes name s cursor content)
+found_bound includes h name s cursor None = breaks _
+found_bound includes h name s cursor (Some bytes) =
+    either _ _ _ (breaks _) (then_bound (left_empty s cursor) _ (given_bound s cursor [] _) (λ s' w. file_bound includes h name s' bytes w))
 
 included_bound : (files : FileMap) (n : ℕ) → IncludesBounded (include_file files n)
-included_bound files zero name s place w = deep_bound name s place (files name)
-included_bound files (suc n) name s place w = found_bound (include_file files n) (included_bound files n) name s place (files name)
+included_bound files zero name s cursor w = deep_bound name s cursor (files name)
+included_bound files (suc n) name s cursor w = found_bound (include_file files n) (included_bound files n) name s cursor (files name)
 
 named_bound : (files : FileMap) (name : List ℕ) (content : Option (List ℕ)) → Bounded of_outcome (named_file files name content)
 named_bound files name None = breaks _

@@ -15,13 +15,13 @@ use Rattle.icn_prep.specs.declared.keyword.Keyword.{Keyword}
 use Rattle.icn_prep.specs.declared.keyword.Keyword.TheVariants.{Define, Undef, Include, Ifdef, Ifndef, Else, Endif, Line, Error}
 use Rattle.icn_prep.specs.declared.literal.LiteralState.{LiteralState}
 use Rattle.icn_prep.specs.declared.literal.LiteralState.TheVariants.{Outside}
-use Rattle.icn_prep.specs.declared.place.Conditional.{Conditional}
+use Rattle.icn_prep.specs.declared.cursor.Conditional.{Conditional}
 use Rattle.icn_prep.specs.Directives.{is_directive, is_comment, without_comment, directive_text, directive_name, names_file, operand, keyword_of}
 use Rattle.icn_prep.specs.FileLines.{begins_with, put_before, lines_of}
 use Rattle.icn_prep.specs.LiteralStates.{after, after_in as state_in, next_line_state}
 use Rattle.icn_prep.specs.Operands.{is_empty, name_operand, define_operand, file_operand, line_operand}
 use Rattle.icn_prep.specs.Outcomes.{◌>>=◌}
-use Rattle.icn_prep.specs.Places.{Place, start_of, next_line}
+use Rattle.icn_prep.specs.Cursors.{Cursor, start_of, next_line}
 use Rattle.icn_prep.specs.Replacement.{ReplacedText, behind, begins_word, as_it_stands, read_from, word_read, replace_words}
 use Rattle.icn_prep.specs.SourceLines.{State, Source, Outcome, Step, first_state, IncludeStep, give_line, left_empty, pass_line, text_line, define_again, define_line, undef_line, include_line, if_line, else_line, endif_line, renumber, line_line, where_taken, directive_line, line_read, end_file, lines_read, file_read, too_deep, include_found, include_file, named_file, source_of, source_lines}
 use Rattle.icn_prep.specs.Texts.{TextOf, without, with_text, without_text, undefined_by}
@@ -155,15 +155,15 @@ record Gives {A : Type 0} (state : A → State) (outcome : Result A PrepFault) :
 abbrev of_outcome : State → State
 of_outcome s = s
 
-abbrev of_step : State × Place → State
+abbrev of_step : State × Cursor → State
 of_step after = after.0
 
 breaks : {A : Type 0} {state : A → State} (fault : PrepFault) → Gives state (Err fault)
 breaks fault = record { known = tt }
 
 abbrev IncludesKnown : IncludeStep → Type 0
-IncludesKnown includes = (name : List ℕ) (s : State) (place : Place) → Known s
-    → Gives of_outcome (includes name s place)
+IncludesKnown includes = (name : List ℕ) (s : State) (cursor : Cursor) → Known s
+    → Gives of_outcome (includes name s cursor)
 
 then_known : {A B : Type 0} {at : A → State} {state : B → State} (a : Result A PrepFault)
     (f : A → Result B PrepFault)
@@ -182,39 +182,39 @@ line_more : (lines : List SourceLine) (line : SourceLine) → lines_are_of_bytes
 line_more lines line h g = list_all-append line_is_of_bytes lines (line ∷ [])
     ∙ and_from _ _ h (and_from _ _ g.are refl)
 
-given_known : (s : State) (place : Place) (bytes : List ℕ) (literal : LiteralState) → Known s → AreBytes bytes
-    → Gives of_outcome (give_line s place bytes literal)
-given_known s place bytes literal k h =
-    let line : SourceLine = record { bytes = bytes; file = place.file; number = place.line } in
+given_known : (s : State) (cursor : Cursor) (bytes : List ℕ) (literal : LiteralState) → Known s → AreBytes bytes
+    → Gives of_outcome (give_line s cursor bytes literal)
+given_known s cursor bytes literal k h =
+    let line : SourceLine = record { bytes = bytes; file = cursor.file; number = cursor.line } in
     let more : lines_are_of_bytes (s.lines ++ line ∷ []) ≡ true = line_more s.lines line k.lines h in
     either (nat_lt 16777216 (joined_len (s.lines ++ line ∷ []))) _
     (Ok (record s { lines = s.lines ++ line ∷ []; literal = literal })) (breaks _)
     (record { known = record { lines = more; texts = k.texts } })
 
-passed_known : (s : State) (place onward : Place) → Known s → Gives of_step (pass_line s place onward)
-passed_known s place onward k = then_known (left_empty s place) _ (given_known s place [] _ k no_bytes)
+passed_known : (s : State) (cursor onward : Cursor) → Known s → Gives of_step (pass_line s cursor onward)
+passed_known s cursor onward k = then_known (left_empty s cursor) _ (given_known s cursor [] _ k no_bytes)
     (λ s' w. record { known = w })
 
-taken_known : (s : State) (place : Place) (step : Step) → Known s → Gives of_step step
-    → Gives of_step (where_taken s place step)
-taken_known s place step k h = either place.taken _ _ h (passed_known s place (next_line place) k)
+taken_known : (s : State) (cursor : Cursor) (step : Step) → Known s → Gives of_step step
+    → Gives of_step (where_taken s cursor step)
+taken_known s cursor step k h = either cursor.taken _ _ h (passed_known s cursor (next_line cursor) k)
 
-again_known : (s : State) (place : Place) (name text : List ℕ) (old : Option (List ℕ)) → Known s → AreBytes text
-    → Gives of_step (define_again s place name text old)
-again_known s place name text None k h =
-    passed_known (record s { texts = with_text s.texts name text }) place (next_line place)
+again_known : (s : State) (cursor : Cursor) (name text : List ℕ) (old : Option (List ℕ)) → Known s → AreBytes text
+    → Gives of_step (define_again s cursor name text old)
+again_known s cursor name text None k h =
+    passed_known (record s { texts = with_text s.texts name text }) cursor (next_line cursor)
     (record { lines = k.lines; texts = texts_with s.texts.text_of name text k.texts h })
-again_known s place name text (Some old) k h = either _ _ _ (passed_known s place (next_line place) k)
+again_known s cursor name text (Some old) k h = either _ _ _ (passed_known s cursor (next_line cursor) k)
     (breaks _)
 
-define_known : (s : State) (place : Place) (test : Bool) (name text : List ℕ) → Known s → AreBytes text
-    → Gives of_step (define_line s place (cond test (Some (name, text)) None))
-define_known s place false name text k h = breaks _
-define_known s place true name text k h = again_known s place name text (s.texts.text_of name) k h
+define_known : (s : State) (cursor : Cursor) (test : Bool) (name text : List ℕ) → Known s → AreBytes text
+    → Gives of_step (define_line s cursor (cond test (Some (name, text)) None))
+define_known s cursor false name text k h = breaks _
+define_known s cursor true name text k h = again_known s cursor name text (s.texts.text_of name) k h
 
-operand_known : (s : State) (place : Place) (text : List ℕ) → Known s → AreBytes text
-    → Gives of_step (define_line s place (define_operand text))
-operand_known s place text k h = define_known s place
+operand_known : (s : State) (cursor : Cursor) (text : List ℕ) → Known s → AreBytes text
+    → Gives of_step (define_line s cursor (define_operand text))
+operand_known s cursor text k h = define_known s cursor
     (is_name (first_word text) && not (begins_with 40 (behind_word text)))
     (first_word text) (trim (behind_word text)) k (both_trimmed (behind_word text) (word_passed text h))
 
@@ -223,79 +223,79 @@ undefined_known : (s : State) (name : List ℕ) (old : Option (List ℕ)) → Kn
 undefined_known s name None k = k.texts
 undefined_known s name (Some text) k = texts_without s.texts.text_of name k.texts
 
-undef_known : (s : State) (place : Place) (name : Option (List ℕ)) → Known s
-    → Gives of_step (undef_line s place name)
-undef_known s place None k = breaks _
-undef_known s place (Some name) k = passed_known (record s { texts = without_text s.texts name }) place
-    (next_line place)
+undef_known : (s : State) (cursor : Cursor) (name : Option (List ℕ)) → Known s
+    → Gives of_step (undef_line s cursor name)
+undef_known s cursor None k = breaks _
+undef_known s cursor (Some name) k = passed_known (record s { texts = without_text s.texts name }) cursor
+    (next_line cursor)
     (record { lines = k.lines; texts = undefined_known s name (s.texts.text_of name) k })
 
 include_known : (includes : IncludeStep) → IncludesKnown includes
-    → (s : State) (place : Place) (name : Option (List ℕ)) → Known s
-    → Gives of_step (include_line includes s place name)
-include_known includes h s place None k = breaks _
-include_known includes h s place (Some name) k = then_known (includes name s place) _ (h name s place k)
+    → (s : State) (cursor : Cursor) (name : Option (List ℕ)) → Known s
+    → Gives of_step (include_line includes s cursor name)
+include_known includes h s cursor None k = breaks _
+include_known includes h s cursor (Some name) k = then_known (includes name s cursor) _ (h name s cursor k)
     (λ s' w. record { known = w })
 
-if_known : (s : State) (place : Place) (wanted : Bool) (name : Option (List ℕ)) → Known s
-    → Gives of_step (if_line s place wanted name)
-if_known s place wanted None k = breaks _
-if_known s place wanted (Some name) k = passed_known s place _ k
+if_known : (s : State) (cursor : Cursor) (wanted : Bool) (name : Option (List ℕ)) → Known s
+    → Gives of_step (if_line s cursor wanted name)
+if_known s cursor wanted None k = breaks _
+if_known s cursor wanted (Some name) k = passed_known s cursor _ k
 
-else_known : (s : State) (place : Place) (conditionals : List Conditional) → Known s
-    → Gives of_step (else_line s place conditionals)
-else_known s place [] k = breaks _
-else_known s place (innermost ∷ others) k = either innermost.in_else _ _ (breaks _) (passed_known s place _ k)
+else_known : (s : State) (cursor : Cursor) (conditionals : List Conditional) → Known s
+    → Gives of_step (else_line s cursor conditionals)
+else_known s cursor [] k = breaks _
+else_known s cursor (innermost ∷ others) k = either innermost.in_else _ _ (breaks _) (passed_known s cursor _ k)
 
-endif_known : (s : State) (place : Place) (conditionals : List Conditional) → Known s
-    → Gives of_step (endif_line s place conditionals)
-endif_known s place [] k = breaks _
-endif_known s place (innermost ∷ others) k = passed_known s place _ k
+endif_known : (s : State) (cursor : Cursor) (conditionals : List Conditional) → Known s
+    → Gives of_step (endif_line s cursor conditionals)
+endif_known s cursor [] k = breaks _
+endif_known s cursor (innermost ∷ others) k = passed_known s cursor _ k
 
-renumbered_known : (s : State) (place : Place) (number : ℕ) (name : Option (List ℕ)) → Known s
-    → Gives of_step (renumber s place number name)
-renumbered_known s place number None k = passed_known s place (record place { line = number }) k
-renumbered_known s place number (Some name) k = passed_known (record s { names = s.names ++ name ∷ [] }) place
-    (record place { file = length s.names; line = number }) (record { lines = k.lines; texts = k.texts })
+renumbered_known : (s : State) (cursor : Cursor) (number : ℕ) (name : Option (List ℕ)) → Known s
+    → Gives of_step (renumber s cursor number name)
+renumbered_known s cursor number None k = passed_known s cursor (record cursor { line = number }) k
+renumbered_known s cursor number (Some name) k = passed_known (record s { names = s.names ++ name ∷ [] }) cursor
+    (record cursor { file = length s.names; line = number }) (record { lines = k.lines; texts = k.texts })
 
-line_known : (s : State) (place : Place) (numbered : Option (ℕ × Option (List ℕ))) → Known s
-    → Gives of_step (line_line s place numbered)
-line_known s place None k = breaks _
-line_known s place (Some numbered) k = renumbered_known s place numbered.0 numbered.1 k
+line_known : (s : State) (cursor : Cursor) (numbered : Option (ℕ × Option (List ℕ))) → Known s
+    → Gives of_step (line_line s cursor numbered)
+line_known s cursor None k = breaks _
+line_known s cursor (Some numbered) k = renumbered_known s cursor numbered.0 numbered.1 k
 
 directive_known : (includes : IncludeStep) → IncludesKnown includes
-    → (s : State) (place : Place) (keyword : Option Keyword) (text : List ℕ)
-    → Known s → AreBytes text → Gives of_step (directive_line includes s place keyword text)
-directive_known includes h s place None text k w = taken_known s place _ k (breaks _)
-directive_known includes h s place (Some Define) text k w = taken_known s place _ k
-    (operand_known s place text k w)
-directive_known includes h s place (Some Undef) text k w = taken_known s place _ k
-    (undef_known s place (name_operand text) k)
-directive_known includes h s place (Some Include) text k w = taken_known s place _ k
-    (include_known includes h s place (file_operand text) k)
-directive_known includes h s place (Some Ifdef) text k w = if_known s place true (name_operand text) k
-directive_known includes h s place (Some Ifndef) text k w = if_known s place false (name_operand text) k
-directive_known includes h s place (Some Else) text k w = either (is_empty text) _ _
-    (else_known s place place.conditionals k) (breaks _)
-directive_known includes h s place (Some Endif) text k w = either (is_empty text) _ _
-    (endif_known s place place.conditionals k) (breaks _)
-directive_known includes h s place (Some Line) text k w = taken_known s place _ k
-    (line_known s place (line_operand text) k)
-directive_known includes h s place (Some Error) text k w = taken_known s place _ k (breaks _)
+    → (s : State) (cursor : Cursor) (keyword : Option Keyword) (text : List ℕ)
+    → Known s → AreBytes text → Gives of_step (directive_line includes s cursor keyword text)
+directive_known includes h s cursor None text k w = taken_known s cursor _ k (breaks _)
+directive_known includes h s cursor (Some Define) text k w = taken_known s cursor _ k
+    (operand_known s cursor text k w)
+directive_known includes h s cursor (Some Undef) text k w = taken_known s cursor _ k
+    (undef_known s cursor (name_operand text) k)
+directive_known includes h s cursor (Some Include) text k w = taken_known s cursor _ k
+    (include_known includes h s cursor (file_operand text) k)
+directive_known includes h s cursor (Some Ifdef) text k w = if_known s cursor true (name_operand text) k
+directive_known includes h s cursor (Some Ifndef) text k w = if_known s cursor false (name_operand text) k
+directive_known includes h s cursor (Some Else) text k w = either (is_empty text) _ _
+    (else_known s cursor cursor.conditionals k) (breaks _)
+directive_known includes h s cursor (Some Endif) text k w = either (is_empty text) _ _
+    (endif_known s cursor cursor.conditionals k) (breaks _)
+directive_known includes h s cursor (Some Line) text k w = taken_known s cursor _ k
+    (line_known s cursor (line_operand text) k)
+directive_known includes h s cursor (Some Error) text k w = taken_known s cursor _ k (breaks _)
 
-text_known : (s : State) (place : Place) (read : ReplacedText) → Known s → AreBytes read.bytes
-    → Gives of_step (text_line s place read)
-text_known s place read k h = then_known (give_line s place read.bytes (next_line_state read.state)) _
-    (given_known s place read.bytes (next_line_state read.state) k h) (λ s' w. record { known = w })
+text_known : (s : State) (cursor : Cursor) (read : ReplacedText) → Known s → AreBytes read.bytes
+    → Gives of_step (text_line s cursor read)
+text_known s cursor read k h = then_known (give_line s cursor read.bytes (next_line_state read.state)) _
+    (given_known s cursor read.bytes (next_line_state read.state) k h) (λ s' w. record { known = w })
 
-read_known : (includes : IncludeStep) → IncludesKnown includes → (s : State) (place : Place) (line : List ℕ)
+read_known : (includes : IncludeStep) → IncludesKnown includes → (s : State) (cursor : Cursor) (line : List ℕ)
     → Known s → AreBytes line
-    → Gives of_step (line_read includes s place line)
-read_known includes h s place line k w =
+    → Gives of_step (line_read includes s cursor line)
+read_known includes h s cursor line k w =
     either (is_directive s.literal line) _ _
-    (directive_known includes h s place (keyword_of (directive_name line)) (operand line) k
+    (directive_known includes h s cursor (keyword_of (directive_name line)) (operand line) k
     (operand_bytes line w))
-    (taken_known s place _ k (text_known s place (replace_words s.texts.count s.texts.text_of s.literal line) k
+    (taken_known s cursor _ k (text_known s cursor (replace_words s.texts.count s.texts.text_of s.literal line) k
     (replaced_bytes s.texts.count s.texts.text_of k.texts s.literal line w)))
 
 ended_known : (s : State) (conditionals : List Conditional) → Known s → Gives of_outcome (end_file s conditionals)
@@ -303,11 +303,11 @@ ended_known s [] k = record { known = k }
 ended_known s (innermost ∷ others) k = breaks _
 
 lines_known : (includes : IncludeStep) → IncludesKnown includes
-    → (s : State) (place : Place) (lines : List (List ℕ)) → Known s → AreLines lines
-    → Gives of_outcome (lines_read includes s place lines)
-lines_known includes h s place [] k w = ended_known s place.conditionals k
-lines_known includes h s place (line ∷ rest) k w = then_known (line_read includes s place line) _
-    (read_known includes h s place line k w.0)
+    → (s : State) (cursor : Cursor) (lines : List (List ℕ)) → Known s → AreLines lines
+    → Gives of_outcome (lines_read includes s cursor lines)
+lines_known includes h s cursor [] k w = ended_known s cursor.conditionals k
+lines_known includes h s cursor (line ∷ rest) k w = then_known (line_read includes s cursor line) _
+    (read_known includes h s cursor line k w.0)
     (λ after v. lines_known includes h after.0 after.1 rest v w.1)
 
 file_known : (includes : IncludeStep) → IncludesKnown includes → (name : List ℕ) (s : State) (bytes : List ℕ)
@@ -319,26 +319,26 @@ file_known includes h name s bytes k w = lines_known includes h (record s { name
 
 -- Files
 
-deep_known : (name : List ℕ) (s : State) (place : Place) (content : Option (List ℕ))
-    → Gives of_outcome (too_deep name s place content)
-deep_known name s place None = breaks _
-deep_known name s place (Some bytes) = breaks _
+deep_known : (name : List ℕ) (s : State) (cursor : Cursor) (content : Option (List ℕ))
+    → Gives of_outcome (too_deep name s cursor content)
+deep_known name s cursor None = breaks _
+deep_known name s cursor (Some bytes) = breaks _
 
 module _ (files : FileMap) (hold : HoldBytes files) where
   content_bytes : (name bytes : List ℕ) → files name ≡ Some bytes → AreBytes bytes
   content_bytes name bytes e = bytes_held bytes (hold name bytes e)
 
   found_known : (includes : IncludeStep) → IncludesKnown includes
-      → (name : List ℕ) (s : State) (place : Place) (content : Option (List ℕ))
-      → files name ≡ content → Known s → Gives of_outcome (include_found includes name s place content)
-  found_known includes h name s place None e k = breaks _
-  found_known includes h name s place (Some bytes) e k = either _ _ _ (breaks _)
-      (then_known (left_empty s place) _ (given_known s place [] _ k no_bytes)
+      → (name : List ℕ) (s : State) (cursor : Cursor) (content : Option (List ℕ))
+      → files name ≡ content → Known s → Gives of_outcome (include_found includes name s cursor content)
+  found_known includes h name s cursor None e k = breaks _
+  found_known includes h name s cursor (Some bytes) e k = either _ _ _ (breaks _)
+      (then_known (left_empty s cursor) _ (given_known s cursor [] _ k no_bytes)
       (λ s' w. file_known includes h name s' bytes w (content_bytes name bytes e)))
 
   included_known : (n : ℕ) → IncludesKnown (include_file files n)
-  included_known zero name s place k = deep_known name s place (files name)
-  included_known (suc n) name s place k = found_known (include_file files n) (included_known n) name s place
+  included_known zero name s cursor k = deep_known name s cursor (files name)
+  included_known (suc n) name s cursor k = found_known (include_file files n) (included_known n) name s cursor
       (files name) refl k
 
   named_known : (name : List ℕ) (content : Option (List ℕ)) → files name ≡ content

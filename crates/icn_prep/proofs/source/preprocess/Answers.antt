@@ -2,7 +2,7 @@ use Rattle.std.proofs.Common.{◌≡◌, ◌≤◌, ◌<◌, ◌-◌, length, dr
 use Rattle.std.specs.Prelude.{vec_len, string_bytes}
 use Rattle.std.proofs.lemmas.Grind.{common_steps}
 use Rattle.std.proofs.lemmas.Result.{err_from_is_err_and}
-use Rattle.icn_prep.specs.PlaceViews.{place_of}
+use Rattle.icn_prep.specs.CursorViews.{cursor_of}
 use Rattle.icn_prep.specs.SourceLines.{named_file, include_file}
 use Rattle.icn_prep.specs.StateViews.{state_of}
 use Rattle.icn_prep.proofs.Sizing.{joined_within}
@@ -29,14 +29,14 @@ returns-in_err-included-clause-exact g c =
     let stops = rw c.in-Some-stop.is at step in
     let includes = file_includes held (named_file held c.args.name.now (held c.args.name.now)) c.loop-file.stack.items c.pop.new.self.items c.in-Some.file
     (state_of c.loop-file.reading) (state_of c.read_lines.new.reading)
-    (place_of c.read_lines.new.place) _ c.in-Some-stop.at (c.loop-file.invariant.so held told) c.in-Some.ensures.items (rw c.deref.ensures.value at stops) in
+    (cursor_of c.read_lines.new.cursor) _ c.in-Some-stop.at (c.loop-file.invariant.so held told) c.in-Some.ensures.items (rw c.deref.ensures.value at stops) in
     let depth : c.len.result ≡ length c.pop.new.self.items = omega (arith, c.len.ensures, c.pop.new.self.ok.0) in
     let named : c.deref-in-Some-stop.result.now ≡ string_bytes c.in-Some-stop.name = c.deref-in-Some-stop.ensures in
     let now : g.F.Files.held c.loop-file.files ≡ Some held = c.loop-file.invariant.same ∙ told in
     let answer = some_of _ held _ now c.in_err-included.ensures.exact in
     answered (named_file held c.args.name.now (held c.args.name.now)) _ c.in_err-included.field-0.0 e.0 e.1 e.2
-    (including_refused held _ c.pop.new.self.items (place_of c.read_lines.new.place) (drop c.in-Some-stop.at c.in-Some.file.content.items) (include_file held
-    (32 - length c.pop.new.self.items) (string_bytes c.in-Some-stop.name) (state_of c.read_lines.new.reading) (place_of c.read_lines.new.place))
+    (including_refused held _ c.pop.new.self.items (cursor_of c.read_lines.new.cursor) (drop c.in-Some-stop.at c.in-Some.file.content.items) (include_file held
+    (32 - length c.pop.new.self.items) (string_bytes c.in-Some-stop.name) (state_of c.read_lines.new.reading) (cursor_of c.read_lines.new.cursor))
     c.in_err-included.field-0.0 includes (rw (← depth, ← named) answer)))
 
 pub returns-in_err-leave_empty-clause-exact : goal.returns-in_err-leave_empty-clause-exact
@@ -48,7 +48,7 @@ returns-in_err-leave_empty-clause-exact g c =
     let stops = rw c.in-Some-stop.is at step in
     let includes = file_includes held (named_file held c.args.name.now (held c.args.name.now)) c.loop-file.stack.items c.pop.new.self.items c.in-Some.file
     (state_of c.loop-file.reading) (state_of c.read_lines.new.reading)
-    (place_of c.read_lines.new.place) _ c.in-Some-stop.at (c.loop-file.invariant.so held told) c.in-Some.ensures.items (rw c.deref.ensures.value at stops) in
+    (cursor_of c.read_lines.new.cursor) _ c.in-Some-stop.at (c.loop-file.invariant.so held told) c.in-Some.ensures.items (rw c.deref.ensures.value at stops) in
     let depth : c.len.result ≡ length c.pop.new.self.items = omega (arith, c.len.ensures, c.pop.new.self.ok.0) in
     let named : c.deref-in-Some-stop.result.now ≡ string_bytes c.in-Some-stop.name = c.deref-in-Some-stop.ensures in
     let now : g.F.Files.held c.loop-file.files ≡ Some held = c.loop-file.invariant.same ∙ told in
@@ -57,11 +57,11 @@ returns-in_err-leave_empty-clause-exact g c =
     let short : length c.in_ok-included.included.items ≤ 16777216 = omega (arith, c.in_ok-included.ensures.short, c.in_ok-included.included.ok.0) in
     let low : length c.pop.new.self.items < 32 = omega (arith, c.in_ok-included.ensures.deep) in
     answered (named_file held c.args.name.now (held c.args.name.now)) _ c.in_err-leave_empty.field-0.0 e.0 e.1 e.2
-    (including_refused held _ c.pop.new.self.items (place_of c.read_lines.new.place) (drop c.in-Some-stop.at c.in-Some.file.content.items) (include_file held
-    (32 - length c.pop.new.self.items) (string_bytes c.in-Some-stop.name) (state_of c.read_lines.new.reading) (place_of c.read_lines.new.place))
+    (including_refused held _ c.pop.new.self.items (cursor_of c.read_lines.new.cursor) (drop c.in-Some-stop.at c.in-Some.file.content.items) (include_file held
+    (32 - length c.pop.new.self.items) (string_bytes c.in-Some-stop.name) (state_of c.read_lines.new.reading) (cursor_of c.read_lines.new.cursor))
     c.in_err-leave_empty.field-0.0 includes
     (line_refused held (length c.pop.new.self.items) (string_bytes c.in-Some-stop.name) c.in_ok-included.included.items (state_of c.read_lines.new.reading)
-    (place_of c.read_lines.new.place) c.in_err-leave_empty.field-0.0 low there short c.in_err-leave_empty.ensures.exact)))
+    (cursor_of c.read_lines.new.cursor) c.in_err-leave_empty.field-0.0 low there short c.in_err-leave_empty.ensures.exact)))
 
 pub loop-file-preserved-in-Some-stop : goal.loop-file-preserved-in-Some-stop
 loop-file-preserved-in-Some-stop g c = record {
@@ -70,7 +70,7 @@ loop-file-preserved-in-Some-stop g c = record {
       let stops = rw c.in-Some-stop.is at step in
       let includes = file_includes held (named_file held c.args.name.now (held c.args.name.now)) c.loop-file.stack.items c.pop.new.self.items c.in-Some.file
       (state_of c.loop-file.reading) (state_of c.read_lines.new.reading)
-      (place_of c.read_lines.new.place) _ c.in-Some-stop.at (c.loop-file.invariant.so held told) c.in-Some.ensures.items (rw c.deref.ensures.value at stops) in
+      (cursor_of c.read_lines.new.cursor) _ c.in-Some-stop.at (c.loop-file.invariant.so held told) c.in-Some.ensures.items (rw c.deref.ensures.value at stops) in
       let depth : c.len.result ≡ length c.pop.new.self.items = omega (arith, c.len.ensures, c.pop.new.self.ok.0) in
       let named : c.deref-in-Some-stop.result.now ≡ string_bytes c.in-Some-stop.name = c.deref-in-Some-stop.ensures in
       let now : g.F.Files.held c.loop-file.files ≡ Some held = c.loop-file.invariant.same ∙ told in
@@ -80,12 +80,12 @@ loop-file-preserved-in-Some-stop g c = record {
       let low : length c.pop.new.self.items < 32 = omega (arith, c.in_ok-included.ensures.deep) in
       let renamed = c.in_ok-next.ensures.state in
       rw (c.in_ok-push-3.ensures.items, c.in_ok-push-2.ensures.items)
-      (file_begun held (named_file held c.args.name.now (held c.args.name.now)) c.pop.new.self.items (place_of c.read_lines.new.place)
+      (file_begun held (named_file held c.args.name.now (held c.args.name.now)) c.pop.new.self.items (cursor_of c.read_lines.new.cursor)
       (string_bytes c.in-Some-stop.name) c.in_ok-included.included.items (drop c.in-Some-stop.at c.in-Some.file.content.items)
       (state_of c.read_lines.new.reading) (state_of c.leave_empty.new.reading)
       (state_of c.begin_file-in-Some-stop.new.reading) _ c.in_ok-next.next includes low there short c.in_ok-leave_empty.ensures.exact
       (rw c.deref-in-Some-stop-2.ensures at renamed) refl refl
-      c.in_ok-next.ensures.place (rw (c.in_ok-next.ensures.at, c.in_ok-next.ensures.content) refl));
+      c.in_ok-next.ensures.cursor (rw (c.in_ok-next.ensures.at, c.in_ok-next.ensures.content) refl));
   same = grind (arith, common_steps);
   faults = grind (arith, common_steps);
   absences = grind (arith, common_steps);

@@ -12,7 +12,7 @@ invariant-loop-file g l = record {
   same : g.F.Files.held l.files ≡ g.F.Files.held l.fn.files;
   faults : g.F.Files.faults l.files ≡ g.F.Files.faults l.fn.files;
   absences : g.F.Files.absences l.fn.files ≤ g.F.Files.absences l.files;
-  named : All (λ f. f.place.file < vec_len l.reading.names) l.stack.items;
+  named : All (λ f. f.cursor.file < vec_len l.reading.names) l.stack.items;
   first : slice_get l.reading.names.items 0 ≡ Some l.name;
 }
 

@@ -7,7 +7,7 @@ pub struct Conditional {
     pub around: bool,
     /// Whether its `$else` was met.
     pub in_else: bool,
-    /// The place of the name of the file where it began.
+    /// The index of the name of the file where it began.
     pub file: u32,
     /// The number of the line where it began.
     pub line: u32,
@@ -15,8 +15,8 @@ pub struct Conditional {
 
 /// Where in a file reading is.
 #[derive(Drop)]
-pub struct Place {
-    /// The place of the file's name.
+pub struct Cursor {
+    /// The index of the file's name.
     pub file: u32,
     /// The number of the line that comes next.
     pub line: u32,
