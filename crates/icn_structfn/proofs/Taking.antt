@@ -68,7 +68,7 @@ module _ (old new : HeldHeap) (pair : Pair) (random : ℕ) (globals statics loca
   given element some step outside =
       let before : Setting = setting_over outside old pair random globals statics locals in
       ap (λ v. takes taken rest v before) is
-      ∙ (ap (λ f. found f (λ element. changes_heap (with_list id (rest (list_at (heap_of old) id))) (gives_value element)) before) (sym some)
+      ∙ (ap (λ f. thing_or_failure f (λ element. changes_heap (with_list id (rest (list_at (heap_of old) id))) (gives_value element)) before) (sym some)
       ∙ ap (Gives (ItemVal element)) (heap_changed outside old new pair random globals statics locals keeps step sound live))
 
   pub failed : (let found : Option Value = None in found) ≡ taken (list_at (heap_of old) id) → rest (list_at (heap_of old) id) ≡ list_at (heap_of old) id
@@ -78,6 +78,6 @@ module _ (old new : HeldHeap) (pair : Pair) (random : ℕ) (globals statics loca
   failed none same step outside =
       let before : Setting = setting_over outside old pair random globals statics locals in
       ap (λ v. takes taken rest v before) is
-      ∙ (ap (λ f. found f (λ element. changes_heap (with_list id (rest (list_at (heap_of old) id))) (gives_value element)) before) (sym none)
+      ∙ (ap (λ f. thing_or_failure f (λ element. changes_heap (with_list id (rest (list_at (heap_of old) id))) (gives_value element)) before) (sym none)
       ∙ ap Fails (heap_changed outside old new pair random globals statics locals keeps
       (step ∙ (ap (λ l. with_list id l (heap_of old)) same ∙ list_stays (heap_of old) id)) sound live))
