@@ -138,7 +138,15 @@ pub fn check_procs(
                 assert!(rt; false, "{bodies:?} {fault:?}");
                 return Ok(());
             };
-            assert_eq!(rt; fault, VerifyFault::V { rule, proc, address }, "{bodies:?}");
+            assert_eq!(rt;
+                fault,
+                VerifyFault::V {
+                    rule,
+                    proc,
+                    address
+                },
+                "{bodies:?}"
+            );
         }
     }
     Ok(())

@@ -12,8 +12,8 @@ use Rattle.icn_instructions.proofs.LackSteps.{pop_there, escan_scan, string_lack
 use Rattle.icn_instructions.proofs.LiftSteps.{heap_keeps, reach_keeps, seen_keeps}
 use Rattle.icn_instructions.proofs.in_world.do_in_world.Goals as goal
 
-pub push_string-requires-clause-place : goal.push_string-requires-clause-place
-push_string-requires-clause-place g c =
+pub push_string-requires-clause-index : goal.push_string-requires-clause-index
+push_string-requires-clause-index g c =
     string_lacks (extent_of c.args.world.now.heap) (tables_of c.args.code.now) c.args.frames.now.flat c.in-Str.place c.requires.goes_on.0
     (lacks_as (extent_of c.args.world.now.heap) (tables_of c.args.code.now) c.args.instr
     (Instrs.Str c.in-Str.place) c.args.frames.now.flat c.requires.goes_on.0 c.in-Str.is c.requires.goes_on.1.1)
