@@ -4,7 +4,7 @@ use Rattle.std.specs.Prelude.{ℕ, pos, int_le, not, [], ◌∷◌, ◌+◌, ◌
 use Rattle.std.specs.List.{list_all}
 use Rattle.std.specs.Map.{keys_of}
 use Rattle.std.specs.Str.{bytes_eq}
-use Rattle.icn_profile.specs.Numbers.{most_cells}
+use Rattle.icn_profile.specs.Numbers.{most_cells, most_strings}
 use Rattle.icn_structs.specs.Numbered.{NumberedList}
 use Rattle.icn_value.specs.Values.{Value, Null, Integer, Text, Chars, Std, Procedure, ARecord, AList, ASet, ATable, ACoexp, KeywordVariable, Subject, Position, Random, Root, Global, Static, Local, Element, Field, Key, Keyword, Variable, Whole, Part, Item, Val, Var}
 use Rattle.icn_value.specs.Store.{Table, Record, Heap, World, Setting, Names, record_at}
@@ -84,7 +84,7 @@ is_record names heap structure =
 abbrev pub are_sums : Heap → Bool
 are_sums heap =
     nat_le heap.strings heap.bounds.strings && (nat_le heap.cells heap.bounds.cells
-    && (nat_le heap.bounds.strings (2 ^ 40) && nat_le heap.bounds.cells most_cells))
+    && (nat_le heap.bounds.strings most_strings && nat_le heap.bounds.cells most_cells))
 
 -- each structure cost a cell, and each co-expression but `&main`
 abbrev pub are_counted : Heap → Bool

@@ -64,7 +64,8 @@ given_more s literal lines =
 -- one line more is given, of these bytes, with its file and number; the next one begins in this literal state
 abbrev pub give_line : State → Cursor → List ℕ → LiteralState → Outcome
 give_line s cursor bytes literal =
-    given_more s literal (s.lines ++ (record { bytes = bytes; file = cursor.file; number = cursor.line }) ∷ [])
+    given_more s literal
+    (s.lines ++ (record { bytes = bytes; file = cursor.file; number = cursor.line }) ∷ [])
 
 -- an empty line is given
 abbrev pub left_empty : State → Cursor → Outcome
@@ -151,7 +152,8 @@ directive_line includes s cursor (Some Else) text =
     if is_empty text then else_line s cursor cursor.conditionals else refuse s cursor P2
 directive_line includes s cursor (Some Endif) text =
     if is_empty text then endif_line s cursor cursor.conditionals else refuse s cursor P2
-directive_line includes s cursor (Some Line) text = where_taken s cursor (line_line s cursor (line_operand text))
+directive_line includes s cursor (Some Line) text =
+    where_taken s cursor (line_line s cursor (line_operand text))
 directive_line includes s cursor (Some Error) text = where_taken s cursor (refuse s cursor P8)
 
 -- what comes of one line: a directive is done; another line is given with its words replaced, where it is taken
@@ -159,7 +161,8 @@ abbrev pub line_read : IncludeStep → State → Cursor → List ℕ → Step
 line_read includes s cursor line =
     if is_directive s.literal line
     then directive_line includes s cursor (keyword_of (directive_name line)) (operand line)
-    else where_taken s cursor (text_line s cursor (replace_words s.texts.count s.texts.text_of s.literal line))
+    else where_taken s cursor
+    (text_line s cursor (replace_words s.texts.count s.texts.text_of s.literal line))
 
 -- a file ends, and closes what it began
 abbrev pub end_file : State → List Conditional → Outcome

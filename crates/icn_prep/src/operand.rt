@@ -4,6 +4,7 @@ ghost use Rattle.std.specs.List.{list_all};
 ghost use Rattle.std.specs.Option.{option_map};
 ghost use Rattle.icn_prep.specs.FileLines.{begins_with};
 ghost use Rattle.icn_prep.specs.Operands.{name_operand, define_operand, text_in_quotes, is_quote_alone, plain_run, file_name, file_operand, number_of, number_and_name, line_operand};
+ghost use Rattle.icn_profile.specs.Numbers.{greatest_line_operand};
 ghost use Rattle.icn_tree.specs.Characters.{is_digit};
 
 use crate::bytes::{has_blank, is_name, trimmed, trimmed_start, unquoted_len};
@@ -105,7 +106,7 @@ fn is_quote_alone(bytes: &[u8]) -> bool
 pub fn line_operand(operand: &[u8]) -> Option<(u32, Option<&[u8]>)>
     ensures read { option_map (λ found. (found.0, option_map (λ name. name.now) found.1)) result
         ≡ line_operand operand.now }
-    ensures small { IfSome result (λ found. found.0 ≤ 999999999) }
+    ensures small { IfSome result (λ found. found.0 ≤ greatest_line_operand) }
 {
     let count = digits_len(operand);
     if count < 1 || count > 9 {
@@ -133,7 +134,7 @@ fn number_of(digits: &[u8]) -> u32
     requires few { length digits.now ≤ 9 }
     requires digits { list_all is_digit digits.now ≡ true }
     ensures number { result ≡ number_of digits.now }
-    ensures small { result ≤ 999999999 }
+    ensures small { result ≤ greatest_line_operand }
 {
     let mut value = 0;
     for digit in digits {

@@ -7,7 +7,11 @@ use Rattle.std.specs.Prelude.{ℕ}
 abbrev pub most_bytes_of_source : ℕ
 most_bytes_of_source = 16777216
 
--- the greatest number of a line of a file: 999999999, which `$line` can set, and as many lines as a file has bytes
+-- the greatest number that `$line` can give to a line
+abbrev pub greatest_line_operand : ℕ
+greatest_line_operand = 999999999
+
+-- the greatest number of a line of a file: that one, and as many lines as a file has bytes
 abbrev pub greatest_line : ℕ
 greatest_line = 1016777216
 

@@ -1,6 +1,6 @@
 // The limits of a run.
-ghost use Rattle.std.specs.Prelude.{◌≡◌, ◌≤◌, ◌^◌};
-ghost use Rattle.icn_profile.specs.Numbers.{most_cells, most_levels};
+ghost use Rattle.std.specs.Prelude.{◌≡◌, ◌≤◌};
+ghost use Rattle.icn_profile.specs.Numbers.{most_cells, most_levels, most_strings};
 
 use icn_profile::{DEFAULT_CELLS, DEFAULT_LEVELS, DEFAULT_STRINGS};
 
@@ -15,7 +15,7 @@ pub struct Limits {
     pub cells: u64,
     /// How deep procedures may call one another, from 1 to 2 ^ 32 - 1.
     pub levels: u64,
-    ghost few_strings: { strings ≤ 2 ^ 40 },
+    ghost few_strings: { strings ≤ most_strings },
     ghost few_cells: { cells ≤ most_cells },
     ghost some_levels: { 1 ≤ levels },
     ghost few_levels: { levels ≤ most_levels },
