@@ -153,7 +153,7 @@ mod tests {
     // The pair of a scan of the empty text, known by its position.
     fn pair(position: u64) -> Pair {
         Pair {
-            subject: Span { place: 0, len: 0 },
+            subject: Span { start: 0, len: 0 },
             position,
         }
     }
@@ -264,22 +264,22 @@ mod tests {
     }
 
     const PAIR_1: Pair = Pair {
-        subject: Span { place: 0, len: 0 },
+        subject: Span { start: 0, len: 0 },
         position: 1,
     };
 
     const PAIR_2: Pair = Pair {
-        subject: Span { place: 0, len: 0 },
+        subject: Span { start: 0, len: 0 },
         position: 2,
     };
 
     const PAIR_3: Pair = Pair {
-        subject: Span { place: 0, len: 0 },
+        subject: Span { start: 0, len: 0 },
         position: 3,
     };
 
     const PAIR_6: Pair = Pair {
-        subject: Span { place: 0, len: 0 },
+        subject: Span { start: 0, len: 0 },
         position: 6,
     };
 

@@ -13,7 +13,7 @@ use Rattle.icn_value.specs.Values.{Value, Text}
 use Rattle.icn_value.specs.Limited.{limits_of}
 use Rattle.icn_value.specs.Store.{Heap, Table, Record}
 use Rattle.icn_heap.specs.Keys.{key_value}
-use Rattle.icn_heap.specs.Extents.{Extent, place_of, IsText, IsLive, LiveBy, text_in, value_in, Keeps}
+use Rattle.icn_heap.specs.Extents.{Extent, range_of, IsText, IsLive, LiveBy, text_in, value_in, Keeps}
 use Rattle.icn_heap.specs.Parts.{Parts, list_in, set_in, pair_in, table_in, record_in, heap_over, extent_in, IsSoundList, IsSoundMember, IsSoundPair, IsSoundTable, IsSoundRecord, AreSound, IsCharged, IsSound}
 use Rattle.icn_heap.specs.Records.{HeldRecord}
 use Rattle.icn_heap.specs.declared.key.Key.{Key}
@@ -33,7 +33,7 @@ module _ {a b : Extent} (more : Extends a b) where
   live_by : (val : Val) → LiveBy a val → LiveBy b val
   live_by NullVal is = tt
   live_by (IntegerVal n) is = tt
-  live_by (TextVal span) is = record { of = more.texts.of (place_of span) is.of }
+  live_by (TextVal span) is = record { of = more.texts.of (range_of span) is.of }
   live_by (CharsVal cset) is = tt
   live_by (StdVal file) is = tt
   live_by (ProcVal number) is = tt
@@ -45,7 +45,7 @@ module _ {a b : Extent} (more : Extends a b) where
 
   bytes_by : (span : Span) → IsText a span → text_in b span ≡ text_in a span
   unfolding text_in
-  bytes_by span is = more.texts.bytes (place_of span) is.of
+  bytes_by span is = more.texts.bytes (range_of span) is.of
 
   value_by : (val : Val) → LiveBy a val → value_in b val ≡ value_in a val
   value_by NullVal is = refl
@@ -64,7 +64,7 @@ module _ {a b : Extent} (more : Extends a b) where
   keeps_by = record {
     live = λ val is. record { live = live_by val is.live };
     value = λ val is. value_by val is.live;
-    text = λ span is. record { of = more.texts.of (place_of span) is.of };
+    text = λ span is. record { of = more.texts.of (range_of span) is.of };
     bytes = bytes_by;
   }
 

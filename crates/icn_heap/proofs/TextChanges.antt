@@ -2,7 +2,7 @@
 use Rattle.std.proofs.Common.{◌≡◌, ◌∙◌, refl, sym, ap, ℕ, ◌+◌, ◌<◌, ◌≤◌, List, ◌++◌, length, Result, Ok, Err, inl, inr, ◌↔◌, arith, length-append}
 use Rattle.std.proofs.lemmas.Bool.{cases_lt}
 use Rattle.icn_strings.specs.declared.region.Region.{Region}
-use Rattle.icn_strings.specs.declared.place.ByteRange.{ByteRange}
+use Rattle.icn_strings.specs.declared.byte_range.ByteRange.{ByteRange}
 use Rattle.icn_strings.specs.declared.full.Full.{Full as FullRegion}
 use Rattle.icn_strings.specs.declared.full.Full.TheVariants.{Strings as StringsRegion, NoMemory as NoRoom}
 use Rattle.icn_strings.specs.Regions.{IsOf, Keeps as KeepsTexts, bytes_of, sum_of, limit_of}
@@ -10,7 +10,7 @@ use Rattle.icn_value.specs.declared.full.Full.{Full}
 use Rattle.icn_value.specs.declared.val.Span.{Span}
 use Rattle.icn_value.specs.Store.{Heap}
 use Rattle.icn_value.specs.Changes.{charged_strings, Refuses, LimitsFirst}
-use Rattle.icn_heap.specs.Extents.{Extent, place_of, IsText, text_in}
+use Rattle.icn_heap.specs.Extents.{Extent, range_of, IsText, text_in}
 use Rattle.icn_heap.specs.Fulls.{strings_full}
 use Rattle.icn_heap.specs.Parts.{Parts, heap_over, extent_in, IsSound}
 use Rattle.icn_heap.proofs.Charging.{strings_fit, strings_full_is, limits_ok, limits_err}
@@ -18,13 +18,13 @@ use Rattle.icn_heap.proofs.Keeping.{Becomes}
 use Rattle.icn_heap.proofs.OtherChanges.{texts_join}
 
 -- a text of the region is one of the heap
-pub text_is : (all : Extent) (span : Span) {place : ByteRange} → place_of span ≡ place → IsOf all.strings place → IsText all span
-text_is all span {place} same is = record { of = rw same is }
+pub text_is : (all : Extent) (span : Span) {range : ByteRange} → range_of span ≡ range → IsOf all.strings range → IsText all span
+text_is all span {range} same is = record { of = rw same is }
 
-pub text_has : (all : Extent) (span : Span) {place : ByteRange} {bytes : List ℕ} → place_of span ≡ place → bytes_of all.strings place ≡ bytes
+pub text_has : (all : Extent) (span : Span) {range : ByteRange} {bytes : List ℕ} → range_of span ≡ range → bytes_of all.strings range ≡ bytes
     → text_in all span ≡ bytes
 unfolding text_in
-text_has all span {place} same is = rw same is
+text_has all span {range} same is = rw same is
 
 module _ (parts : Parts) (is : IsSound parts) (strings : Region) (texts : KeepsTexts parts.strings strings) where
   -- texts that are charged
@@ -74,18 +74,18 @@ module _ (parts : Parts) (is : IsSound parts) (n : ℕ) {full : FullRegion}
         | inr fits ↦ limits_ok (strings_fit (heap_over (extent_in parts) parts) n _ refl (let same = limit in omega arith))
       ]
 
--- how long two texts are together, by their places
-pub joined_len : (all : Extent) (a b : Span) {p q : ByteRange} → p ≡ place_of a → q ≡ place_of b → length (bytes_of all.strings p) ≡ p.len
+-- how long two texts are together, by their ranges
+pub joined_len : (all : Extent) (a b : Span) {p q : ByteRange} → p ≡ range_of a → q ≡ range_of b → length (bytes_of all.strings p) ≡ p.len
     → length (bytes_of all.strings q) ≡ q.len
     → length (text_in all a ++ text_in all b) ≡ p.len + q.len
 unfolding text_in
 joined_len all a b {p} {q} is is' first second =
-    let one : length (bytes_of all.strings (place_of a)) ≡ p.len = (rw (← is) first) in
-    let two : length (bytes_of all.strings (place_of b)) ≡ q.len = (rw (← is') second) in
+    let one : length (bytes_of all.strings (range_of a)) ≡ p.len = (rw (← is) first) in
+    let two : length (bytes_of all.strings (range_of b)) ≡ q.len = (rw (← is') second) in
     rw length-append (omega arith)
 
-pub joined_is : (old new : Extent) (a b span : Span) {p q place : ByteRange} → p ≡ place_of a → q ≡ place_of b → place_of span ≡ place
-    → bytes_of new.strings place ≡ bytes_of old.strings p ++ bytes_of old.strings q
+pub joined_is : (old new : Extent) (a b span : Span) {p q range : ByteRange} → p ≡ range_of a → q ≡ range_of b → range_of span ≡ range
+    → bytes_of new.strings range ≡ bytes_of old.strings p ++ bytes_of old.strings q
     → text_in new span ≡ text_in old a ++ text_in old b
 unfolding text_in
-joined_is old new a b span {p} {q} {place} is is' same bytes = rw (same, bytes, is, is') refl
+joined_is old new a b span {p} {q} {range} is is' same bytes = rw (same, bytes, is, is') refl

@@ -2,7 +2,7 @@
 use Rattle.std.specs.Prelude.{◌≡◌, ℕ, ◌<◌, List, ⊤}
 use Rattle.std.specs.List.{All}
 use Rattle.std.specs.Coded.{Unit-prop, le_prop}
-use Rattle.icn_strings.specs.declared.place.ByteRange.{ByteRange}
+use Rattle.icn_strings.specs.declared.byte_range.ByteRange.{ByteRange}
 use Rattle.icn_strings.specs.declared.region.Region.{Region}
 use Rattle.icn_strings.specs.Regions.{IsOf, IsOf-prop, bytes_of}
 use Rattle.icn_value.specs.declared.val.Span.{Span}
@@ -22,16 +22,16 @@ pub record Extent : Type 0 where
   pub coexps : ℕ
 
 -- where the bytes of a text lie in the region
-abbrev pub place_of : Span → ByteRange
-place_of span = record { place = span.place; len = span.len }
+abbrev pub range_of : Span → ByteRange
+range_of span = record { start = span.start; len = span.len }
 
 -- the span names a text
 pub record IsText (all : Extent) (span : Span) : Type 0 where
-  pub of : IsOf all.strings (place_of span)
+  pub of : IsOf all.strings (range_of span)
 
 -- the bytes of a text
 unfoldable pub text_in : Extent → Span → List ℕ
-text_in all span = bytes_of all.strings (place_of span)
+text_in all span = bytes_of all.strings (range_of span)
 
 -- what a value stands for
 abbrev pub value_in : Extent → Val → Value

@@ -13,8 +13,8 @@ ghost use Rattle.icn_heap.specs.Heaps.{extent_of, heap_of};
 use crate::entries::keys_of_pairs_differ;
 use crate::heap::Heap;
 use crate::members::keys_of_members_differ;
-use crate::spans::as_place;
-use icn_strings::{empty_place, length_of_bytes, short_string, within_limit as within_region};
+use crate::spans::as_range;
+use icn_strings::{empty_range, length_of_bytes, short_string, within_limit as within_region};
 use icn_value::Span;
 
 /// `&main` is of every heap.
@@ -30,7 +30,7 @@ pub fn empty_text(heap: &Heap, span: Span)
     ensures live { IsText (extent_of heap.now) span }
     ensures bytes { text_in (extent_of heap.now) span ≡ [] }
 {
-    empty_place(&heap.strings, as_place(span));
+    empty_range(&heap.strings, as_range(span));
 }
 
 /// A text has as many bytes as its span says.
@@ -39,7 +39,7 @@ pub fn length_of_text(heap: &Heap, span: Span)
     requires { IsText (extent_of heap.now) span }
     ensures { length (text_in (extent_of heap.now) span) ≡ span.len }
 {
-    length_of_bytes(&heap.strings, as_place(span));
+    length_of_bytes(&heap.strings, as_range(span));
 }
 
 /// A text has so few bytes that each position in it is an `i64`, the one behind its last byte too.
@@ -48,7 +48,7 @@ pub fn short_text(heap: &Heap, span: Span)
     requires { IsText (extent_of heap.now) span }
     ensures { length (text_in (extent_of heap.now) span) < 2 ^ 63 - 1 }
 {
-    short_string(&heap.strings, as_place(span));
+    short_string(&heap.strings, as_range(span));
 }
 
 /// No heap has charged more cells than its limit.

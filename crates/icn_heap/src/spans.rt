@@ -1,25 +1,25 @@
-// Places of a region as spans, and its refusals as those of a heap.
+// Ranges of a region as spans, and its refusals as those of a heap.
 ghost use Rattle.std.specs.Prelude.{◌≡◌};
-ghost use Rattle.icn_heap.specs.Extents.{place_of};
+ghost use Rattle.icn_heap.specs.Extents.{range_of};
 ghost use Rattle.icn_heap.specs.Fulls.{strings_full};
 
 use icn_strings::ByteRange;
 use icn_value::{Full, Span};
 
-pub fn span_of(place: ByteRange) -> Span
-    ensures { place_of result ≡ place }
+pub fn span_of(range: ByteRange) -> Span
+    ensures { range_of result ≡ range }
 {
     Span {
-        place: place.place,
-        len: place.len,
+        start: range.start,
+        len: range.len,
     }
 }
 
-pub fn as_place(span: Span) -> ByteRange
-    ensures { result ≡ place_of span }
+pub fn as_range(span: Span) -> ByteRange
+    ensures { result ≡ range_of span }
 {
     ByteRange {
-        place: span.place,
+        start: span.start,
         len: span.len,
     }
 }

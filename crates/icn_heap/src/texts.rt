@@ -1,7 +1,7 @@
 // The texts of a heap.
 use crate::heap::Heap;
-use crate::spans::{as_place, full_of, span_of};
-use icn_strings::{ByteRange, end_of_place, length_of_bytes, part_of_place};
+use crate::spans::{as_range, full_of, span_of};
+use icn_strings::{ByteRange, end_of_range, length_of_bytes, part_of_range};
 use icn_value::{Full, Span};
 use std::alloc::AllocError;
 
@@ -22,7 +22,7 @@ impl Heap {
         ensures unchanged { OnErr result (heap_of self.new ≡ heap_of self.old) }
     {
         match self.strings.build(bytes) {
-            Ok(place) => Ok(span_of(place)),
+            Ok(range) => Ok(span_of(range)),
             Err(full) => Err(full_of(full)),
         }
     }
@@ -44,12 +44,12 @@ impl Heap {
         ensures kept { Keeps (extent_of self.old) (extent_of self.new) }
         ensures unchanged { OnErr result (heap_of self.new ≡ heap_of self.old) }
     {
-        let first = as_place(a);
-        let second = as_place(b);
+        let first = as_range(a);
+        let second = as_range(b);
         length_of_bytes(&self.strings, first);
         length_of_bytes(&self.strings, second);
         match self.strings.join(first, second) {
-            Ok(place) => Ok(span_of(place)),
+            Ok(range) => Ok(span_of(range)),
             Err(full) => Err(full_of(full)),
         }
     }
@@ -74,14 +74,14 @@ impl Heap {
         ensures bytes { text_in (extent_of self.now) result
             ≡ take len (drop from (text_in (extent_of self.now) span)) }
     {
-        let whole = as_place(span);
+        let whole = as_range(span);
         length_of_bytes(&self.strings, whole);
-        end_of_place(&self.strings, whole);
+        end_of_range(&self.strings, whole);
         let part = ByteRange {
-            place: whole.place + from,
+            start: whole.start + from,
             len,
         };
-        part_of_place(&self.strings, part, whole);
+        part_of_range(&self.strings, part, whole);
         span_of(part)
     }
 
@@ -91,6 +91,6 @@ impl Heap {
         requires { IsText (extent_of self.now) span }
         ensures { result.now ≡ text_in (extent_of self.now) span }
     {
-        self.strings.bytes(as_place(span))
+        self.strings.bytes(as_range(span))
     }
 }

@@ -158,16 +158,16 @@ integers_keep p known (x ∷ xs) h k =
     let t = and_parts _ _ k in integers_keep p (with_integer known x) xs (integer_keeps p known x h t.0) t.1
 
 -- what is held has its place
-abbrev pub has_place : List (List ℕ) → List ℕ → Bool
-has_place texts text = nat_lt (text_index texts text) (length texts)
+abbrev pub has_index : List (List ℕ) → List ℕ → Bool
+has_index texts text = nat_lt (text_index texts text) (length texts)
 
-abbrev pub has_integer_place : List ℤ → ℤ → Bool
-has_integer_place integers n = nat_lt (integer_index integers n) (length integers)
+abbrev pub has_integer_index : List ℤ → ℤ → Bool
+has_integer_index integers n = nat_lt (integer_index integers n) (length integers)
 
-pub text_placed : (texts : List (List ℕ)) (text : List ℕ) → has_text texts text ≡ true → has_place texts text ≡ true
+pub text_placed : (texts : List (List ℕ)) (text : List ℕ) → has_text texts text ≡ true → has_index texts text ≡ true
 text_placed texts text h = lt-ltb _ _ (place_within (bytes_eq text) texts h)
 
-pub integer_placed : (integers : List ℤ) (n : ℤ) → has_integer integers n ≡ true → has_integer_place integers n ≡ true
+pub integer_placed : (integers : List ℤ) (n : ℤ) → has_integer integers n ≡ true → has_integer_index integers n ≡ true
 integer_placed integers n h = lt-ltb _ _ (place_within (int_eq n) integers h)
 
 -- and stands there

@@ -22,7 +22,7 @@ use Rattle.icn_link.specs.JoinableUnits.{is_joinable_proc}
 use Rattle.icn_link.specs.LinkFaults.{over, count_fault, field_counts, record_sizes, size_of, local_counts, static_counts}
 use Rattle.icn_link.specs.Mentions.{Mention, NoMention, AnInteger, AText, ASet, AField, Operands, AllMentions, declared_names, field_in, fields, fields_in, function_named, functions_in, global_in, globals, integer_in, mention_of, all_mentions, mentioned_by, mentioned_in, operands_in, record_name_in, record_names, set_in, string_mentions, strings, text_in}
 use Rattle.icn_link.specs.Views.{Joinable}
-use Rattle.icn_link.proofs.Each.{all_in_flat, all_mapped, all_then, both, has_integer, has_integer_place, has_place, has_text, integer_placed, integers_there, text_at, text_placed, texts_there}
+use Rattle.icn_link.proofs.Each.{all_in_flat, all_mapped, all_then, both, has_integer, has_integer_index, has_index, has_text, integer_placed, integers_there, text_at, text_placed, texts_there}
 use Rattle.icn_link.proofs.KeptCsets.{cset_kept}
 use Rattle.icn_link.proofs.KeptMentions.{integers_kept, strings_kept}
 use Rattle.icn_link.proofs.KeptProcs.{Long, has_mention, proc_fits}
@@ -135,13 +135,13 @@ names_long M (Link text ∷ decls) = names_long M decls
 names_long M (Record name fields ∷ decls) = ap suc (names_long M decls)
 
 field_fits : (M : AllMentions) (strings : ℕ) (fields : ℕ) → fields ≡ length M.fields → (names : List (List ℕ))
-    → list_all (has_place M.fields) names ≡ true → list_all (λ field. nat_lt field fields) (map (text_index M.fields) names) ≡ true
+    → list_all (has_index M.fields) names ≡ true → list_all (λ field. nat_lt field fields) (map (text_index M.fields) names) ≡ true
 field_fits M strings fields e [] h = refl
 field_fits M strings fields e (name ∷ names) h =
     let t = and_parts _ _ h in both (ap (nat_lt (text_index M.fields name)) e ∙ t.0) (field_fits M strings fields e names t.1)
 
 record_fits : (M : AllMentions) (fields : ℕ) → fields ≡ length M.fields → (decl : Decl)
-    → list_all (has_place M.strings) (record_name_in decl) ≡ true → list_all (has_place M.fields) (fields_in decl) ≡ true
+    → list_all (has_index M.strings) (record_name_in decl) ≡ true → list_all (has_index M.fields) (fields_in decl) ≡ true
     → list_all (λ n. nat_le n 65535) (field_counts decl) ≡ true
     → list_all (Rules.is_record (length M.strings) fields) (records_in M decl) ≡ true
 record_fits M fields e (GlobalDecl name) a b c = refl
@@ -153,9 +153,9 @@ record_fits M fields e (Record name names) a b c =
 
 -- What instructions mention is in the tables
 
-one_mention : (M : AllMentions) (m : Mention) → list_all (has_integer_place M.integers) (integer_in m) ≡ true
-    → list_all (has_place M.strings) (text_in m) ≡ true → list_all (has_place M.sets) (set_in m) ≡ true
-    → list_all (has_place M.fields) (field_in m) ≡ true → list_all (λ n. nat_le n 65535) (operands_in m) ≡ true
+one_mention : (M : AllMentions) (m : Mention) → list_all (has_integer_index M.integers) (integer_in m) ≡ true
+    → list_all (has_index M.strings) (text_in m) ≡ true → list_all (has_index M.sets) (set_in m) ≡ true
+    → list_all (has_index M.fields) (field_in m) ≡ true → list_all (λ n. nat_le n 65535) (operands_in m) ≡ true
     → has_mention M m ≡ true
 unfolding has_mention
 one_mention M NoMention a b c d e = refl
@@ -166,10 +166,10 @@ one_mention M (AField name) a b c d e = (and_parts _ _ d).0
 one_mention M (Operands count) a b c d e = (and_parts _ _ e).0
 
 instrs_mention : (M : AllMentions) (instrs : List UnitInstr)
-    → list_all (λ i. list_all (has_integer_place M.integers) (integer_in (mention_of i))) instrs ≡ true
-    → list_all (λ i. list_all (has_place M.strings) (text_in (mention_of i))) instrs ≡ true
-    → list_all (λ i. list_all (has_place M.sets) (set_in (mention_of i))) instrs ≡ true
-    → list_all (λ i. list_all (has_place M.fields) (field_in (mention_of i))) instrs ≡ true
+    → list_all (λ i. list_all (has_integer_index M.integers) (integer_in (mention_of i))) instrs ≡ true
+    → list_all (λ i. list_all (has_index M.strings) (text_in (mention_of i))) instrs ≡ true
+    → list_all (λ i. list_all (has_index M.sets) (set_in (mention_of i))) instrs ≡ true
+    → list_all (λ i. list_all (has_index M.fields) (field_in (mention_of i))) instrs ≡ true
     → list_all (λ i. list_all (λ n. nat_le n 65535) (operands_in (mention_of i))) instrs ≡ true
     → list_all (λ i. has_mention M (mention_of i)) instrs ≡ true
 instrs_mention M [] a b c d e = refl
@@ -178,10 +178,10 @@ instrs_mention M (i ∷ instrs) a b c d e =
     both (one_mention M (mention_of i) p.0 q.0 r.0 s.0 t.0) (instrs_mention M instrs p.1 q.1 r.1 s.1 t.1)
 
 procs_mention : (M : AllMentions) (procs : List Proc)
-    → list_all (λ proc. list_all (has_integer_place M.integers) (mentioned_in integer_in proc)) procs ≡ true
-    → list_all (λ proc. list_all (has_place M.strings) (mentioned_in text_in proc)) procs ≡ true
-    → list_all (λ proc. list_all (has_place M.sets) (mentioned_in set_in proc)) procs ≡ true
-    → list_all (λ proc. list_all (has_place M.fields) (mentioned_in field_in proc)) procs ≡ true
+    → list_all (λ proc. list_all (has_integer_index M.integers) (mentioned_in integer_in proc)) procs ≡ true
+    → list_all (λ proc. list_all (has_index M.strings) (mentioned_in text_in proc)) procs ≡ true
+    → list_all (λ proc. list_all (has_index M.sets) (mentioned_in set_in proc)) procs ≡ true
+    → list_all (λ proc. list_all (has_index M.fields) (mentioned_in field_in proc)) procs ≡ true
     → list_all (λ proc. list_all (λ n. nat_le n 65535) (mentioned_in operands_in proc)) procs ≡ true
     → list_all (λ (proc : Proc). list_all (λ i. has_mention M (mention_of i)) proc.instrs) procs ≡ true
 procs_mention M [] a b c d e = refl
@@ -195,7 +195,7 @@ procs_mention M (proc ∷ procs) a b c d e =
 
 procs_fit : (M : AllMentions) (T : Tables) → Long M T → (procs : List Proc) → list_all is_joinable_proc procs ≡ true
     → list_all (λ (proc : Proc). list_all (λ i. has_mention M (mention_of i)) proc.instrs) procs ≡ true
-    → list_all (has_place M.strings) (proc_names procs) ≡ true
+    → list_all (has_index M.strings) (proc_names procs) ≡ true
     → list_all (λ n. nat_le n 65535) (local_counts M.globals procs) ≡ true
     → list_all (λ n. nat_le n 65535) (static_counts M.globals procs) ≡ true
     → list_all (λ proc. nat_le (size_of proc) 16777216) procs ≡ true
@@ -208,8 +208,8 @@ procs_fit M T F (proc ∷ procs) a b c d e f =
     (procs_fit M T F procs p.1 q.1 r.1 s.1 t.1 u.1)
 
 records_fit : (M : AllMentions) (fields : ℕ) → fields ≡ length M.fields → (decls : List Decl)
-    → list_all (λ decl. list_all (has_place M.strings) (record_name_in decl)) decls ≡ true
-    → list_all (λ decl. list_all (has_place M.fields) (fields_in decl)) decls ≡ true
+    → list_all (λ decl. list_all (has_index M.strings) (record_name_in decl)) decls ≡ true
+    → list_all (λ decl. list_all (has_index M.fields) (fields_in decl)) decls ≡ true
     → list_all (λ decl. list_all (λ n. nat_le n 65535) (field_counts decl)) decls ≡ true
     → list_all (Rules.is_record (length M.strings) fields) (flat_map (records_in M) decls) ≡ true
 records_fit M fields e [] a b c = refl
@@ -221,7 +221,7 @@ records_fit M fields e (decl ∷ decls) a b c =
 -- Globals
 
 global_fits : (M : AllMentions) (ps rs : List (List ℕ)) (procs records : ℕ) → procs ≡ length ps → records ≡ length rs
-    → (name : List ℕ) → has_place M.strings name ≡ true
+    → (name : List ℕ) → has_index M.strings name ≡ true
     → Rules.is_global (length M.strings) records procs (global_entry M ps rs name) ≡ true
 global_fits M ps rs procs records a b name h =
     both h (started procs records (index_of ps name) (index_of rs name) (is_among M.declared name) (function_named name)
@@ -273,24 +273,24 @@ joined_kept decls procs J =
     let t2 = parts (record_names decls) r2 t1.1 in
     let t3 = parts (globals decls procs) r3 t2.1 in
     let t4 = parts (proc_names procs) r4 t3.1 in
-    let placed : (names : List (List ℕ)) → list_all (has_text M.strings) names ≡ true → list_all (has_place M.strings) names ≡ true =
-    λ names h. all_then (has_text M.strings) (has_place M.strings) (text_placed M.strings) names h in
+    let placed : (names : List (List ℕ)) → list_all (has_text M.strings) names ≡ true → list_all (has_index M.strings) names ≡ true =
+    λ names h. all_then (has_text M.strings) (has_index M.strings) (text_placed M.strings) names h in
     let own = flat_map fields_in decls in
     let used = mentioned_by field_in procs in
     let f = and_parts (list_all (has_text M.fields) own) (list_all (has_text M.fields) used)
     (sym (list_all-append (has_text M.fields) own used) ∙ texts_there [] (own ++ used)) in
-    let fielded : (names : List (List ℕ)) → list_all (has_text M.fields) names ≡ true → list_all (has_place M.fields) names ≡ true =
-    λ names h. all_then (has_text M.fields) (has_place M.fields) (text_placed M.fields) names h in
+    let fielded : (names : List (List ℕ)) → list_all (has_text M.fields) names ≡ true → list_all (has_index M.fields) names ≡ true =
+    λ names h. all_then (has_text M.fields) (has_index M.fields) (text_placed M.fields) names h in
     let counts : Rules.are_counts T ≡ true =
     both (both (both (both (both (both (le-leb _ _ s1.0) (le-leb _ _ (omega (arith, n2, s2.0)))) (le-leb _ _ s3.0)) (le-leb _ _ (omega (arith, n4, s4.0))))
     (le-leb _ _ (omega (arith, n5, s5.0)))) (le-leb _ _ (omega (arith, n6, s6.0)))) (le-leb _ _ (omega (arith, n7, s7.0))) in
     let mention = procs_mention M procs
-    (all_in_flat (has_integer_place M.integers) (mentioned_in integer_in) procs (all_then (has_integer M.integers) (has_integer_place M.integers)
+    (all_in_flat (has_integer_index M.integers) (mentioned_in integer_in) procs (all_then (has_integer M.integers) (has_integer_index M.integers)
     (integer_placed M.integers) (mentioned_by integer_in procs) (integers_there [] (mentioned_by integer_in procs))))
-    (all_in_flat (has_place M.strings) (mentioned_in text_in) procs (placed r4 t4.1))
-    (all_in_flat (has_place M.sets) (mentioned_in set_in) procs (all_then (has_text M.sets) (has_place M.sets) (text_placed M.sets)
+    (all_in_flat (has_index M.strings) (mentioned_in text_in) procs (placed r4 t4.1))
+    (all_in_flat (has_index M.sets) (mentioned_in set_in) procs (all_then (has_text M.sets) (has_index M.sets) (text_placed M.sets)
     (mentioned_by set_in procs) (texts_there [] (mentioned_by set_in procs))))
-    (all_in_flat (has_place M.fields) (mentioned_in field_in) procs (fielded used f.1))
+    (all_in_flat (has_index M.fields) (mentioned_in field_in) procs (fielded used f.1))
     (all_in_flat (λ n. nat_le n 65535) (mentioned_in operands_in) procs (all_within 65535 (mentioned_by operands_in procs) J.operands)) in
     let csets : list_all Rules.is_cset T.csets ≡ true =
     all_mapped Rules.is_cset cset_of M.sets (all_then (λ x. true) (λ x. Rules.is_cset (cset_of x)) (λ x h. cset_kept x) M.sets (all_true M.sets)) in
@@ -299,13 +299,13 @@ joined_kept decls procs J =
     let named : list_all (λ name. nat_lt name (length T.strings)) T.fields ≡ true =
     all_mapped (λ name. nat_lt name (length M.strings)) (text_index M.strings) M.fields (placed M.fields t1.0) in
     let records : list_all (Rules.is_record (length T.strings) (length T.fields)) T.records ≡ true =
-    records_fit M (length T.fields) n4 decls (all_in_flat (has_place M.strings) record_name_in decls (placed (record_names decls) t2.0))
-    (all_in_flat (has_place M.fields) fields_in decls (fielded own f.0))
+    records_fit M (length T.fields) n4 decls (all_in_flat (has_index M.strings) record_name_in decls (placed (record_names decls) t2.0))
+    (all_in_flat (has_index M.fields) fields_in decls (fielded own f.0))
     (all_in_flat (λ n. nat_le n 65535) field_counts decls (all_within 65535 (record_sizes decls) J.records)) in
     let is_global = Rules.is_global (length T.strings) (length T.records) (length T.procs) in
     let entries : list_all is_global T.globals ≡ true =
     all_mapped is_global (global_entry M (proc_names procs) (record_names decls)) M.globals
-    (all_then (has_place M.strings) (λ name. is_global (global_entry M (proc_names procs) (record_names decls) name))
+    (all_then (has_index M.strings) (λ name. is_global (global_entry M (proc_names procs) (record_names decls) name))
     (global_fits M (proc_names procs) (record_names decls) (length T.procs) (length T.records)
     (n7 ∙ sym (length-map procs (λ (proc : Proc). proc.name))) (names_long M decls)) M.globals (placed M.globals t3.0)) in
     let differ : Rules.names_differ (map (Rules.name_of T.strings) T.globals) ≡ true =

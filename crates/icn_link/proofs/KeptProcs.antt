@@ -28,7 +28,7 @@ use Rattle.icn_link.specs.Gathering.{integer_index, text_index}
 use Rattle.icn_link.specs.Mentions.{Mention, NoMention, AnInteger, AText, ASet, AField, Operands, AllMentions, mention_of}
 use Rattle.icn_link.specs.Resolving.{Scope, resolve, resolved_one, label_address, label_address_by}
 use Rattle.icn_link.specs.Views.{procs_seen}
-use Rattle.icn_link.proofs.Each.{both, has_text, has_place, has_integer_place, text_placed, all_of_flat, all_with}
+use Rattle.icn_link.proofs.Each.{both, has_text, has_index, has_integer_index, text_placed, all_of_flat, all_with}
 
 -- Variables
 
@@ -213,10 +213,10 @@ label_within label (instr ∷ instrs) =
 -- what an instruction mentions is in the tables
 unfoldable pub has_mention : AllMentions → Mention → Bool
 has_mention M NoMention = true
-has_mention M (AnInteger n) = has_integer_place M.integers n
-has_mention M (AText text) = has_place M.strings text
-has_mention M (ASet members) = has_place M.sets members
-has_mention M (AField name) = has_place M.fields name
+has_mention M (AnInteger n) = has_integer_index M.integers n
+has_mention M (AText text) = has_index M.strings text
+has_mention M (ASet members) = has_index M.sets members
+has_mention M (AField name) = has_index M.fields name
 has_mention M (Operands count) = nat_le count 65535
 
 -- the tables are as long as what is mentioned
@@ -292,7 +292,7 @@ params_local globals (entry ∷ entries) =
     omega (arith, a, b, one, rest)
 
 pub proc_fits : (M : AllMentions) (T : Tables) → Long M T → (proc : Proc) → is_joinable_proc proc ≡ true
-    → list_all (λ instr. has_mention M (mention_of instr)) proc.instrs ≡ true → has_place M.strings proc.name ≡ true
+    → list_all (λ instr. has_mention M (mention_of instr)) proc.instrs ≡ true → has_index M.strings proc.name ≡ true
     → locals_in M.globals proc.names ≤ 65535 → statics_in M.globals proc.names ≤ 65535 → size_of proc ≤ 16777216
     → Rules.is_proc T (proc_entry M proc) ≡ true
 proc_fits M T F proc kept mentions name locals statics size =

@@ -11,7 +11,7 @@ pub mod KeptUnits
 pub mod LinkTexts
 pub mod JoinedTables
 pub mod Maps
-pub mod Places
+pub mod Indices
 pub mod Repeating
 pub mod Stages
 pub mod Steps

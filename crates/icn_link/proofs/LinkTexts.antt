@@ -14,7 +14,7 @@ use Rattle.icn_link.specs.declared.fault.LinkFault.TheVariants.{K2, NoMemory}
 use Rattle.icn_link.specs.Gathering.{with_text, with_texts}
 use Rattle.icn_link.specs.LinkFaults.{base_of, missing, missing_by, missing_fault, missing_from, missing_in, unit_names, IsFault}
 use Rattle.icn_link.specs.Views.{texts_seen}
-use Rattle.icn_link.proofs.Places.{held_text}
+use Rattle.icn_link.proofs.Indices.{held_text}
 
 -- what is missing, by whether the name is there
 missing_as : (keys : List (Bor (List ℕ))) (decl : UnitDecl) (text : List ℕ) (slice base : Bor (List ℕ)) (found : Bool) → decl ≡ Kept.Link text

@@ -9,12 +9,12 @@ use Rattle.std.proofs.lemmas.Bool.{false≢true}
 use Rattle.std.proofs.lemmas.Slice.Eq.{bytes_eq-Decides}
 use Rattle.icn_link.specs.Joined.{global_entry, global_with, index_of}
 use Rattle.icn_link.specs.Mentions.{AllMentions}
-use Rattle.icn_link.specs.Views.{places_in}
+use Rattle.icn_link.specs.Views.{entry_in}
 
 -- what a map has after an insert
 pub inserted_at : {X S : Type 0} (key : Bor (List ℕ)) (m n : HashMap (Bor (List ℕ)) X S) (w : Option X)
     → Updates (λ a b. bytes_eq a.now b.now) m n key w
-    → (name : List ℕ) → places_in n name ≡ cond (bytes_eq key.now name) w (places_in m name)
+    → (name : List ℕ) → entry_in n name ≡ cond (bytes_eq key.now name) w (entry_in m name)
 inserted_at key m n w h name = h.0 (record { ref_ptr = (0, 0); now = name })
 
 pub or_none : {X : Type 0} (x : Option X) → option_or x None ≡ x

@@ -12,12 +12,12 @@ use Rattle.icn_link.specs.declared.fault.LinkFault.{LinkFault}
 use Rattle.icn_link.specs.declared.fault.LinkFault.TheVariants.{K1}
 use Rattle.icn_link.specs.declared.repeats.Owner.{Owner as KeptOwner}
 use Rattle.icn_link.specs.LinkFaults.{Owner, owner_named, repeat_of, repeated_from}
-use Rattle.icn_link.specs.Views.{owner_seen, places_in}
+use Rattle.icn_link.specs.Views.{owner_seen, entry_in}
 use Rattle.icn_link.proofs.Maps.{comes, inserted_at}
 
 -- the map has the places of those before, and the rest is still to be looked at
 pub record Met {S : Type 0} (places : HashMap (Bor (List ℕ)) DeclPlace S) (before rest all : List Owner) : Type 0 where
-  pub held : (name : List ℕ) → places_in places name ≡ option_map (λ (owner : Owner). owner.place) (owner_named name before)
+  pub held : (name : List ℕ) → entry_in places name ≡ option_map (λ (owner : Owner). owner.place) (owner_named name before)
   pub same : repeated_from before rest ≡ repeated_from [] all
 
 not_met : (found : Option Owner) → option_map (λ (owner : Owner). owner.place) found ≡ None → found ≡ None
@@ -35,13 +35,13 @@ one_place false next = refl
 
 -- one more that is new
 pub met_more : {S : Type 0} (places new : HashMap (Bor (List ℕ)) DeclPlace S) (key : Bor (List ℕ)) (before others all : List Owner) (next : Owner)
-    → key.now ≡ next.name → Met places before (next ∷ others) all → places_in places next.name ≡ None
+    → key.now ≡ next.name → Met places before (next ∷ others) all → entry_in places next.name ≡ None
     → Updates (λ a b. bytes_eq a.now b.now) places new key (Some next.place)
     → Met new (before ++ next ∷ []) others all
 met_more places new key before others all next is m none h = record {
   held = λ name.
-      comes (places_in places) (places_in new) next.name next.place (ap is_some none)
-      (λ other. inserted_at key places new (Some next.place) h other ∙ ap (λ n. cond (bytes_eq n other) (Some next.place) (places_in places other)) is) name
+      comes (entry_in places) (entry_in new) next.name next.place (ap is_some none)
+      (λ other. inserted_at key places new (Some next.place) h other ∙ ap (λ n. cond (bytes_eq n other) (Some next.place) (entry_in places other)) is) name
       ∙ ap (λ found. option_or found (if bytes_eq name next.name then Some next.place else None)) (m.held name)
       ∙ ap (option_or (option_map (λ (owner : Owner). owner.place) (owner_named name before))) (sym (one_place (bytes_eq name next.name) next))
       ∙ sym (ap (option_map (λ (owner : Owner). owner.place)) (find-append (λ (other : Owner). bytes_eq name other.name) before (next ∷ []))
@@ -59,7 +59,7 @@ seen_behind (other ∷ owners) owner = ap (λ seen. owner_seen other ∷ seen) (
 
 pub met_step : {S : Type 0} (places new : HashMap (Bor (List ℕ)) DeclPlace S) (owners : List KeptOwner) (i : ℕ) (none : KeptOwner) → i < length owners
     → Met places (map owner_seen (take i owners)) (map owner_seen (drop i owners)) (map owner_seen owners)
-    → places_in places (get_or owners i none).name.now ≡ None
+    → entry_in places (get_or owners i none).name.now ≡ None
     → Updates (λ a b. bytes_eq a.now b.now) places new (get_or owners i none).name (Some (get_or owners i none).place)
     → Met new (map owner_seen (take (i + 1) owners)) (map owner_seen (drop (i + 1) owners)) (map owner_seen owners)
 met_step places new owners i none within m lacks h =
@@ -82,7 +82,7 @@ fault_by next (Some owner) first rest h =
     let same : owner.place ≡ first = cc in ap (λ place. Some (K1 next.place.unit next.name place next.place)) same
 
 pub met_fault : {S : Type 0} (places : HashMap (Bor (List ℕ)) DeclPlace S) (before others all : List Owner) (next : Owner) (first : DeclPlace)
-    → Met places before (next ∷ others) all → places_in places next.name ≡ Some first
+    → Met places before (next ∷ others) all → entry_in places next.name ≡ Some first
     → repeated_from [] all ≡ Some (K1 next.place.unit next.name first next.place)
 met_fault places before others all next first m h =
     sym m.same ∙ fault_by next (owner_named next.name before) first (repeated_from (before ++ next ∷ []) others) (sym (m.held next.name) ∙ h)

@@ -58,17 +58,17 @@ gathered_seen tables = record {
 }
 
 -- what a map has for each name
-abbrev pub places_in : {X S : Type 0} → IndexMap (Bor (List ℕ)) X S → List ℕ → Option X
-places_in places name = get_by (λ key. bytes_eq name key.now) places
+abbrev pub entry_in : {X S : Type 0} → IndexMap (Bor (List ℕ)) X S → List ℕ → Option X
+entry_in map name = get_by (λ key. bytes_eq name key.now) map
 
 -- the address of a label
 abbrev pub address_in : Labels → ℕ → ℕ
-address_in labels label = unwrap_or (get nat_eq labels.places label) labels.end
+address_in labels label = unwrap_or (get nat_eq labels.addresses label) labels.end
 
 -- the same, where these instructions are still to come
 abbrev pub address_from : Labels → ℕ → List UnitInstr → ℕ
 address_from labels label rest =
-    unwrap_or (get nat_eq labels.places label) (labels.end + label_address label rest)
+    unwrap_or (get nat_eq labels.addresses label) (labels.end + label_address label rest)
 
 -- Each place in a table has 16 bits.
 pub record AreFew (tables : AllMentions) : Type 0 where

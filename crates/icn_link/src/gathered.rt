@@ -440,7 +440,7 @@ pub fn text_index(texts: &IndexSet<&[u8]>, text: &[u8]) -> u32
     ensures { result ≡ text_index (texts_seen texts.now.keys) text.now }
 {
     match texts.get_index_of(text) {
-        Some(place) => place as u32,
+        Some(index) => index as u32,
         None => texts.len() as u32,
     }
 }
@@ -451,7 +451,7 @@ pub fn integer_index(integers: &IndexSet<i64>, n: i64) -> u32
     ensures { result ≡ integer_index integers.now.keys n }
 {
     match integers.get_index_of(&n) {
-        Some(place) => place as u32,
+        Some(index) => index as u32,
         None => integers.len() as u32,
     }
 }

@@ -1,5 +1,6 @@
 // The addresses of labels.
 ghost use Rattle.std.specs.Prelude.{◌≡◌, ◌≤◌, ◌+◌, ◌∷◌, ℕ, List, IfOk, OnOk, count_by};
+ghost use Rattle.icn_profile.specs.Numbers.{most_instructions};
 ghost use Rattle.icn_unit.specs.declared.unit.UnitInstr.{UnitInstr};
 ghost use Rattle.icn_unit.specs.UnitRules.{own_label};
 ghost use Rattle.icn_link.specs.LinkFaults.{is_instruction};
@@ -10,21 +11,21 @@ use icn_unit::UnitInstr;
 use indexmap::IndexMap;
 use std::alloc::{AllocError, Global};
 
-/// The address of each label of a procedure: how many instructions stand before its place.
+/// The address of each label of a procedure: how many instructions stand before it.
 #[derive(Drop)]
 pub struct Labels {
-    pub places: IndexMap<u32, u32>,
+    pub addresses: IndexMap<u32, u32>,
     // how many instructions there are
     pub end: u32,
 }
 
 /// The addresses of the labels among instructions.
 pub fn labels_of(alloc: Global, instrs: &[UnitInstr]) -> Result<Labels, AllocError>
-    requires few { count_by is_instruction instrs.now ≤ 16777216 }
+    requires few { count_by is_instruction instrs.now ≤ most_instructions }
     ensures { IfOk result (λ labels. (label : ℕ) → address_in labels label ≡ label_address label instrs.now) }
 {
     let mut labels = Labels {
-        places: IndexMap::new(alloc),
+        addresses: IndexMap::new(alloc),
         end: 0,
     };
     for instr in instrs {
@@ -33,20 +34,20 @@ pub fn labels_of(alloc: Global, instrs: &[UnitInstr]) -> Result<Labels, AllocErr
     Ok(labels)
 }
 
-// Goes on over an instruction. A label has its first place.
+// Goes on over an instruction. A label has its first address.
 fn pass(labels: &mut Labels, instr: &UnitInstr) -> Result<(), AllocError>
-    requires few { labels.now.end ≤ 16777216 }
+    requires few { labels.now.end ≤ most_instructions }
     ensures addresses { OnOk result ((label : ℕ) (rest : List UnitInstr) →
         address_from labels.new label rest ≡ address_from labels.old label (instr.now ∷ rest)) }
     ensures end { OnOk result ((rest : List UnitInstr) → labels.new.end + count_by is_instruction rest
         ≡ labels.old.end + count_by is_instruction (instr.now ∷ rest)) }
 {
-    match place_of(instr) {
+    match own_label(instr) {
         Some(label) => {
-            if labels.places.contains_key(&label) {
+            if labels.addresses.contains_key(&label) {
                 return Ok(());
             }
-            labels.places.insert(label, labels.end)?;
+            labels.addresses.insert(label, labels.end)?;
             Ok(())
         }
         None => {
@@ -56,8 +57,8 @@ fn pass(labels: &mut Labels, instr: &UnitInstr) -> Result<(), AllocError>
     }
 }
 
-/// The label that has its place there.
-pub fn place_of(instr: &UnitInstr) -> Option<u32>
+/// The label that stands there.
+pub fn own_label(instr: &UnitInstr) -> Option<u32>
     ensures { result ≡ own_label instr.now }
 {
     match instr {
@@ -101,11 +102,11 @@ pub fn place_of(instr: &UnitInstr) -> Option<u32>
 }
 
 /// The address of a label.
-pub fn place_in(labels: &Labels, label: u32) -> u32
+pub fn address_in(labels: &Labels, label: u32) -> u32
     ensures { result ≡ address_in labels.now label }
 {
-    match labels.places.get(&label) {
-        Some(place) => *place,
+    match labels.addresses.get(&label) {
+        Some(address) => *address,
         None => labels.end,
     }
 }

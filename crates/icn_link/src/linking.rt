@@ -15,7 +15,7 @@ ghost use Rattle.icn_link.specs.JoinableUnits.{is_joinable_decl, is_joinable_pro
 ghost use Rattle.icn_link.specs.LinkFaults.{first_fault, is_instruction, over, size_of, too_large_of, IsFault};
 ghost use Rattle.icn_link.specs.Mentions.{function_named, all_mentions, record_name_in, record_names};
 ghost use Rattle.icn_link.specs.Units.{units_seen};
-ghost use Rattle.icn_link.specs.Views.{decls_seen, gathered_seen, procs_seen, places_in, texts_seen, AreFew, Joinable};
+ghost use Rattle.icn_link.specs.Views.{decls_seen, gathered_seen, procs_seen, entry_in, texts_seen, AreFew, Joinable};
 
 use crate::fault::LinkFault;
 use crate::gathered::{Gathered, function_named, gather, text_index};
@@ -127,7 +127,7 @@ fn code_of(
     let strings = copies(alloc, tables.strings.as_slice())?;
     let csets = csets(alloc, tables.sets.as_slice())?;
     let integers = Vec::from_slice(alloc, tables.integers.as_slice())?;
-    let fields = places(alloc, &tables.strings, tables.fields.as_slice())?;
+    let fields = text_indices(alloc, &tables.strings, tables.fields.as_slice())?;
     let records = records(alloc, tables, decls)?;
     let globals = globals(alloc, tables, decls, procs)?;
     let procs = entries(alloc, tables, procs)?;
@@ -181,16 +181,20 @@ fn put_bit(bits: &mut [u8; 32], byte: u8)
 }
 
 // Where texts stand in a table.
-fn places(alloc: Global, table: &IndexSet<&[u8]>, texts: &[&[u8]]) -> Result<Vec<u32>, AllocError>
+fn text_indices(
+    alloc: Global,
+    table: &IndexSet<&[u8]>,
+    texts: &[&[u8]],
+) -> Result<Vec<u32>, AllocError>
     requires few { length (texts_seen table.now.keys) ≤ most_entries }
     ensures { IfOk result
-        (λ places. places.items ≡ map (text_index (texts_seen table.now.keys)) (texts_seen texts.now)) }
+        (λ indices. indices.items ≡ map (text_index (texts_seen table.now.keys)) (texts_seen texts.now)) }
 {
-    let mut places = Vec::new(alloc);
+    let mut indices = Vec::new(alloc);
     for text in texts {
-        places.push(text_index(table, text))?;
+        indices.push(text_index(table, text))?;
     }
-    Ok(places)
+    Ok(indices)
 }
 
 // Records
@@ -242,26 +246,27 @@ fn record_with(
     ensures { IfOk result
         (λ kind. record_of kind ≡ record_entry (gathered_seen tables.now) name.now fields.now) }
 {
-    let places = field_places(alloc, &tables.fields, fields)?;
+    let indices = field_indices(alloc, &tables.fields, fields)?;
     Ok(Record {
         name: text_index(&tables.strings, name),
-        fields: places,
+        fields: indices,
     })
 }
 
-fn field_places(
+fn field_indices(
     alloc: Global,
     table: &IndexSet<&[u8]>,
     fields: &[Bytes],
 ) -> Result<Vec<u32>, AllocError>
     requires few { length (texts_seen table.now.keys) ≤ most_entries }
-    ensures { IfOk result (λ places. places.items ≡ map (text_index (texts_seen table.now.keys)) fields.now) }
+    ensures { IfOk result
+        (λ indices. indices.items ≡ map (text_index (texts_seen table.now.keys)) fields.now) }
 {
-    let mut places = Vec::new(alloc);
+    let mut indices = Vec::new(alloc);
     for field in fields {
-        places.push(text_index(table, field.as_slice()))?;
+        indices.push(text_index(table, field.as_slice()))?;
     }
-    Ok(places)
+    Ok(indices)
 }
 
 // Globals
@@ -278,9 +283,9 @@ fn globals(
     ensures { IfOk result (λ globals. globals.items ≡ map (global_entry (gathered_seen tables.now) (proc_names
         (procs_seen procs.now)) (record_names (decls_seen decls.now))) (gathered_seen tables.now).globals) }
 {
-    let proc_places = first_places(alloc, &names_of_procs(alloc, procs)?)?;
-    let record_places = first_places(alloc, &names_of_records(alloc, decls)?)?;
-    globals_with(alloc, tables, &proc_places, &record_places)
+    let proc_indices = first_indices(alloc, &names_of_procs(alloc, procs)?)?;
+    let record_indices = first_indices(alloc, &names_of_records(alloc, decls)?)?;
+    globals_with(alloc, tables, &proc_indices, &record_indices)
 }
 
 // The globals, where procedures and records have these numbers.
@@ -292,7 +297,7 @@ fn globals_with(
 ) -> Result<Vec<Variable>, AllocError>
     requires few { AreFew (gathered_seen tables.now) }
     ensures { IfOk result (λ globals. globals.items ≡ map (global_with (gathered_seen tables.now)
-        (places_in procs.now) (places_in records.now)) (gathered_seen tables.now).globals) }
+        (entry_in procs.now) (entry_in records.now)) (gathered_seen tables.now).globals) }
 {
     let mut globals = Vec::new(alloc);
     let names = tables.globals.as_slice();
@@ -310,7 +315,7 @@ fn global(
 ) -> Variable
     requires few { AreFew (gathered_seen tables.now) }
     ensures { result
-        ≡ global_with (gathered_seen tables.now) (places_in procs.now) (places_in records.now) name.now }
+        ≡ global_with (gathered_seen tables.now) (entry_in procs.now) (entry_in records.now) name.now }
 {
     Variable {
         name: text_index(&tables.strings, name),
@@ -354,33 +359,33 @@ fn put_record_name<'a>(names: &mut Vec<&'a [u8]>, decl: &'a UnitDecl) -> Result<
 }
 
 // Where each name stands first.
-fn first_places<'a>(
+fn first_indices<'a>(
     alloc: Global,
     names: &[&'a [u8]],
 ) -> Result<IndexMap<&'a [u8], u32>, AllocError>
     requires few { length (texts_seen names.now) ≤ most_entries }
     ensures { IfOk result
-        (λ places. (name : List ℕ) → places_in places name ≡ index_of (texts_seen names.now) name) }
+        (λ indices. (name : List ℕ) → entry_in indices name ≡ index_of (texts_seen names.now) name) }
 {
-    let mut places = IndexMap::new(alloc);
-    for (place, name) in names.iter().enumerate() {
-        put_place(&mut places, name, place as u32)?;
+    let mut indices = IndexMap::new(alloc);
+    for (index, name) in names.iter().enumerate() {
+        put_index(&mut indices, name, index as u32)?;
     }
-    Ok(places)
+    Ok(indices)
 }
 
-fn put_place<'a>(
-    places: &mut IndexMap<&'a [u8], u32>,
+fn put_index<'a>(
+    indices: &mut IndexMap<&'a [u8], u32>,
     name: &'a [u8],
-    place: u32,
+    index: u32,
 ) -> Result<(), AllocError>
-    ensures { OnOk result ((other : List ℕ) → places_in places.new other
-        ≡ option_or (places_in places.old other) (if bytes_eq other name.now then Some place else None)) }
+    ensures { OnOk result ((other : List ℕ) → entry_in indices.new other
+        ≡ option_or (entry_in indices.old other) (if bytes_eq other name.now then Some index else None)) }
 {
-    if places.contains_key(name) {
+    if indices.contains_key(name) {
         return Ok(());
     }
-    places.insert(name, place)?;
+    indices.insert(name, index)?;
     Ok(())
 }
 
@@ -391,13 +396,13 @@ fn start(
     declared: &IndexSet<&[u8]>,
     name: &[u8],
 ) -> Start
-    ensures { result ≡ start_by (places_in procs.now name.now) (places_in records.now name.now)
+    ensures { result ≡ start_by (entry_in procs.now name.now) (entry_in records.now name.now)
         (is_among (texts_seen declared.now.keys) name.now) (function_named name.now) }
 {
     match procs.get(name) {
-        Some(place) => Start::Procedure(*place),
+        Some(index) => Start::Procedure(*index),
         None => match records.get(name) {
-            Some(place) => Start::Record(*place),
+            Some(index) => Start::Record(*index),
             None => undeclared_start(declared, name),
         },
     }

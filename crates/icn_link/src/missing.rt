@@ -42,25 +42,25 @@ fn check_all(alloc: Global, names: &IndexSet<&[u8]>, units: &[Unit]) -> Result<(
     ensures fault { IfErr result
         (IsFault (missing_from (texts_seen names.now.keys) 0 (units_seen units.now))) }
 {
-    for (place, unit) in units.iter().enumerate() {
-        check_unit(alloc, names, place as u64, &unit.decls)?;
+    for (index, unit) in units.iter().enumerate() {
+        check_unit(alloc, names, index as u64, &unit.decls)?;
     }
     Ok(())
 }
 
-// Refuses the unit at this place, of these declarations, where it links one of another name.
+// Refuses the unit of this index, of these declarations, where it links one of another name.
 fn check_unit(
     alloc: Global,
     names: &IndexSet<&[u8]>,
-    place: u64,
+    index: u64,
     decls: &[UnitDecl],
 ) -> Result<(), LinkFault>
     ensures none { OnOk result (missing_in (texts_seen names.now.keys) (map decl_seen decls.now) ≡ None) }
-    ensures fault { IfErr result (IsFault (option_map (missing_fault place)
+    ensures fault { IfErr result (IsFault (option_map (missing_fault index)
         (missing_in (texts_seen names.now.keys) (map decl_seen decls.now)))) }
 {
     for decl in decls {
-        check_decl(alloc, names, place, decl)?;
+        check_decl(alloc, names, index, decl)?;
     }
     Ok(())
 }
@@ -68,11 +68,11 @@ fn check_unit(
 fn check_decl(
     alloc: Global,
     names: &IndexSet<&[u8]>,
-    place: u64,
+    index: u64,
     decl: &UnitDecl,
 ) -> Result<(), LinkFault>
     ensures none { OnOk result (missing_by (texts_seen names.now.keys) (decl_seen decl.now) ≡ None) }
-    ensures fault { IfErr result (IsFault (option_map (missing_fault place)
+    ensures fault { IfErr result (IsFault (option_map (missing_fault index)
         (missing_by (texts_seen names.now.keys) (decl_seen decl.now)))) }
 {
     match decl {
@@ -81,18 +81,18 @@ fn check_decl(
             if names.contains(base) {
                 Ok(())
             } else {
-                Err(missing(alloc, place, base))
+                Err(missing(alloc, index, base))
             }
         }
         UnitDecl::Global(_) | UnitDecl::Proc(_) | UnitDecl::Record(_, _) => Ok(()),
     }
 }
 
-fn missing(alloc: Global, place: u64, name: &[u8]) -> LinkFault
-    ensures { (result ≡ NoMemory) ⊎ (result ≡ K2 place name.now) }
+fn missing(alloc: Global, index: u64, name: &[u8]) -> LinkFault
+    ensures { (result ≡ NoMemory) ⊎ (result ≡ K2 index name.now) }
 {
     match Bytes::from_slice(alloc, name) {
-        Ok(name) => LinkFault::K2 { unit: place, name },
+        Ok(name) => LinkFault::K2 { unit: index, name },
         Err(AllocError) => LinkFault::NoMemory,
     }
 }

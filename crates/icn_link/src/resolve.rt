@@ -5,7 +5,7 @@ ghost use Rattle.icn_link.specs.Resolving.{instr_in, instr_list, resolve, resolv
 ghost use Rattle.icn_link.specs.Views.{gathered_seen, address_in, AreFew};
 
 use crate::gathered::{Gathered, integer_index, text_index};
-use crate::labels::{Labels, place_in};
+use crate::labels::{Labels, address_in};
 use icn_code::Instr;
 use icn_unit::UnitInstr;
 use std::alloc::{AllocError, Global};
@@ -41,7 +41,7 @@ fn put(code: &mut Vec<Instr>, instr: Option<Instr>) -> Result<(), AllocError>
     }
 }
 
-// What an instruction is in linked code. The place of a label is none.
+// What an instruction is in linked code. That of a label is none.
 fn instr_in(
     tables: &Gathered<'_>,
     variables: &[Instr],
@@ -57,7 +57,7 @@ fn instr_in(
         UnitInstr::Int(n) => Some(Instr::Int(integer_index(&tables.integers, *n))),
         UnitInstr::Str(bytes) => Some(Instr::Str(text_index(&tables.strings, bytes.as_slice()))),
         UnitInstr::Cset(set) => Some(Instr::Cset(text_index(&tables.sets, set.as_slice()))),
-        UnitInstr::Var(place) => Some(variable_at(variables, *place)),
+        UnitInstr::Var(index) => Some(variable_at(variables, *index)),
         UnitInstr::Keywd(keyword) => Some(Instr::Keywd(*keyword)),
         UnitInstr::Pop => Some(Instr::Pop),
         UnitInstr::Dup => Some(Instr::Dup),
@@ -66,7 +66,7 @@ fn instr_in(
         UnitInstr::Field(name) => Some(Instr::Field(text_index(&tables.fields, name.as_slice()))),
         UnitInstr::Invoke(count) => Some(Instr::Invoke(*count)),
         UnitInstr::Appl => Some(Instr::Appl),
-        UnitInstr::Mark(label) => Some(Instr::Mark(place_in(labels, *label))),
+        UnitInstr::Mark(label) => Some(Instr::Mark(address_in(labels, *label))),
         UnitInstr::Mark0 => Some(Instr::Mark0),
         UnitInstr::Unmark => Some(Instr::Unmark),
         UnitInstr::Eret => Some(Instr::Eret),
@@ -74,17 +74,17 @@ fn instr_in(
         UnitInstr::Limit => Some(Instr::Limit),
         UnitInstr::Lsusp => Some(Instr::Lsusp),
         UnitInstr::Efail => Some(Instr::Efail),
-        UnitInstr::Chfail(label) => Some(Instr::Chfail(place_in(labels, *label))),
-        UnitInstr::Goto(label) => Some(Instr::Goto(place_in(labels, *label))),
-        UnitInstr::Loop(label) => Some(Instr::Loop(place_in(labels, *label))),
+        UnitInstr::Chfail(label) => Some(Instr::Chfail(address_in(labels, *label))),
+        UnitInstr::Goto(label) => Some(Instr::Goto(address_in(labels, *label))),
+        UnitInstr::Loop(label) => Some(Instr::Loop(address_in(labels, *label))),
         UnitInstr::Bscan => Some(Instr::Bscan),
         UnitInstr::Escan => Some(Instr::Escan),
         UnitInstr::Ccase => Some(Instr::Ccase),
-        UnitInstr::Init(label) => Some(Instr::Init(place_in(labels, *label))),
+        UnitInstr::Init(label) => Some(Instr::Init(address_in(labels, *label))),
         UnitInstr::Psusp => Some(Instr::Psusp),
         UnitInstr::Pret => Some(Instr::Pret),
         UnitInstr::Pfail => Some(Instr::Pfail),
-        UnitInstr::Create(label) => Some(Instr::Create(place_in(labels, *label))),
+        UnitInstr::Create(label) => Some(Instr::Create(address_in(labels, *label))),
         UnitInstr::Coact => Some(Instr::Coact),
         UnitInstr::Coret => Some(Instr::Coret),
         UnitInstr::Cofail => Some(Instr::Cofail),
@@ -92,11 +92,11 @@ fn instr_in(
     }
 }
 
-// The instruction of the name at this place.
-fn variable_at(variables: &[Instr], place: u32) -> Instr
-    ensures { result ≡ variable_at variables.now place }
+// The instruction of the name of this index.
+fn variable_at(variables: &[Instr], index: u32) -> Instr
+    ensures { result ≡ variable_at variables.now index }
 {
-    match variables.get(place as usize) {
+    match variables.get(index as usize) {
         Some(instr) => *instr,
         None => Instr::Local(0),
     }

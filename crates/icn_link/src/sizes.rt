@@ -11,7 +11,7 @@ ghost use Rattle.icn_link.specs.Views.{decls_seen, gathered_seen, procs_seen, te
 
 use crate::fault::LinkFault;
 use crate::gathered::Gathered;
-use crate::labels::place_of;
+use crate::labels::own_label;
 use crate::mention::{Mention, mention_of};
 use crate::variable::{locals_in, statics_in};
 use icn_profile::{MOST_ENTRIES, MOST_INSTRUCTIONS};
@@ -56,7 +56,7 @@ fn size_of(instrs: &[UnitInstr]) -> u64
 {
     instrs
         .iter()
-        .filter(|instr| place_of(instr).is_none())
+        .filter(|instr| own_label(instr).is_none())
         .count() as u64
 }
 

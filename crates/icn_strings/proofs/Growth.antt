@@ -2,9 +2,9 @@
 use Rattle.std.proofs.Common.{inl, inr, ◌≡◌, ◌∙◌, ℕ, zero, suc, ◌+◌, ◌-◌, ◌<◌, ◌≤◌, List, [], ◌++◌, length, take, drop, refl, sym, ap, arith, length-append, length-drop, append-nil}
 use Rattle.std.proofs.lemmas.Bool.{cases_lt}
 use Rattle.std.proofs.lemmas.List.{length-take-le, take_all, take-append-le, drop-append-le, drop-take, drop-drop, take-take}
-use Rattle.icn_strings.specs.declared.place.ByteRange.{ByteRange}
+use Rattle.icn_strings.specs.declared.byte_range.ByteRange.{ByteRange}
 use Rattle.icn_strings.specs.declared.region.Region.{Region}
-use Rattle.icn_strings.specs.Places.{IsPart}
+use Rattle.icn_strings.specs.Ranges.{IsPart}
 use Rattle.icn_strings.specs.Regions.{limit_of, sum_of, IsHeld, bytes_of, Keeps, IsUnchanged}
 
 -- bytes that lie within stay where more is appended
@@ -23,10 +23,10 @@ keeps_more {a} {b} more is same = record {
   limit = same;
   of = λ p h. record {
     held = λ some.
-        let old : p.place + p.len ≤ length a.bytes.items = h.held some in
+        let old : p.start + p.len ≤ length a.bytes.items = h.held some in
         rw is (rw length-append (omega arith));
   };
-  bytes = λ p h. rw is (within_stays p.len p.place a.bytes.items more h.held);
+  bytes = λ p h. rw is (within_stays p.len p.start a.bytes.items more h.held);
 }
 
 -- the bytes and the limit are the same
@@ -44,21 +44,21 @@ unchanged {a} {b} is limit sum = record {
 
 -- the bytes of a part are its part of the bytes
 pub part_bytes : (xs : List ℕ) (part whole : ByteRange) → IsPart part whole
-    → take part.len (drop part.place xs) ≡ take part.len (drop (part.place - whole.place) (take whole.len (drop whole.place xs)))
+    → take part.len (drop part.start xs) ≡ take part.len (drop (part.start - whole.start) (take whole.len (drop whole.start xs)))
 part_bytes xs part whole is =
-    let before : ℕ = part.place - whole.place in
+    let before : ℕ = part.start - whole.start in
     let behind : ℕ = whole.len - before in
-    let from : whole.place ≤ part.place = is.from in
-    let to : part.place + part.len ≤ whole.place + whole.len = is.to in
+    let from : whole.start ≤ part.start = is.from in
+    let to : part.start + part.len ≤ whole.start + whole.len = is.to in
     let lens : whole.len ≡ before + behind = omega arith in
-    let places : part.place ≡ whole.place + before = omega arith in
+    let starts : part.start ≡ whole.start + before = omega arith in
     let within : part.len ≤ behind = omega arith in
-    let cut : drop before (take (before + behind) (drop whole.place xs)) ≡ take behind (drop (whole.place + before) xs) =
-    drop-take before behind (drop whole.place xs) ∙ ap (λ ys. take behind ys) (drop-drop before whole.place xs) in
-    ap (λ at. take part.len (drop at xs)) places
-    ∙ (sym (take-take part.len behind (drop (whole.place + before) xs) within)
+    let cut : drop before (take (before + behind) (drop whole.start xs)) ≡ take behind (drop (whole.start + before) xs) =
+    drop-take before behind (drop whole.start xs) ∙ ap (λ ys. take behind ys) (drop-drop before whole.start xs) in
+    ap (λ at. take part.len (drop at xs)) starts
+    ∙ (sym (take-take part.len behind (drop (whole.start + before) xs) within)
     ∙ (ap (λ ys. take part.len ys) (sym cut)
-    ∙ ap (λ n. take part.len (drop before (take n (drop whole.place xs)))) (sym lens)))
+    ∙ ap (λ n. take part.len (drop before (take n (drop whole.start xs)))) (sym lens)))
 
 pub ruleset growth = (keeps_more, keeps_same, unchanged)
 

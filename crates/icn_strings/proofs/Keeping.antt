@@ -7,6 +7,6 @@ use Rattle.icn_strings.specs.declared.region.Region.{Region}
 pub keeps_then : {a b c : Region} → Keeps a b → Keeps b c → Keeps a c
 keeps_then {a} {b} {c} first second = record {
   limit = second.limit ∙ first.limit;
-  of = λ place is. second.of place (first.of place is);
-  bytes = λ place is. second.bytes place (first.of place is) ∙ first.bytes place is;
+  of = λ range is. second.of range (first.of range is);
+  bytes = λ range is. second.bytes range (first.of range is) ∙ first.bytes range is;
 }

@@ -1,2 +1,2 @@
-pub mod Places
+pub mod Ranges
 pub mod Regions

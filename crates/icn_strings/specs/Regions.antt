@@ -2,7 +2,7 @@
 -- words what the contracts and the laws say.
 use Rattle.std.specs.Prelude.{◌≡◌, ℕ, ◌+◌, ◌<◌, ◌≤◌, List, length, take, drop}
 use Rattle.std.proofs.Props.{props}
-use Rattle.icn_strings.specs.declared.place.ByteRange.{ByteRange}
+use Rattle.icn_strings.specs.declared.byte_range.ByteRange.{ByteRange}
 use Rattle.icn_strings.specs.declared.region.Region.{Region}
 
 -- how many bytes may be charged
@@ -13,34 +13,34 @@ limit_of region = region.limit
 unfoldable pub sum_of : Region → ℕ
 sum_of region = region.sum
 
--- the place names bytes that the region holds, or none at all
+-- the range names bytes that the region holds, or none at all
 unfoldable pub IsHeld : Region → ByteRange → Type 0
-IsHeld region place = 0 < place.len → place.place + place.len ≤ length region.bytes.items
+IsHeld region range = 0 < range.len → range.start + range.len ≤ length region.bytes.items
 
--- the place is of the region: a record, so that a proof finds the region and the place in it
-pub record IsOf (region : Region) (place : ByteRange) : Type 0 where
-  pub held : IsHeld region place
+-- the range is of the region: a record, so that a proof finds the region and the range in it
+pub record IsOf (region : Region) (range : ByteRange) : Type 0 where
+  pub held : IsHeld region range
 
--- the bytes of a place
+-- the bytes of a range
 unfoldable pub bytes_of : Region → ByteRange → List ℕ
-bytes_of region place = take place.len (drop place.place region.bytes.items)
+bytes_of region range = take range.len (drop range.start region.bytes.items)
 
--- every place is still a place, with the same bytes, and the limit is the same
+-- every range is still a range, with the same bytes, and the limit is the same
 pub record Keeps (old new : Region) : Type 0 where
   pub limit : limit_of new ≡ limit_of old
-  pub of : (place : ByteRange) → IsOf old place → IsOf new place
-  pub bytes : (place : ByteRange) → IsOf old place → bytes_of new place ≡ bytes_of old place
+  pub of : (range : ByteRange) → IsOf old range → IsOf new range
+  pub bytes : (range : ByteRange) → IsOf old range → bytes_of new range ≡ bytes_of old range
 
--- no place came or went or changed, and nothing was charged
+-- no range came or went or changed, and nothing was charged
 pub record IsUnchanged (old new : Region) : Type 0 where
   pub sum : sum_of new ≡ sum_of old
   pub kept : Keeps old new
   pub back : Keeps new old
 
-IsHeld-prop : (region : Region) (place : ByteRange) → IsProp (IsHeld region place)
+IsHeld-prop : (region : Region) (range : ByteRange) → IsProp (IsHeld region range)
 unfolding IsHeld
-IsHeld-prop region place = hlevel props
+IsHeld-prop region range = hlevel props
 
--- whether a place is of a region is a fact alone, which a ghost field can keep
-pub IsOf-prop : (region : Region) (place : ByteRange) → IsProp (IsOf region place)
-IsOf-prop region place = hlevel IsHeld-prop
+-- whether a range is of a region is a fact alone, which a ghost field can keep
+pub IsOf-prop : (region : Region) (range : ByteRange) → IsProp (IsOf region range)
+IsOf-prop region range = hlevel IsHeld-prop

@@ -1,41 +1,41 @@
 // What holds of every region. A call does nothing: it tells a caller's proof the law.
 ghost use Rattle.std.specs.Prelude.{◌≡◌, ◌+◌, ◌-◌, ◌^◌, ◌<◌, ◌≤◌, [], length, take, drop};
-ghost use Rattle.icn_strings.specs.Places.{IsPart};
+ghost use Rattle.icn_strings.specs.Ranges.{IsPart};
 ghost use Rattle.icn_strings.specs.Regions.{limit_of, sum_of, IsOf, bytes_of};
 
-use crate::place::ByteRange;
+use crate::byte_range::ByteRange;
 use crate::region::Region;
 
-/// A place of length 0 is of every region, and has no bytes.
+/// A range of length 0 is of every region, and has no bytes.
 #[tactic(auto, unfolding(crate::specs::Regions::IsHeld, crate::specs::Regions::bytes_of))]
-pub fn empty_place(region: &Region, place: ByteRange)
-    requires { place.len ≡ 0 }
-    ensures of { IsOf region.now place }
-    ensures bytes { bytes_of region.now place ≡ [] }
+pub fn empty_range(region: &Region, range: ByteRange)
+    requires { range.len ≡ 0 }
+    ensures of { IsOf region.now range }
+    ensures bytes { bytes_of region.now range ≡ [] }
 {}
 
-/// A part of a place of a region is of it too, and has its part of the bytes.
+/// A part of a range of a region is of it too, and has its part of the bytes.
 #[tactic(auto, using(crate::proofs::Growth::part_bytes), unfolding(crate::specs::Regions::IsHeld, crate::specs::Regions::bytes_of))]
-pub fn part_of_place(region: &Region, part: ByteRange, whole: ByteRange)
+pub fn part_of_range(region: &Region, part: ByteRange, whole: ByteRange)
     requires of { IsOf region.now whole }
     requires part { IsPart part whole }
     ensures of { IsOf region.now part }
     ensures bytes { bytes_of region.now part
-        ≡ take part.len (drop (part.place - whole.place) (bytes_of region.now whole)) }
+        ≡ take part.len (drop (part.start - whole.start) (bytes_of region.now whole)) }
 {}
 
-/// A place of a region has as many bytes as it says.
+/// A range of a region has as many bytes as it says.
 #[tactic(auto, unfolding(crate::specs::Regions::IsHeld, crate::specs::Regions::bytes_of))]
-pub fn length_of_bytes(region: &Region, place: ByteRange)
-    requires { IsOf region.now place }
-    ensures { length (bytes_of region.now place) ≡ place.len }
+pub fn length_of_bytes(region: &Region, range: ByteRange)
+    requires { IsOf region.now range }
+    ensures { length (bytes_of region.now range) ≡ range.len }
 {}
 
-/// The end of a place of a region is a `u64`, so that the place of a part can be computed.
+/// The end of a range of a region is a `u64`, so that the range of a part can be computed.
 #[tactic(auto, unfolding(crate::specs::Regions::IsHeld))]
-pub fn end_of_place(region: &Region, place: ByteRange)
-    requires { IsOf region.now place }
-    ensures { place.place + place.len < 2 ^ 64 }
+pub fn end_of_range(region: &Region, range: ByteRange)
+    requires { IsOf region.now range }
+    ensures { range.start + range.len < 2 ^ 64 }
 {}
 
 /// No region has charged more than its limit.
@@ -46,7 +46,7 @@ pub fn within_limit(region: &Region)
 
 /// A string of a region has so few bytes that each position in it is an `i64`, the one behind its last byte too.
 #[tactic(auto, using(crate::proofs::Growth::part_short), unfolding(crate::specs::Regions::bytes_of))]
-pub fn short_string(region: &Region, place: ByteRange)
-    requires { IsOf region.now place }
-    ensures { length (bytes_of region.now place) < 2 ^ 63 - 1 }
+pub fn short_string(region: &Region, range: ByteRange)
+    requires { IsOf region.now range }
+    ensures { length (bytes_of region.now range) < 2 ^ 63 - 1 }
 {}

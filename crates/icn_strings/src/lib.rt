@@ -1,15 +1,15 @@
 //! The strings of a program's heap: a region that holds their bytes, and charges them against a limit.
 #![tactic(auto)]
 
+mod byte_range;
 mod copy;
 mod full;
 mod laws;
-mod place;
 mod region;
 
+pub use byte_range::ByteRange;
 pub use full::Full;
 pub use laws::{
-    empty_place, end_of_place, length_of_bytes, part_of_place, short_string, within_limit,
+    empty_range, end_of_range, length_of_bytes, part_of_range, short_string, within_limit,
 };
-pub use place::ByteRange;
 pub use region::Region;

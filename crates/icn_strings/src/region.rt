@@ -1,9 +1,9 @@
 // The region of strings.
 ghost use Rattle.std.specs.Prelude.{◌≡◌, ◌+◌, ◌-◌, ◌^◌, ◌<◌, ◌≤◌, ◌↔◌, ◌++◌, length, slice_range, OnOk, OnErr, IfOk, vec_len};
 
+use crate::byte_range::ByteRange;
 use crate::copy::append_both;
 use crate::full::Full;
-use crate::place::ByteRange;
 use std::alloc::{AllocError, Global};
 use std::ops::Range;
 
@@ -13,7 +13,7 @@ const MOST: u64 = i64::MAX as u64;
 /// The strings of a program's heap.
 ///
 /// A string that is built or joined is charged by its length, in bytes, and what is charged never passes the limit.
-/// One that is held is not charged. Nothing is given back, and the bytes of a place never change.
+/// One that is held is not charged. Nothing is given back, and the bytes of a range never change.
 #[derive(Drop)]
 pub struct Region {
     bytes: Vec<u8>,
@@ -46,8 +46,8 @@ impl Region {
     #[tactic(auto, using(crate::proofs::Keeping::keeps_then))]
     pub fn build(&mut self, bytes: &[u8]) -> Result<ByteRange, Full>
         ensures of { IfOk result (IsOf self.new) }
-        ensures len { IfOk result (λ place. place.len ≡ length bytes.now) }
-        ensures bytes { IfOk result (λ place. bytes_of self.new place ≡ bytes.now) }
+        ensures len { IfOk result (λ range. range.len ≡ length bytes.now) }
+        ensures bytes { IfOk result (λ range. bytes_of self.new range ≡ bytes.now) }
         ensures sum { OnOk result (sum_of self.new ≡ sum_of self.old + length bytes.now) }
         ensures within { sum_of self.new ≤ limit_of self.new }
         ensures kept { Keeps self.old self.new }
@@ -62,9 +62,9 @@ impl Region {
         if len > self.room() {
             return Err(self.full());
         }
-        let place = self.hold(bytes)?;
+        let range = self.hold(bytes)?;
         self.charge(len);
-        Ok(place)
+        Ok(range)
     }
 
     /// Makes a string of the bytes of `a` and then those of `b`, and charges both, whatever was there already.
@@ -76,9 +76,9 @@ impl Region {
         requires first { IsOf self.old a }
         requires second { IsOf self.old b }
         ensures of { IfOk result (IsOf self.new) }
-        ensures len { IfOk result (λ place. place.len ≡ a.len + b.len) }
+        ensures len { IfOk result (λ range. range.len ≡ a.len + b.len) }
         ensures bytes { IfOk result
-            (λ place. bytes_of self.new place ≡ bytes_of self.old a ++ bytes_of self.old b) }
+            (λ range. bytes_of self.new range ≡ bytes_of self.old a ++ bytes_of self.old b) }
         ensures sum { OnOk result (sum_of self.new ≡ sum_of self.old + (a.len + b.len)) }
         ensures within { sum_of self.new ≤ limit_of self.new }
         ensures kept { Keeps self.old self.new }
@@ -94,9 +94,9 @@ impl Region {
         if a.len > room || b.len > room - a.len {
             return Err(self.full());
         }
-        let place = self.hold_both(a, b)?;
-        self.charge(place.len);
-        Ok(place)
+        let range = self.hold_both(a, b)?;
+        self.charge(range.len);
+        Ok(range)
     }
 
     /// Makes a string of these bytes without a charge, for literals and for results that cost nothing.
@@ -105,46 +105,46 @@ impl Region {
     #[tactic(auto, using(crate::proofs::Growth::growth), unfolding(crate::specs::Regions::limit_of, crate::specs::Regions::sum_of, crate::specs::Regions::IsHeld, crate::specs::Regions::bytes_of))]
     pub fn hold(&mut self, bytes: &[u8]) -> Result<ByteRange, AllocError>
         ensures of { IfOk result (IsOf self.new) }
-        ensures len { IfOk result (λ place. place.len ≡ length bytes.now) }
-        ensures bytes { IfOk result (λ place. bytes_of self.new place ≡ bytes.now) }
+        ensures len { IfOk result (λ range. range.len ≡ length bytes.now) }
+        ensures bytes { IfOk result (λ range. bytes_of self.new range ≡ bytes.now) }
         ensures sum { sum_of self.new ≡ sum_of self.old }
         ensures kept { Keeps self.old self.new }
 
         ensures err { OnErr result (IsUnchanged self.old self.new) }
     {
-        let place = self.bytes.len() as u64;
-        if bytes.len() as u64 >= MOST - place {
+        let start = self.bytes.len() as u64;
+        if bytes.len() as u64 >= MOST - start {
             return Err(AllocError);
         }
         self.bytes.extend_from_slice(bytes)?;
         Ok(ByteRange {
-            place,
+            start,
             len: bytes.len() as u64,
         })
     }
 
     /// The bytes of a string. It takes no memory.
-    pub fn bytes(&self, place: ByteRange) -> &[u8]
-        requires { IsOf self.now place }
-        ensures { result.now ≡ bytes_of self.now place }
+    pub fn bytes(&self, range: ByteRange) -> &[u8]
+        requires { IsOf self.now range }
+        ensures { result.now ≡ bytes_of self.now range }
     {
-        &self.bytes[self.range(place)]
+        &self.bytes[self.range(range)]
     }
 
-    // Where the bytes of a place lie in the buffer.
+    // Where the bytes of a range lie in the buffer.
     #[tactic(auto, unfolding(crate::specs::Regions::IsHeld, crate::specs::Regions::bytes_of))]
-    fn range(&self, place: ByteRange) -> Range<usize>
-        requires { IsOf self.now place }
+    fn range(&self, range: ByteRange) -> Range<usize>
+        requires { IsOf self.now range }
         ensures ordered { result.start ≤ result.end }
         ensures within { result.end ≤ vec_len self.now.bytes }
-        ensures len { result.end - result.start ≡ place.len }
-        ensures bytes { slice_range self.now.bytes.items result.start result.end ≡ bytes_of self.now place }
+        ensures len { result.end - result.start ≡ range.len }
+        ensures bytes { slice_range self.now.bytes.items result.start result.end ≡ bytes_of self.now range }
     {
-        if place.len == 0 {
+        if range.len == 0 {
             return 0..0;
         }
-        let start = place.place as usize;
-        start..start + place.len as usize
+        let start = range.start as usize;
+        start..start + range.len as usize
     }
 
     // Holds the bytes of `a` and then those of `b`, without a charge.
@@ -154,22 +154,22 @@ impl Region {
         requires second { IsOf self.old b }
         requires fits { a.len + b.len < 2 ^ 64 }
         ensures of { IfOk result (IsOf self.new) }
-        ensures len { IfOk result (λ place. place.len ≡ a.len + b.len) }
+        ensures len { IfOk result (λ range. range.len ≡ a.len + b.len) }
         ensures bytes { IfOk result
-            (λ place. bytes_of self.new place ≡ bytes_of self.old a ++ bytes_of self.old b) }
+            (λ range. bytes_of self.new range ≡ bytes_of self.old a ++ bytes_of self.old b) }
         ensures sum { sum_of self.new ≡ sum_of self.old }
         ensures kept { Keeps self.old self.new }
         ensures err { OnErr result (IsUnchanged self.old self.new) }
     {
-        let place = self.bytes.len() as u64;
-        if a.len + b.len >= MOST - place {
+        let start = self.bytes.len() as u64;
+        if a.len + b.len >= MOST - start {
             return Err(AllocError);
         }
         let first = self.range(a);
         let second = self.range(b);
         append_both(&mut self.bytes, first, second)?;
         Ok(ByteRange {
-            place,
+            start,
             len: a.len + b.len,
         })
     }

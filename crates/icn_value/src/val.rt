@@ -4,8 +4,8 @@ use crate::cset::Cset;
 /// Where the bytes of a text lie in the string region of a heap.
 #[derive(Clone, Copy, Debug, PartialEq, Eq)]
 pub struct Span {
-    /// The place of the first byte, from 0 on.
-    pub place: u64,
+    /// Where the first byte lies, from 0 on.
+    pub start: u64,
     /// How many bytes there are.
     pub len: u64,
 }

@@ -47,7 +47,7 @@ impl World {
             → heap_of heap ≡ first_heap bounds → statics.items ≡ replicate count Null
             → world_of result ≡ first_world bounds (map (value_in (extent_of heap)) globals.items) count }
     {
-        let subject = Span { place: 0, len: 0 };
+        let subject = Span { start: 0, len: 0 };
         empty_text(&heap, subject);
         World {
             heap,

@@ -76,7 +76,7 @@ fn resumed_emptied(w: &mut World, slots: &mut Slots, rest: Residual) -> Result<O
     ensures live { IsLiveAnswer (reach_of w.new slots.new.vals.items) result }
     ensures locals { All (IsLive (extent_of w.new.heap)) slots.new.vals.items }
 {
-    let span = Span { place: 0, len: 0 };
+    let span = Span { start: 0, len: 0 };
     empty_text(&w.heap, span);
     assign_keyword(w, slots, KeywordVariable::Subject, Val::Text(span));
     again(rest, w, slots)

@@ -6,7 +6,7 @@ ghost use Rattle.icn_strings.specs.Regions.{IsOf, Keeps};
 
 #[cfg(test)]
 mod tests {
-    use icn_strings::{ByteRange, Full, Region, empty_place, end_of_place, part_of_place};
+    use icn_strings::{ByteRange, Full, Region, empty_range, end_of_range, part_of_range};
     use std::process::Abort;
     use std::test::Fail;
 
@@ -22,7 +22,7 @@ mod tests {
             ("", Ok("")),
         ] {
             match region.build(text.as_bytes()) {
-                Ok(place) => assert_eq!(rt; Ok(region.bytes(place)), want.map(str::as_bytes)),
+                Ok(range) => assert_eq!(rt; Ok(region.bytes(range)), want.map(str::as_bytes)),
                 Err(full) => assert_eq!(rt; Err(full), want),
             }
         }
@@ -58,17 +58,17 @@ mod tests {
         ensures of { IfOk result (IsOf region.new) }
         ensures kept { Keeps region.old region.new }
     {
-        let place = region.join(a, b)?;
+        let range = region.join(a, b)?;
         let (first, second) = want;
         assert_eq!(rt; region.bytes(a), first.as_bytes());
         assert_eq!(rt; region.bytes(b), second.as_bytes());
         let (front, back) = region
-            .bytes(place)
+            .bytes(range)
             .split_at_checked(first.len())
             .unwrap_or_default();
         assert_eq!(rt; front, first.as_bytes());
         assert_eq!(rt; back, second.as_bytes());
-        Ok(place)
+        Ok(range)
     }
 
     #[test]
@@ -76,12 +76,12 @@ mod tests {
         let mut region = Region::new(rt.alloc(), 32);
         let north = region.build(b"north")?;
         let wind = region.hold(b"wind")?;
-        end_of_place(&region, north);
+        end_of_range(&region, north);
         let part = ByteRange {
-            place: north.place + 1,
+            start: north.start + 1,
             len: 2,
         };
-        part_of_place(&region, part, north);
+        part_of_range(&region, part, north);
         let both = check_join(&rt, &mut region, north, wind, ("north", "wind"))?;
         check_join(&rt, &mut region, part, both, ("or", "northwind"))?;
         let last = check_join(&rt, &mut region, part, part, ("or", "or"))?;
@@ -99,10 +99,10 @@ mod tests {
         let mut region = Region::new(rt.alloc(), 4);
         let wind = region.build(b"wind")?;
         let wild = ByteRange {
-            place: u64::MAX,
+            start: u64::MAX,
             len: 0,
         };
-        empty_place(&region, wild);
+        empty_range(&region, wild);
         check_join(&rt, &mut region, wild, wild, ("", ""))?;
         assert_eq!(rt; region.bytes(wild), b"".as_slice());
         assert_eq!(rt;

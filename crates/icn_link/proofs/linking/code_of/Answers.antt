@@ -8,8 +8,8 @@ use Rattle.icn_link.specs.Views.{AreFew, decls_seen, gathered_seen, procs_seen, 
 use Rattle.icn_link.proofs.JoinedTables.{Parts, are_few, few_instrs, few_locals, few_procs, few_records, few_statics, tables_kept, tables_made}
 use Rattle.icn_link.proofs.linking.code_of.Goals as goal
 
-pub places-requires : goal.places-requires
-places-requires c =
+pub text_indices-requires : goal.text_indices-requires
+text_indices-requires c =
     let few : AreFew (gathered_seen c.args.tables.now) = are_few (gathered_seen c.args.tables.now) (decls_seen c.args.decls.now)
     (procs_seen c.args.procs.now) c.requires.tables c.requires.joinable in
     record { few = few.strings }

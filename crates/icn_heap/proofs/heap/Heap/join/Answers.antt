@@ -13,18 +13,18 @@ invariant_of-self c = record { sound = sound_as refl (texts_join (parts_of c.arg
 pub returns-in-Ok-clause-bytes : goal.returns-in-Ok-clause-bytes
 unfolding extent_of
 returns-in-Ok-clause-bytes c =
-    joined_is (extent_of c.args.self.now) _ c.args.a c.args.b _ c.as_place-first.ensures c.as_place-second.ensures c.span_of.ensures c.in-Ok.ensures.bytes
+    joined_is (extent_of c.args.self.now) _ c.args.a c.args.b _ c.as_range-first.ensures c.as_range-second.ensures c.span_of.ensures c.in-Ok.ensures.bytes
 
 pub returns-in-Ok-clause-step : goal.returns-in-Ok-clause-step
 unfolding extent_of heap_of
-returns-in-Ok-clause-step c = rw (joined_len (extent_of c.args.self.now) c.args.a c.args.b c.as_place-first.ensures
-    c.as_place-second.ensures c.length_of_bytes.ensures c.length_of_bytes-2.ensures)
+returns-in-Ok-clause-step c = rw (joined_len (extent_of c.args.self.now) c.args.a c.args.b c.as_range-first.ensures
+    c.as_range-second.ensures c.length_of_bytes.ensures c.length_of_bytes-2.ensures)
     (texts_charged (parts_of c.args.self.now) c.args.self.now.sound _ c.join.ensures.kept _ c.in-Ok.ensures.sum c.join.ensures.within)
 
 pub returns-in-Ok-clause-limits : goal.returns-in-Ok-clause-limits
 unfolding extent_of heap_of
 returns-in-Ok-clause-limits c = rw (joined_len (extent_of c.args.self.now) c.args.a
-    c.args.b c.as_place-first.ensures c.as_place-second.ensures c.length_of_bytes.ensures c.length_of_bytes-2.ensures)
+    c.args.b c.as_range-first.ensures c.as_range-second.ensures c.length_of_bytes.ensures c.length_of_bytes-2.ensures)
     (limits_ok (texts_charged (parts_of c.args.self.now) c.args.self.now.sound _ c.join.ensures.kept _ c.in-Ok.ensures.sum c.join.ensures.within))
 
 pub returns-in-Ok-clause-kept : goal.returns-in-Ok-clause-kept
@@ -34,15 +34,15 @@ returns-in-Ok-clause-kept c = keeps_as refl (texts_join (parts_of c.args.self.no
 pub returns-in-Err-clause-step : goal.returns-in-Err-clause-step
 unfolding extent_of heap_of
 returns-in-Err-clause-step c = rw (
-  (joined_len (extent_of c.args.self.now) c.args.a c.args.b c.as_place-first.ensures c.as_place-second.ensures c.length_of_bytes.ensures
+  (joined_len (extent_of c.args.self.now) c.args.a c.args.b c.as_range-first.ensures c.as_range-second.ensures c.length_of_bytes.ensures
       c.length_of_bytes-2.ensures),
   c.full_of.ensures,
 ) (text_refused (parts_of c.args.self.now) c.args.self.now.sound _ c.in-Err.ensures.full c.in-Err.ensures.memory)
 
 pub returns-in-Err-clause-limits : goal.returns-in-Err-clause-limits
 unfolding extent_of heap_of
-returns-in-Err-clause-limits c = rw (joined_len (extent_of c.args.self.now) c.args.a c.args.b c.as_place-first.ensures
-    c.as_place-second.ensures c.length_of_bytes.ensures c.length_of_bytes-2.ensures)
+returns-in-Err-clause-limits c = rw (joined_len (extent_of c.args.self.now) c.args.a c.args.b c.as_range-first.ensures
+    c.as_range-second.ensures c.length_of_bytes.ensures c.length_of_bytes-2.ensures)
     (text_limits (parts_of c.args.self.now) c.args.self.now.sound _ c.in-Err.ensures.full c.in-Err.ensures.memory _ (rw c.full_of.ensures refl))
 
 pub returns-in-Err-clause-kept : goal.returns-in-Err-clause-kept

@@ -21,9 +21,9 @@ any_seen : (text : List ℕ) (keys : List (Bor (List ℕ))) → list_any (λ key
 any_seen text [] = refl
 any_seen text (key ∷ keys) = ap (λ found. bytes_eq text key.now || found) (any_seen text keys)
 
-place_seen : (text : List ℕ) (keys : List (Bor (List ℕ))) → position_or_len (λ key. bytes_eq text key.now) keys ≡ position_or_len (bytes_eq text) (seen keys)
-place_seen text [] = refl
-place_seen text (key ∷ keys) = ap (λ n. cond (not (bytes_eq text key.now)) (1 + n) 0) (place_seen text keys)
+index_seen : (text : List ℕ) (keys : List (Bor (List ℕ))) → position_or_len (λ key. bytes_eq text key.now) keys ≡ position_or_len (bytes_eq text) (seen keys)
+index_seen text [] = refl
+index_seen text (key ∷ keys) = ap (λ n. cond (not (bytes_eq text key.now)) (1 + n) 0) (index_seen text keys)
 
 seen_behind : (keys : List (Bor (List ℕ))) (key : Bor (List ℕ)) → seen (keys ++ key ∷ []) ≡ seen keys ++ key.now ∷ []
 seen_behind [] key = refl
@@ -41,14 +41,14 @@ entered keys new key e =
     ap seen e ∙ (seen_by (list_any (λ other. bytes_eq key.now other.now) keys) keys key
     ∙ ap (λ test. if test then seen keys else seen keys ++ key.now ∷ []) (any_seen key.now keys))
 
--- the place that a look-up finds, or the one behind the last
+-- the index that a look-up finds, or the one behind the last
 first_by : {X : Type 0} (test : X → Bool) (xs : List X) (n : ℕ) (is : Bool) → nat_lt (position_or_len test xs) (length xs) ≡ is
     → cond is (Some (position_or_len test xs)) None ≡ Some n → position_or_len test xs ≡ n
 first_by test xs n true t e = same_Some (position_or_len test xs) n e
 first_by test xs n false t e = absurd (none-some n e)
 
-pub found_place : {X : Type 0} (test : X → Bool) (xs : List X) (n : ℕ) → position test xs ≡ Some n → position_or_len test xs ≡ n
-found_place test xs n e = first_by test xs n _ refl e
+pub found_index : {X : Type 0} (test : X → Bool) (xs : List X) (n : ℕ) → position test xs ≡ Some n → position_or_len test xs ≡ n
+found_index test xs n e = first_by test xs n _ refl e
 
 last_by : {X : Type 0} (test : X → Bool) (xs : List X) (is : Bool) → nat_lt (position_or_len test xs) (length xs) ≡ is
     → cond is (Some (position_or_len test xs)) None ≡ None → position_or_len test xs ≡ length xs
@@ -56,16 +56,16 @@ last_by test xs true t e = absurd (none-some (position_or_len test xs) (sym e))
 last_by test xs false t e =
     let most : position_or_len test xs ≤ length xs = prefix_len-le-length (λ x. not (test x)) xs in grind (arith, nat_tests)
 
-pub no_place : {X : Type 0} (test : X → Bool) (xs : List X) → position test xs ≡ None → position_or_len test xs ≡ length xs
-no_place test xs e = last_by test xs _ refl e
+pub no_index : {X : Type 0} (test : X → Bool) (xs : List X) → position test xs ≡ None → position_or_len test xs ≡ length xs
+no_index test xs e = last_by test xs _ refl e
 
 pub found_text : (text : List ℕ) (keys : List (Bor (List ℕ))) (n : ℕ) → position (λ key. bytes_eq text key.now) keys ≡ Some n
     → n ≡ position_or_len (bytes_eq text) (seen keys)
-found_text text keys n e = sym (found_place (λ key. bytes_eq text key.now) keys n e) ∙ place_seen text keys
+found_text text keys n e = sym (found_index (λ key. bytes_eq text key.now) keys n e) ∙ index_seen text keys
 
 pub no_text : (text : List ℕ) (keys : List (Bor (List ℕ))) → position (λ key. bytes_eq text key.now) keys ≡ None
     → length keys ≡ position_or_len (bytes_eq text) (seen keys)
-no_text text keys e = sym (no_place (λ key. bytes_eq text key.now) keys e) ∙ place_seen text keys
+no_text text keys e = sym (no_index (λ key. bytes_eq text key.now) keys e) ∙ index_seen text keys
 
 -- whether a table has a text
 pub held_text : (text : List ℕ) (keys : List (Bor (List ℕ))) (found : Bool) → found ≡ list_any (λ key. bytes_eq text key.now) keys
