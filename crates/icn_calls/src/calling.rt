@@ -8,7 +8,6 @@ ghost use Rattle.icn_code.specs.Codes.{Proc, Tables};
 ghost use Rattle.icn_code.specs.Seen.{tables_of};
 ghost use Rattle.icn_heap.specs.Extents.{IsLive, value_in};
 ghost use Rattle.icn_heap.specs.Heaps.{extent_of, heap_of};
-ghost use Rattle.icn_vars.specs.Outcomes.{IsLiveHalt};
 ghost use Rattle.icn_vars.specs.Stops.{IsLiveStop};
 ghost use Rattle.icn_vars.specs.Worlds.{KeepsItems, reach_of, world_of};
 ghost use Rattle.icn_run.specs.Stacks.{Frames as FramesRead, flat as calls};
@@ -18,6 +17,7 @@ ghost use Rattle.icn_control.specs.Living.{IsLiveStack};
 ghost use Rattle.icn_control.specs.Parts.{HaltsWith, RunsWith};
 ghost use Rattle.icn_control.specs.Standing.{stack_in};
 ghost use Rattle.icn_control.specs.Taking.{KeepsCounts};
+ghost use Rattle.icn_control.specs.Soundness.{LeavesWorld};
 
 use crate::arguments::{add_nulls, fit};
 use icn_cells::Stack;
@@ -144,9 +144,7 @@ pub fn call_procedure<K: Stack<Cell> + Drop>(
         vals.old.items) (stack_in (extent_of world.old.heap) frames.old.flat) st) st world.new) }
     ensures live { IsLiveStack (tables_of code.now) (reach_of world.old []) frames.old.flat
         → OnOk result (IsLiveStack (tables_of code.now) (reach_of world.new []) frames.new.flat) }
-    ensures halt { IfErr result (IsLiveHalt (reach_of world.new [])) }
-    ensures kept { KeepsItems (reach_of world.old []) (reach_of world.new []) }
-    ensures counts { OnOk result (KeepsCounts world.old world.new) }
+    ensures leaves { LeavesWorld world.old world.new result }
 {
     if frames.level() >= limits.levels {
         return Err(Halt::Error(301, None));

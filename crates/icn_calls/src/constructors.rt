@@ -8,7 +8,6 @@ ghost use Rattle.icn_code.specs.Codes.{RecordType, Tables};
 ghost use Rattle.icn_code.specs.Seen.{tables_of};
 ghost use Rattle.icn_heap.specs.Extents.{IsLive, value_in};
 ghost use Rattle.icn_heap.specs.Heaps.{extent_of};
-ghost use Rattle.icn_vars.specs.Outcomes.{IsLiveHalt};
 ghost use Rattle.icn_vars.specs.Stops.{IsLiveStop};
 ghost use Rattle.icn_vars.specs.Worlds.{KeepsItems, reach_of, world_of};
 ghost use Rattle.icn_run.specs.Stacks.{Frames as FramesRead, flat as calls};
@@ -17,6 +16,7 @@ ghost use Rattle.icn_control.specs.Living.{IsLiveStack};
 ghost use Rattle.icn_control.specs.Parts.{HaltsWith, RunsWith};
 ghost use Rattle.icn_control.specs.Standing.{stack_in};
 ghost use Rattle.icn_control.specs.Taking.{KeepsCounts, MakesValue};
+ghost use Rattle.icn_control.specs.Soundness.{LeavesWorld};
 
 use crate::arguments::fit;
 use icn_cells::Stack;
@@ -92,9 +92,7 @@ pub fn construct<K: Stack<Cell> + Drop>(
         vals.old.items) (stack_in (extent_of world.old.heap) frames.old.flat) st) st world.new) }
     ensures live { (tables : Tables) → IsLiveStack tables (reach_of world.old []) frames.old.flat
         → OnOk result (IsLiveStack tables (reach_of world.new []) frames.new.flat) }
-    ensures halt { IfErr result (IsLiveHalt (reach_of world.new [])) }
-    ensures kept { KeepsItems (reach_of world.old []) (reach_of world.new []) }
-    ensures counts { OnOk result (KeepsCounts world.old world.new) }
+    ensures leaves { LeavesWorld world.old world.new result }
 {
     let Ok(()) = fit(vals, field_count(code, kind)) else {
         return Err(Halt::NoMemory);

@@ -1,5 +1,5 @@
 // Calls of values.
-ghost use Rattle.std.specs.Prelude.{◌≡◌, ◌<◌, ◌^◌, [], None, Some, length, map, slice_get, IfErr, IfOk, OnOk, MatchResult};
+ghost use Rattle.std.specs.Prelude.{◌≡◌, ◌<◌, ◌^◌, [], None, Some, length, map, slice_get, IfOk, OnOk, MatchResult};
 ghost use Rattle.std.specs.List.{All};
 ghost use Rattle.icn_value.specs.Limited.{limits_of};
 ghost use Rattle.icn_frames.specs.Stacks as flat;
@@ -7,15 +7,15 @@ ghost use Rattle.icn_code.specs.Codes.{Proc, RecordType, Tables};
 ghost use Rattle.icn_code.specs.Seen.{tables_of};
 ghost use Rattle.icn_heap.specs.Extents.{IsLive, value_in};
 ghost use Rattle.icn_heap.specs.Heaps.{extent_of, heap_of};
-ghost use Rattle.icn_vars.specs.Outcomes.{IsLiveHalt};
-ghost use Rattle.icn_vars.specs.Worlds.{IsLiveItem, KeepsItems, item_in, reach_of, world_of};
+ghost use Rattle.icn_vars.specs.Worlds.{IsLiveItem, item_in, reach_of, world_of};
 ghost use Rattle.icn_run.specs.Stacks.{Frames as FramesRead, flat as calls};
 ghost use Rattle.icn_run.specs.Step.{Store, call_procedure, construct_record, invoke_value};
 ghost use Rattle.icn_control.specs.Living.{IsLiveStack, with_locals};
 ghost use Rattle.icn_control.specs.Parts.{HaltsWith, StandsWith};
 ghost use Rattle.icn_control.specs.Standing.{stack_in};
-ghost use Rattle.icn_control.specs.Taking.{KeepsCounts, with_values_in};
+ghost use Rattle.icn_control.specs.Taking.{with_values_in};
 ghost use Rattle.icn_calls.specs.Calling.{IsGoing, function_in};
+ghost use Rattle.icn_control.specs.Soundness.{LeavesWorld};
 
 use crate::callees::{Callee, callee_of};
 use crate::calling::call_procedure;
@@ -53,10 +53,8 @@ fn call_with<K: Stack<Cell> + Drop>(
         number entry values (stack_in (extent_of world.old.heap) frames.old.flat) st)) st world.new) }
     ensures live { IsLiveStack (tables_of code.now) (reach_of world.old []) frames.old.flat
         → OnOk result (IsLiveStack (tables_of code.now) (reach_of world.new []) frames.new.flat) }
-    ensures halt { IfErr result (IsLiveHalt (reach_of world.new [])) }
+    ensures leaves { LeavesWorld world.old world.new result }
     ensures going { IfOk result IsGoing }
-    ensures kept { KeepsItems (reach_of world.old []) (reach_of world.new []) }
-    ensures counts { OnOk result (KeepsCounts world.old world.new) }
 {
     values_of(frames, world, items, vals)?;
     match call_procedure(frames, world, code, limits, number, vals) {
@@ -88,10 +86,8 @@ fn construct_with<K: Stack<Cell> + Drop>(
         kind entry values (stack_in (extent_of world.old.heap) frames.old.flat) st)) st world.new) }
     ensures live { (tables : Tables) → IsLiveStack tables (reach_of world.old []) frames.old.flat
         → OnOk result (IsLiveStack tables (reach_of world.new []) frames.new.flat) }
-    ensures halt { IfErr result (IsLiveHalt (reach_of world.new [])) }
+    ensures leaves { LeavesWorld world.old world.new result }
     ensures going { IfOk result IsGoing }
-    ensures kept { KeepsItems (reach_of world.old []) (reach_of world.new []) }
-    ensures counts { OnOk result (KeepsCounts world.old world.new) }
 {
     values_of(frames, world, items, vals)?;
     match construct(frames, world, code, kind, vals) {
@@ -130,10 +126,8 @@ pub fn invoke<K: Stack<Cell> + Drop>(
         (stack_in (extent_of world.old.heap) frames.old.flat) st) st world.new) }
     ensures live { IsLiveStack (tables_of code.now) (reach_of world.old []) frames.old.flat
         → OnOk result (IsLiveStack (tables_of code.now) (reach_of world.new []) frames.new.flat) }
-    ensures halt { IfErr result (IsLiveHalt (reach_of world.new [])) }
+    ensures leaves { LeavesWorld world.old world.new result }
     ensures going { IfOk result IsGoing }
-    ensures kept { KeepsItems (reach_of world.old []) (reach_of world.new []) }
-    ensures counts { OnOk result (KeepsCounts world.old world.new) }
 {
     let Val::Proc(number) = callee else {
         return call_integer(frames, world, callee, items);

@@ -1,3 +1,4 @@
+pub mod Soundness
 pub mod Standing
 pub mod Living
 pub mod Counting

@@ -5,7 +5,6 @@ ghost use Rattle.icn_text.specs.declared.op.Op.TheVariants as Ops;
 ghost use Rattle.icn_value.specs.Store.{Outside};
 ghost use Rattle.icn_heap.specs.Extents.{IsLive};
 ghost use Rattle.icn_heap.specs.Heaps.{extent_of, heap_of};
-ghost use Rattle.icn_vars.specs.Outcomes.{IsLiveHalt};
 ghost use Rattle.icn_vars.specs.Stops.{IsLiveStop};
 ghost use Rattle.icn_vars.specs.Worlds.{KeepsItems, reach_of};
 ghost use Rattle.icn_frames.specs.Stacks as flat;
@@ -15,7 +14,8 @@ ghost use Rattle.icn_run.specs.Rows.{ACoexp};
 ghost use Rattle.icn_run.specs.Stacks.{flat as calls};
 ghost use Rattle.icn_run.specs.Step.{refresh};
 ghost use Rattle.icn_control.specs.Creations.{MakesCoexp, copy_entry, create_entry};
-ghost use Rattle.icn_control.specs.Machines.{HasStack, ComesTo, IsSound, does, stack_of, stack_seen, store_seen, world_reach};
+ghost use Rattle.icn_control.specs.Machines.{ComesTo, does, stack_of, stack_seen, store_seen};
+ghost use Rattle.icn_control.specs.Soundness.{Stands, StaysSound};
 
 use crate::machine::{Machine, Stage};
 use crate::on_stack::put;
@@ -33,14 +33,10 @@ use std::alloc::{AllocError, Global};
 ///
 /// The error is 307 or want of memory.
 pub fn create<K: Stack<Cell> + Drop>(m: &mut Machine<K>, label: u32) -> Result<Stage, Halt>
-    requires runs { IsSome m.old.stacks.table.running }
-    requires sound { (tables : Tables) × IsSound tables m.old }
+    requires stands { Stands m.old }
     ensures step { (tables : Tables) (outside : Outside)
         → ComesTo tables outside (does tables outside (Instrs.Create label) m.old) m.new result }
-    ensures sound { (tables : Tables) → IsSound tables m.old → OnOk result (IsSound tables m.new) }
-    ensures halt { IfErr result (IsLiveHalt (world_reach m.new)) }
-    ensures limits { m.new.limits ≡ m.old.limits }
-    ensures stack { IfOk result (HasStack m.new) }
+    ensures keeps { StaysSound m.old m.new result }
 {
     if m.turns >= m.limits.turns {
         return Ok(Stage::AtBound);
@@ -58,15 +54,11 @@ pub fn create<K: Stack<Cell> + Drop>(m: &mut Machine<K>, label: u32) -> Result<S
 ///
 /// The error is that of the value, 118 where it is no co-expression, 215 where it is `&main`, 307, or want of memory.
 pub fn refresh<K: Stack<Cell> + Drop>(m: &mut Machine<K>) -> Result<Stage, Halt>
-    requires runs { IsSome m.old.stacks.table.running }
+    requires stands { Stands m.old }
     requires operand { IsSome (flat.pop (stack_of m.old)) }
-    requires sound { (tables : Tables) × IsSound tables m.old }
     ensures step { (tables : Tables) (outside : Outside)
         → ComesTo tables outside (does tables outside (Instrs.Op Ops.Refresh) m.old) m.new result }
-    ensures sound { (tables : Tables) → IsSound tables m.old → OnOk result (IsSound tables m.new) }
-    ensures halt { IfErr result (IsLiveHalt (world_reach m.new)) }
-    ensures limits { m.new.limits ≡ m.old.limits }
-    ensures stack { IfOk result (HasStack m.new) }
+    ensures keeps { StaysSound m.old m.new result }
 {
     if m.turns >= m.limits.turns {
         return Ok(Stage::AtBound);
@@ -85,17 +77,13 @@ pub fn refresh<K: Stack<Cell> + Drop>(m: &mut Machine<K>) -> Result<Stage, Halt>
 
 // Makes a co-expression as another one was made, where a turn was counted. The stack that runs must have room for an operand.
 fn make_again<K: Stack<Cell> + Drop>(m: &mut Machine<K>, id: u32) -> Result<Stage, Halt>
-    requires runs { IsSome m.old.stacks.table.running }
+    requires stands { Stands m.old }
     requires room { 0 < m.old.stacks.spare }
     requires other { 0 < id }
     requires there { id < length m.old.stacks.table.coexps }
-    requires sound { (tables : Tables) × IsSound tables m.old }
     ensures step { (tables : Tables) (outside : Outside) → ComesTo tables outside
         (refresh calls (ACoexp id) (stack_seen m.old) (store_seen tables outside m.old)) m.new result }
-    ensures sound { (tables : Tables) → IsSound tables m.old → OnOk result (IsSound tables m.new) }
-    ensures halt { IfErr result (IsLiveHalt (world_reach m.new)) }
-    ensures limits { m.new.limits ≡ m.old.limits }
-    ensures stack { IfOk result (HasStack m.new) }
+    ensures keeps { StaysSound m.old m.new result }
 {
     m.stacks.frames().local_count();
     let count = m.stacks.held(id);

@@ -12,6 +12,7 @@ ghost use Rattle.icn_run.specs.Step.{Store, fails, stuck};
 ghost use Rattle.icn_control.specs.Falls.{DropsTo, FallsBelow, FallsNamed, FallsTo, IsLiveDue};
 ghost use Rattle.icn_control.specs.Living.{IsLiveStack, StaysLive};
 ghost use Rattle.icn_control.specs.Standing.{stack_in};
+ghost use Rattle.icn_control.specs.Soundness.{KeepsHeap};
 
 use crate::scans::swap_pairs;
 use crate::world::set_pair;
@@ -53,8 +54,7 @@ pub fn fall<K: Stack<Cell> + Drop>(frames: &mut Frames<K>, world: &mut World) ->
     ensures named { FallsNamed (extent_of world.old.heap) frames.old.flat frames.new.flat result }
     ensures world_named { (names : Names) → WorldNamed names (world_of world.old)
         → WorldNamed names (world_of world.new) }
-    ensures heap { world.new.heap ≡ world.old.heap }
-    ensures reach { reach_of world.new [] ≡ reach_of world.old [] }
+    ensures same { KeepsHeap world.old world.new }
 {
     match frames.resume() {
         None => drop_failed(frames),

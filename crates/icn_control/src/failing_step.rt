@@ -1,14 +1,13 @@
 // One step of failing, over the machine.
 ghost use Rattle.std.specs.Prelude.{◌≡◌, ◌≢◌, IsSome};
-ghost use Rattle.icn_value.specs.Limited.{limits_of};
 ghost use Rattle.icn_value.specs.Store.{Outside};
-ghost use Rattle.icn_heap.specs.Heaps.{heap_of};
 ghost use Rattle.icn_code.specs.Codes.{Tables};
 ghost use Rattle.icn_run.specs.Stacks.{flat as calls};
 ghost use Rattle.icn_run.specs.Step.{fails, stuck};
 ghost use Rattle.icn_control.specs.Failing.{DueAt, FailsNamed};
 ghost use Rattle.icn_control.specs.Falls.{FallsBelow, IsLiveDue};
 ghost use Rattle.icn_control.specs.Machines.{IsSound, stack_of, stack_seen, store_seen, world_reach};
+ghost use Rattle.icn_control.specs.Soundness.{Stands};
 
 use crate::failing::{Due, fall};
 use crate::machine::Machine;
@@ -17,8 +16,7 @@ use icn_frames::Cell;
 
 /// One step of failing, but for the turns and the ends that are due after it. It takes no memory.
 pub fn fail_once<K: Stack<Cell> + Drop>(m: &mut Machine<K>) -> Due
-    requires runs { IsSome m.old.stacks.table.running }
-    requires sound { (tables : Tables) × IsSound tables m.old }
+    requires stands { Stands m.old }
     requires goes_on { (tables : Tables) × ((outside : Outside)
         × (fails calls tables (stack_seen m.old) (store_seen tables outside m.old) ≢ stuck)) }
     ensures step { (tables : Tables) (outside : Outside) → DueAt tables outside

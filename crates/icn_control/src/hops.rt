@@ -7,7 +7,8 @@ ghost use Rattle.icn_code.specs.Codes.{Tables};
 ghost use Rattle.icn_run.specs.Stacks.{Frames as FramesRead, flat as calls};
 ghost use Rattle.icn_run.specs.Step.{exhaust_active, hop};
 ghost use Rattle.icn_control.specs.Landing.{is_moved};
-ghost use Rattle.icn_control.specs.Machines.{HasStack, IsSound, StandsAt, stack_seen, store_seen};
+ghost use Rattle.icn_control.specs.Machines.{StandsAt, stack_seen, store_seen};
+ghost use Rattle.icn_control.specs.Soundness.{GoesOnSound};
 
 use crate::machine::{Machine, Stage};
 use icn_cells::Stack;
@@ -22,9 +23,7 @@ pub fn exhaust<K: Stack<Cell> + Drop>(m: &mut Machine<K>) -> Stage
     requires bounds { (heap_of m.old.world.heap).bounds ≡ limits_of m.old.limits }
     ensures step { (tables : Tables) (outside : Outside) → StandsAt tables outside
         (exhaust_active calls tables (stack_seen m.old) (store_seen tables outside m.old)) m.new result }
-    ensures sound { (tables : Tables) → IsSound tables m.old → IsSound tables m.new }
-    ensures limits { m.new.limits ≡ m.old.limits }
-    ensures stack { HasStack m.new result }
+    ensures keeps { GoesOnSound m.old m.new result }
 {
     pass_failure(m)
 }
@@ -36,9 +35,7 @@ pub fn hop<K: Stack<Cell> + Drop>(m: &mut Machine<K>) -> Stage
     requires bounds { (heap_of m.old.world.heap).bounds ≡ limits_of m.old.limits }
     ensures step { (tables : Tables) (outside : Outside) (old : FramesRead)
         → StandsAt tables outside (hop calls tables old (store_seen tables outside m.old)) m.new result }
-    ensures sound { (tables : Tables) → IsSound tables m.old → IsSound tables m.new }
-    ensures limits { m.new.limits ≡ m.old.limits }
-    ensures stack { HasStack m.new result }
+    ensures keeps { GoesOnSound m.old m.new result }
 {
     m.stacks.active();
     pass_failure(m)
@@ -50,9 +47,7 @@ fn pass_failure<K: Stack<Cell> + Drop>(m: &mut Machine<K>) -> Stage
     requires bounds { (heap_of m.old.world.heap).bounds ≡ limits_of m.old.limits }
     ensures step { (tables : Tables) (outside : Outside) (old : FramesRead) → StandsAt tables outside
         (exhaust_active calls tables old (store_seen tables outside m.old)) m.new result }
-    ensures sound { (tables : Tables) → IsSound tables m.old → IsSound tables m.new }
-    ensures limits { m.new.limits ≡ m.old.limits }
-    ensures stack { HasStack m.new result }
+    ensures keeps { GoesOnSound m.old m.new result }
 {
     if m.turns >= m.limits.turns {
         return Stage::AtBound;

@@ -1,5 +1,5 @@
 // What the keywords give.
-ghost use Rattle.std.specs.Prelude.{◌≡◌, ◌<◌, ◌≤◌, Some, IsSome, IfOk, OnOk, IfSome};
+ghost use Rattle.std.specs.Prelude.{◌≡◌, ◌<◌, ◌≤◌, Some, IfOk, OnOk, IfSome};
 ghost use Rattle.std.specs.List.{range_with_len};
 ghost use Rattle.std.specs.Option.{option_map};
 ghost use Rattle.icn_profile.specs.Numbers.{most_levels};
@@ -9,12 +9,13 @@ ghost use Rattle.icn_value.specs.declared.item.Item.TheVariants.{Var as HeldVar}
 ghost use Rattle.icn_value.specs.declared.item.VarRef.TheVariants.{Whole as HeldWhole};
 ghost use Rattle.icn_value.specs.declared.item.Root.TheVariants.{Keyword as HeldKeyword};
 ghost use Rattle.icn_defs.specs.Images.{digit_bytes, lcase, letters, ucase};
-ghost use Rattle.icn_defs.specs.Keywords.{Standing, keyword_item};
+ghost use Rattle.icn_defs.specs.Keywords.{keyword_item};
 ghost use Rattle.icn_heap.specs.Extents.{Extent};
 ghost use Rattle.icn_vars.specs.Worlds.{IsLiveItem, Reach, item_in};
 ghost use Rattle.icn_code.specs.Codes.{Tables};
 ghost use Rattle.icn_code.specs.declared.instr.Instr.TheVariants as Instrs;
 ghost use Rattle.icn_control.specs.Machines.{HasStack, IsSound, StandsAt, does};
+ghost use Rattle.icn_control.specs.Soundness.{Stands};
 
 use crate::machine::{Machine, Stage};
 use icn_cells::Stack;
@@ -138,8 +139,7 @@ pub fn push_keyword<K: Stack<Cell> + Drop>(
     m: &mut Machine<K>,
     word: Keyword,
 ) -> Result<Stage, AllocError>
-    requires runs { IsSome m.old.stacks.table.running }
-    requires sound { (tables : Tables) × IsSound tables m.old }
+    requires stands { Stands m.old }
     ensures step { IfOk result (λ stage. (tables : Tables) (outside : Outside)
         → StandsAt tables outside (does tables outside (Instrs.Keywd word) m.old) m.new stage) }
     ensures sound { OnOk result ((tables : Tables) → IsSound tables m.old → IsSound tables m.new) }

@@ -1,18 +1,18 @@
 // Lists that are made of operands.
-ghost use Rattle.std.specs.Prelude.{◌≡◌, [], IsSome, IfErr, OnOk, MatchResult, IfOk};
+ghost use Rattle.std.specs.Prelude.{◌≡◌, [], IsSome, OnOk, MatchResult};
 ghost use Rattle.std.specs.List.{All};
 ghost use Rattle.icn_value.specs.Store.{Outside};
 ghost use Rattle.icn_code.specs.Codes.{Tables};
 ghost use Rattle.icn_code.specs.declared.instr.Instr.TheVariants as Instrs;
-ghost use Rattle.icn_vars.specs.Outcomes.{IsLiveHalt};
-ghost use Rattle.icn_vars.specs.Worlds.{IsLiveItem, KeepsItems, reach_of, world_of};
+ghost use Rattle.icn_vars.specs.Worlds.{IsLiveItem, reach_of, world_of};
 ghost use Rattle.icn_frames.specs.Stacks as flat;
 ghost use Rattle.icn_run.specs.Stacks.{Frames as FramesRead};
 ghost use Rattle.icn_run.specs.Step.{Store};
 ghost use Rattle.icn_control.specs.Living.{IsLiveStack, with_locals};
-ghost use Rattle.icn_control.specs.Machines.{HasStack, ComesTo, IsSound, does, stack_of, world_reach};
+ghost use Rattle.icn_control.specs.Machines.{ComesTo, does, stack_of};
+ghost use Rattle.icn_control.specs.Soundness.{LeavesWorld, Stands, StaysSound};
 ghost use Rattle.icn_control.specs.Parts.{HaltsWith, RunsWith};
-ghost use Rattle.icn_control.specs.Taking.{KeepsCounts, push_list, take_operands};
+ghost use Rattle.icn_control.specs.Taking.{push_list, take_operands};
 
 use crate::machine::{Machine, Stage};
 use crate::operands::take_operands;
@@ -39,9 +39,7 @@ pub fn push_list<K: Stack<Cell> + Drop>(
         (HaltsWith (push_list world.old frames.old.flat items.now st) st world.new) }
     ensures live { (tables : Tables) → IsLiveStack tables (reach_of world.old []) frames.old.flat
         → OnOk result (IsLiveStack tables (reach_of world.new []) frames.new.flat) }
-    ensures halt { IfErr result (IsLiveHalt (reach_of world.new [])) }
-    ensures kept { KeepsItems (reach_of world.old []) (reach_of world.new []) }
-    ensures counts { OnOk result (KeepsCounts world.old world.new) }
+    ensures leaves { LeavesWorld world.old world.new result }
 {
     values_of(frames, world, items, vals)?;
     let list = list_of(frames, world, vals)?;
@@ -61,15 +59,11 @@ pub fn make_list<K: Stack<Cell> + Drop>(
     vals: &mut Vec<Val>,
     count: u32,
 ) -> Result<Stage, Halt>
-    requires runs { IsSome m.old.stacks.table.running }
+    requires stands { Stands m.old }
     requires operands { IsSome (take_operands count (stack_of m.old)) }
-    requires sound { (tables : Tables) × IsSound tables m.old }
     ensures step { (tables : Tables) (outside : Outside)
         → ComesTo tables outside (does tables outside (Instrs.Llist count) m.old) m.new result }
-    ensures sound { (tables : Tables) → IsSound tables m.old → OnOk result (IsSound tables m.new) }
-    ensures halt { IfErr result (IsLiveHalt (world_reach m.new)) }
-    ensures limits { m.new.limits ≡ m.old.limits }
-    ensures stack { IfOk result (HasStack m.new) }
+    ensures keeps { StaysSound m.old m.new result }
 {
     let Ok(()) = take_operands(m.stacks.frames(), items, count as usize) else {
         return Err(Halt::NoMemory);

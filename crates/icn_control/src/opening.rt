@@ -7,7 +7,6 @@ ghost use Rattle.icn_code.specs.Codes.{Tables};
 ghost use Rattle.icn_code.specs.declared.instr.Instr.TheVariants as Instrs;
 ghost use Rattle.icn_heap.specs.Extents.{IsLive, IsText, text_in, value_in};
 ghost use Rattle.icn_heap.specs.Heaps.{extent_of};
-ghost use Rattle.icn_vars.specs.Outcomes.{IsLiveHalt};
 ghost use Rattle.icn_vars.specs.Stops.{IsLiveStop};
 ghost use Rattle.icn_vars.specs.Worlds.{KeepsItems, reach_of, world_of};
 ghost use Rattle.icn_frames.specs.Stacks as flat;
@@ -17,6 +16,7 @@ ghost use Rattle.icn_control.specs.Living.{IsLiveStack};
 ghost use Rattle.icn_control.specs.Parts.{DoesWith, RunsWith};
 ghost use Rattle.icn_control.specs.Standing.{stack_in};
 ghost use Rattle.icn_control.specs.Taking.{KeepsCounts, MakesValue};
+ghost use Rattle.icn_control.specs.Soundness.{KeepsHeap, LeavesWorld};
 
 use crate::activation::Activation;
 use crate::values::value_of;
@@ -65,8 +65,7 @@ fn open_over<K: Stack<Cell> + Drop>(
         (stack_in (extent_of world.old.heap) frames.old.flat) st) st world.new frames.new.flat) }
     ensures live { (tables : Tables) → IsLiveStack tables (reach_of world.old []) frames.old.flat
         → OnOk result (IsLiveStack tables (reach_of world.new []) frames.new.flat) }
-    ensures reach { reach_of world.new [] ≡ reach_of world.old [] }
-    ensures heap { world.new.heap ≡ world.old.heap }
+    ensures same { KeepsHeap world.old world.new }
 {
     frames.suspend(Why::Scan(world.pair), None)?;
     let pair = Pair {
@@ -89,9 +88,7 @@ pub fn open_scan<K: Stack<Cell> + Drop>(
     ensures step { DoesWith Instrs.Bscan world.old frames.old.flat world.new frames.new.flat result }
     ensures live { (tables : Tables) → IsLiveStack tables (reach_of world.old []) frames.old.flat
         → OnOk result (IsLiveStack tables (reach_of world.new []) frames.new.flat) }
-    ensures halt { IfErr result (IsLiveHalt (reach_of world.new [])) }
-    ensures kept { KeepsItems (reach_of world.old []) (reach_of world.new []) }
-    ensures counts { OnOk result (KeepsCounts world.old world.new) }
+    ensures leaves { LeavesWorld world.old world.new result }
 {
     let x = frames.pop();
     let v = value_of(frames, world, x)?;

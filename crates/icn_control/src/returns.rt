@@ -14,6 +14,7 @@ ghost use Rattle.icn_control.specs.Living.{IsLiveStack, with_locals};
 ghost use Rattle.icn_control.specs.Parts.{ComesWith, HaltsWith, StandsWith};
 ghost use Rattle.icn_control.specs.Results.{is_local_item, is_local_root};
 ghost use Rattle.icn_control.specs.Standing.{instruction_state, stack_in};
+ghost use Rattle.icn_control.specs.Soundness.{KeepsHeap};
 
 use crate::machine::Stage;
 use crate::on_stack::put;
@@ -86,8 +87,7 @@ pub fn leave_failing<K: Stack<Cell> + Drop>(frames: &mut Frames<K>, world: &mut 
         frames.new.flat result }
     ensures live { (tables : Tables) → IsLiveStack tables (reach_of world.old []) frames.old.flat
         → IsLiveStack tables (reach_of world.new []) frames.new.flat }
-    ensures heap { world.new.heap ≡ world.old.heap }
-    ensures reach { reach_of world.new [] ≡ reach_of world.old [] }
+    ensures same { KeepsHeap world.old world.new }
 {
     let pair = frames.oldest_pair();
     restore_pair(world, pair);
@@ -106,8 +106,7 @@ pub fn fail_procedure<K: Stack<Cell> + Drop>(frames: &mut Frames<K>, world: &mut
         world.new frames.new.flat result }
     ensures live { (tables : Tables) → IsLiveStack tables (reach_of world.old []) frames.old.flat
         → IsLiveStack tables (reach_of world.new []) frames.new.flat }
-    ensures heap { world.new.heap ≡ world.old.heap }
-    ensures reach { reach_of world.new [] ≡ reach_of world.old [] }
+    ensures same { KeepsHeap world.old world.new }
 {
     leave_failing(frames, world)
 }
@@ -125,8 +124,7 @@ pub fn give_back<K: Stack<Cell> + Drop>(
     ensures live { (tables : Tables) → IsLiveStack tables (reach_of world.old []) frames.old.flat
         → OnOk result (IsLiveStack tables (reach_of world.new []) frames.new.flat) }
     ensures halt { IfErr result (IsLiveHalt (reach_of world.new [])) }
-    ensures heap { world.new.heap ≡ world.old.heap }
-    ensures reach { reach_of world.new [] ≡ reach_of world.old [] }
+    ensures same { KeepsHeap world.old world.new }
 {
     let x = frames.pop();
     let r = result_of(frames, world, x)?;
@@ -153,8 +151,7 @@ pub fn suspend_with<K: Stack<Cell> + Drop>(
     ensures live { (tables : Tables) → IsLiveStack tables (reach_of world.old []) frames.old.flat
         → OnOk result (IsLiveStack tables (reach_of world.new []) frames.new.flat) }
     ensures halt { IfErr result (IsLiveHalt (reach_of world.new [])) }
-    ensures heap { world.new.heap ≡ world.old.heap }
-    ensures reach { reach_of world.new [] ≡ reach_of world.old [] }
+    ensures same { KeepsHeap world.old world.new }
 {
     let x = frames.pop();
     put(frames, x);

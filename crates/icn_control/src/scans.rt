@@ -11,6 +11,7 @@ ghost use Rattle.icn_control.specs.Parts.{DoesWith};
 ghost use Rattle.icn_control.specs.Standing.{pair_in, stack_in};
 ghost use Rattle.icn_run.specs.Stacks.{Frames as FramesRead, flat as calls};
 ghost use Rattle.icn_run.specs.Step.{State, Store, maybe_exchanged, pair_now, with_world};
+ghost use Rattle.icn_control.specs.Soundness.{KeepsHeap};
 
 use crate::world::set_pair;
 use icn_cells::Stack;
@@ -29,8 +30,7 @@ pub fn swap_pairs<K: Stack<Cell> + Drop>(frames: &mut Frames<K>, world: &mut Wor
         → IsLiveStack tables (reach_of world.new []) frames.new.flat }
     ensures world { world_of world.new
         ≡ world_with_pair (pair_in (extent_of world.old.heap) world.new.pair) (world_of world.old) }
-    ensures heap { world.new.heap ≡ world.old.heap }
-    ensures reach { reach_of world.new [] ≡ reach_of world.old [] }
+    ensures same { KeepsHeap world.old world.new }
 {
     let pair = frames.swap_pair(oldest, world.pair);
     set_pair(world, pair);
@@ -48,8 +48,7 @@ pub fn swap_if_scanning<K: Stack<Cell> + Drop>(frames: &mut Frames<K>, world: &m
     ensures spare { frames.new.spare ≡ frames.old.spare }
     ensures live { (tables : Tables) → IsLiveStack tables (reach_of world.old []) frames.old.flat
         → IsLiveStack tables (reach_of world.new []) frames.new.flat }
-    ensures heap { world.new.heap ≡ world.old.heap }
-    ensures reach { reach_of world.new [] ≡ reach_of world.old [] }
+    ensures same { KeepsHeap world.old world.new }
 {
     if frames.scanning() {
         swap_pairs(frames, world, true);
@@ -67,8 +66,7 @@ pub fn leave_scan<K: Stack<Cell> + Drop>(
     ensures step { DoesWith Instrs.Escan world.old frames.old.flat world.new frames.new.flat result }
     ensures live { (tables : Tables) → IsLiveStack tables (reach_of world.old []) frames.old.flat
         → OnOk result (IsLiveStack tables (reach_of world.new []) frames.new.flat) }
-    ensures heap { world.new.heap ≡ world.old.heap }
-    ensures reach { reach_of world.new [] ≡ reach_of world.old [] }
+    ensures same { KeepsHeap world.old world.new }
 {
     let x = frames.pop();
     swap_pairs(frames, world, false);

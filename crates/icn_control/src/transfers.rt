@@ -1,12 +1,11 @@
 // Transfers between co-expressions.
-ghost use Rattle.std.specs.Prelude.{◌≡◌, ◌<◌, ◌≤◌, ◌+◌, ℕ, [], true, length, slice_index, IsSome, IfSome, IfOk, OnOk, IfErr};
+ghost use Rattle.std.specs.Prelude.{◌≡◌, ◌<◌, ◌+◌, [], true, length, IsSome, IfSome, IfOk, IfErr};
 ghost use Rattle.icn_profile.specs.Numbers.{greatest_integer};
 ghost use Rattle.icn_value.specs.declared.val.Val.TheVariants.{Coexp as HeldCoexp};
 ghost use Rattle.icn_value.specs.Changes.{with_result};
 ghost use Rattle.icn_value.specs.Store.{Outside, count_at};
 ghost use Rattle.icn_heap.specs.Extents.{IsLive, value_in};
 ghost use Rattle.icn_heap.specs.Heaps.{extent_of, heap_of};
-ghost use Rattle.icn_vars.specs.Outcomes.{IsLiveHalt};
 ghost use Rattle.icn_vars.specs.Stops.{IsLiveStop};
 ghost use Rattle.icn_vars.specs.Worlds.{KeepsItems, reach_of, world_of};
 ghost use Rattle.icn_frames.specs.Stacks as flat;
@@ -17,7 +16,8 @@ ghost use Rattle.icn_run.specs.Stacks.{flat as calls};
 ghost use Rattle.icn_run.specs.Step.{activation};
 ghost use Rattle.icn_control.specs.Counting.{HasTurn};
 ghost use Rattle.icn_control.specs.Living.{IsLiveStack};
-ghost use Rattle.icn_control.specs.Machines.{HasStack, ComesTo, IsSound, StandsAt, does, extent, stack_of, stack_seen, store_seen, world_reach};
+ghost use Rattle.icn_control.specs.Machines.{HasStack, ComesTo, IsSound, StandsAt, does, extent, stack_of, stack_seen, store_seen};
+ghost use Rattle.icn_control.specs.Soundness.{Stands, StaysSound};
 ghost use Rattle.icn_control.specs.Operands.{TakesTop, TakesTwo, coexp_number, having_result};
 
 use crate::hops::is_moved;
@@ -36,16 +36,12 @@ use icn_vars::{Halt, Stop, World};
 ///
 /// The error is that of one of the values, the lower one's first, or 118 where the upper one is no co-expression.
 pub fn coact<K: Stack<Cell> + Drop>(m: &mut Machine<K>) -> Result<Stage, Halt>
-    requires runs { IsSome m.old.stacks.table.running }
+    requires stands { Stands m.old }
     requires upper { IsSome (flat.pop (stack_of m.old)) }
     requires lower { IfSome (flat.pop (stack_of m.old)) (λ popped. IsSome (flat.pop popped.1)) }
-    requires sound { (tables : Tables) × IsSound tables m.old }
     ensures step { (tables : Tables) (outside : Outside)
         → ComesTo tables outside (does tables outside Instrs.Coact m.old) m.new result }
-    ensures sound { (tables : Tables) → IsSound tables m.old → OnOk result (IsSound tables m.new) }
-    ensures halt { IfErr result (IsLiveHalt (world_reach m.new)) }
-    ensures limits { m.new.limits ≡ m.old.limits }
-    ensures stack { IfOk result (HasStack m.new) }
+    ensures keeps { StaysSound m.old m.new result }
 {
     if m.turns >= m.limits.turns {
         return Ok(Stage::AtBound);
@@ -64,17 +60,13 @@ pub fn coact<K: Stack<Cell> + Drop>(m: &mut Machine<K>) -> Result<Stage, Halt>
 ///
 /// The error is that of the value.
 pub fn coret<K: Stack<Cell> + Drop>(m: &mut Machine<K>) -> Result<Stage, Halt>
-    requires runs { IsSome m.old.stacks.table.running }
+    requires stands { Stands m.old }
     requires operand { IsSome (flat.pop (stack_of m.old)) }
     requires base { flat.is_base (stack_of m.old) ≡ true }
     requires other { 0 < m.old.stacks.table.active }
-    requires sound { (tables : Tables) × IsSound tables m.old }
     ensures step { (tables : Tables) (outside : Outside)
         → ComesTo tables outside (does tables outside Instrs.Coret m.old) m.new result }
-    ensures sound { (tables : Tables) → IsSound tables m.old → OnOk result (IsSound tables m.new) }
-    ensures halt { IfErr result (IsLiveHalt (world_reach m.new)) }
-    ensures limits { m.new.limits ≡ m.old.limits }
-    ensures stack { IfOk result (HasStack m.new) }
+    ensures keeps { StaysSound m.old m.new result }
 {
     if m.turns >= m.limits.turns {
         return Ok(Stage::AtBound);

@@ -1,5 +1,5 @@
 // Instructions that count turns, and touch nothing but the stack that runs.
-ghost use Rattle.std.specs.Prelude.{◌≡◌, ◌<◌, ℕ, IsSome, Bool};
+ghost use Rattle.std.specs.Prelude.{◌≡◌, ◌<◌, IsSome};
 ghost use Rattle.icn_value.specs.Store.{Outside};
 ghost use Rattle.icn_value.specs.Limited.{limits_of};
 ghost use Rattle.icn_heap.specs.Heaps.{heap_of};
@@ -9,6 +9,7 @@ ghost use Rattle.icn_run.specs.Calls.{Proc};
 ghost use Rattle.icn_run.specs.Stacks.{flat as calls};
 ghost use Rattle.icn_run.specs.Step.{resume_by, running, turn};
 ghost use Rattle.icn_control.specs.Machines.{HasStack, IsSound, StandsAt, does, stack_seen, store_seen};
+ghost use Rattle.icn_control.specs.Soundness.{GoesOnSound, Stands};
 
 use crate::machine::{Machine, Stage};
 use crate::scans::swap_if_scanning;
@@ -21,9 +22,7 @@ pub fn go_back<K: Stack<Cell> + Drop>(m: &mut Machine<K>, label: u32) -> Stage
     requires bounds { (heap_of m.old.world.heap).bounds ≡ limits_of m.old.limits }
     ensures step { (tables : Tables) (outside : Outside)
         → StandsAt tables outside (does tables outside (Instrs.Loop label) m.old) m.new result }
-    ensures sound { (tables : Tables) → IsSound tables m.old → IsSound tables m.new }
-    ensures limits { m.new.limits ≡ m.old.limits }
-    ensures stack { HasStack m.new result }
+    ensures keeps { GoesOnSound m.old m.new result }
 {
     if m.turns >= m.limits.turns {
         return Stage::AtBound;
@@ -51,14 +50,11 @@ pub fn begin_again<K: Stack<Cell> + Drop>(m: &mut Machine<K>) -> Stage
 
 /// A procedure that was suspended goes on, as a turn; of its scans its own pair comes back. It takes no memory.
 pub fn reenter<K: Stack<Cell> + Drop>(m: &mut Machine<K>) -> Stage
-    requires runs { IsSome m.old.stacks.table.running }
+    requires stands { Stands m.old }
     requires bounds { (heap_of m.old.world.heap).bounds ≡ limits_of m.old.limits }
-    requires sound { (tables : Tables) × IsSound tables m.old }
     ensures step { (tables : Tables) (outside : Outside) → StandsAt tables outside
         (resume_by calls tables Proc (stack_seen m.old) (store_seen tables outside m.old)) m.new result }
-    ensures sound { (tables : Tables) → IsSound tables m.old → IsSound tables m.new }
-    ensures limits { m.new.limits ≡ m.old.limits }
-    ensures stack { HasStack m.new result }
+    ensures keeps { GoesOnSound m.old m.new result }
 {
     if m.turns >= m.limits.turns {
         return Stage::AtBound;

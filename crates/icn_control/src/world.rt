@@ -1,10 +1,11 @@
 // The scanning pair of a world.
-ghost use Rattle.std.specs.Prelude.{◌≡◌, []};
+ghost use Rattle.std.specs.Prelude.{◌≡◌};
 ghost use Rattle.icn_heap.specs.Heaps.{extent_of, heap_of};
-ghost use Rattle.icn_vars.specs.Worlds.{reach_of, world_of};
+ghost use Rattle.icn_vars.specs.Worlds.{world_of};
 ghost use Rattle.icn_control.specs.Living.{IsLivePair, MaybeLivePair};
 ghost use Rattle.icn_control.specs.Standing.{maybe_pair_in, pair_in};
 ghost use Rattle.icn_control.specs.Pairs.{maybe_paired, world_with_pair};
+ghost use Rattle.icn_control.specs.Soundness.{KeepsHeap};
 
 use icn_value::Pair;
 use icn_vars::World;
@@ -15,8 +16,7 @@ pub fn set_pair(world: &mut World, pair: Pair)
     ensures world { world_of world.new
         ≡ world_with_pair (pair_in (extent_of world.old.heap) pair) (world_of world.old) }
     ensures pair { world.new.pair ≡ pair }
-    ensures heap { world.new.heap ≡ world.old.heap }
-    ensures reach { reach_of world.new [] ≡ reach_of world.old [] }
+    ensures same { KeepsHeap world.old world.new }
 {
     world.pair = pair;
 }
@@ -26,8 +26,7 @@ pub fn restore_pair(world: &mut World, pair: Option<Pair>)
     requires { MaybeLivePair (extent_of world.old.heap) pair }
     ensures world { world_of world.new
         ≡ maybe_paired (maybe_pair_in (extent_of world.old.heap) pair) (world_of world.old) }
-    ensures heap { world.new.heap ≡ world.old.heap }
-    ensures reach { reach_of world.new [] ≡ reach_of world.old [] }
+    ensures same { KeepsHeap world.old world.new }
 {
     match pair {
         Some(pair) => set_pair(world, pair),

@@ -1,5 +1,5 @@
 // The instruction that gives the value of a result out of its mark.
-ghost use Rattle.std.specs.Prelude.{◌≡◌, [], IfErr, OnOk};
+ghost use Rattle.std.specs.Prelude.{[], IfErr, OnOk};
 ghost use Rattle.icn_code.specs.Codes.{Tables};
 ghost use Rattle.icn_code.specs.declared.instr.Instr.TheVariants as Instrs;
 ghost use Rattle.icn_vars.specs.Outcomes.{IsLiveHalt};
@@ -7,6 +7,7 @@ ghost use Rattle.icn_vars.specs.Worlds.{reach_of};
 ghost use Rattle.icn_control.specs.Living.{IsLiveStack};
 ghost use Rattle.icn_control.specs.Parts.{DoesWith};
 ghost use Rattle.icn_instructions.specs.Doing.{LacksNothingIn};
+ghost use Rattle.icn_control.specs.Soundness.{KeepsHeap};
 
 use icn_cells::Stack;
 use icn_control::{put, restore_pair, value_of};
@@ -27,8 +28,7 @@ pub fn give_out<K: Stack<Cell> + Drop>(
     ensures live { (tables : Tables) → IsLiveStack tables (reach_of world.old []) frames.old.flat
         → OnOk result (IsLiveStack tables (reach_of world.new []) frames.new.flat) }
     ensures halt { IfErr result (IsLiveHalt (reach_of world.new [])) }
-    ensures heap { world.new.heap ≡ world.old.heap }
-    ensures reach { reach_of world.new [] ≡ reach_of world.old [] }
+    ensures same { KeepsHeap world.old world.new }
 {
     let x = frames.pop();
     let v = value_of(frames, world, x)?;

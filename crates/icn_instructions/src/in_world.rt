@@ -1,13 +1,12 @@
 // The instructions that touch the stack that runs and the world, and nothing else.
-ghost use Rattle.std.specs.Prelude.{◌≡◌, [], true, IfErr, OnOk};
+ghost use Rattle.std.specs.Prelude.{◌≡◌, [], true, OnOk};
 ghost use Rattle.icn_code.specs.Seen.{tables_of};
-ghost use Rattle.icn_vars.specs.Outcomes.{IsLiveHalt};
-ghost use Rattle.icn_vars.specs.Worlds.{KeepsItems, reach_of};
+ghost use Rattle.icn_vars.specs.Worlds.{reach_of};
 ghost use Rattle.icn_control.specs.Living.{IsLiveStack};
-ghost use Rattle.icn_control.specs.Taking.{KeepsCounts};
 ghost use Rattle.icn_instructions.specs.Doing.{ComesIn, HasMemory, LacksNothingIn};
 ghost use Rattle.icn_instructions.specs.Groups.{group_of, takes_no_memory};
 ghost use Rattle.icn_instructions.specs.declared.groups.Group.TheVariants as Groups;
+ghost use Rattle.icn_control.specs.Soundness.{LeavesWorld};
 
 use crate::eret::give_out;
 use icn_cells::Stack;
@@ -33,9 +32,7 @@ pub fn do_in_world<K: Stack<Cell> + Drop>(
     ensures step { ComesIn (tables_of code.now) instr world.old frames.old.flat world.new frames.new.flat
         result }
     ensures live { OnOk result (IsLiveStack (tables_of code.now) (reach_of world.new []) frames.new.flat) }
-    ensures halt { IfErr result (IsLiveHalt (reach_of world.new [])) }
-    ensures kept { KeepsItems (reach_of world.old []) (reach_of world.new []) }
-    ensures counts { OnOk result (KeepsCounts world.old world.new) }
+    ensures leaves { LeavesWorld world.old world.new result }
     ensures no_memory { takes_no_memory instr ≡ true → HasMemory result }
 {
     match instr {

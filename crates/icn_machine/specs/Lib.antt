@@ -1,6 +1,7 @@
 pub mod Answering
 pub mod Giving
 pub mod Invoking
+pub mod Naming
 pub mod Performing
 pub mod Stepping
 pub mod Steps

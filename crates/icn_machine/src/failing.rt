@@ -1,10 +1,9 @@
 // Failing, until the next instruction is due.
-ghost use Rattle.std.specs.Prelude.{◌≡◌, false, Ok, IfErr, IfOk};
+ghost use Rattle.std.specs.Prelude.{◌≡◌, false, Ok, IfOk};
 ghost use Rattle.icn_code.specs.Codes.{Tables};
-ghost use Rattle.icn_vars.specs.Outcomes.{IsLiveHalt};
 ghost use Rattle.icn_run.specs.Step.{all_names};
 ghost use Rattle.icn_streams.specs.Handed.{CallStreams, call_streams};
-ghost use Rattle.icn_control.specs.Machines.{world_reach};
+ghost use Rattle.icn_control.specs.Soundness.{KeepsLimits};
 ghost use Rattle.icn_control.specs.declared.machine.Stage.TheVariants as Stages;
 ghost use Rattle.icn_machine.specs.Stepping.{Advances, FailsFurther, GoesOn, IsReady, MakesTurn, fails_within, is_failing};
 
@@ -35,8 +34,7 @@ fn fail_next<K: Stack<Cell> + Drop, N: Names, I: Source, O: Sink, E: Sink>(
     ensures ready { (tables : Tables) → all_names tables ≡ N.known names.now
         → IsReady tables m.old Stages.Fails → IfOk result (IsReady tables m.new) }
     ensures further { IfOk result (FailsFurther m.old m.new) }
-    ensures halt { IfErr result (IsLiveHalt (world_reach m.new)) }
-    ensures limits { m.new.limits ≡ m.old.limits }
+    ensures within { KeepsLimits m.old m.new result }
 {
     steps_keep_names();
     steps_keep_sizes();
@@ -94,8 +92,7 @@ fn fail_to_turn<K: Stack<Cell> + Drop, N: Names, I: Source, O: Sink, E: Sink>(
     ensures ready { (tables : Tables) → all_names tables ≡ N.known names.now
         → IsReady tables m.old Stages.Fails → IfOk result (IsReady tables m.new) }
     ensures turn { IfOk result (MakesTurn m.old m.new) }
-    ensures halt { IfErr result (IsLiveHalt (world_reach m.new)) }
-    ensures limits { m.new.limits ≡ m.old.limits }
+    ensures within { KeepsLimits m.old m.new result }
 {
     let turns = m.turns;
     let mut stage = Stage::Fails;
@@ -138,8 +135,7 @@ fn fail_turn<K: Stack<Cell> + Drop, N: Names, I: Source, O: Sink, E: Sink>(
     ensures ready { (tables : Tables) → all_names tables ≡ N.known names.now → IsReady tables m.old stage
         → IfOk result (IsReady tables m.new) }
     ensures turn { IfOk result (MakesTurn m.old m.new) }
-    ensures halt { IfErr result (IsLiveHalt (world_reach m.new)) }
-    ensures limits { m.new.limits ≡ m.old.limits }
+    ensures within { KeepsLimits m.old m.new result }
 {
     match stage {
         Stage::Fails => fail_to_turn(m, names, buffer, input, out, err),
@@ -174,8 +170,7 @@ pub fn fail_through<K: Stack<Cell> + Drop, N: Names, I: Source, O: Sink, E: Sink
     ensures ready { (tables : Tables) → all_names tables ≡ N.known names.now → IsReady tables m.old from
         → IfOk result (IsReady tables m.new) }
     ensures fails_no_more { IfOk result (λ stage. is_failing stage ≡ false) }
-    ensures halt { IfErr result (IsLiveHalt (world_reach m.new)) }
-    ensures limits { m.new.limits ≡ m.old.limits }
+    ensures within { KeepsLimits m.old m.new result }
 {
     let mut stage = from;
     while is_failing(stage) {

@@ -1,15 +1,14 @@
 // Fields of records.
-ghost use Rattle.std.specs.Prelude.{◌≡◌, IsSome, IfErr, IfOk, OnOk};
+ghost use Rattle.std.specs.Prelude.{IsSome};
 ghost use Rattle.icn_value.specs.Store.{Outside};
 ghost use Rattle.icn_heap.specs.Heaps.{heap_of};
 ghost use Rattle.icn_named.specs.Sizes.{FitSizes};
-ghost use Rattle.icn_vars.specs.Outcomes.{IsLiveHalt};
 ghost use Rattle.icn_frames.specs.Stacks as flat;
-ghost use Rattle.icn_code.specs.Codes.{Tables};
 ghost use Rattle.icn_code.specs.Seen.{tables_of};
 ghost use Rattle.icn_code.specs.declared.instr.Instr.TheVariants as Instrs;
 ghost use Rattle.icn_run_named.specs.KeepingSizes.{field_count};
-ghost use Rattle.icn_control.specs.Machines.{ComesTo, HasStack, IsSound, does, stack_of, world_reach};
+ghost use Rattle.icn_control.specs.Machines.{ComesTo, does, stack_of};
+ghost use Rattle.icn_control.specs.Soundness.{Stands, StaysSound};
 
 use icn_calls::push_field;
 use icn_cells::Stack;
@@ -27,16 +26,12 @@ pub fn field<K: Stack<Cell> + Drop>(
     code: &Code,
     field: u32,
 ) -> Result<Stage, Halt>
-    requires runs { IsSome m.old.stacks.table.running }
+    requires stands { Stands m.old }
     requires operand { IsSome (flat.pop (stack_of m.old)) }
-    requires sound { (tables : Tables) × IsSound tables m.old }
     requires sizes { FitSizes (field_count (tables_of code.now)) (heap_of m.old.world.heap) }
     ensures step { (outside : Outside) → ComesTo (tables_of code.now) outside
         (does (tables_of code.now) outside (Instrs.Field field) m.old) m.new result }
-    ensures sound { (tables : Tables) → IsSound tables m.old → OnOk result (IsSound tables m.new) }
-    ensures halt { IfErr result (IsLiveHalt (world_reach m.new)) }
-    ensures limits { m.new.limits ≡ m.old.limits }
-    ensures stack { IfOk result (HasStack m.new) }
+    ensures keeps { StaysSound m.old m.new result }
 {
     let item = m.stacks.frames().pop();
     if m.turns >= m.limits.turns {

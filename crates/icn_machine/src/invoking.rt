@@ -1,30 +1,28 @@
 // Calls.
-ghost use Rattle.std.specs.Prelude.{◌≡◌, ◌<◌, ◌^◌, ◌∷◌, [], Some, suc, length, map, IsSome, IfErr, IfOk, OnOk};
-ghost use Rattle.std.specs.List.{All};
+ghost use Rattle.std.specs.Prelude.{◌≡◌, ◌<◌, ◌^◌, ◌∷◌, [], Some, suc, length, map, IsSome, IfOk, OnOk};
 ghost use Rattle.icn_value.specs.Limited.{limits_of};
 ghost use Rattle.icn_value.specs.Store.{Outside};
 ghost use Rattle.icn_heap.specs.Extents.{IsLive, value_in};
 ghost use Rattle.icn_heap.specs.Heaps.{extent_of, heap_of};
-ghost use Rattle.icn_named.specs.Named.{ItemNamed, WorldNamed};
 ghost use Rattle.icn_named.specs.Sizes.{FitSizes};
-ghost use Rattle.icn_vars.specs.Outcomes.{IsLiveHalt};
-ghost use Rattle.icn_vars.specs.Worlds.{IsLiveItem, KeepsItems, item_in, reach_of, world_of};
+ghost use Rattle.icn_vars.specs.Worlds.{IsLiveItem, item_in, reach_of};
 ghost use Rattle.icn_frames.specs.Stacks as flat;
-ghost use Rattle.icn_code.specs.Codes.{Tables};
 ghost use Rattle.icn_code.specs.Seen.{tables_of};
 ghost use Rattle.icn_code.specs.declared.instr.Instr.TheVariants as Instrs;
 ghost use Rattle.icn_run.specs.Stacks.{flat as calls};
 ghost use Rattle.icn_run.specs.Step.{all_names, applied_to_elements, invoke_value, invoked_with};
 ghost use Rattle.icn_run_named.specs.KeepingSizes.{field_count};
-ghost use Rattle.icn_run_named.specs.StateNames.{StackNamed, StoreNamed};
+ghost use Rattle.icn_run_named.specs.StateNames.{StoreNamed};
 ghost use Rattle.icn_streams.specs.Handed.{call_streams};
 ghost use Rattle.icn_control.specs.Living.{IsLiveStack, with_locals};
-ghost use Rattle.icn_control.specs.Machines.{HasStack, IsSound, does, stack_of, stack_seen, store_seen, world_reach};
+ghost use Rattle.icn_control.specs.Machines.{HasStack, IsSound, does, stack_of, store_seen};
+ghost use Rattle.icn_control.specs.Soundness.{KeepsLimits, LeavesWorld, Stands};
 ghost use Rattle.icn_control.specs.Standing.{stack_in};
-ghost use Rattle.icn_control.specs.Taking.{KeepsCounts, take_operands};
+ghost use Rattle.icn_control.specs.Taking.{take_operands};
 ghost use Rattle.icn_calls.specs.Calling.{IsGoing};
 ghost use Rattle.icn_machine.specs.Invoking.{PerformsEvent};
 ghost use Rattle.icn_machine.specs.Performing.{LeavesNamed, PerformsOn};
+ghost use Rattle.icn_machine.specs.Naming.{AreNamed, HoldsNamed, IsNamed};
 
 use crate::elements::elements_of;
 use crate::performing::perform;
@@ -63,15 +61,9 @@ pub fn call_value<K: Stack<Cell> + Drop, N: Names, I: Source, O: Sink, E: Sink>(
     requires known { N.known names.now ≡ all_names (tables_of code.now) }
     requires few { length items.now < 2 ^ 63 }
     requires bounds { (heap_of world.old.heap).bounds ≡ limits_of limits.now }
-    requires stack { (tables : Tables) × IsLiveStack tables (reach_of world.old []) frames.old.flat }
+    requires here { HoldsNamed (N.known names.now) world.old frames.old.flat }
     requires callee { IsLive (extent_of world.old.heap) callee }
-    requires items { All (IsLiveItem (with_locals (flat.local_count frames.old.flat) (reach_of world.old [])))
-        items.now }
-    requires stack_named { StackNamed (N.known names.now)
-        (stack_in (extent_of world.old.heap) frames.old.flat) }
-    requires world_named { WorldNamed (N.known names.now) (world_of world.old) }
-    requires items_named { All (ItemNamed (N.known names.now))
-        (map (item_in (extent_of world.old.heap)) items.now) }
+    requires given { AreNamed (N.known names.now) world.old frames.old.flat items.now }
     ensures step { PerformsEvent (all_names (tables_of code.now))
         (λ st. invoke_value calls (tables_of code.now)
         (value_in (extent_of world.old.heap) callee) (map (item_in (extent_of world.old.heap)) items.now)
@@ -80,9 +72,7 @@ pub fn call_value<K: Stack<Cell> + Drop, N: Names, I: Source, O: Sink, E: Sink>(
         (call_streams (I.left input.new) (I.faults input.new) (O.state out.new) (E.state err.new)) result }
     ensures live { IsLiveStack (tables_of code.now) (reach_of world.old []) frames.old.flat
         → OnOk result (IsLiveStack (tables_of code.now) (reach_of world.new []) frames.new.flat) }
-    ensures halt { IfErr result (IsLiveHalt (reach_of world.new [])) }
-    ensures kept { KeepsItems (reach_of world.old []) (reach_of world.new []) }
-    ensures counts { OnOk result (KeepsCounts world.old world.new) }
+    ensures leaves { LeavesWorld world.old world.new result }
     ensures going { IfOk result IsGoing }
     ensures named { LeavesNamed (N.known names.now) world.new frames.new.flat result }
     ensures sized { FitSizes (field_count (tables_of code.now)) (heap_of world.old.heap)
@@ -124,14 +114,8 @@ fn call_first<K: Stack<Cell> + Drop, N: Names, I: Source, O: Sink, E: Sink>(
     requires some { 0 < length items.now }
     requires few { length items.now < 2 ^ 63 }
     requires bounds { (heap_of world.old.heap).bounds ≡ limits_of limits.now }
-    requires stack { (tables : Tables) × IsLiveStack tables (reach_of world.old []) frames.old.flat }
-    requires items { All (IsLiveItem (with_locals (flat.local_count frames.old.flat) (reach_of world.old [])))
-        items.now }
-    requires stack_named { StackNamed (N.known names.now)
-        (stack_in (extent_of world.old.heap) frames.old.flat) }
-    requires world_named { WorldNamed (N.known names.now) (world_of world.old) }
-    requires items_named { All (ItemNamed (N.known names.now))
-        (map (item_in (extent_of world.old.heap)) items.now) }
+    requires here { HoldsNamed (N.known names.now) world.old frames.old.flat }
+    requires given { AreNamed (N.known names.now) world.old frames.old.flat items.now }
     ensures step { PerformsEvent (all_names (tables_of code.now))
         (λ st. invoked_with calls (tables_of code.now) (map (item_in (extent_of world.old.heap)) items.now)
         (stack_in (extent_of world.old.heap) frames.old.flat) st) world.old (call_streams (I.left input.old)
@@ -139,9 +123,7 @@ fn call_first<K: Stack<Cell> + Drop, N: Names, I: Source, O: Sink, E: Sink>(
         (call_streams (I.left input.new) (I.faults input.new) (O.state out.new) (E.state err.new)) result }
     ensures live { IsLiveStack (tables_of code.now) (reach_of world.old []) frames.old.flat
         → OnOk result (IsLiveStack (tables_of code.now) (reach_of world.new []) frames.new.flat) }
-    ensures halt { IfErr result (IsLiveHalt (reach_of world.new [])) }
-    ensures kept { KeepsItems (reach_of world.old []) (reach_of world.new []) }
-    ensures counts { OnOk result (KeepsCounts world.old world.new) }
+    ensures leaves { LeavesWorld world.old world.new result }
     ensures going { IfOk result IsGoing }
     ensures named { LeavesNamed (N.known names.now) world.new frames.new.flat result }
     ensures sized { FitSizes (field_count (tables_of code.now)) (heap_of world.old.heap)
@@ -175,18 +157,15 @@ pub fn invoke<K: Stack<Cell> + Drop, N: Names, I: Source, O: Sink, E: Sink>(
     err: &mut E,
 ) -> Result<Stage, Halt>
     requires known { N.known names.now ≡ all_names (tables_of code.now) }
-    requires runs { IsSome m.old.stacks.table.running }
+    requires stands { Stands m.old }
     requires operands { IsSome (take_operands (suc count) (stack_of m.old)) }
-    requires sound { (tables : Tables) × IsSound tables m.old }
-    requires stack_named { StackNamed (N.known names.now) (stack_seen m.old) }
-    requires world_named { WorldNamed (N.known names.now) (world_of m.old.world) }
+    requires named { IsNamed (N.known names.now) m.old }
     ensures step { PerformsOn (tables_of code.now)
         (λ outside. does (tables_of code.now) outside (Instrs.Invoke count) m.old) m.new
         (call_streams (I.left input.old) (I.faults input.old) (O.state out.old) (E.state err.old))
         (call_streams (I.left input.new) (I.faults input.new) (O.state out.new) (E.state err.new)) result }
     ensures sound { IsSound (tables_of code.now) m.old → OnOk result (IsSound (tables_of code.now) m.new) }
-    ensures halt { IfErr result (IsLiveHalt (world_reach m.new)) }
-    ensures limits { m.new.limits ≡ m.old.limits }
+    ensures within { KeepsLimits m.old m.new result }
     ensures stack { IfOk result (HasStack m.new) }
     ensures named { LeavesNamed (N.known names.now) m.new.world (stack_of m.new) result }
     ensures store_named { (outside : Outside)
@@ -236,13 +215,10 @@ fn call_with_elements<K: Stack<Cell> + Drop, N: Names, I: Source, O: Sink, E: Si
 ) -> Result<Stage, Halt>
     requires known { N.known names.now ≡ all_names (tables_of code.now) }
     requires bounds { (heap_of world.old.heap).bounds ≡ limits_of limits.now }
-    requires stack { (tables : Tables) × IsLiveStack tables (reach_of world.old []) frames.old.flat }
+    requires here { HoldsNamed (N.known names.now) world.old frames.old.flat }
     requires callee { IsLiveItem (with_locals (flat.local_count frames.old.flat) (reach_of world.old []))
         callee }
     requires from { IsLiveItem (with_locals (flat.local_count frames.old.flat) (reach_of world.old [])) from }
-    requires stack_named { StackNamed (N.known names.now)
-        (stack_in (extent_of world.old.heap) frames.old.flat) }
-    requires world_named { WorldNamed (N.known names.now) (world_of world.old) }
     ensures step { PerformsEvent (all_names (tables_of code.now)) (λ st. applied_to_elements calls
         (tables_of code.now) (item_in (extent_of world.old.heap) callee ∷ item_in (extent_of world.old.heap)
         from ∷ []) (stack_in (extent_of world.old.heap) frames.old.flat) st) world.old
@@ -251,9 +227,7 @@ fn call_with_elements<K: Stack<Cell> + Drop, N: Names, I: Source, O: Sink, E: Si
         (call_streams (I.left input.new) (I.faults input.new) (O.state out.new) (E.state err.new)) result }
     ensures live { IsLiveStack (tables_of code.now) (reach_of world.old []) frames.old.flat
         → OnOk result (IsLiveStack (tables_of code.now) (reach_of world.new []) frames.new.flat) }
-    ensures halt { IfErr result (IsLiveHalt (reach_of world.new [])) }
-    ensures kept { KeepsItems (reach_of world.old []) (reach_of world.new []) }
-    ensures counts { OnOk result (KeepsCounts world.old world.new) }
+    ensures leaves { LeavesWorld world.old world.new result }
     ensures going { IfOk result IsGoing }
     ensures named { LeavesNamed (N.known names.now) world.new frames.new.flat result }
     ensures sized { FitSizes (field_count (tables_of code.now)) (heap_of world.old.heap)
@@ -286,18 +260,15 @@ pub fn appl<K: Stack<Cell> + Drop, N: Names, I: Source, O: Sink, E: Sink>(
     err: &mut E,
 ) -> Result<Stage, Halt>
     requires known { N.known names.now ≡ all_names (tables_of code.now) }
-    requires runs { IsSome m.old.stacks.table.running }
+    requires stands { Stands m.old }
     requires operands { IsSome (take_operands 2 (stack_of m.old)) }
-    requires sound { (tables : Tables) × IsSound tables m.old }
-    requires stack_named { StackNamed (N.known names.now) (stack_seen m.old) }
-    requires world_named { WorldNamed (N.known names.now) (world_of m.old.world) }
+    requires named { IsNamed (N.known names.now) m.old }
     ensures step { PerformsOn (tables_of code.now)
         (λ outside. does (tables_of code.now) outside Instrs.Appl m.old) m.new
         (call_streams (I.left input.old) (I.faults input.old) (O.state out.old) (E.state err.old))
         (call_streams (I.left input.new) (I.faults input.new) (O.state out.new) (E.state err.new)) result }
     ensures sound { IsSound (tables_of code.now) m.old → OnOk result (IsSound (tables_of code.now) m.new) }
-    ensures halt { IfErr result (IsLiveHalt (world_reach m.new)) }
-    ensures limits { m.new.limits ≡ m.old.limits }
+    ensures within { KeepsLimits m.old m.new result }
     ensures stack { IfOk result (HasStack m.new) }
     ensures named { LeavesNamed (N.known names.now) m.new.world (stack_of m.new) result }
     ensures store_named { (outside : Outside)

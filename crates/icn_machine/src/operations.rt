@@ -1,23 +1,23 @@
 // Operations, and the rows that are resumed.
-ghost use Rattle.std.specs.Prelude.{◌≡◌, ◌≢◌, IsSome, IfErr, IfOk, OnOk};
+ghost use Rattle.std.specs.Prelude.{◌≡◌, ◌≢◌, IsSome};
 ghost use Rattle.icn_text.specs.declared.op.Op.TheVariants as Ops;
 ghost use Rattle.icn_value.specs.Store.{Outside};
 ghost use Rattle.icn_defs.specs.Arities.{arity};
-ghost use Rattle.icn_vars.specs.Outcomes.{IsLiveHalt, IsLiveResidual, residual_in};
-ghost use Rattle.icn_vars.specs.Worlds.{world_of};
+ghost use Rattle.icn_vars.specs.Outcomes.{IsLiveResidual, residual_in};
 ghost use Rattle.icn_frames.specs.Stacks as flat;
 ghost use Rattle.icn_code.specs.Codes.{Tables};
 ghost use Rattle.icn_code.specs.declared.instr.Instr.TheVariants as Instrs;
-ghost use Rattle.icn_named.specs.Named.{ResidualNamed, WorldNamed};
+ghost use Rattle.icn_named.specs.Named.{ResidualNamed};
 ghost use Rattle.icn_run.specs.Calls.{Op as Operation};
 ghost use Rattle.icn_run.specs.Stacks.{flat as calls};
 ghost use Rattle.icn_run.specs.Step.{all_names, resume_by};
 ghost use Rattle.icn_streams.specs.Handed.{call_streams};
 ghost use Rattle.icn_control.specs.Living.{with_locals};
-ghost use Rattle.icn_control.specs.Machines.{HasStack, IsSound, does, extent, stack_of, stack_seen, store_seen, world_reach};
+ghost use Rattle.icn_control.specs.Machines.{does, extent, stack_of, stack_seen, store_seen, world_reach};
+ghost use Rattle.icn_control.specs.Soundness.{Stands, StaysSound};
 ghost use Rattle.icn_control.specs.Taking.{take_operands};
-ghost use Rattle.icn_run_named.specs.StateNames.{StackNamed};
 ghost use Rattle.icn_machine.specs.Performing.{LeavesNamed, PerformsOn};
+ghost use Rattle.icn_machine.specs.Naming.{IsNamed};
 
 use crate::performing::{perform, perform_again};
 use icn_apply::Applied;
@@ -43,20 +43,15 @@ pub fn operate<K: Stack<Cell> + Drop, N: Names, I: Source, O: Sink, E: Sink>(
     out: &mut O,
     err: &mut E,
 ) -> Result<Stage, Halt>
-    requires runs { IsSome m.old.stacks.table.running }
+    requires stands { Stands m.old }
     requires row { op ≢ Ops.Refresh }
     requires operands { IsSome (take_operands (arity op) (stack_of m.old)) }
-    requires sound { (tables : Tables) × IsSound tables m.old }
-    requires stack_named { StackNamed (N.known names.now) (stack_seen m.old) }
-    requires world_named { WorldNamed (N.known names.now) (world_of m.old.world) }
+    requires named { IsNamed (N.known names.now) m.old }
     ensures step { (tables : Tables) → all_names tables ≡ N.known names.now
         → PerformsOn tables (λ outside. does tables outside (Instrs.Op op) m.old) m.new
         (call_streams (I.left input.old) (I.faults input.old) (O.state out.old) (E.state err.old))
         (call_streams (I.left input.new) (I.faults input.new) (O.state out.new) (E.state err.new)) result }
-    ensures sound { (tables : Tables) → IsSound tables m.old → OnOk result (IsSound tables m.new) }
-    ensures halt { IfErr result (IsLiveHalt (world_reach m.new)) }
-    ensures limits { m.new.limits ≡ m.old.limits }
-    ensures stack { IfOk result (HasStack m.new) }
+    ensures keeps { StaysSound m.old m.new result }
     ensures named { LeavesNamed (N.known names.now) m.new.world (stack_of m.new) result }
 {
     let Ok(()) = take_operands(m.stacks.frames(), items, arity(op) as usize) else {
@@ -89,21 +84,16 @@ pub fn resume<K: Stack<Cell> + Drop, N: Names, I: Source, O: Sink, E: Sink>(
     out: &mut O,
     err: &mut E,
 ) -> Result<Stage, Halt>
-    requires runs { IsSome m.old.stacks.table.running }
+    requires stands { Stands m.old }
     requires rest { IsLiveResidual (with_locals (flat.local_count (stack_of m.old)) (world_reach m.old))
         rest }
-    requires sound { (tables : Tables) × IsSound tables m.old }
-    requires stack_named { StackNamed (N.known names.now) (stack_seen m.old) }
-    requires world_named { WorldNamed (N.known names.now) (world_of m.old.world) }
+    requires named { IsNamed (N.known names.now) m.old }
     requires rest_named { ResidualNamed (N.known names.now) (residual_in (extent m.old) rest) }
     ensures step { (tables : Tables) → PerformsOn tables (λ outside. resume_by calls tables
         (Operation (residual_in (extent m.old) rest)) (stack_seen m.old) (store_seen tables outside m.old))
         m.new (call_streams (I.left input.old) (I.faults input.old) (O.state out.old) (E.state err.old))
         (call_streams (I.left input.new) (I.faults input.new) (O.state out.new) (E.state err.new)) result }
-    ensures sound { (tables : Tables) → IsSound tables m.old → OnOk result (IsSound tables m.new) }
-    ensures halt { IfErr result (IsLiveHalt (world_reach m.new)) }
-    ensures limits { m.new.limits ≡ m.old.limits }
-    ensures stack { IfOk result (HasStack m.new) }
+    ensures keeps { StaysSound m.old m.new result }
     ensures named { LeavesNamed (N.known names.now) m.new.world (stack_of m.new) result }
 {
     if m.turns >= m.limits.turns {

@@ -1,12 +1,11 @@
 // Rows that are performed on a stack in a world.
-ghost use Rattle.std.specs.Prelude.{◌≡◌, [], length, map, IfErr, OnOk};
-ghost use Rattle.std.specs.List.{All};
+ghost use Rattle.std.specs.Prelude.{◌≡◌, [], length, map, OnOk};
 ghost use Rattle.icn_defs.specs.Applying as rows;
 ghost use Rattle.icn_defs.specs.StepRows as step_rows;
 ghost use Rattle.icn_heap.specs.Heaps.{extent_of};
-ghost use Rattle.icn_named.specs.Named.{ItemNamed, ResidualNamed, WorldNamed};
-ghost use Rattle.icn_vars.specs.Outcomes.{IsLiveHalt, IsLiveResidual, residual_in};
-ghost use Rattle.icn_vars.specs.Worlds.{IsLiveItem, KeepsItems, item_in, reach_of, world_of};
+ghost use Rattle.icn_named.specs.Named.{ResidualNamed};
+ghost use Rattle.icn_vars.specs.Outcomes.{IsLiveResidual, residual_in};
+ghost use Rattle.icn_vars.specs.Worlds.{item_in, reach_of};
 ghost use Rattle.icn_frames.specs.Stacks as flat;
 ghost use Rattle.icn_code.specs.Codes.{Tables};
 ghost use Rattle.icn_streams.specs.Answers.{call_state};
@@ -16,10 +15,9 @@ ghost use Rattle.icn_apply.specs.Applicable.{IsApplicable, applied_of};
 ghost use Rattle.icn_apply.specs.NamesAfter.{AnswerNamed};
 ghost use Rattle.icn_apply.specs.SizesAfter.{AnswerKeepsSizes, WorldsKeepSizes};
 ghost use Rattle.icn_control.specs.Living.{IsLiveStack, with_locals};
-ghost use Rattle.icn_control.specs.Standing.{stack_in};
-ghost use Rattle.icn_control.specs.Taking.{KeepsCounts};
-ghost use Rattle.icn_run_named.specs.StateNames.{StackNamed};
 ghost use Rattle.icn_machine.specs.Performing.{LeavesNamed, PerformsRow};
+ghost use Rattle.icn_control.specs.Soundness.{LeavesWorld};
+ghost use Rattle.icn_machine.specs.Naming.{AreNamed, HoldsNamed};
 
 use crate::begun::{Earlier, OwnLocals};
 use crate::giving::give_outcome;
@@ -52,14 +50,8 @@ pub fn perform<K: Stack<Cell> + Drop, N: Names, I: Source, O: Sink, E: Sink>(
     err: &mut E,
 ) -> Result<Stage, Halt>
     requires applicable { IsApplicable what (length items.now) }
-    requires stack { (tables : Tables) × IsLiveStack tables (reach_of world.old []) frames.old.flat }
-    requires items { All (IsLiveItem (with_locals (flat.local_count frames.old.flat) (reach_of world.old [])))
-        items.now }
-    requires stack_named { StackNamed (N.known names.now)
-        (stack_in (extent_of world.old.heap) frames.old.flat) }
-    requires world_named { WorldNamed (N.known names.now) (world_of world.old) }
-    requires items_named { All (ItemNamed (N.known names.now))
-        (map (item_in (extent_of world.old.heap)) items.now) }
+    requires here { HoldsNamed (N.known names.now) world.old frames.old.flat }
+    requires given { AreNamed (N.known names.now) world.old frames.old.flat items.now }
     ensures row { PerformsRow (step_rows.apply (N.known names.now) (applied_of what)
         (map (item_in (extent_of world.old.heap)) items.now)) world.old frames.old.flat
         (call_streams (I.left input.old) (I.faults input.old) (O.state out.old) (E.state err.old))
@@ -67,9 +59,7 @@ pub fn perform<K: Stack<Cell> + Drop, N: Names, I: Source, O: Sink, E: Sink>(
         (call_streams (I.left input.new) (I.faults input.new) (O.state out.new) (E.state err.new)) result }
     ensures live { (tables : Tables) → IsLiveStack tables (reach_of world.old []) frames.old.flat
         → OnOk result (IsLiveStack tables (reach_of world.new []) frames.new.flat) }
-    ensures halt { IfErr result (IsLiveHalt (reach_of world.new [])) }
-    ensures kept { KeepsItems (reach_of world.old []) (reach_of world.new []) }
-    ensures counts { OnOk result (KeepsCounts world.old world.new) }
+    ensures leaves { LeavesWorld world.old world.new result }
     ensures sized { OnOk result (WorldsKeepSizes world.old world.new) }
     ensures named { LeavesNamed (N.known names.now) world.new frames.new.flat result }
 {
@@ -94,14 +84,8 @@ fn perform_in<K: Stack<Cell> + Drop, N: Names, I: Source, O: Sink, E: Sink>(
     err: &mut E,
 ) -> Result<Outcome, Halt>
     requires applicable { IsApplicable what (length items.now) }
-    requires stack { (tables : Tables) × IsLiveStack tables (reach_of world.old []) frames.old.flat }
-    requires items { All (IsLiveItem (with_locals (flat.local_count frames.old.flat) (reach_of world.old [])))
-        items.now }
-    requires stack_named { StackNamed (N.known names.now)
-        (stack_in (extent_of world.old.heap) frames.old.flat) }
-    requires world_named { WorldNamed (N.known names.now) (world_of world.old) }
-    requires items_named { All (ItemNamed (N.known names.now))
-        (map (item_in (extent_of world.old.heap)) items.now) }
+    requires here { HoldsNamed (N.known names.now) world.old frames.old.flat }
+    requires given { AreNamed (N.known names.now) world.old frames.old.flat items.now }
     ensures applies { Applies (step_rows.apply (N.known names.now)
         (applied_of what) (map (item_in (extent_of world.old.heap)) items.now))
         (call_state world.old (flat.locals frames.old.flat)
@@ -133,14 +117,8 @@ fn perform_lent<'a, K: Stack<Cell> + Drop, B: Earlier, N: Names, I: Source, O: S
     requires lent { frames.ghost_name ≡ B.loan }
     requires earlier { B.stack ≡ frames.old.flat }
     requires applicable { IsApplicable what (length items.now) }
-    requires stack { (tables : Tables) × IsLiveStack tables (reach_of world.old []) frames.old.flat }
-    requires items { All (IsLiveItem (with_locals (flat.local_count frames.old.flat) (reach_of world.old [])))
-        items.now }
-    requires stack_named { StackNamed (N.known names.now)
-        (stack_in (extent_of world.old.heap) frames.old.flat) }
-    requires world_named { WorldNamed (N.known names.now) (world_of world.old) }
-    requires items_named { All (ItemNamed (N.known names.now))
-        (map (item_in (extent_of world.old.heap)) items.now) }
+    requires here { HoldsNamed (N.known names.now) world.old frames.old.flat }
+    requires given { AreNamed (N.known names.now) world.old frames.old.flat items.now }
     ensures same_reference { result.1.ghost_name ≡ frames.entry.ghost_name }
     ensures applies { Applies (step_rows.apply (N.known names.now)
         (applied_of what) (map (item_in (extent_of world.old.heap)) items.now))
@@ -172,12 +150,9 @@ pub fn perform_again<K: Stack<Cell> + Drop, N: Names, I: Source, O: Sink, E: Sin
     out: &mut O,
     err: &mut E,
 ) -> Result<Stage, Halt>
-    requires stack { (tables : Tables) × IsLiveStack tables (reach_of world.old []) frames.old.flat }
+    requires here { HoldsNamed (N.known names.now) world.old frames.old.flat }
     requires rest { IsLiveResidual (with_locals (flat.local_count frames.old.flat) (reach_of world.old []))
         rest }
-    requires stack_named { StackNamed (N.known names.now)
-        (stack_in (extent_of world.old.heap) frames.old.flat) }
-    requires world_named { WorldNamed (N.known names.now) (world_of world.old) }
     requires rest_named { ResidualNamed (N.known names.now) (residual_in (extent_of world.old.heap) rest) }
     ensures row { PerformsRow (rows.again (residual_in (extent_of world.old.heap) rest))
         world.old frames.old.flat (call_streams (I.left input.old)
@@ -185,9 +160,7 @@ pub fn perform_again<K: Stack<Cell> + Drop, N: Names, I: Source, O: Sink, E: Sin
         (call_streams (I.left input.new) (I.faults input.new) (O.state out.new) (E.state err.new)) result }
     ensures live { (tables : Tables) → IsLiveStack tables (reach_of world.old []) frames.old.flat
         → OnOk result (IsLiveStack tables (reach_of world.new []) frames.new.flat) }
-    ensures halt { IfErr result (IsLiveHalt (reach_of world.new [])) }
-    ensures kept { KeepsItems (reach_of world.old []) (reach_of world.new []) }
-    ensures counts { OnOk result (KeepsCounts world.old world.new) }
+    ensures leaves { LeavesWorld world.old world.new result }
     ensures sized { OnOk result (WorldsKeepSizes world.old world.new) }
     ensures named { LeavesNamed (N.known names.now) world.new frames.new.flat result }
 {
@@ -210,12 +183,9 @@ fn again_in<K: Stack<Cell> + Drop, N: Names, I: Source, O: Sink, E: Sink>(
     out: &mut O,
     err: &mut E,
 ) -> Result<Outcome, Halt>
-    requires stack { (tables : Tables) × IsLiveStack tables (reach_of world.old []) frames.old.flat }
+    requires here { HoldsNamed (N.known names.now) world.old frames.old.flat }
     requires rest { IsLiveResidual (with_locals (flat.local_count frames.old.flat) (reach_of world.old []))
         rest }
-    requires stack_named { StackNamed (N.known names.now)
-        (stack_in (extent_of world.old.heap) frames.old.flat) }
-    requires world_named { WorldNamed (N.known names.now) (world_of world.old) }
     requires rest_named { ResidualNamed (N.known names.now) (residual_in (extent_of world.old.heap) rest) }
     ensures applies { Applies (rows.again (residual_in (extent_of world.old.heap) rest))
         (call_state world.old (flat.locals frames.old.flat)
@@ -245,12 +215,9 @@ fn again_lent<'a, K: Stack<Cell> + Drop, B: Earlier, N: Names, I: Source, O: Sin
 ) -> (Result<Outcome, Halt>, &'a mut Frames<K>)
     requires lent { frames.ghost_name ≡ B.loan }
     requires earlier { B.stack ≡ frames.old.flat }
-    requires stack { (tables : Tables) × IsLiveStack tables (reach_of world.old []) frames.old.flat }
+    requires here { HoldsNamed (N.known names.now) world.old frames.old.flat }
     requires rest { IsLiveResidual (with_locals (flat.local_count frames.old.flat) (reach_of world.old []))
         rest }
-    requires stack_named { StackNamed (N.known names.now)
-        (stack_in (extent_of world.old.heap) frames.old.flat) }
-    requires world_named { WorldNamed (N.known names.now) (world_of world.old) }
     requires rest_named { ResidualNamed (N.known names.now) (residual_in (extent_of world.old.heap) rest) }
     ensures same_reference { result.1.ghost_name ≡ frames.entry.ghost_name }
     ensures applies { Applies (rows.again (residual_in (extent_of world.old.heap) rest))

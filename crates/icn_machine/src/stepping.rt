@@ -1,7 +1,6 @@
 // One instruction of a run.
-ghost use Rattle.std.specs.Prelude.{◌≡◌, ◌≢◌, ◌<◌, false, true, suc, Err, Some, IfErr, IfOk, length, slice_get};
+ghost use Rattle.std.specs.Prelude.{◌≡◌, ◌≢◌, ◌<◌, false, true, suc, Err, Some, IfOk, length, slice_get};
 ghost use Rattle.icn_value.specs.Store.{Outside};
-ghost use Rattle.icn_vars.specs.Outcomes.{IsLiveHalt};
 ghost use Rattle.icn_vars.specs.declared.outcome.Halt.TheVariants.{NoMemory};
 ghost use Rattle.icn_code.specs.declared.instr.Instr.{Instr as InstrSeen};
 ghost use Rattle.icn_frames.specs.Stacks as flat;
@@ -9,7 +8,8 @@ ghost use Rattle.icn_code.specs.Seen.{tables_of};
 ghost use Rattle.icn_run.specs.Stacks.{flat as calls};
 ghost use Rattle.icn_run.specs.Step.{all_names, instruction_at, instrs_of, running, step};
 ghost use Rattle.icn_streams.specs.Handed.{call_streams};
-ghost use Rattle.icn_control.specs.Machines.{ComesTo, does, stack_seen, store_seen, world_reach};
+ghost use Rattle.icn_control.specs.Machines.{ComesTo, does, stack_seen, store_seen};
+ghost use Rattle.icn_control.specs.Soundness.{KeepsLimits};
 ghost use Rattle.icn_control.specs.declared.machine.Stage.TheVariants as Stages;
 ghost use Rattle.icn_machine.specs.Performing.{PerformsOn};
 ghost use Rattle.icn_machine.specs.Stepping.{Advances, EndsWhole, GoesOn, IsDoing, IsReady, is_applied, is_failing, is_whole};
@@ -121,8 +121,7 @@ fn do_applied<K: Stack<Cell> + Drop, N: Names, I: Source, O: Sink, E: Sink>(
         m.new (call_streams (I.left input.old) (I.faults input.old) (O.state out.old) (E.state err.old))
         (call_streams (I.left input.new) (I.faults input.new) (O.state out.new) (E.state err.new)) result }
     ensures ready { IfOk result (IsReady (tables_of code.now) m.new) }
-    ensures halt { IfErr result (IsLiveHalt (world_reach m.new)) }
-    ensures limits { m.new.limits ≡ m.old.limits }
+    ensures within { KeepsLimits m.old m.new result }
 {
     steps_keep_names();
     steps_keep_sizes();
@@ -151,8 +150,7 @@ fn do_plain<K: Stack<Cell> + Drop>(
         → ComesTo (tables_of code.now) outside (does (tables_of code.now) outside instr m.old) m.new result }
     ensures ready { IfOk result (IsReady (tables_of code.now) m.new) }
     ensures whole { is_whole instr ≡ true → EndsWhole result }
-    ensures halt { IfErr result (IsLiveHalt (world_reach m.new)) }
-    ensures limits { m.new.limits ≡ m.old.limits }
+    ensures within { KeepsLimits m.old m.new result }
 {
     steps_keep_names();
     steps_keep_sizes();
@@ -178,8 +176,7 @@ fn do_next<K: Stack<Cell> + Drop, N: Names, I: Source, O: Sink, E: Sink>(
     ensures whole { (instr : InstrSeen)
         → instruction_at calls (tables_of code.now) (stack_seen m.old) ≡ Some instr → is_whole instr ≡ true
         → EndsWhole result }
-    ensures halt { IfErr result (IsLiveHalt (world_reach m.new)) }
-    ensures limits { m.new.limits ≡ m.old.limits }
+    ensures within { KeepsLimits m.old m.new result }
 {
     let instr = next_instr(m, code);
     if is_applied(instr) {
@@ -220,8 +217,7 @@ fn fail_to_next<K: Stack<Cell> + Drop, N: Names, I: Source, O: Sink, E: Sink>(
         (call_streams (I.left input.new) (I.faults input.new) (O.state out.new) (E.state err.new))
         (stage_result result) }
     ensures ready { IfOk result (λ stepped. IsReady (tables_of code.now) m.new (stage_of stepped)) }
-    ensures halt { IfErr result (IsLiveHalt (world_reach m.new)) }
-    ensures limits { m.new.limits ≡ m.old.limits }
+    ensures within { KeepsLimits m.old m.new result }
 {
     let stage = fail_through(m, from, names, buffer, input, out, err)?;
     Ok(stepped_of(stage))
@@ -247,8 +243,7 @@ fn step_named<K: Stack<Cell> + Drop, N: Names, I: Source, O: Sink, E: Sink>(
     ensures no_memory { (instr : InstrSeen)
         → instruction_at calls (tables_of code.now) (stack_seen m.old) ≡ Some instr → is_whole instr ≡ true
         → result ≢ Err NoMemory }
-    ensures halt { IfErr result (IsLiveHalt (world_reach m.new)) }
-    ensures limits { m.new.limits ≡ m.old.limits }
+    ensures within { KeepsLimits m.old m.new result }
 {
     let stage = do_next(m, code, names, rooms, input, out, err)?;
     if fails_now(stage) {
@@ -282,8 +277,7 @@ pub fn step<K: Stack<Cell> + Drop, I: Source, O: Sink, E: Sink>(
     ensures no_memory { (instr : InstrSeen)
         → instruction_at calls (tables_of code.now.code) (stack_seen m.old) ≡ Some instr
         → is_whole instr ≡ true → result ≢ Err NoMemory }
-    ensures halt { IfErr result (IsLiveHalt (world_reach m.new)) }
-    ensures limits { m.new.limits ≡ m.old.limits }
+    ensures within { KeepsLimits m.old m.new result }
 {
     let code = code.code();
     let names = CodeNames::new(code);

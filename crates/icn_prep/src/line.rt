@@ -1,11 +1,11 @@
 // Reading one line.
-ghost use Rattle.std.specs.Prelude.{◌≡◌, ◌<◌, ◌+◌, ◌^◌, Ok, if◌then◌else◌, length, vec_len, IfOk, IfSome, OnOk, IfErr, MatchResult};
+ghost use Rattle.std.specs.Prelude.{◌≡◌, Ok, if◌then◌else◌, IfOk, IfSome, MatchResult};
 ghost use Rattle.std.specs.Option.{option_map};
-ghost use Rattle.icn_prep.specs.LineBounds.{LeavesLine};
+ghost use Rattle.icn_prep.specs.LineBounds.{PassesLine, StandsIn};
 ghost use Rattle.icn_prep.specs.Operands.{is_empty, name_operand, define_operand, line_operand};
 ghost use Rattle.icn_prep.specs.CursorViews.{cursor_of};
 ghost use Rattle.icn_prep.specs.Cursors.{next_line};
-ghost use Rattle.icn_prep.specs.Refusals.{Refuses, IsOfText, rest_of_line};
+ghost use Rattle.icn_prep.specs.Refusals.{Refuses, rest_of_line};
 ghost use Rattle.icn_prep.specs.Replacement.{replace_words};
 ghost use Rattle.icn_prep.specs.SourceLines.{IncludeStep, left_empty, pass_line, text_line, define_line, undef_line, if_line, else_line, endif_line, line_line, directive_line, where_taken, line_read, refuse};
 ghost use Rattle.icn_prep.specs.StateViews.{state_of};
@@ -27,17 +27,15 @@ pub fn read_line<'a>(
     cursor: &mut Cursor,
     line: &'a [u8],
 ) -> Result<Option<&'a str>, PrepFault>
-    requires named { cursor.old.file < vec_len reading.old.names }
-    requires numbered { cursor.old.line + 1 < 2 ^ 32 }
+    requires here { StandsIn reading.old cursor.old }
     ensures exact { (includes : IncludeStep)
         → let step = line_read includes (state_of reading.old) (cursor_of cursor.old) line.now in
         MatchResult result
         (λ name. step
         ≡ rest_of_line includes (option_map (λ n. n.now) name) (state_of reading.new) (cursor_of cursor.new))
         (Refuses step) }
-    ensures fault { IfErr result IsOfText }
+    ensures goes { PassesLine reading.old reading.new cursor.old cursor.new result }
     ensures stays { IfOk result (λ name. IfSome name (λ _. cursor.new.line ≡ cursor.old.line)) }
-    ensures leaves { OnOk result (LeavesLine reading.old reading.new cursor.old cursor.new) }
 {
     if is_directive(reading.literal, line) {
         let (name, operand) = name_and_operand(line);
@@ -54,14 +52,12 @@ pub fn read_line<'a>(
 
 // A line that is no directive.
 fn text_line(reading: &mut Reading, cursor: &mut Cursor, line: &[u8]) -> Result<(), PrepFault>
-    requires named { cursor.old.file < vec_len reading.old.names }
-    requires numbered { cursor.old.line + 1 < 2 ^ 32 }
+    requires here { StandsIn reading.old cursor.old }
     ensures exact { let s = state_of reading.old in
         let step = text_line s (cursor_of cursor.old)
         (replace_words s.texts.count s.texts.text_of s.literal line.now) in
         MatchResult result (λ _. step ≡ Ok (state_of reading.new, cursor_of cursor.new)) (Refuses step) }
-    ensures fault { IfErr result IsOfText }
-    ensures leaves { OnOk result (LeavesLine reading.old reading.new cursor.old cursor.new) }
+    ensures goes { PassesLine reading.old reading.new cursor.old cursor.new result }
 {
     let most = LONGEST.saturating_sub(reading.size);
     let read = replaced(reading.alloc, &reading.texts, reading.literal, line, most)?;
@@ -75,13 +71,11 @@ fn text_line(reading: &mut Reading, cursor: &mut Cursor, line: &[u8]) -> Result<
 
 // Leaves a line empty and goes on to the next.
 fn skip(reading: &mut Reading, cursor: &mut Cursor) -> Result<(), PrepFault>
-    requires named { cursor.old.file < vec_len reading.old.names }
-    requires numbered { cursor.old.line + 1 < 2 ^ 32 }
+    requires here { StandsIn reading.old cursor.old }
     ensures exact { let step = pass_line (state_of reading.old) (cursor_of cursor.old)
         (next_line (cursor_of cursor.old)) in
         MatchResult result (λ _. step ≡ Ok (state_of reading.new, cursor_of cursor.new)) (Refuses step) }
-    ensures fault { IfErr result IsOfText }
-    ensures leaves { OnOk result (LeavesLine reading.old reading.new cursor.old cursor.new) }
+    ensures goes { PassesLine reading.old reading.new cursor.old cursor.new result }
 {
     leave_empty(reading, cursor)?;
     cursor.line += 1;
@@ -95,17 +89,15 @@ fn directive<'a>(
     keyword: Option<Keyword>,
     operand: &'a [u8],
 ) -> Result<Option<&'a str>, PrepFault>
-    requires named { cursor.old.file < vec_len reading.old.names }
-    requires numbered { cursor.old.line + 1 < 2 ^ 32 }
+    requires here { StandsIn reading.old cursor.old }
     ensures exact { (includes : IncludeStep) → let step = directive_line includes (state_of reading.old)
         (cursor_of cursor.old) keyword operand.now in
         MatchResult result
         (λ name. step
         ≡ rest_of_line includes (option_map (λ n. n.now) name) (state_of reading.new) (cursor_of cursor.new))
         (Refuses step) }
-    ensures fault { IfErr result IsOfText }
+    ensures goes { PassesLine reading.old reading.new cursor.old cursor.new result }
     ensures stays { IfOk result (λ name. IfSome name (λ _. cursor.new.line ≡ cursor.old.line)) }
-    ensures leaves { OnOk result (LeavesLine reading.old reading.new cursor.old cursor.new) }
 {
     match keyword {
         Some(Keyword::Ifdef) => if_line(reading, cursor, true, operand)?,
@@ -128,13 +120,11 @@ fn directive<'a>(
 
 // `$define`
 fn define_line(reading: &mut Reading, cursor: &mut Cursor, operand: &[u8]) -> Result<(), PrepFault>
-    requires named { cursor.old.file < vec_len reading.old.names }
-    requires numbered { cursor.old.line + 1 < 2 ^ 32 }
+    requires here { StandsIn reading.old cursor.old }
     ensures exact { let step = define_line (state_of reading.old) (cursor_of cursor.old)
         (define_operand operand.now) in
         MatchResult result (λ _. step ≡ Ok (state_of reading.new, cursor_of cursor.new)) (Refuses step) }
-    ensures fault { IfErr result IsOfText }
-    ensures leaves { OnOk result (LeavesLine reading.old reading.new cursor.old cursor.new) }
+    ensures goes { PassesLine reading.old reading.new cursor.old cursor.new result }
 {
     let Some((name, text)) = define_operand(operand) else {
         return Err(refusal(reading, cursor, Rule::P2));
@@ -152,13 +142,11 @@ fn define_line(reading: &mut Reading, cursor: &mut Cursor, operand: &[u8]) -> Re
 
 // `$undef`
 fn undef_line(reading: &mut Reading, cursor: &mut Cursor, operand: &[u8]) -> Result<(), PrepFault>
-    requires named { cursor.old.file < vec_len reading.old.names }
-    requires numbered { cursor.old.line + 1 < 2 ^ 32 }
+    requires here { StandsIn reading.old cursor.old }
     ensures exact { let step = undef_line (state_of reading.old) (cursor_of cursor.old)
         (name_operand operand.now) in
         MatchResult result (λ _. step ≡ Ok (state_of reading.new, cursor_of cursor.new)) (Refuses step) }
-    ensures fault { IfErr result IsOfText }
-    ensures leaves { OnOk result (LeavesLine reading.old reading.new cursor.old cursor.new) }
+    ensures goes { PassesLine reading.old reading.new cursor.old cursor.new result }
 {
     let Some(name) = name_operand(operand) else {
         return Err(refusal(reading, cursor, Rule::P2));
@@ -174,13 +162,11 @@ fn if_line(
     wanted: bool,
     operand: &[u8],
 ) -> Result<(), PrepFault>
-    requires named { cursor.old.file < vec_len reading.old.names }
-    requires numbered { cursor.old.line + 1 < 2 ^ 32 }
+    requires here { StandsIn reading.old cursor.old }
     ensures exact { let step = if_line (state_of reading.old) (cursor_of cursor.old) wanted
         (name_operand operand.now) in
         MatchResult result (λ _. step ≡ Ok (state_of reading.new, cursor_of cursor.new)) (Refuses step) }
-    ensures fault { IfErr result IsOfText }
-    ensures leaves { OnOk result (LeavesLine reading.old reading.new cursor.old cursor.new) }
+    ensures goes { PassesLine reading.old reading.new cursor.old cursor.new result }
 {
     let Some(name) = name_operand(operand) else {
         return Err(refusal(reading, cursor, Rule::P2));
@@ -200,13 +186,11 @@ fn if_line(
 
 // `$else`
 fn else_line(reading: &mut Reading, cursor: &mut Cursor, operand: &[u8]) -> Result<(), PrepFault>
-    requires named { cursor.old.file < vec_len reading.old.names }
-    requires numbered { cursor.old.line + 1 < 2 ^ 32 }
+    requires here { StandsIn reading.old cursor.old }
     ensures exact { let s = state_of reading.old in let at = cursor_of cursor.old in
         let step = (if is_empty operand.now then else_line s at at.conditionals else refuse s at Rule.P2) in
         MatchResult result (λ _. step ≡ Ok (state_of reading.new, cursor_of cursor.new)) (Refuses step) }
-    ensures fault { IfErr result IsOfText }
-    ensures leaves { OnOk result (LeavesLine reading.old reading.new cursor.old cursor.new) }
+    ensures goes { PassesLine reading.old reading.new cursor.old cursor.new result }
 {
     if !operand.is_empty() {
         return Err(refusal(reading, cursor, Rule::P2));
@@ -229,13 +213,11 @@ fn else_line(reading: &mut Reading, cursor: &mut Cursor, operand: &[u8]) -> Resu
 
 // `$endif`
 fn endif_line(reading: &mut Reading, cursor: &mut Cursor, operand: &[u8]) -> Result<(), PrepFault>
-    requires named { cursor.old.file < vec_len reading.old.names }
-    requires numbered { cursor.old.line + 1 < 2 ^ 32 }
+    requires here { StandsIn reading.old cursor.old }
     ensures exact { let s = state_of reading.old in let at = cursor_of cursor.old in
         let step = (if is_empty operand.now then endif_line s at at.conditionals else refuse s at Rule.P2) in
         MatchResult result (λ _. step ≡ Ok (state_of reading.new, cursor_of cursor.new)) (Refuses step) }
-    ensures fault { IfErr result IsOfText }
-    ensures leaves { OnOk result (LeavesLine reading.old reading.new cursor.old cursor.new) }
+    ensures goes { PassesLine reading.old reading.new cursor.old cursor.new result }
 {
     if !operand.is_empty() {
         return Err(refusal(reading, cursor, Rule::P2));
@@ -251,13 +233,11 @@ fn endif_line(reading: &mut Reading, cursor: &mut Cursor, operand: &[u8]) -> Res
 
 // `$line`
 fn line_line(reading: &mut Reading, cursor: &mut Cursor, operand: &[u8]) -> Result<(), PrepFault>
-    requires named { cursor.old.file < vec_len reading.old.names }
-    requires numbered { cursor.old.line + 1 < 2 ^ 32 }
+    requires here { StandsIn reading.old cursor.old }
     ensures exact { let step = line_line (state_of reading.old) (cursor_of cursor.old)
         (line_operand operand.now) in
         MatchResult result (λ _. step ≡ Ok (state_of reading.new, cursor_of cursor.new)) (Refuses step) }
-    ensures fault { IfErr result IsOfText }
-    ensures leaves { OnOk result (LeavesLine reading.old reading.new cursor.old cursor.new) }
+    ensures goes { PassesLine reading.old reading.new cursor.old cursor.new result }
 {
     let Some((number, name)) = line_operand(operand) else {
         return Err(refusal(reading, cursor, Rule::P2));

@@ -1,4 +1,4 @@
-use Rattle.std.proofs.Common.{◌≡◌, ◌∙◌, [], length, sym, ap, subst, arith}
+use Rattle.std.proofs.Common.{◌≡◌, ◌∙◌, [], length, sym, ap, subst, arith, rules}
 use Rattle.std.proofs.lemmas.List.Elements.{All-same}
 use Rattle.icn_heap.specs.Extents.{IsLive}
 use Rattle.icn_heap.specs.Heaps.{extent_of}
@@ -13,8 +13,12 @@ use Rattle.icn_calls.proofs.ParameterSteps.{length_values_for, live_values_for}
 use Rattle.icn_calls.proofs.RecordSteps.{record_halts, record_runs}
 use Rattle.icn_calls.proofs.constructors.construct.Goals as goal
 
-pub returns-in_default-clause-kept : goal.returns-in_default-clause-kept
-returns-in_default-clause-kept g c = items_all (reach_of c.args.world.now [])
+pub returns-in_default-clause-leaves : goal.returns-in_default-clause-leaves
+returns-in_default-clause-leaves g c = record {
+  kept = items_all (reach_of c.args.world.now []);
+  counts = search rules;
+  halt = search rules;
+}
 
 pub record_of-requires-clause-fields : goal.record_of-requires-clause-fields
 record_of-requires-clause-fields g c =

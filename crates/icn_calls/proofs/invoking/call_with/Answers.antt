@@ -1,4 +1,4 @@
-use Rattle.std.proofs.Common.{[], sym, subst}
+use Rattle.std.proofs.Common.{[], sym, subst, rules}
 use Rattle.icn_heap.specs.Heaps.{extent_of}
 use Rattle.icn_vars.specs.Stops.{halt_of}
 use Rattle.icn_vars.specs.Worlds.{reach_of}
@@ -19,8 +19,12 @@ returns-in_err-values_of-clause-step g c entry at st same =
     (c.in_err-values_of.ensures.values st
     (λ values. call_procedure flat c.args.number entry values (stack_in (extent_of c.args.world.now.heap) c.args.frames.now.flat) st) same)
 
-pub returns-in_err-values_of-clause-kept : goal.returns-in_err-values_of-clause-kept
-returns-in_err-values_of-clause-kept g c = items_all (reach_of c.args.world.now [])
+pub returns-in_err-values_of-clause-leaves : goal.returns-in_err-values_of-clause-leaves
+returns-in_err-values_of-clause-leaves g c = record {
+  kept = items_all (reach_of c.args.world.now []);
+  counts = search rules;
+  halt = search rules;
+}
 
 pub call_procedure-requires-clause-stack : goal.call_procedure-requires-clause-stack
 call_procedure-requires-clause-stack g c = (

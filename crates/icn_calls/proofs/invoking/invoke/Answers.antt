@@ -1,4 +1,4 @@
-use Rattle.std.proofs.Common.{[], map}
+use Rattle.std.proofs.Common.{[], map, rules}
 use Rattle.icn_heap.specs.Heaps.{extent_of}
 use Rattle.icn_vars.specs.Worlds.{item_in, reach_of}
 use Rattle.icn_vars.proofs.KeptItems.{items_all}
@@ -18,10 +18,12 @@ returns-in_default g c =
           c.in_default.not-Proc)
           (c.call_integer.ensures.step st same);
       live = c.call_integer.ensures.live (tables_of c.args.code.now);
-      halt = c.call_integer.ensures.halt;
+      leaves = record {
+        kept = items_all (reach_of w []);
+        counts = nothing_counted c.call_integer.result w;
+        halt = c.call_integer.ensures.halt;
+      };
       going = c.call_integer.ensures.going;
-      kept = items_all (reach_of w []);
-      counts = nothing_counted c.call_integer.result w;
     }
 
 pub returns-in-Proc-callee_of-clause-step : goal.returns-in-Proc-callee_of-clause-step
@@ -51,5 +53,9 @@ returns-in-Nothing-clause-step g c st same =
     (map (item_in (extent_of c.args.world.now.heap)) c.args.items.now) (stack_in (extent_of c.args.world.now.heap) c.args.frames.now.flat) st c.in-Proc.is
     c.in-Nothing.ensures same
 
-pub returns-in-Nothing-clause-kept : goal.returns-in-Nothing-clause-kept
-returns-in-Nothing-clause-kept g c = items_all (reach_of c.args.world.now [])
+pub returns-in-Nothing-clause-leaves : goal.returns-in-Nothing-clause-leaves
+returns-in-Nothing-clause-leaves g c = record {
+  kept = items_all (reach_of c.args.world.now []);
+  counts = search rules;
+  halt = search rules;
+}

@@ -1,4 +1,4 @@
-use Rattle.std.proofs.Common.{◌≡◌, ◌<◌, ◌^◌, ℕ, suc, ◌+◌, true, nat_lt, [], Some, length, refl, sym, ap, ◌∙◌, subst, add-one}
+use Rattle.std.proofs.Common.{◌≡◌, ◌<◌, ◌^◌, ℕ, suc, ◌+◌, true, nat_lt, [], Some, length, refl, sym, ap, ◌∙◌, subst, add-one, rules}
 use Rattle.icn_value.specs.Limited.{Bounds}
 use Rattle.icn_value.specs.declared.val.Val.TheVariants.{Coexp as HeldCoexp}
 use Rattle.icn_heap.specs.Extents.{IsLive}
@@ -26,8 +26,8 @@ returns-in_err-charge_coexp-clause-step g c tables outside =
     let w = m.world in
     let v = c.charge_coexp.new.world in
     let f : FlatStack = c.frames.result.now.flat in
-    let t = c.requires.sound.0 in
-    let sound = c.requires.sound.1 in
+    let t = c.requires.stands.sound.0 in
+    let sound = c.requires.stands.sound.1 in
     let live : IsLiveStack t (reach_of w []) f = running_live t (reach_of w []) m.stacks.table f c.frames.ensures.running sound.stacks in
     let more : nat_lt m.turns (heap_of w.heap).bounds.turns ≡ true
     = ap (λ (x : Bounds). nat_lt m.turns x.turns) sound.bounds ∙ under m.turns m.limits.turns c.if-m.false in
@@ -40,7 +40,7 @@ returns-in_err-charge_coexp-clause-step g c tables outside =
     (c.in_err-charge_coexp.ensures.row outside (held.locals f) (live_locals t (reach_of w []) f live)) e)
 
 pub add_here-requires-clause-few : goal.add_here-requires-clause-few
-add_here-requires-clause-few g c = subst (λ (n : ℕ). n < 2 ^ 32) c.requires.sound.1.counts c.in_ok-charge_coexp.ensures.few
+add_here-requires-clause-few g c = subst (λ (n : ℕ). n < 2 ^ 32) c.requires.stands.sound.1.counts c.in_ok-charge_coexp.ensures.few
 
 pub returns-in-Ok-clause-step : goal.returns-in-Ok-clause-step
 returns-in-Ok-clause-step g c tables outside =
@@ -48,8 +48,8 @@ returns-in-Ok-clause-step g c tables outside =
     let w = m.world in
     let v = c.charge_coexp.new.world in
     let f : FlatStack = c.frames.result.now.flat in
-    let t = c.requires.sound.0 in
-    let sound = c.requires.sound.1 in
+    let t = c.requires.stands.sound.0 in
+    let sound = c.requires.stands.sound.1 in
     let live : IsLiveStack t (reach_of w []) f = running_live t (reach_of w []) m.stacks.table f c.frames.ensures.running sound.stacks in
     let more : nat_lt m.turns (heap_of w.heap).bounds.turns ≡ true
     = ap (λ (x : Bounds). nat_lt m.turns x.turns) sound.bounds ∙ under m.turns m.limits.turns c.if-m.false in
@@ -58,33 +58,34 @@ returns-in-Ok-clause-step g c tables outside =
     c.frames.ensures.running more c.charge_coexp.ensures.kept live sound.stacks.coexps c.local_count-count.ensures.same c.local_count-count.ensures.all
     (c.in_ok-charge_coexp.ensures.row outside (held.locals f) (live_locals t (reach_of w []) f live)) sound.counts c.in-Ok.ensures (add-one m.turns)
 
-pub returns-in-Ok-clause-sound : goal.returns-in-Ok-clause-sound
-returns-in-Ok-clause-sound g c tables k =
-    let m = c.args.m.now in
-    let w = m.world in
-    let v = c.charge_coexp.new.world in
-    let f : FlatStack = c.frames.result.now.flat in
-    let table : Table = record m.stacks.table { running = Some f } in
-    let u : Table = c.add_here.new.stacks.table in
-    let cs = (heap_of m.world.heap).coexps in
-    let ds = (heap_of c.charge_coexp.new.world.heap).coexps in
-    record {
-      stacks = created_live tables (reach_of w [])
-          (reach_of v []) table c.add_here.new.stacks.table f c.args.label refl c.in-Ok.ensures c.charge_coexp.ensures.kept
-          (sym c.local_count-count.ensures.count ∙ c.local_count-count.ensures.all)
-          (subst (λ (n : ℕ). IsLive (extent_of v.heap) (HeldCoexp n)) k.counts c.in_ok-charge_coexp.ensures.live)
-          (stacks_on tables (reach_of w []) m.stacks.table f f c.frames.ensures.running (λ l. l) k.stacks);
-      bounds = c.in_ok-charge_coexp.ensures.bounds ∙ k.bounds;
-      counts = c.in_ok-charge_coexp.ensures.more ∙ ap (λ (n : ℕ). suc n) k.counts
-          ∙ sym (created_length table c.add_here.new.stacks.table f c.args.label refl c.in-Ok.ensures);
-      counted = record {
-        results = same_counts (m.turns + 1) m.stacks.table.active u.active cs ds c.in_ok-charge_coexp.ensures.counts
-            (ap (λ (x : Table). x.active) c.in-Ok.ensures) (turn_more m.turns m.stacks.table.active cs k.counted.results);
-        activators = subst (λ (x : Table). EnterOthers x.coexps) (sym c.in-Ok.ensures)
-            (new_others m.stacks.table (held.locals f) (held.proc f) f.address k.counted.activators);
-      };
-    }
-
-pub returns-in-Ok-clause-stack : goal.returns-in-Ok-clause-stack
-returns-in-Ok-clause-stack g c =
-    created_runs c.args.label (record c.args.m.now.stacks.table { running = Some c.frames.result.now.flat }) c.add_here.new.stacks.table refl c.in-Ok.ensures
+pub returns-in-Ok-clause-keeps : goal.returns-in-Ok-clause-keeps
+returns-in-Ok-clause-keeps g c = record {
+  sound = λ tables k. (
+      let m = c.args.m.now in
+      let w = m.world in
+      let v = c.charge_coexp.new.world in
+      let f : FlatStack = c.frames.result.now.flat in
+      let table : Table = record m.stacks.table { running = Some f } in
+      let u : Table = c.add_here.new.stacks.table in
+      let cs = (heap_of m.world.heap).coexps in
+      let ds = (heap_of c.charge_coexp.new.world.heap).coexps in
+      record {
+        stacks = created_live tables (reach_of w [])
+            (reach_of v []) table c.add_here.new.stacks.table f c.args.label refl c.in-Ok.ensures c.charge_coexp.ensures.kept
+            (sym c.local_count-count.ensures.count ∙ c.local_count-count.ensures.all)
+            (subst (λ (n : ℕ). IsLive (extent_of v.heap) (HeldCoexp n)) k.counts c.in_ok-charge_coexp.ensures.live)
+            (stacks_on tables (reach_of w []) m.stacks.table f f c.frames.ensures.running (λ l. l) k.stacks);
+        bounds = c.in_ok-charge_coexp.ensures.bounds ∙ k.bounds;
+        counts = c.in_ok-charge_coexp.ensures.more ∙ ap (λ (n : ℕ). suc n) k.counts
+            ∙ sym (created_length table c.add_here.new.stacks.table f c.args.label refl c.in-Ok.ensures);
+        counted = record {
+          results = same_counts (m.turns + 1) m.stacks.table.active u.active cs ds c.in_ok-charge_coexp.ensures.counts
+              (ap (λ (x : Table). x.active) c.in-Ok.ensures) (turn_more m.turns m.stacks.table.active cs k.counted.results);
+          activators = subst (λ (x : Table). EnterOthers x.coexps) (sym c.in-Ok.ensures)
+              (new_others m.stacks.table (held.locals f) (held.proc f) f.address k.counted.activators);
+        };
+      });
+  halt = search rules;
+  limits = refl;
+  stack = created_runs c.args.label (record c.args.m.now.stacks.table { running = Some c.frames.result.now.flat }) c.add_here.new.stacks.table refl c.in-Ok.ensures;
+}

@@ -1,4 +1,4 @@
-use Rattle.std.proofs.Common.{◌<◌, ◌^◌, ℕ, suc, [], Some, length, refl, sym, ap, ◌∙◌, subst}
+use Rattle.std.proofs.Common.{◌<◌, ◌^◌, ℕ, suc, [], Some, length, refl, sym, ap, ◌∙◌, subst, rules}
 use Rattle.icn_value.specs.declared.val.Val.TheVariants.{Coexp as HeldCoexp}
 use Rattle.icn_heap.specs.Extents.{IsLive}
 use Rattle.icn_heap.specs.Heaps.{extent_of, heap_of}
@@ -23,8 +23,8 @@ returns-in_err-charge_coexp-clause-step g c tables outside =
     let w = m.world in
     let v = c.charge_coexp.new.world in
     let f : FlatStack = c.frames.result.now.flat in
-    let t = c.requires.sound.0 in
-    let sound = c.requires.sound.1 in
+    let t = c.requires.stands.sound.0 in
+    let sound = c.requires.stands.sound.1 in
     let live : IsLiveStack t (reach_of w []) f = running_live t (reach_of w []) m.stacks.table f c.frames.ensures.running sound.stacks in
     at_stopped c.from_residual.result c.in_err-charge_coexp.field-0.0 _ _ c.from_residual.ensures.1 tt
     (λ number offending e.
@@ -34,7 +34,7 @@ returns-in_err-charge_coexp-clause-step g c tables outside =
     (c.in_err-charge_coexp.ensures.row outside (held.locals f) (live_locals t (reach_of w []) f live)) e)
 
 pub add_copy-requires-clause-few : goal.add_copy-requires-clause-few
-add_copy-requires-clause-few g c = subst (λ (n : ℕ). n < 2 ^ 32) c.requires.sound.1.counts c.in_ok-charge_coexp.ensures.few
+add_copy-requires-clause-few g c = subst (λ (n : ℕ). n < 2 ^ 32) c.requires.stands.sound.1.counts c.in_ok-charge_coexp.ensures.few
 
 pub returns-in-Ok-clause-step : goal.returns-in-Ok-clause-step
 returns-in-Ok-clause-step g c tables outside =
@@ -42,8 +42,8 @@ returns-in-Ok-clause-step g c tables outside =
     let w = m.world in
     let v = c.charge_coexp.new.world in
     let f : FlatStack = c.frames.result.now.flat in
-    let t = c.requires.sound.0 in
-    let sound = c.requires.sound.1 in
+    let t = c.requires.stands.sound.0 in
+    let sound = c.requires.stands.sound.1 in
     let live : IsLiveStack t (reach_of w []) f = running_live t (reach_of w []) m.stacks.table f c.frames.ensures.running sound.stacks in
     copy_runs t w v f c.args.id c.held-count.result (length (heap_of w.heap).coexps)
     (all_names tables) outside m.turns m.begun.items m.stacks.table c.add_copy.new.stacks.table
@@ -51,31 +51,32 @@ returns-in-Ok-clause-step g c tables outside =
     c.held-count.ensures
     (c.in_ok-charge_coexp.ensures.row outside (held.locals f) (live_locals t (reach_of w []) f live)) sound.counts c.in-Ok.ensures
 
-pub returns-in-Ok-clause-sound : goal.returns-in-Ok-clause-sound
-returns-in-Ok-clause-sound g c tables k =
-    let m = c.args.m.now in
-    let w = m.world in
-    let v = c.charge_coexp.new.world in
-    let f : FlatStack = c.frames.result.now.flat in
-    let table : Table = record m.stacks.table { running = Some f } in
-    let u : Table = c.add_copy.new.stacks.table in
-    let cs = (heap_of m.world.heap).coexps in
-    let ds = (heap_of c.charge_coexp.new.world.heap).coexps in
-    record {
-      stacks = copied_live tables (reach_of w [])
-          (reach_of v []) table c.add_copy.new.stacks.table f c.args.id refl c.in-Ok.ensures c.requires.other c.charge_coexp.ensures.kept
-          (subst (λ (n : ℕ). IsLive (extent_of v.heap) (HeldCoexp n)) k.counts c.in_ok-charge_coexp.ensures.live)
-          (stacks_on tables (reach_of w []) m.stacks.table f f c.frames.ensures.running (λ l. l) k.stacks);
-      bounds = c.in_ok-charge_coexp.ensures.bounds ∙ k.bounds;
-      counts = c.in_ok-charge_coexp.ensures.more ∙ ap (λ (n : ℕ). suc n) k.counts
-          ∙ sym (copied_length table c.add_copy.new.stacks.table f c.args.id refl c.in-Ok.ensures c.requires.there);
-      counted = record {
-        results = same_counts m.turns m.stacks.table.active u.active cs ds c.in_ok-charge_coexp.ensures.counts
-            (copied_active table u f c.args.id refl c.in-Ok.ensures) k.counted.results;
-        activators = copied_others table u f c.args.id refl c.in-Ok.ensures k.counted.activators;
-      };
-    }
-
-pub returns-in-Ok-clause-stack : goal.returns-in-Ok-clause-stack
-returns-in-Ok-clause-stack g c =
-    copied_runs c.args.id (record c.args.m.now.stacks.table { running = Some c.frames.result.now.flat }) c.add_copy.new.stacks.table refl c.in-Ok.ensures
+pub returns-in-Ok-clause-keeps : goal.returns-in-Ok-clause-keeps
+returns-in-Ok-clause-keeps g c = record {
+  sound = λ tables k. (
+      let m = c.args.m.now in
+      let w = m.world in
+      let v = c.charge_coexp.new.world in
+      let f : FlatStack = c.frames.result.now.flat in
+      let table : Table = record m.stacks.table { running = Some f } in
+      let u : Table = c.add_copy.new.stacks.table in
+      let cs = (heap_of m.world.heap).coexps in
+      let ds = (heap_of c.charge_coexp.new.world.heap).coexps in
+      record {
+        stacks = copied_live tables (reach_of w [])
+            (reach_of v []) table c.add_copy.new.stacks.table f c.args.id refl c.in-Ok.ensures c.requires.other c.charge_coexp.ensures.kept
+            (subst (λ (n : ℕ). IsLive (extent_of v.heap) (HeldCoexp n)) k.counts c.in_ok-charge_coexp.ensures.live)
+            (stacks_on tables (reach_of w []) m.stacks.table f f c.frames.ensures.running (λ l. l) k.stacks);
+        bounds = c.in_ok-charge_coexp.ensures.bounds ∙ k.bounds;
+        counts = c.in_ok-charge_coexp.ensures.more ∙ ap (λ (n : ℕ). suc n) k.counts
+            ∙ sym (copied_length table c.add_copy.new.stacks.table f c.args.id refl c.in-Ok.ensures c.requires.there);
+        counted = record {
+          results = same_counts m.turns m.stacks.table.active u.active cs ds c.in_ok-charge_coexp.ensures.counts
+              (copied_active table u f c.args.id refl c.in-Ok.ensures) k.counted.results;
+          activators = copied_others table u f c.args.id refl c.in-Ok.ensures k.counted.activators;
+        };
+      });
+  halt = search rules;
+  limits = refl;
+  stack = copied_runs c.args.id (record c.args.m.now.stacks.table { running = Some c.frames.result.now.flat }) c.add_copy.new.stacks.table refl c.in-Ok.ensures;
+}

@@ -1,4 +1,4 @@
-use Rattle.std.proofs.Common.{◌≡◌, ◌<◌, ℕ, suc, true, false, nat_lt, [], Option, IsSome, refl, sym, ap, ◌∙◌, subst, add-one, arith}
+use Rattle.std.proofs.Common.{◌≡◌, ◌<◌, ℕ, suc, true, false, nat_lt, [], Option, IsSome, refl, sym, ap, ◌∙◌, subst, add-one, arith, rules}
 use Rattle.icn_value.specs.Limited.{Bounds}
 use Rattle.icn_value.specs.declared.val.Val.{Val}
 use Rattle.icn_value.specs.declared.val.Val.TheVariants as Vals
@@ -25,10 +25,10 @@ pub returns-then-m-clause-step : goal.returns-then-m-clause-step
 returns-then-m-clause-step g c tables outside =
     let m = c.args.m.now in
     let t = m.stacks.table in
-    let runs = some_there t.running c.requires.runs in
+    let runs = some_there t.running c.requires.stands.runs in
     let top = some_there (held.pop runs.0) (subst (λ (x : FlatStack). IsSome (held.pop x)) (ap running_of runs.1) c.requires.operand) in
     let none : nat_lt m.turns (heap_of m.world.heap).bounds.turns ≡ false
-    = ap (λ (x : Bounds). nat_lt m.turns x.turns) c.requires.sound.1.bounds ∙ not_under m.turns m.limits.turns c.if-m.true in
+    = ap (λ (x : Bounds). nat_lt m.turns x.turns) c.requires.stands.sound.1.bounds ∙ not_under m.turns m.limits.turns c.if-m.true in
     refresh_bound tables (all_names tables) outside m.world m.turns m.begun.items t runs.0 top.0.1 top.0.0 runs.1 none top.1
 
 pub take_value-requires-clause-operand : goal.take_value-requires-clause-operand
@@ -36,8 +36,8 @@ take_value-requires-clause-operand g c = subst (λ (x : FlatStack). IsSome (held
 
 pub take_value-requires-clause-stack : goal.take_value-requires-clause-stack
 take_value-requires-clause-stack g c = (
-  c.requires.sound.0,
-  subst (λ (o : Option FlatStack). IsLiveRunning c.requires.sound.0 (reach_of c.args.m.now.world []) o) c.frames.ensures.running c.requires.sound.1.stacks.runs,
+  c.requires.stands.sound.0,
+  subst (λ (o : Option FlatStack). IsLiveRunning c.requires.stands.sound.0 (reach_of c.args.m.now.world []) o) c.frames.ensures.running c.requires.stands.sound.1.stacks.runs,
 )
 
 pub returns-in_err-v-clause-step : goal.returns-in_err-v-clause-step
@@ -47,7 +47,7 @@ returns-in_err-v-clause-step g c tables outside =
     let f : FlatStack = c.frames.result.now.flat in
     let st : Store Frames = store_in (all_names tables) outside (world_of w) (suc m.turns) m.begun.items (extent_of w.heap) m.stacks.table in
     let more : nat_lt m.turns (heap_of w.heap).bounds.turns ≡ true
-    = ap (λ (x : Bounds). nat_lt m.turns x.turns) c.requires.sound.1.bounds ∙ under m.turns m.limits.turns c.if-m.false in
+    = ap (λ (x : Bounds). nat_lt m.turns x.turns) c.requires.stands.sound.1.bounds ∙ under m.turns m.limits.turns c.if-m.false in
     let state : State Frames Frames = with_top (stack_in (extent_of w.heap) f) st (λ value n. refresh flat value n st) in
     at_stopped c.from_residual.result c.in_err-v.field-0.0 _ _ c.from_residual.ensures.1 tt
     (λ number offending e.
@@ -62,7 +62,7 @@ returns-in_default-clause-step g c tables outside =
     let n : FlatStack = c.take_value.new.frames.flat in
     let st : Store Frames = store_in (all_names tables) outside (world_of w) (suc m.turns) m.begun.items (extent_of w.heap) m.stacks.table in
     let more : nat_lt m.turns (heap_of w.heap).bounds.turns ≡ true
-    = ap (λ (x : Bounds). nat_lt m.turns x.turns) c.requires.sound.1.bounds ∙ under m.turns m.limits.turns c.if-m.false in
+    = ap (λ (x : Bounds). nat_lt m.turns x.turns) c.requires.stands.sound.1.bounds ∙ under m.turns m.limits.turns c.if-m.false in
     refresh_goes tables (all_names tables) outside w m.turns m.begun.items m.stacks.table f c.frames.ensures.running more
     ∙ c.in_ok-v.ensures.step st (λ value n. refresh flat value n st) refl
     ∙ not_refreshed (extent_of w.heap) c.in_ok-v.v (stack_in (extent_of w.heap) n) st (sym c.in_default.is ∙ c.coexp_of.ensures)
@@ -75,7 +75,7 @@ returns-then-id-eq0-clause-step g c tables outside =
     let n : FlatStack = c.take_value.new.frames.flat in
     let st : Store Frames = store_in (all_names tables) outside (world_of w) (suc m.turns) m.begun.items (extent_of w.heap) m.stacks.table in
     let more : nat_lt m.turns (heap_of w.heap).bounds.turns ≡ true
-    = ap (λ (x : Bounds). nat_lt m.turns x.turns) c.requires.sound.1.bounds ∙ under m.turns m.limits.turns c.if-m.false in
+    = ap (λ (x : Bounds). nat_lt m.turns x.turns) c.requires.stands.sound.1.bounds ∙ under m.turns m.limits.turns c.if-m.false in
     let is : c.in_ok-v.v ≡ Vals.Coexp 0 = number_is c.in_ok-v.v c.in-Some.id (sym c.in-Some.is ∙ c.coexp_of.ensures)
     ∙ ap (λ (k : ℕ). Vals.Coexp k) c.if-id-eq0.true in
     refresh_goes tables (all_names tables) outside w m.turns m.begun.items m.stacks.table f c.frames.ensures.running more
@@ -88,24 +88,27 @@ make_again-requires-clause-other g c = omega (arith, c.if-id-eq0.false)
 pub make_again-requires-clause-there : goal.make_again-requires-clause-there
 make_again-requires-clause-there g c =
     let is : c.in_ok-v.v ≡ Vals.Coexp c.in-Some.id = number_is c.in_ok-v.v c.in-Some.id (sym c.in-Some.is ∙ c.coexp_of.ensures) in
-    subst (λ (n : ℕ). c.in-Some.id < n) c.requires.sound.1.counts
+    subst (λ (n : ℕ). c.in-Some.id < n) c.requires.stands.sound.1.counts
     (c.live_numbers.ensures.coexps c.in-Some.id (subst (λ (x : Val). IsLive (extent_of c.args.m.now.world.heap) x) is c.in_ok-v.ensures.value))
 
-pub make_again-requires-clause-sound : goal.make_again-requires-clause-sound
-make_again-requires-clause-sound g c =
-    let m = c.args.m.now in
-    let t = c.requires.sound.0 in
-    let k = c.requires.sound.1 in (
-      t,
-      record {
-        stacks = stacks_on t (reach_of m.world []) m.stacks.table c.frames.result.now.flat c.take_value.new.frames.flat c.frames.ensures.running
-            (λ l. c.take_value.ensures.live t l) k.stacks;
-        bounds = k.bounds;
-        counts = k.counts;
-        counted =
-            record { results = turn_more m.turns m.stacks.table.active (heap_of m.world.heap).coexps k.counted.results; activators = k.counted.activators };
-      },
-    )
+pub make_again-requires-clause-stands : goal.make_again-requires-clause-stands
+make_again-requires-clause-stands g c = record {
+  runs = search rules;
+  sound = (
+      let m = c.args.m.now in
+      let t = c.requires.stands.sound.0 in
+      let k = c.requires.stands.sound.1 in (
+        t,
+        record {
+          stacks = stacks_on t (reach_of m.world []) m.stacks.table c.frames.result.now.flat c.take_value.new.frames.flat c.frames.ensures.running
+              (λ l. c.take_value.ensures.live t l) k.stacks;
+          bounds = k.bounds;
+          counts = k.counts;
+          counted =
+              record { results = turn_more m.turns m.stacks.table.active (heap_of m.world.heap).coexps k.counted.results; activators = k.counted.activators };
+        },
+      ));
+}
 
 pub returns-clause-step : goal.returns-clause-step
 returns-clause-step g c tables outside =
@@ -116,7 +119,7 @@ returns-clause-step g c tables outside =
     let at : ℕ → Store Frames = λ k. store_in (all_names tables) outside (world_of w) k m.begun.items (extent_of w.heap) m.stacks.table in
     let st : Store Frames = at (suc m.turns) in
     let more : nat_lt m.turns (heap_of w.heap).bounds.turns ≡ true
-    = ap (λ (x : Bounds). nat_lt m.turns x.turns) c.requires.sound.1.bounds ∙ under m.turns m.limits.turns c.if-m.false in
+    = ap (λ (x : Bounds). nat_lt m.turns x.turns) c.requires.stands.sound.1.bounds ∙ under m.turns m.limits.turns c.if-m.false in
     let is : c.in_ok-v.v ≡ Vals.Coexp c.in-Some.id = number_is c.in_ok-v.v c.in-Some.id (sym c.in-Some.is ∙ c.coexp_of.ensures) in
     subst (λ (s : State Frames Frames). ComesTo tables outside s c.make_again.new.m c.make_again.result)
     (sym (
@@ -127,13 +130,18 @@ returns-clause-step g c tables outside =
     ))
     (c.make_again.ensures.step tables outside)
 
-pub returns-clause-sound : goal.returns-clause-sound
-returns-clause-sound g c tables k =
-    let m = c.args.m.now in
-    c.make_again.ensures.sound tables (record {
-      stacks = stacks_on tables (reach_of m.world []) m.stacks.table c.frames.result.now.flat c.take_value.new.frames.flat c.frames.ensures.running
-          (λ l. c.take_value.ensures.live tables l) k.stacks;
-      bounds = k.bounds;
-      counts = k.counts;
-      counted = record { results = turn_more m.turns m.stacks.table.active (heap_of m.world.heap).coexps k.counted.results; activators = k.counted.activators };
-    })
+pub returns-clause-keeps : goal.returns-clause-keeps
+returns-clause-keeps g c = record {
+  sound = λ tables k. (
+      let m = c.args.m.now in
+      c.make_again.ensures.keeps.sound tables (record {
+        stacks = stacks_on tables (reach_of m.world []) m.stacks.table c.frames.result.now.flat c.take_value.new.frames.flat c.frames.ensures.running
+            (λ l. c.take_value.ensures.live tables l) k.stacks;
+        bounds = k.bounds;
+        counts = k.counts;
+        counted = record { results = turn_more m.turns m.stacks.table.active (heap_of m.world.heap).coexps k.counted.results; activators = k.counted.activators };
+      }));
+  halt = search rules;
+  limits = c.make_again.ensures.keeps.limits;
+  stack = search rules;
+}

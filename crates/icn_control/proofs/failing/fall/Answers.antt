@@ -69,11 +69,11 @@ pub returns-in-Some-Scan-clause-step : goal.returns-in-Some-Scan-clause-step
 returns-in-Some-Scan-clause-step g c =
     fall_scan c.args.world.now c.set_pair.new.world c.args.frames.now.flat c.resume.new.self.flat c.in-Some-Scan.pair
     (resumed_as c.args.frames.now.flat c.resume.new.self.flat c.in-Some-Scan.field-0
-    (Scan c.in-Some-Scan.pair) c.in-Some-Scan.ensures.flat c.in-Some-Scan.field-0-is) c.set_pair.ensures.world c.set_pair.ensures.heap
+    (Scan c.in-Some-Scan.pair) c.in-Some-Scan.ensures.flat c.in-Some-Scan.field-0-is) c.set_pair.ensures.world c.set_pair.ensures.same.heap
 
 pub returns-in-Some-Scan-clause-live : goal.returns-in-Some-Scan-clause-live
 returns-in-Some-Scan-clause-live g c t k =
-    subst (λ (r : Reach). IsLiveStack t r c.resume.new.self.flat) (sym c.set_pair.ensures.reach)
+    subst (λ (r : Reach). IsLiveStack t r c.resume.new.self.flat) (sym c.set_pair.ensures.same.reach)
     (live_resume t (reach_of c.args.world.now []) c.args.frames.now.flat c.resume.new.self.flat (Scan c.in-Some-Scan.pair) (resumed_as c.args.frames.now.flat
     c.resume.new.self.flat c.in-Some-Scan.field-0 (Scan c.in-Some-Scan.pair) c.in-Some-Scan.ensures.flat c.in-Some-Scan.field-0-is) k).rest
 
@@ -81,7 +81,7 @@ pub returns-in-Some-Escan-clause-step : goal.returns-in-Some-Escan-clause-step
 returns-in-Some-Escan-clause-step g c =
     fall_escan c.args.world.now c.swap_pairs.new.world c.args.frames.now.flat c.resume.new.self.flat c.swap_pairs.new.frames.flat
     (resumed_as c.args.frames.now.flat c.resume.new.self.flat c.in-Some-Escan.field-0 Escan c.in-Some-Escan.ensures.flat c.in-Some-Escan.field-0-is)
-    c.swap_pairs.ensures.stack c.swap_pairs.ensures.world c.swap_pairs.ensures.heap
+    c.swap_pairs.ensures.stack c.swap_pairs.ensures.world c.swap_pairs.ensures.same.heap
 
 pub returns-in-Some-Escan-clause-live : goal.returns-in-Some-Escan-clause-live
 returns-in-Some-Escan-clause-live g c t k =

@@ -33,20 +33,20 @@ pub returns-clause-step : goal.returns-clause-step
 returns-clause-step g c tables outside =
     let m = c.args.m.now in
     due_at (all_names tables) outside tables m.world c.fall.new.world m.turns m.begun.items m.stacks.table c.frames.result.now.flat c.fall.new.frames.flat
-    c.fall.result c.frames.ensures.running c.fall.ensures.heap (c.fall.ensures.step tables)
+    c.fall.result c.frames.ensures.running c.fall.ensures.same.heap (c.fall.ensures.step tables)
 
 pub returns-clause-sound : goal.returns-clause-sound
 returns-clause-sound g c tables k =
     let m = c.args.m.now in
     let on = stacks_on tables (reach_of m.world []) m.stacks.table c.frames.result.now.flat c.fall.new.frames.flat c.frames.ensures.running
-    (λ l. subst (λ (r : Reach). IsLiveStack tables r c.fall.new.frames.flat) c.fall.ensures.reach (c.fall.ensures.live tables l)) k.stacks in
+    (λ l. subst (λ (r : Reach). IsLiveStack tables r c.fall.new.frames.flat) c.fall.ensures.same.reach (c.fall.ensures.live tables l)) k.stacks in
     record {
-      stacks = subst (λ (r : Reach). AreLiveStacks tables r (record m.stacks.table { running = Some c.fall.new.frames.flat })) (sym c.fall.ensures.reach) on;
-      bounds = ap (λ (h : HeldHeap). (heap_of h).bounds) c.fall.ensures.heap ∙ k.bounds;
-      counts = ap (λ (h : HeldHeap). length (heap_of h).coexps) c.fall.ensures.heap ∙ k.counts;
+      stacks = subst (λ (r : Reach). AreLiveStacks tables r (record m.stacks.table { running = Some c.fall.new.frames.flat })) (sym c.fall.ensures.same.reach) on;
+      bounds = ap (λ (h : HeldHeap). (heap_of h).bounds) c.fall.ensures.same.heap ∙ k.bounds;
+      counts = ap (λ (h : HeldHeap). length (heap_of h).coexps) c.fall.ensures.same.heap ∙ k.counts;
       counted =
           record {
-            results = heap_counts m.turns m.stacks.table.active m.world.heap c.fall.new.world.heap c.fall.ensures.heap k.counted.results;
+            results = heap_counts m.turns m.stacks.table.active m.world.heap c.fall.new.world.heap c.fall.ensures.same.heap k.counted.results;
             activators = k.counted.activators;
           };
     }
@@ -56,7 +56,7 @@ returns-clause-less g c =
     subst (λ (o : Option FlatStack). FallsBelow (running_of o) c.fall.new.frames.flat c.fall.result) (sym c.frames.ensures.running) c.fall.ensures.less
 
 pub returns-clause-heap : goal.returns-clause-heap
-returns-clause-heap g c = c.fall.ensures.heap
+returns-clause-heap g c = c.fall.ensures.same.heap
 
 pub returns-clause-named : goal.returns-clause-named
 returns-clause-named g c =
@@ -64,6 +64,6 @@ returns-clause-named g c =
     record {
       stack =
           stack_falls m.world c.fall.new.world m.stacks.table.running c.frames.result.now.flat c.fall.new.frames.flat c.fall.result c.frames.ensures.running
-          c.fall.ensures.heap c.fall.ensures.named;
-      store = store_falls m.world c.fall.new.world m.turns m.begun.items m.stacks.table c.fall.new.frames.flat c.fall.ensures.heap c.fall.ensures.world_named;
+          c.fall.ensures.same.heap c.fall.ensures.named;
+      store = store_falls m.world c.fall.new.world m.turns m.begun.items m.stacks.table c.fall.new.frames.flat c.fall.ensures.same.heap c.fall.ensures.world_named;
     }

@@ -1,4 +1,4 @@
-use Rattle.std.proofs.Common.{◌≡◌, ℕ, true, nat_lt, [], sym, ap, ◌∙◌, add-one}
+use Rattle.std.proofs.Common.{◌≡◌, ℕ, true, nat_lt, [], sym, ap, ◌∙◌, add-one, refl}
 use Rattle.icn_value.specs.Limited.{Bounds}
 use Rattle.icn_heap.specs.Heaps.{extent_of, heap_of}
 use Rattle.icn_vars.specs.Worlds.{reach_of, world_of}
@@ -28,20 +28,24 @@ returns-then-is_moved-clause-step g c tables outside old =
     ∙ lands_failing (turned beside) old u c.exhaust-went.result c.exhaust-went.ensures.went (sym c.is_moved.ensures ∙ c.if-is_moved.true)
     ∙ ap F (sym (add-one m.turns))
 
-pub returns-then-is_moved-clause-sound : goal.returns-then-is_moved-clause-sound
-returns-then-is_moved-clause-sound g c tables k =
-    let m = c.args.m.now in
-    let u : Table = c.exhaust-went.new.self.table in
-    record {
-      stacks = exhaust_live tables
-          (reach_of c.args.m.now.world []) c.args.m.now.stacks.table c.exhaust-went.new.self.table c.exhaust-went.ensures.table k.stacks;
-      bounds = k.bounds;
-      counts = k.counts ∙ sym (exhaust_length c.args.m.now.stacks.table c.exhaust-went.new.self.table c.exhaust-went.ensures.table);
-      counted = record {
-        results = turn_fits m.turns m.stacks.table.active u.active (heap_of m.world.heap).coexps k.counted.results;
-        activators = exhaust_others m.stacks.table u c.exhaust-went.ensures.table k.counted.activators;
-      };
-    }
+pub returns-then-is_moved-clause-keeps : goal.returns-then-is_moved-clause-keeps
+returns-then-is_moved-clause-keeps g c = record {
+  sound = λ tables k. (
+      let m = c.args.m.now in
+      let u : Table = c.exhaust-went.new.self.table in
+      record {
+        stacks = exhaust_live tables
+            (reach_of c.args.m.now.world []) c.args.m.now.stacks.table c.exhaust-went.new.self.table c.exhaust-went.ensures.table k.stacks;
+        bounds = k.bounds;
+        counts = k.counts ∙ sym (exhaust_length c.args.m.now.stacks.table c.exhaust-went.new.self.table c.exhaust-went.ensures.table);
+        counted = record {
+          results = turn_fits m.turns m.stacks.table.active u.active (heap_of m.world.heap).coexps k.counted.results;
+          activators = exhaust_others m.stacks.table u c.exhaust-went.ensures.table k.counted.activators;
+        };
+      });
+  limits = refl;
+  stack = moved_runs c.exhaust-went.new.self.table.running c.exhaust-went.result c.exhaust-went.ensures.went (sym c.is_moved.ensures ∙ c.if-is_moved.true);
+}
 
 pub returns-else-is_moved-clause-step : goal.returns-else-is_moved-clause-step
 returns-else-is_moved-clause-step g c tables outside old =
@@ -58,25 +62,21 @@ returns-else-is_moved-clause-step g c tables outside old =
           ∙ ap F (sym (add-one m.turns)),
     )
 
-pub returns-else-is_moved-clause-sound : goal.returns-else-is_moved-clause-sound
-returns-else-is_moved-clause-sound g c tables k =
-    let m = c.args.m.now in
-    let u : Table = c.exhaust-went.new.self.table in
-    record {
-      stacks = exhaust_live tables
-          (reach_of c.args.m.now.world []) c.args.m.now.stacks.table c.exhaust-went.new.self.table c.exhaust-went.ensures.table k.stacks;
-      bounds = k.bounds;
-      counts = k.counts ∙ sym (exhaust_length c.args.m.now.stacks.table c.exhaust-went.new.self.table c.exhaust-went.ensures.table);
-      counted = record {
-        results = turn_fits m.turns m.stacks.table.active u.active (heap_of m.world.heap).coexps k.counted.results;
-        activators = exhaust_others m.stacks.table u c.exhaust-went.ensures.table k.counted.activators;
-      };
-    }
-
-pub returns-then-is_moved-clause-stack : goal.returns-then-is_moved-clause-stack
-returns-then-is_moved-clause-stack g c =
-    moved_runs c.exhaust-went.new.self.table.running c.exhaust-went.result c.exhaust-went.ensures.went (sym c.is_moved.ensures ∙ c.if-is_moved.true)
-
-pub returns-else-is_moved-clause-stack : goal.returns-else-is_moved-clause-stack
-returns-else-is_moved-clause-stack g c =
-    not_moved_waits c.exhaust-went.new.self.table.running c.exhaust-went.result c.exhaust-went.ensures.went (sym c.is_moved.ensures ∙ c.if-is_moved.false)
+pub returns-else-is_moved-clause-keeps : goal.returns-else-is_moved-clause-keeps
+returns-else-is_moved-clause-keeps g c = record {
+  sound = λ tables k. (
+      let m = c.args.m.now in
+      let u : Table = c.exhaust-went.new.self.table in
+      record {
+        stacks = exhaust_live tables
+            (reach_of c.args.m.now.world []) c.args.m.now.stacks.table c.exhaust-went.new.self.table c.exhaust-went.ensures.table k.stacks;
+        bounds = k.bounds;
+        counts = k.counts ∙ sym (exhaust_length c.args.m.now.stacks.table c.exhaust-went.new.self.table c.exhaust-went.ensures.table);
+        counted = record {
+          results = turn_fits m.turns m.stacks.table.active u.active (heap_of m.world.heap).coexps k.counted.results;
+          activators = exhaust_others m.stacks.table u c.exhaust-went.ensures.table k.counted.activators;
+        };
+      });
+  limits = refl;
+  stack = not_moved_waits c.exhaust-went.new.self.table.running c.exhaust-went.result c.exhaust-went.ensures.went (sym c.is_moved.ensures ∙ c.if-is_moved.false);
+}

@@ -15,9 +15,9 @@ use Rattle.icn_control.proofs.keywords.push_keyword.Goals as goal
 pub keyword_item-requires : goal.keyword_item-requires
 keyword_item-requires g c =
     let m = c.args.m.now in
-    let t = c.requires.sound.0 in
+    let t = c.requires.stands.sound.0 in
     let low = level_low t (reach_of m.world []) c.frames-frames.result.now.flat
-    (running_live t (reach_of m.world []) m.stacks.table c.frames-frames.result.now.flat c.frames-frames.ensures.running c.requires.sound.1.stacks) in
+    (running_live t (reach_of m.world []) m.stacks.table c.frames-frames.result.now.flat c.frames-frames.ensures.running c.requires.stands.sound.1.stacks) in
     subst (λ (n : ℕ). n ≤ 4294967295) (sym c.level-level.ensures) low
 
 pub returns-in-None-clause-step : goal.returns-in-None-clause-step

@@ -1,4 +1,4 @@
-use Rattle.std.proofs.Common.{◌≡◌, false, [], Some, length, refl, sym, ap, ◌∙◌, subst, arith}
+use Rattle.std.proofs.Common.{◌≡◌, false, [], Some, length, refl, sym, ap, ◌∙◌, subst, arith, rules}
 use Rattle.std.proofs.lemmas.Option.{same_Some}
 use Rattle.icn_heap.specs.declared.heap.Heap.{Heap as HeldHeap}
 use Rattle.icn_heap.specs.Heaps.{extent_of, heap_of}
@@ -34,26 +34,40 @@ returns-then-not-is_base-clause-step g c tables outside =
     = subst (λ (x : FlatStack). held.is_base x ≡ false) (same_Some _ _ c.frames-then-not-is_base.ensures.running) (sym c.is_base.ensures
     ∙ c.if-not-is_base.true) in
     ends_at after c.requires.goes_on.0 tables c.requires.goes_on.1.0 outside m.world m.stacks.table k c.leave_failing.new.frames.flat c.leave_failing.result
-    (c.frames.ensures.running ∙ c.frames-then-not-is_base.ensures.running) refl c.leave_failing.ensures.heap
+    (c.frames.ensures.running ∙ c.frames-then-not-is_base.ensures.running) refl c.leave_failing.ensures.same.heap
     (λ any st a. ends_call (extent_of m.world.heap) any k st called) c.leave_failing.ensures.step c.requires.goes_on.1.1
 
-pub returns-then-not-is_base-clause-sound : goal.returns-then-not-is_base-clause-sound
-returns-then-not-is_base-clause-sound g c tables k =
-    let m = c.args.m.now in
-    let on = stacks_on tables (reach_of m.world []) m.stacks.table c.frames-then-not-is_base.result.now.flat c.leave_failing.new.frames.flat
-    (c.frames.ensures.running ∙ c.frames-then-not-is_base.ensures.running)
-    (λ l. subst (λ (r : Reach). IsLiveStack tables r c.leave_failing.new.frames.flat) c.leave_failing.ensures.reach (c.leave_failing.ensures.live tables l))
-    k.stacks in
-    record {
-      stacks = subst (λ (r : Reach). AreLiveStacks tables r (record m.stacks.table { running = Some c.leave_failing.new.frames.flat }))
-          (sym c.leave_failing.ensures.reach) on;
-      bounds = ap (λ (h : HeldHeap). (heap_of h).bounds) c.leave_failing.ensures.heap ∙ k.bounds;
-      counts = ap (λ (h : HeldHeap). length (heap_of h).coexps) c.leave_failing.ensures.heap ∙ k.counts;
-      counted = record {
-        results = heap_counts m.turns m.stacks.table.active m.world.heap c.leave_failing.new.world.heap c.leave_failing.ensures.heap k.counted.results;
-        activators = k.counted.activators;
-      };
-    }
+pub returns-then-not-is_base-clause-keeps : goal.returns-then-not-is_base-clause-keeps
+returns-then-not-is_base-clause-keeps g c = record {
+  sound = λ tables k. (
+      let m = c.args.m.now in
+      let on = stacks_on tables (reach_of m.world []) m.stacks.table c.frames-then-not-is_base.result.now.flat c.leave_failing.new.frames.flat
+      (c.frames.ensures.running ∙ c.frames-then-not-is_base.ensures.running)
+      (λ l. subst (λ (r : Reach). IsLiveStack tables r c.leave_failing.new.frames.flat) c.leave_failing.ensures.same.reach (c.leave_failing.ensures.live tables l))
+      k.stacks in
+      record {
+        stacks = subst (λ (r : Reach). AreLiveStacks tables r (record m.stacks.table { running = Some c.leave_failing.new.frames.flat }))
+            (sym c.leave_failing.ensures.same.reach) on;
+        bounds = ap (λ (h : HeldHeap). (heap_of h).bounds) c.leave_failing.ensures.same.heap ∙ k.bounds;
+        counts = ap (λ (h : HeldHeap). length (heap_of h).coexps) c.leave_failing.ensures.same.heap ∙ k.counts;
+        counted = record {
+          results = heap_counts m.turns m.stacks.table.active m.world.heap c.leave_failing.new.world.heap c.leave_failing.ensures.same.heap k.counted.results;
+          activators = k.counted.activators;
+        };
+      });
+  limits = refl;
+  stack = (
+      let m = c.args.m.now in
+      let after : Machine g.row.K.Denot = record {
+        world = c.leave_failing.new.world;
+        stacks = with_stack m.stacks c.leave_failing.new.frames;
+        turns = m.turns;
+        begun = m.begun;
+        limits = m.limits;
+      } in
+      let st = store_seen c.requires.goes_on.0 c.requires.goes_on.1.0 m in
+      stands_has_stack after _ st c.leave_failing.new.world c.leave_failing.new.frames.flat c.leave_failing.result (c.leave_failing.ensures.step st refl) refl);
+}
 
 pub returns-then-active-gt0-clause-step : goal.returns-then-active-gt0-clause-step
 returns-then-active-gt0-clause-step g c tables outside =
@@ -78,61 +92,53 @@ returns-clause-step g c tables outside =
     } in
     let main : m.stacks.table.active ≡ 0 = omega (arith, c.if-active-gt0.false, c.active-active.ensures.number) in
     ends_at after c.requires.goes_on.0 tables c.requires.goes_on.1.0 outside m.world m.stacks.table k c.leave_failing-2.new.frames.flat c.leave_failing-2.result
-    (c.frames.ensures.running ∙ c.frames-2.ensures.running) refl c.leave_failing-2.ensures.heap
+    (c.frames.ensures.running ∙ c.frames-2.ensures.running) refl c.leave_failing-2.ensures.same.heap
     (λ any st a. ends_main (extent_of m.world.heap) any k st (a ∙ main)) c.leave_failing-2.ensures.step c.requires.goes_on.1.1
 
-pub returns-clause-sound : goal.returns-clause-sound
-returns-clause-sound g c tables k =
-    let m = c.args.m.now in
-    let on = stacks_on tables (reach_of m.world []) m.stacks.table c.frames-2.result.now.flat c.leave_failing-2.new.frames.flat (c.frames.ensures.running
-    ∙ c.frames-2.ensures.running)
-    (λ l. subst (λ (r : Reach). IsLiveStack tables r c.leave_failing-2.new.frames.flat) c.leave_failing-2.ensures.reach
-    (c.leave_failing-2.ensures.live tables l)) k.stacks in
-    record {
-      stacks = subst (λ (r : Reach). AreLiveStacks tables r (record m.stacks.table { running = Some c.leave_failing-2.new.frames.flat }))
-          (sym c.leave_failing-2.ensures.reach) on;
-      bounds = ap (λ (h : HeldHeap). (heap_of h).bounds) c.leave_failing-2.ensures.heap ∙ k.bounds;
-      counts = ap (λ (h : HeldHeap). length (heap_of h).coexps) c.leave_failing-2.ensures.heap ∙ k.counts;
-      counted = record {
-        results = heap_counts m.turns m.stacks.table.active m.world.heap c.leave_failing-2.new.world.heap c.leave_failing-2.ensures.heap k.counted.results;
-        activators = k.counted.activators;
-      };
-    }
+pub returns-clause-keeps : goal.returns-clause-keeps
+returns-clause-keeps g c = record {
+  sound = λ tables k. (
+      let m = c.args.m.now in
+      let on = stacks_on tables (reach_of m.world []) m.stacks.table c.frames-2.result.now.flat c.leave_failing-2.new.frames.flat (c.frames.ensures.running
+      ∙ c.frames-2.ensures.running)
+      (λ l. subst (λ (r : Reach). IsLiveStack tables r c.leave_failing-2.new.frames.flat) c.leave_failing-2.ensures.same.reach
+      (c.leave_failing-2.ensures.live tables l)) k.stacks in
+      record {
+        stacks = subst (λ (r : Reach). AreLiveStacks tables r (record m.stacks.table { running = Some c.leave_failing-2.new.frames.flat }))
+            (sym c.leave_failing-2.ensures.same.reach) on;
+        bounds = ap (λ (h : HeldHeap). (heap_of h).bounds) c.leave_failing-2.ensures.same.heap ∙ k.bounds;
+        counts = ap (λ (h : HeldHeap). length (heap_of h).coexps) c.leave_failing-2.ensures.same.heap ∙ k.counts;
+        counted = record {
+          results = heap_counts m.turns m.stacks.table.active m.world.heap c.leave_failing-2.new.world.heap c.leave_failing-2.ensures.same.heap k.counted.results;
+          activators = k.counted.activators;
+        };
+      });
+  limits = refl;
+  stack = (
+      let m = c.args.m.now in
+      let after : Machine g.row.K.Denot = record {
+        world = c.leave_failing-2.new.world;
+        stacks = with_stack m.stacks c.leave_failing-2.new.frames;
+        turns = m.turns;
+        begun = m.begun;
+        limits = m.limits;
+      } in
+      let st = store_seen c.requires.goes_on.0 c.requires.goes_on.1.0 m in
+      stands_has_stack after _ st c.leave_failing-2.new.world c.leave_failing-2.new.frames.flat c.leave_failing-2.result
+      (c.leave_failing-2.ensures.step st refl) refl);
+}
 
-pub returns-then-active-gt0-clause-sound : goal.returns-then-active-gt0-clause-sound
-returns-then-active-gt0-clause-sound g c tables k =
-    let m = c.args.m.now in
-    let f : FlatStack = c.frames.result.now.flat in
-    c.exhaust.ensures.sound tables (record {
-      stacks = stacks_on tables (reach_of m.world []) m.stacks.table f f c.frames.ensures.running (λ l. l) k.stacks;
-      bounds = k.bounds;
-      counts = k.counts;
-      counted = record { results = k.counted.results; activators = k.counted.activators };
-    })
-
-pub returns-then-not-is_base-clause-stack : goal.returns-then-not-is_base-clause-stack
-returns-then-not-is_base-clause-stack g c =
-    let m = c.args.m.now in
-    let after : Machine g.row.K.Denot = record {
-      world = c.leave_failing.new.world;
-      stacks = with_stack m.stacks c.leave_failing.new.frames;
-      turns = m.turns;
-      begun = m.begun;
-      limits = m.limits;
-    } in
-    let st = store_seen c.requires.goes_on.0 c.requires.goes_on.1.0 m in
-    stands_has_stack after _ st c.leave_failing.new.world c.leave_failing.new.frames.flat c.leave_failing.result (c.leave_failing.ensures.step st refl) refl
-
-pub returns-clause-stack : goal.returns-clause-stack
-returns-clause-stack g c =
-    let m = c.args.m.now in
-    let after : Machine g.row.K.Denot = record {
-      world = c.leave_failing-2.new.world;
-      stacks = with_stack m.stacks c.leave_failing-2.new.frames;
-      turns = m.turns;
-      begun = m.begun;
-      limits = m.limits;
-    } in
-    let st = store_seen c.requires.goes_on.0 c.requires.goes_on.1.0 m in
-    stands_has_stack after _ st c.leave_failing-2.new.world c.leave_failing-2.new.frames.flat c.leave_failing-2.result
-    (c.leave_failing-2.ensures.step st refl) refl
+pub returns-then-active-gt0-clause-keeps : goal.returns-then-active-gt0-clause-keeps
+returns-then-active-gt0-clause-keeps g c = record {
+  sound = λ tables k. (
+      let m = c.args.m.now in
+      let f : FlatStack = c.frames.result.now.flat in
+      c.exhaust.ensures.keeps.sound tables (record {
+        stacks = stacks_on tables (reach_of m.world []) m.stacks.table f f c.frames.ensures.running (λ l. l) k.stacks;
+        bounds = k.bounds;
+        counts = k.counts;
+        counted = record { results = k.counted.results; activators = k.counted.activators };
+      }));
+  limits = c.exhaust.ensures.keeps.limits;
+  stack = search rules;
+}

@@ -1,4 +1,4 @@
-use Rattle.std.proofs.Common.{[], List, Ok, Err, map, sym, ◌∙◌, subst}
+use Rattle.std.proofs.Common.{[], List, Ok, Err, map, sym, ◌∙◌, subst, rules}
 use Rattle.icn_value.specs.declared.val.Val.{Val}
 use Rattle.icn_defs.specs.StepRows.{list_row}
 use Rattle.icn_heap.specs.Extents.{value_in}
@@ -16,8 +16,12 @@ returns-in_err-values_of-clause-step g c =
     list_unfound c.from_residual.result c.args.world.now c.args.frames.now.flat c.values_of.new.frames.flat c.args.items.now c.in_err-values_of.field-0.0
     c.from_residual.ensures.1 c.in_err-values_of.ensures.values
 
-pub returns-in_err-values_of-clause-kept : goal.returns-in_err-values_of-clause-kept
-returns-in_err-values_of-clause-kept g c = items_all (reach_of c.args.world.now [])
+pub returns-in_err-values_of-clause-leaves : goal.returns-in_err-values_of-clause-leaves
+returns-in_err-values_of-clause-leaves g c = record {
+  kept = items_all (reach_of c.args.world.now []);
+  counts = search rules;
+  halt = search rules;
+}
 
 pub list_of-requires-clause-stack : goal.list_of-requires-clause-stack
 list_of-requires-clause-stack g c = (

@@ -13,7 +13,7 @@ returns-clause-step g c tables outside =
     let m = c.args.m.now in
     leaves_on Instrs.Unmark tables outside m.world c.restore_pair.new.world m.turns m.begun.items m.stacks.table c.frames.result.now.flat
     c.drop_mark-pair.new.frames.flat c.drop_mark-pair.result c.frames.ensures.running c.drop_mark-pair.ensures.step
-    c.restore_pair.ensures.heap c.restore_pair.ensures.world
+    c.restore_pair.ensures.same.heap c.restore_pair.ensures.world
 
 pub returns-clause-sound : goal.returns-clause-sound
 returns-clause-sound g c tables k =
@@ -22,11 +22,11 @@ returns-clause-sound g c tables k =
     (c.drop_mark-pair.ensures.live tables (reach_of m.world [])) k.stacks in
     record {
       stacks = subst (λ (r : Reach). AreLiveStacks tables r (record m.stacks.table { running = Some c.drop_mark-pair.new.frames.flat }))
-          (sym c.restore_pair.ensures.reach) on;
-      bounds = ap (λ (h : HeldHeap). (heap_of h).bounds) c.restore_pair.ensures.heap ∙ k.bounds;
-      counts = ap (λ (h : HeldHeap). length (heap_of h).coexps) c.restore_pair.ensures.heap ∙ k.counts;
+          (sym c.restore_pair.ensures.same.reach) on;
+      bounds = ap (λ (h : HeldHeap). (heap_of h).bounds) c.restore_pair.ensures.same.heap ∙ k.bounds;
+      counts = ap (λ (h : HeldHeap). length (heap_of h).coexps) c.restore_pair.ensures.same.heap ∙ k.counts;
       counted = record {
-        results = heap_counts m.turns m.stacks.table.active m.world.heap c.restore_pair.new.world.heap c.restore_pair.ensures.heap k.counted.results;
+        results = heap_counts m.turns m.stacks.table.active m.world.heap c.restore_pair.new.world.heap c.restore_pair.ensures.same.heap k.counted.results;
         activators = k.counted.activators;
       };
     }

@@ -1,4 +1,4 @@
-use Rattle.std.proofs.Common.{[], Ok, Err, sym, ap, ◌∙◌, subst}
+use Rattle.std.proofs.Common.{[], Ok, Err, sym, ap, ◌∙◌, subst, rules}
 use Rattle.icn_value.specs.declared.val.Val.TheVariants.{Text as TextVal}
 use Rattle.icn_defs.specs.StepRows.{text_row}
 use Rattle.icn_heap.specs.declared.heap.Heap.{Heap as HeldHeap}
@@ -19,8 +19,12 @@ returns-in_err-v-clause-step g c =
     bscan_err c.from_residual.result c.args.world.now c.args.frames.now.flat c.pop-x.new.self.flat c.value_of.new.frames.flat c.pop-x.result
     c.in_err-v.field-0.0 c.from_residual.ensures.1 c.pop-x.ensures.flat c.in_err-v.ensures.value
 
-pub returns-in_err-v-clause-kept : goal.returns-in_err-v-clause-kept
-returns-in_err-v-clause-kept g c = items_all (reach_of c.args.world.now [])
+pub returns-in_err-v-clause-leaves : goal.returns-in_err-v-clause-leaves
+returns-in_err-v-clause-leaves g c = record {
+  kept = items_all (reach_of c.args.world.now []);
+  counts = search rules;
+  halt = search rules;
+}
 
 pub subject_of-requires-clause-stack : goal.subject_of-requires-clause-stack
 subject_of-requires-clause-stack g c =
@@ -55,14 +59,20 @@ returns-in-Ok-clause-live g c t k =
     let grown : IsLiveStack t new c.pop-x.new.self.flat = stack_stays t old new c.pop-x.new.self.flat c.subject_of.ensures.kept rest in
     c.in-Ok.ensures.live t (subst (λ (x : FlatStack). IsLiveStack t new x) (sym (c.subject_of.ensures.same ∙ c.value_of.ensures.same)) grown)
 
-pub returns-in-Ok-clause-kept : goal.returns-in-Ok-clause-kept
-returns-in-Ok-clause-kept g c = subst (λ (r : Reach). KeepsItems (reach_of c.args.world.now []) r) (sym c.open_over.ensures.reach) c.subject_of.ensures.kept
-
-pub returns-in-Ok-clause-counts : goal.returns-in-Ok-clause-counts
-returns-in-Ok-clause-counts g c = record {
-  bounds = ap (λ (h : HeldHeap). (heap_of h).bounds) c.open_over.ensures.heap ∙ c.in_ok-text.ensures.counts.bounds;
-  coexps = ap (λ (h : HeldHeap). (heap_of h).coexps) c.open_over.ensures.heap ∙ c.in_ok-text.ensures.counts.coexps;
+pub returns-in-Ok-clause-leaves : goal.returns-in-Ok-clause-leaves
+returns-in-Ok-clause-leaves g c = record {
+  kept = subst (λ (r : Reach). KeepsItems (reach_of c.args.world.now []) r) (sym c.open_over.ensures.same.reach) c.subject_of.ensures.kept;
+  counts = (
+      record {
+        bounds = ap (λ (h : HeldHeap). (heap_of h).bounds) c.open_over.ensures.same.heap ∙ c.in_ok-text.ensures.counts.bounds;
+        coexps = ap (λ (h : HeldHeap). (heap_of h).coexps) c.open_over.ensures.same.heap ∙ c.in_ok-text.ensures.counts.coexps;
+      });
+  halt = search rules;
 }
 
-pub returns-in-Err-clause-kept : goal.returns-in-Err-clause-kept
-returns-in-Err-clause-kept g c = subst (λ (r : Reach). KeepsItems (reach_of c.args.world.now []) r) (sym c.open_over.ensures.reach) c.subject_of.ensures.kept
+pub returns-in-Err-clause-leaves : goal.returns-in-Err-clause-leaves
+returns-in-Err-clause-leaves g c = record {
+  kept = subst (λ (r : Reach). KeepsItems (reach_of c.args.world.now []) r) (sym c.open_over.ensures.same.reach) c.subject_of.ensures.kept;
+  counts = search rules;
+  halt = search rules;
+}

@@ -35,7 +35,7 @@ pub returns-clause-step : goal.returns-clause-step
 returns-clause-step g c =
     pret_runs c.args.world.now c.restore_pair.new.world c.args.frames.now.flat c.pop-x.new.self.flat c.result_of.new.frames.flat c.leave.new.self.flat
     c.put.new.frames.flat c.pop-x.result c.in_ok-r.r c.oldest_pair-pair.result
-    c.pop-x.ensures.flat c.in_ok-r.ensures.value c.result_of.ensures.same c.oldest_pair-pair.ensures c.restore_pair.ensures.world c.restore_pair.ensures.heap
+    c.pop-x.ensures.flat c.in_ok-r.ensures.value c.result_of.ensures.same c.oldest_pair-pair.ensures c.restore_pair.ensures.world c.restore_pair.ensures.same.heap
     c.leave.ensures.flat c.put.ensures.flat
 
 pub returns-clause-live : goal.returns-clause-live
@@ -44,5 +44,5 @@ returns-clause-live g c t k =
     let rest = (live_pop t reach c.args.frames.now.flat c.pop-x.new.self.flat c.pop-x.result c.pop-x.ensures.flat k).rest in
     let live : IsLiveStack t reach c.result_of.new.frames.flat = subst (λ (x : FlatStack). IsLiveStack t reach x) (sym c.result_of.ensures.same) rest in
     let out : IsLiveStack t reach c.leave.new.self.flat = live_leave t reach c.result_of.new.frames.flat c.leave.new.self.flat c.leave.ensures.flat live in
-    subst (λ (r : Reach). IsLiveStack t r c.put.new.frames.flat) (sym c.restore_pair.ensures.reach)
+    subst (λ (r : Reach). IsLiveStack t r c.put.new.frames.flat) (sym c.restore_pair.ensures.same.reach)
     (given_free t reach c.leave.new.self.flat c.put.new.frames.flat c.in_ok-r.r c.put.ensures.flat out c.in_ok-r.ensures.live)

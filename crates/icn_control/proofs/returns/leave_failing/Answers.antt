@@ -25,9 +25,9 @@ returns-then-is_base-clause-step g c st same =
 pub returns-clause-step : goal.returns-clause-step
 returns-clause-step g c st same =
     fails_on c.args.world.now c.restore_pair.new.world c.args.frames.now.flat c.leave.new.self.flat c.oldest_pair-pair.result c.oldest_pair-pair.ensures
-    c.restore_pair.ensures.world c.restore_pair.ensures.heap c.leave.ensures.flat st same
+    c.restore_pair.ensures.world c.restore_pair.ensures.same.heap c.leave.ensures.flat st same
 
 pub returns-clause-live : goal.returns-clause-live
 returns-clause-live g c t k =
-    subst (λ (r : Reach). IsLiveStack t r c.leave.new.self.flat) (sym c.restore_pair.ensures.reach)
+    subst (λ (r : Reach). IsLiveStack t r c.leave.new.self.flat) (sym c.restore_pair.ensures.same.reach)
     (live_leave t (reach_of c.args.world.now []) c.args.frames.now.flat c.leave.new.self.flat c.leave.ensures.flat k)

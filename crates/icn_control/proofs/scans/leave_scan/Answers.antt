@@ -18,10 +18,10 @@ pub returns-in-Ok-clause-step : goal.returns-in-Ok-clause-step
 returns-in-Ok-clause-step g c =
     escan_runs c.args.world.now c.swap_pairs.new.world c.args.frames.now.flat c.pop-x.new.self.flat c.swap_pairs.new.frames.flat c.suspend.new.self.flat
     c.pop-x.result c.pop-x.ensures.flat c.swap_pairs.ensures.stack
-    c.swap_pairs.ensures.world c.swap_pairs.ensures.heap c.in-Ok.ensures.ok
+    c.swap_pairs.ensures.world c.swap_pairs.ensures.same.heap c.in-Ok.ensures.ok
 
 pub returns-in-Ok-clause-live : goal.returns-in-Ok-clause-live
 returns-in-Ok-clause-live g c t k =
     escan_live t c.args.world.now c.swap_pairs.new.world c.args.frames.now.flat c.pop-x.new.self.flat c.swap_pairs.new.frames.flat c.suspend.new.self.flat
     c.pop-x.result c.pop-x.ensures.flat c.swap_pairs.ensures.stack
-    c.in-Ok.ensures.ok c.swap_pairs.ensures.reach k
+    c.in-Ok.ensures.ok c.swap_pairs.ensures.same.reach k

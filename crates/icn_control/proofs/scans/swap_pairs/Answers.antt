@@ -14,6 +14,6 @@ set_pair-requires g c =
 pub returns-clause-live : goal.returns-clause-live
 returns-clause-live g c t k =
     let w = c.args.world.now in
-    subst (λ (r : Reach). IsLiveStack t r c.swap_pair-pair.new.self.flat) (sym c.set_pair.ensures.reach)
+    subst (λ (r : Reach). IsLiveStack t r c.swap_pair-pair.new.self.flat) (sym c.set_pair.ensures.same.reach)
     (live_swap t (reach_of w []) c.args.frames.now.flat c.swap_pair-pair.new.self.flat c.args.oldest w.pair c.swap_pair-pair.result
     c.swap_pair-pair.ensures.flat (present_live w) k).rest

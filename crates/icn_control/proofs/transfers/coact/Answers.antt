@@ -1,4 +1,4 @@
-use Rattle.std.proofs.Common.{◌≡◌, ◌<◌, ℕ, suc, true, false, nat_lt, [], Option, IsSome, refl, sym, ap, ◌∙◌, subst, add-one}
+use Rattle.std.proofs.Common.{◌≡◌, ◌<◌, ℕ, suc, true, false, nat_lt, [], Option, IsSome, refl, sym, ap, ◌∙◌, subst, add-one, rules}
 use Rattle.std.specs.Prelude.{IfSome}
 use Rattle.icn_value.specs.Limited.{Bounds}
 use Rattle.icn_value.specs.declared.val.Val.{Val}
@@ -26,12 +26,12 @@ pub returns-then-m-clause-step : goal.returns-then-m-clause-step
 returns-then-m-clause-step g c tables outside =
     let m = c.args.m.now in
     let t = m.stacks.table in
-    let runs = some_there t.running c.requires.runs in
+    let runs = some_there t.running c.requires.stands.runs in
     let upper = some_there (held.pop runs.0) (subst (λ (x : FlatStack). IsSome (held.pop x)) (ap running_of runs.1) c.requires.upper) in
     let lower = second_there runs.0 upper.0.1 upper.0.0 upper.1
     (subst (λ (x : FlatStack). IfSome (held.pop x) (λ popped. IsSome (held.pop popped.1))) (ap running_of runs.1) c.requires.lower) in
     let none : nat_lt m.turns (heap_of m.world.heap).bounds.turns ≡ false
-    = ap (λ (x : Bounds). nat_lt m.turns x.turns) c.requires.sound.1.bounds ∙ not_under m.turns m.limits.turns c.if-m.true in
+    = ap (λ (x : Bounds). nat_lt m.turns x.turns) c.requires.stands.sound.1.bounds ∙ not_under m.turns m.limits.turns c.if-m.true in
     coact_bound tables (all_names tables) outside m.world m.turns m.begun.items t runs.0 upper.0.1 lower.0.1 upper.0.0 lower.0.0 runs.1 none upper.1 lower.1
 
 pub take_two_values-requires-clause-upper : goal.take_two_values-requires-clause-upper
@@ -43,8 +43,8 @@ take_two_values-requires-clause-lower g c =
 
 pub take_two_values-requires-clause-stack : goal.take_two_values-requires-clause-stack
 take_two_values-requires-clause-stack g c = (
-  c.requires.sound.0,
-  subst (λ (o : Option FlatStack). IsLiveRunning c.requires.sound.0 (reach_of c.args.m.now.world []) o) c.frames.ensures.running c.requires.sound.1.stacks.runs,
+  c.requires.stands.sound.0,
+  subst (λ (o : Option FlatStack). IsLiveRunning c.requires.stands.sound.0 (reach_of c.args.m.now.world []) o) c.frames.ensures.running c.requires.stands.sound.1.stacks.runs,
 )
 
 pub returns-in_err-two-clause-step : goal.returns-in_err-two-clause-step
@@ -54,7 +54,7 @@ returns-in_err-two-clause-step g c tables outside =
     let f : FlatStack = c.frames.result.now.flat in
     let st : Store Frames = store_in (all_names tables) outside (world_of w) (suc m.turns) m.begun.items (extent_of w.heap) m.stacks.table in
     let more : nat_lt m.turns (heap_of w.heap).bounds.turns ≡ true
-    = ap (λ (x : Bounds). nat_lt m.turns x.turns) c.requires.sound.1.bounds ∙ under m.turns m.limits.turns c.if-m.false in
+    = ap (λ (x : Bounds). nat_lt m.turns x.turns) c.requires.stands.sound.1.bounds ∙ under m.turns m.limits.turns c.if-m.false in
     let state : State Frames Frames = with_two (stack_in (extent_of w.heap) f) st (λ first second n. activation flat first second n st) in
     at_stopped c.from_residual.result c.in_err-two.field-0.0 _ _ c.from_residual.ensures.1 tt
     (λ number offending e.
@@ -70,7 +70,7 @@ returns-in_default-clause-step g c tables outside =
     let n : FlatStack = c.take_two_values.new.frames.flat in
     let st : Store Frames = store_in (all_names tables) outside (world_of w) (suc m.turns) m.begun.items (extent_of w.heap) m.stacks.table in
     let more : nat_lt m.turns (heap_of w.heap).bounds.turns ≡ true
-    = ap (λ (x : Bounds). nat_lt m.turns x.turns) c.requires.sound.1.bounds ∙ under m.turns m.limits.turns c.if-m.false in
+    = ap (λ (x : Bounds). nat_lt m.turns x.turns) c.requires.stands.sound.1.bounds ∙ under m.turns m.limits.turns c.if-m.false in
     coact_goes tables (all_names tables) outside w m.turns m.begun.items m.stacks.table f c.frames.ensures.running more
     ∙ c.in_ok-two.ensures.step st (λ first second n. activation flat first second n st) refl
     ∙ not_activated (extent_of w.heap) (value_in (extent_of w.heap) c.in_ok-two.two.0) c.in_ok-two.two.1 (stack_in (extent_of w.heap) n) st
@@ -79,7 +79,7 @@ returns-in_default-clause-step g c tables outside =
 pub activate-requires-clause-there : goal.activate-requires-clause-there
 activate-requires-clause-there g c =
     let is : c.in_ok-two.two.1 ≡ Vals.Coexp c.in-Some.id = number_is c.in_ok-two.two.1 c.in-Some.id (sym c.in-Some.is ∙ c.coexp_of.ensures) in
-    subst (λ (n : ℕ). c.in-Some.id < n) c.requires.sound.1.counts
+    subst (λ (n : ℕ). c.in-Some.id < n) c.requires.stands.sound.1.counts
     (c.live_numbers.ensures.coexps c.in-Some.id (subst (λ (x : Val). IsLive (extent_of c.args.m.now.world.heap) x) is c.in_ok-two.ensures.upper))
 
 pub returns-clause-step : goal.returns-clause-step
@@ -91,7 +91,7 @@ returns-clause-step g c tables outside =
     let at : ℕ → Store Frames = λ k. store_in (all_names tables) outside (world_of w) k m.begun.items (extent_of w.heap) m.stacks.table in
     let st : Store Frames = at (suc m.turns) in
     let more : nat_lt m.turns (heap_of w.heap).bounds.turns ≡ true
-    = ap (λ (x : Bounds). nat_lt m.turns x.turns) c.requires.sound.1.bounds ∙ under m.turns m.limits.turns c.if-m.false in
+    = ap (λ (x : Bounds). nat_lt m.turns x.turns) c.requires.stands.sound.1.bounds ∙ under m.turns m.limits.turns c.if-m.false in
     let value = value_in (extent_of w.heap) c.in_ok-two.two.0 in
     let is : c.in_ok-two.two.1 ≡ Vals.Coexp c.in-Some.id = number_is c.in_ok-two.two.1 c.in-Some.id (sym c.in-Some.is ∙ c.coexp_of.ensures) in
     subst (λ (s : State Frames Frames). StandsAt tables outside s c.activate.new.m c.activate.result)
@@ -103,15 +103,20 @@ returns-clause-step g c tables outside =
     ))
     (c.activate.ensures.step tables outside)
 
-pub returns-clause-sound : goal.returns-clause-sound
-returns-clause-sound g c tables k =
-    let m = c.args.m.now in
-    let cs = (heap_of m.world.heap).coexps in
-    c.activate.ensures.sound tables (record { results = turn_had m.turns m.stacks.table.active cs k.counted.results; activators = k.counted.activators })
-    (record {
-      stacks = stacks_on tables (reach_of m.world []) m.stacks.table c.frames.result.now.flat c.take_two_values.new.frames.flat c.frames.ensures.running
-          (λ l. c.take_two_values.ensures.live tables l) k.stacks;
-      bounds = k.bounds;
-      counts = k.counts;
-      counted = record { results = turn_more m.turns m.stacks.table.active cs k.counted.results; activators = k.counted.activators };
-    })
+pub returns-clause-keeps : goal.returns-clause-keeps
+returns-clause-keeps g c = record {
+  sound = λ tables k. (
+      let m = c.args.m.now in
+      let cs = (heap_of m.world.heap).coexps in
+      c.activate.ensures.sound tables (record { results = turn_had m.turns m.stacks.table.active cs k.counted.results; activators = k.counted.activators })
+      (record {
+        stacks = stacks_on tables (reach_of m.world []) m.stacks.table c.frames.result.now.flat c.take_two_values.new.frames.flat c.frames.ensures.running
+            (λ l. c.take_two_values.ensures.live tables l) k.stacks;
+        bounds = k.bounds;
+        counts = k.counts;
+        counted = record { results = turn_more m.turns m.stacks.table.active cs k.counted.results; activators = k.counted.activators };
+      }));
+  halt = search rules;
+  limits = c.activate.ensures.limits;
+  stack = search rules;
+}

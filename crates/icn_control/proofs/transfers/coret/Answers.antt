@@ -30,10 +30,10 @@ pub returns-then-m-clause-step : goal.returns-then-m-clause-step
 returns-then-m-clause-step g c tables outside =
     let m = c.args.m.now in
     let t = m.stacks.table in
-    let runs = some_there t.running c.requires.runs in
+    let runs = some_there t.running c.requires.stands.runs in
     let top = some_there (held.pop runs.0) (subst (λ (x : FlatStack). IsSome (held.pop x)) (ap running_of runs.1) c.requires.operand) in
     let none : nat_lt m.turns (heap_of m.world.heap).bounds.turns ≡ false
-    = ap (λ (x : Bounds). nat_lt m.turns x.turns) c.requires.sound.1.bounds ∙ not_under m.turns m.limits.turns c.if-m.true in
+    = ap (λ (x : Bounds). nat_lt m.turns x.turns) c.requires.stands.sound.1.bounds ∙ not_under m.turns m.limits.turns c.if-m.true in
     coret_bound tables (all_names tables) outside m.world m.turns m.begun.items t runs.0 top.0.1 top.0.0 runs.1 none top.1
     (sym (ap held.is_base (ap running_of runs.1)) ∙ c.requires.base) c.requires.other
 
@@ -42,8 +42,8 @@ take_value-requires-clause-operand g c = subst (λ (x : FlatStack). IsSome (held
 
 pub take_value-requires-clause-stack : goal.take_value-requires-clause-stack
 take_value-requires-clause-stack g c = (
-  c.requires.sound.0,
-  subst (λ (o : Option FlatStack). IsLiveRunning c.requires.sound.0 (reach_of c.args.m.now.world []) o) c.frames.ensures.running c.requires.sound.1.stacks.runs,
+  c.requires.stands.sound.0,
+  subst (λ (o : Option FlatStack). IsLiveRunning c.requires.stands.sound.0 (reach_of c.args.m.now.world []) o) c.frames.ensures.running c.requires.stands.sound.1.stacks.runs,
 )
 
 pub returns-in_err-v-clause-step : goal.returns-in_err-v-clause-step
@@ -53,7 +53,7 @@ returns-in_err-v-clause-step g c tables outside =
     let f : FlatStack = c.frames.result.now.flat in
     let st : Store Frames = store_in (all_names tables) outside (world_of w) (suc m.turns) m.begun.items (extent_of w.heap) m.stacks.table in
     let more : nat_lt m.turns (heap_of w.heap).bounds.turns ≡ true
-    = ap (λ (x : Bounds). nat_lt m.turns x.turns) c.requires.sound.1.bounds ∙ under m.turns m.limits.turns c.if-m.false in
+    = ap (λ (x : Bounds). nat_lt m.turns x.turns) c.requires.stands.sound.1.bounds ∙ under m.turns m.limits.turns c.if-m.false in
     let state : State Frames Frames = with_top (stack_in (extent_of w.heap) f) st (λ value n. result_given flat value n st) in
     at_stopped c.from_residual.result c.in_err-v.field-0.0 _ _ c.from_residual.ensures.1 tt
     (λ number offending e.
@@ -67,7 +67,7 @@ count_result-requires-clause-live g c =
     let a : ℕ = m.stacks.table.active in
     subst (λ (n : ℕ). IsLive (extent_of m.world.heap) (Vals.Coexp n)) (sym c.active-from.ensures.number)
     (coexp_is_live m.world.heap a
-    (subst (λ (n : ℕ). a < n) (sym c.requires.sound.1.counts) (active_there m.stacks.table.coexps a c.active-from.ensures.one.here)))
+    (subst (λ (n : ℕ). a < n) (sym c.requires.stands.sound.1.counts) (active_there m.stacks.table.coexps a c.active-from.ensures.one.here)))
 
 pub count_result-requires-clause-few : goal.count_result-requires-clause-few
 count_result-requires-clause-few g c =
@@ -76,7 +76,7 @@ count_result-requires-clause-few g c =
     let fits : Fits w64 c.args.m.now.limits.turns = search rules in
     let most : m.limits.turns ≤ 18446744073709551615 = omega (arith, fits) in
     subst (λ (n : ℕ). slice_index cs n < 9223372036854775807) (sym c.active-from.ensures.number)
-    (count_fits m.turns m.stacks.table.active m.limits.turns cs c.requires.other c.if-m.false most c.requires.sound.1.counted.results)
+    (count_fits m.turns m.stacks.table.active m.limits.turns cs c.requires.other c.if-m.false most c.requires.stands.sound.1.counted.results)
 
 pub returns-then-is_moved-clause-step : goal.returns-then-is_moved-clause-step
 returns-then-is_moved-clause-step g c tables outside =
@@ -87,8 +87,8 @@ returns-then-is_moved-clause-step g c tables outside =
     let n : FlatStack = c.take_value.new.frames.flat in
     let table : Table = record m.stacks.table { running = Some n } in
     let u : Table = c.give-went.new.self.table in
-    let t = c.requires.sound.0 in
-    let sound = c.requires.sound.1 in
+    let t = c.requires.stands.sound.0 in
+    let sound = c.requires.stands.sound.1 in
     let on : AreLiveStacks t (reach_of w []) table = stacks_on t (reach_of w []) m.stacks.table f n c.frames.ensures.running
     (λ l. c.take_value.ensures.live t l) sound.stacks in
     let st : Store Frames = store_in (all_names tables) outside (world_of w) (suc m.turns) m.begun.items (extent_of w.heap) m.stacks.table in
@@ -106,39 +106,44 @@ returns-then-is_moved-clause-step g c tables outside =
     (stack_in (extent_of v.heap) n) u c.give-went.result c.give-went.ensures.went (sym c.is_moved.ensures ∙ c.if-is_moved.true)
     ∙ ap F (sym (add-one m.turns))
 
-pub returns-then-is_moved-clause-sound : goal.returns-then-is_moved-clause-sound
-returns-then-is_moved-clause-sound g c tables k =
-    let m = c.args.m.now in
-    let w = m.world in
-    let v = c.count_result.new.world in
-    let f : FlatStack = c.frames.result.now.flat in
-    let n : FlatStack = c.take_value.new.frames.flat in
-    let table : Table = record m.stacks.table { running = Some n } in
-    let u : Table = c.give-went.new.self.table in
-    let heap = c.count_result.ensures.heap in
-    let on : AreLiveStacks tables (reach_of w []) table = stacks_on tables (reach_of w []) m.stacks.table f n c.frames.ensures.running
-    (λ l. c.take_value.ensures.live tables l) k.stacks in
-    let a : ℕ = m.stacks.table.active in
-    let cs : List ℕ = (heap_of m.world.heap).coexps in
-    let F : ℕ → List ℕ = λ n. slice_set cs n (slice_index cs n + 1) in
-    let fits : FitTurns (m.turns + 1) (source table) (F a) = result_fits m.turns a (source table) cs c.requires.other
-    (k.counted.activators a c.requires.other) k.counted.results in
-    record {
-      stacks = give_live tables (reach_of v []) c.in_ok-v.v table u c.give-went.ensures.table c.active-from.ensures.begun
-          (c.count_result.ensures.kept.extent.live c.in_ok-v.v c.in_ok-v.ensures.value)
-          (stacks_stay tables (reach_of w []) (reach_of v []) table c.count_result.ensures.kept on);
-      bounds = ap (λ (h : Heap). h.bounds) heap ∙ k.bounds;
-      counts = ap (λ (h : Heap). length h.coexps) heap
-          ∙ length-set (heap_of w.heap).coexps c.active-from.result (slice_index (heap_of w.heap).coexps c.active-from.result + 1) ∙ k.counts
-          ∙ sym (give_length c.in_ok-v.v table u c.give-went.ensures.table);
-      counted = record {
-        results = subst (λ (n : ℕ). FitTurns (m.turns + 1) n (heap_of c.count_result.new.world.heap).coexps)
-            (sym (give_active c.in_ok-v.v table u c.give-went.ensures.table))
-            (subst (λ (ds : List ℕ). FitTurns (m.turns + 1) (source table) ds)
-            (sym (ap (λ (h : Heap). h.coexps) c.count_result.ensures.heap ∙ ap F c.active-from.ensures.number)) fits);
-        activators = give_others c.in_ok-v.v table u c.give-went.ensures.table k.counted.activators;
-      };
-    }
+pub returns-then-is_moved-clause-keeps : goal.returns-then-is_moved-clause-keeps
+returns-then-is_moved-clause-keeps g c = record {
+  sound = λ tables k. (
+      let m = c.args.m.now in
+      let w = m.world in
+      let v = c.count_result.new.world in
+      let f : FlatStack = c.frames.result.now.flat in
+      let n : FlatStack = c.take_value.new.frames.flat in
+      let table : Table = record m.stacks.table { running = Some n } in
+      let u : Table = c.give-went.new.self.table in
+      let heap = c.count_result.ensures.heap in
+      let on : AreLiveStacks tables (reach_of w []) table = stacks_on tables (reach_of w []) m.stacks.table f n c.frames.ensures.running
+      (λ l. c.take_value.ensures.live tables l) k.stacks in
+      let a : ℕ = m.stacks.table.active in
+      let cs : List ℕ = (heap_of m.world.heap).coexps in
+      let F : ℕ → List ℕ = λ n. slice_set cs n (slice_index cs n + 1) in
+      let fits : FitTurns (m.turns + 1) (source table) (F a) = result_fits m.turns a (source table) cs c.requires.other
+      (k.counted.activators a c.requires.other) k.counted.results in
+      record {
+        stacks = give_live tables (reach_of v []) c.in_ok-v.v table u c.give-went.ensures.table c.active-from.ensures.begun
+            (c.count_result.ensures.kept.extent.live c.in_ok-v.v c.in_ok-v.ensures.value)
+            (stacks_stay tables (reach_of w []) (reach_of v []) table c.count_result.ensures.kept on);
+        bounds = ap (λ (h : Heap). h.bounds) heap ∙ k.bounds;
+        counts = ap (λ (h : Heap). length h.coexps) heap
+            ∙ length-set (heap_of w.heap).coexps c.active-from.result (slice_index (heap_of w.heap).coexps c.active-from.result + 1) ∙ k.counts
+            ∙ sym (give_length c.in_ok-v.v table u c.give-went.ensures.table);
+        counted = record {
+          results = subst (λ (n : ℕ). FitTurns (m.turns + 1) n (heap_of c.count_result.new.world.heap).coexps)
+              (sym (give_active c.in_ok-v.v table u c.give-went.ensures.table))
+              (subst (λ (ds : List ℕ). FitTurns (m.turns + 1) (source table) ds)
+              (sym (ap (λ (h : Heap). h.coexps) c.count_result.ensures.heap ∙ ap F c.active-from.ensures.number)) fits);
+          activators = give_others c.in_ok-v.v table u c.give-went.ensures.table k.counted.activators;
+        };
+      });
+  halt = search rules;
+  limits = refl;
+  stack = moved_runs c.give-went.new.self.table.running c.give-went.result c.give-went.ensures.went (sym c.is_moved.ensures ∙ c.if-is_moved.true);
+}
 
 pub returns-else-is_moved-clause-step : goal.returns-else-is_moved-clause-step
 returns-else-is_moved-clause-step g c tables outside =
@@ -149,8 +154,8 @@ returns-else-is_moved-clause-step g c tables outside =
     let n : FlatStack = c.take_value.new.frames.flat in
     let table : Table = record m.stacks.table { running = Some n } in
     let u : Table = c.give-went.new.self.table in
-    let t = c.requires.sound.0 in
-    let sound = c.requires.sound.1 in
+    let t = c.requires.stands.sound.0 in
+    let sound = c.requires.stands.sound.1 in
     let on : AreLiveStacks t (reach_of w []) table = stacks_on t (reach_of w []) m.stacks.table f n c.frames.ensures.running
     (λ l. c.take_value.ensures.live t l) sound.stacks in
     let st : Store Frames = store_in (all_names tables) outside (world_of w) (suc m.turns) m.begun.items (extent_of w.heap) m.stacks.table in
@@ -170,44 +175,41 @@ returns-else-is_moved-clause-step g c tables outside =
           ∙ ap F (sym (add-one m.turns)),
     )
 
-pub returns-else-is_moved-clause-sound : goal.returns-else-is_moved-clause-sound
-returns-else-is_moved-clause-sound g c tables k =
-    let m = c.args.m.now in
-    let w = m.world in
-    let v = c.count_result.new.world in
-    let f : FlatStack = c.frames.result.now.flat in
-    let n : FlatStack = c.take_value.new.frames.flat in
-    let table : Table = record m.stacks.table { running = Some n } in
-    let u : Table = c.give-went.new.self.table in
-    let heap = c.count_result.ensures.heap in
-    let on : AreLiveStacks tables (reach_of w []) table = stacks_on tables (reach_of w []) m.stacks.table f n c.frames.ensures.running
-    (λ l. c.take_value.ensures.live tables l) k.stacks in
-    let a : ℕ = m.stacks.table.active in
-    let cs : List ℕ = (heap_of m.world.heap).coexps in
-    let F : ℕ → List ℕ = λ n. slice_set cs n (slice_index cs n + 1) in
-    let fits : FitTurns (m.turns + 1) (source table) (F a) = result_fits m.turns a (source table) cs c.requires.other
-    (k.counted.activators a c.requires.other) k.counted.results in
-    record {
-      stacks = give_live tables (reach_of v []) c.in_ok-v.v table u c.give-went.ensures.table c.active-from.ensures.begun
-          (c.count_result.ensures.kept.extent.live c.in_ok-v.v c.in_ok-v.ensures.value)
-          (stacks_stay tables (reach_of w []) (reach_of v []) table c.count_result.ensures.kept on);
-      bounds = ap (λ (h : Heap). h.bounds) heap ∙ k.bounds;
-      counts = ap (λ (h : Heap). length h.coexps) heap
-          ∙ length-set (heap_of w.heap).coexps c.active-from.result (slice_index (heap_of w.heap).coexps c.active-from.result + 1) ∙ k.counts
-          ∙ sym (give_length c.in_ok-v.v table u c.give-went.ensures.table);
-      counted = record {
-        results = subst (λ (n : ℕ). FitTurns (m.turns + 1) n (heap_of c.count_result.new.world.heap).coexps)
-            (sym (give_active c.in_ok-v.v table u c.give-went.ensures.table))
-            (subst (λ (ds : List ℕ). FitTurns (m.turns + 1) (source table) ds)
-            (sym (ap (λ (h : Heap). h.coexps) c.count_result.ensures.heap ∙ ap F c.active-from.ensures.number)) fits);
-        activators = give_others c.in_ok-v.v table u c.give-went.ensures.table k.counted.activators;
-      };
-    }
-
-pub returns-then-is_moved-clause-stack : goal.returns-then-is_moved-clause-stack
-returns-then-is_moved-clause-stack g c =
-    moved_runs c.give-went.new.self.table.running c.give-went.result c.give-went.ensures.went (sym c.is_moved.ensures ∙ c.if-is_moved.true)
-
-pub returns-else-is_moved-clause-stack : goal.returns-else-is_moved-clause-stack
-returns-else-is_moved-clause-stack g c =
-    not_moved_waits c.give-went.new.self.table.running c.give-went.result c.give-went.ensures.went (sym c.is_moved.ensures ∙ c.if-is_moved.false)
+pub returns-else-is_moved-clause-keeps : goal.returns-else-is_moved-clause-keeps
+returns-else-is_moved-clause-keeps g c = record {
+  sound = λ tables k. (
+      let m = c.args.m.now in
+      let w = m.world in
+      let v = c.count_result.new.world in
+      let f : FlatStack = c.frames.result.now.flat in
+      let n : FlatStack = c.take_value.new.frames.flat in
+      let table : Table = record m.stacks.table { running = Some n } in
+      let u : Table = c.give-went.new.self.table in
+      let heap = c.count_result.ensures.heap in
+      let on : AreLiveStacks tables (reach_of w []) table = stacks_on tables (reach_of w []) m.stacks.table f n c.frames.ensures.running
+      (λ l. c.take_value.ensures.live tables l) k.stacks in
+      let a : ℕ = m.stacks.table.active in
+      let cs : List ℕ = (heap_of m.world.heap).coexps in
+      let F : ℕ → List ℕ = λ n. slice_set cs n (slice_index cs n + 1) in
+      let fits : FitTurns (m.turns + 1) (source table) (F a) = result_fits m.turns a (source table) cs c.requires.other
+      (k.counted.activators a c.requires.other) k.counted.results in
+      record {
+        stacks = give_live tables (reach_of v []) c.in_ok-v.v table u c.give-went.ensures.table c.active-from.ensures.begun
+            (c.count_result.ensures.kept.extent.live c.in_ok-v.v c.in_ok-v.ensures.value)
+            (stacks_stay tables (reach_of w []) (reach_of v []) table c.count_result.ensures.kept on);
+        bounds = ap (λ (h : Heap). h.bounds) heap ∙ k.bounds;
+        counts = ap (λ (h : Heap). length h.coexps) heap
+            ∙ length-set (heap_of w.heap).coexps c.active-from.result (slice_index (heap_of w.heap).coexps c.active-from.result + 1) ∙ k.counts
+            ∙ sym (give_length c.in_ok-v.v table u c.give-went.ensures.table);
+        counted = record {
+          results = subst (λ (n : ℕ). FitTurns (m.turns + 1) n (heap_of c.count_result.new.world.heap).coexps)
+              (sym (give_active c.in_ok-v.v table u c.give-went.ensures.table))
+              (subst (λ (ds : List ℕ). FitTurns (m.turns + 1) (source table) ds)
+              (sym (ap (λ (h : Heap). h.coexps) c.count_result.ensures.heap ∙ ap F c.active-from.ensures.number)) fits);
+          activators = give_others c.in_ok-v.v table u c.give-went.ensures.table k.counted.activators;
+        };
+      });
+  halt = search rules;
+  limits = refl;
+  stack = not_moved_waits c.give-went.new.self.table.running c.give-went.result c.give-went.ensures.went (sym c.is_moved.ensures ∙ c.if-is_moved.false);
+}

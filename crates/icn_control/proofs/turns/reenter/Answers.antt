@@ -1,4 +1,4 @@
-use Rattle.std.proofs.Common.{◌≡◌, ◌+◌, ℕ, Some, true, nat_lt, length, [], sym, ap, ◌∙◌, subst, add-one}
+use Rattle.std.proofs.Common.{◌≡◌, ◌+◌, ℕ, Some, true, nat_lt, length, [], sym, ap, ◌∙◌, subst, add-one, rules, refl}
 use Rattle.icn_value.specs.Limited.{Bounds}
 use Rattle.icn_heap.specs.declared.heap.Heap.{Heap as HeldHeap}
 use Rattle.icn_heap.specs.Heaps.{extent_of, heap_of}
@@ -24,23 +24,27 @@ returns-clause-step g c tables outside =
     let F : ℕ → State Frames Frames = λ k. running (stack_in (extent_of v.heap) n)
     (store_in (all_names tables) outside (world_of v) k m.begun.items (extent_of v.heap) (record m.stacks.table { running = Some n })) in
     reenters (all_names tables) outside tables m.world v m.turns m.begun.items m.stacks.table c.frames.result.now.flat n c.frames.ensures.running more
-    c.swap_if_scanning.ensures.step c.swap_if_scanning.ensures.heap
+    c.swap_if_scanning.ensures.step c.swap_if_scanning.ensures.same.heap
     ∙ ap F (sym (add-one m.turns))
 
-pub returns-clause-sound : goal.returns-clause-sound
-returns-clause-sound g c tables k =
-    let m = c.args.m.now in
-    let on = stacks_on tables (reach_of m.world []) m.stacks.table c.frames.result.now.flat c.swap_if_scanning.new.frames.flat c.frames.ensures.running
-    (λ l. subst (λ (r : Reach). IsLiveStack tables r c.swap_if_scanning.new.frames.flat) c.swap_if_scanning.ensures.reach
-    (c.swap_if_scanning.ensures.live tables l)) k.stacks in
-    record {
-      stacks = subst (λ (r : Reach). AreLiveStacks tables r (record m.stacks.table { running = Some c.swap_if_scanning.new.frames.flat }))
-          (sym c.swap_if_scanning.ensures.reach) on;
-      bounds = ap (λ (h : HeldHeap). (heap_of h).bounds) c.swap_if_scanning.ensures.heap ∙ k.bounds;
-      counts = ap (λ (h : HeldHeap). length (heap_of h).coexps) c.swap_if_scanning.ensures.heap ∙ k.counts;
-      counted = record {
-        results = heap_counts (m.turns + 1) m.stacks.table.active m.world.heap c.swap_if_scanning.new.world.heap c.swap_if_scanning.ensures.heap
-            (turn_more m.turns m.stacks.table.active (heap_of m.world.heap).coexps k.counted.results);
-        activators = k.counted.activators;
-      };
-    }
+pub returns-clause-keeps : goal.returns-clause-keeps
+returns-clause-keeps g c = record {
+  sound = λ tables k. (
+      let m = c.args.m.now in
+      let on = stacks_on tables (reach_of m.world []) m.stacks.table c.frames.result.now.flat c.swap_if_scanning.new.frames.flat c.frames.ensures.running
+      (λ l. subst (λ (r : Reach). IsLiveStack tables r c.swap_if_scanning.new.frames.flat) c.swap_if_scanning.ensures.same.reach
+      (c.swap_if_scanning.ensures.live tables l)) k.stacks in
+      record {
+        stacks = subst (λ (r : Reach). AreLiveStacks tables r (record m.stacks.table { running = Some c.swap_if_scanning.new.frames.flat }))
+            (sym c.swap_if_scanning.ensures.same.reach) on;
+        bounds = ap (λ (h : HeldHeap). (heap_of h).bounds) c.swap_if_scanning.ensures.same.heap ∙ k.bounds;
+        counts = ap (λ (h : HeldHeap). length (heap_of h).coexps) c.swap_if_scanning.ensures.same.heap ∙ k.counts;
+        counted = record {
+          results = heap_counts (m.turns + 1) m.stacks.table.active m.world.heap c.swap_if_scanning.new.world.heap c.swap_if_scanning.ensures.same.heap
+              (turn_more m.turns m.stacks.table.active (heap_of m.world.heap).coexps k.counted.results);
+          activators = k.counted.activators;
+        };
+      });
+  limits = refl;
+  stack = search rules;
+}

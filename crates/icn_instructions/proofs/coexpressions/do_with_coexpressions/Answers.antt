@@ -11,40 +11,29 @@ use Rattle.icn_instructions.proofs.GroupSteps.{no_other_coexpression, op_refresh
 use Rattle.icn_instructions.proofs.LackSteps.{take_there, one_there, upper_there, lower_there, coret_operand, coret_body, cofail_body, cofail_is}
 use Rattle.icn_instructions.proofs.coexpressions.do_with_coexpressions.Goals as goal
 
-pub create-requires-clause-sound : goal.create-requires-clause-sound
-create-requires-clause-sound g c =
-    ((tables_of c.args.code.now), c.requires.sound)
+pub create-requires : goal.create-requires
+create-requires g c = record { stands = record { runs = c.requires.runs; sound = ((tables_of c.args.code.now), c.requires.sound) } }
 
-pub coact-requires-clause-sound : goal.coact-requires-clause-sound
-coact-requires-clause-sound g c =
-    ((tables_of c.args.code.now), c.requires.sound)
+pub coact-requires-clause-stands : goal.coact-requires-clause-stands
+coact-requires-clause-stands g c = record {
+  runs = c.requires.runs;
+  sound = ((tables_of c.args.code.now), c.requires.sound);
+}
 
-pub coret-requires-clause-sound : goal.coret-requires-clause-sound
-coret-requires-clause-sound g c =
-    ((tables_of c.args.code.now), c.requires.sound)
+pub coret-requires-clause-stands : goal.coret-requires-clause-stands
+coret-requires-clause-stands g c = record {
+  runs = c.requires.runs;
+  sound = ((tables_of c.args.code.now), c.requires.sound);
+}
 
-pub refresh-requires-clause-sound : goal.refresh-requires-clause-sound
-refresh-requires-clause-sound g c =
-    ((tables_of c.args.code.now), c.requires.sound)
-
-pub create-requires-clause-runs : goal.create-requires-clause-runs
-create-requires-clause-runs g c =
-    c.requires.runs
-
-pub coact-requires-clause-runs : goal.coact-requires-clause-runs
-coact-requires-clause-runs g c =
-    c.requires.runs
-
-pub coret-requires-clause-runs : goal.coret-requires-clause-runs
-coret-requires-clause-runs g c =
-    c.requires.runs
+pub refresh-requires-clause-stands : goal.refresh-requires-clause-stands
+refresh-requires-clause-stands g c = record {
+  runs = c.requires.runs;
+  sound = ((tables_of c.args.code.now), c.requires.sound);
+}
 
 pub exhaust-requires-clause-runs : goal.exhaust-requires-clause-runs
 exhaust-requires-clause-runs g c =
-    c.requires.runs
-
-pub refresh-requires-clause-runs : goal.refresh-requires-clause-runs
-refresh-requires-clause-runs g c =
     c.requires.runs
 
 pub coact-requires-clause-upper : goal.coact-requires-clause-upper
@@ -136,51 +125,51 @@ returns-in-Coret-clause-no_memory g c =
 
 pub returns-in-Create-clause-sound : goal.returns-in-Create-clause-sound
 returns-in-Create-clause-sound g c =
-    c.create.ensures.sound (tables_of c.args.code.now) c.requires.sound
+    c.create.ensures.keeps.sound (tables_of c.args.code.now) c.requires.sound
 
 pub returns-in-Create-clause-halt : goal.returns-in-Create-clause-halt
 returns-in-Create-clause-halt g c =
-    c.create.ensures.halt
+    c.create.ensures.keeps.halt
 
 pub returns-in-Create-clause-limits : goal.returns-in-Create-clause-limits
 returns-in-Create-clause-limits g c =
-    c.create.ensures.limits
+    c.create.ensures.keeps.limits
 
 pub returns-in-Coact-clause-sound : goal.returns-in-Coact-clause-sound
 returns-in-Coact-clause-sound g c =
-    c.coact.ensures.sound (tables_of c.args.code.now) c.requires.sound
+    c.coact.ensures.keeps.sound (tables_of c.args.code.now) c.requires.sound
 
 pub returns-in-Coact-clause-halt : goal.returns-in-Coact-clause-halt
 returns-in-Coact-clause-halt g c =
-    c.coact.ensures.halt
+    c.coact.ensures.keeps.halt
 
 pub returns-in-Coact-clause-limits : goal.returns-in-Coact-clause-limits
 returns-in-Coact-clause-limits g c =
-    c.coact.ensures.limits
+    c.coact.ensures.keeps.limits
 
 pub returns-in-Coret-clause-sound : goal.returns-in-Coret-clause-sound
 returns-in-Coret-clause-sound g c =
-    c.coret.ensures.sound (tables_of c.args.code.now) c.requires.sound
+    c.coret.ensures.keeps.sound (tables_of c.args.code.now) c.requires.sound
 
 pub returns-in-Coret-clause-halt : goal.returns-in-Coret-clause-halt
 returns-in-Coret-clause-halt g c =
-    c.coret.ensures.halt
+    c.coret.ensures.keeps.halt
 
 pub returns-in-Coret-clause-limits : goal.returns-in-Coret-clause-limits
 returns-in-Coret-clause-limits g c =
-    c.coret.ensures.limits
+    c.coret.ensures.keeps.limits
 
 pub returns-in-Op-clause-sound : goal.returns-in-Op-clause-sound
 returns-in-Op-clause-sound g c =
-    c.refresh.ensures.sound (tables_of c.args.code.now) c.requires.sound
+    c.refresh.ensures.keeps.sound (tables_of c.args.code.now) c.requires.sound
 
 pub returns-in-Op-clause-halt : goal.returns-in-Op-clause-halt
 returns-in-Op-clause-halt g c =
-    c.refresh.ensures.halt
+    c.refresh.ensures.keeps.halt
 
 pub returns-in-Op-clause-limits : goal.returns-in-Op-clause-limits
 returns-in-Op-clause-limits g c =
-    c.refresh.ensures.limits
+    c.refresh.ensures.keeps.limits
 
 pub returns-in-Op-clause-step : goal.returns-in-Op-clause-step
 returns-in-Op-clause-step g c =
@@ -206,27 +195,27 @@ returns-in-Cofail-clause-step g c =
 
 pub returns-in-Cofail-clause-sound : goal.returns-in-Cofail-clause-sound
 returns-in-Cofail-clause-sound g c =
-    c.exhaust.ensures.sound (tables_of c.args.code.now) c.requires.sound
+    c.exhaust.ensures.keeps.sound (tables_of c.args.code.now) c.requires.sound
 
 pub returns-in-Cofail-clause-limits : goal.returns-in-Cofail-clause-limits
 returns-in-Cofail-clause-limits g c =
-    c.exhaust.ensures.limits
+    c.exhaust.ensures.keeps.limits
 
 pub returns-in-Cofail-clause-no_memory : goal.returns-in-Cofail-clause-no_memory
 returns-in-Cofail-clause-no_memory g c =
     λ e. ok_memory c.exhaust.result
 
 pub returns-in-Create-clause-stack : goal.returns-in-Create-clause-stack
-returns-in-Create-clause-stack g c = c.create.ensures.stack
+returns-in-Create-clause-stack g c = c.create.ensures.keeps.stack
 
 pub returns-in-Coact-clause-stack : goal.returns-in-Coact-clause-stack
-returns-in-Coact-clause-stack g c = c.coact.ensures.stack
+returns-in-Coact-clause-stack g c = c.coact.ensures.keeps.stack
 
 pub returns-in-Coret-clause-stack : goal.returns-in-Coret-clause-stack
-returns-in-Coret-clause-stack g c = c.coret.ensures.stack
+returns-in-Coret-clause-stack g c = c.coret.ensures.keeps.stack
 
 pub returns-in-Cofail-clause-stack : goal.returns-in-Cofail-clause-stack
-returns-in-Cofail-clause-stack g c = c.exhaust.ensures.stack
+returns-in-Cofail-clause-stack g c = c.exhaust.ensures.keeps.stack
 
 pub returns-in-Op-clause-stack : goal.returns-in-Op-clause-stack
-returns-in-Op-clause-stack g c = c.refresh.ensures.stack
+returns-in-Op-clause-stack g c = c.refresh.ensures.keeps.stack

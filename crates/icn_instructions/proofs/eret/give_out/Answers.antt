@@ -50,7 +50,7 @@ pub returns-clause-step : goal.returns-clause-step
 returns-clause-step g c =
     eret_runs c.args.world.now c.restore_pair.new.world c.args.frames.now.flat c.pop-x.new.self.flat c.unmark-pair.new.self.flat c.put.new.frames.flat
     c.pop-x.result c.in_ok-v.v c.unmark-pair.result c.pop-x.ensures.flat
-    c.in_ok-v.ensures.value (ap unmark (sym c.value_of.ensures.same) ∙ c.unmark-pair.ensures.flat) c.restore_pair.ensures.heap c.restore_pair.ensures.world
+    c.in_ok-v.ensures.value (ap unmark (sym c.value_of.ensures.same) ∙ c.unmark-pair.ensures.flat) c.restore_pair.ensures.same.heap c.restore_pair.ensures.world
     c.put.ensures.flat
 
 pub returns-clause-live : goal.returns-clause-live
@@ -64,4 +64,4 @@ returns-clause-live g c t k =
     let on : IsLiveStack t reach c.put.new.frames.flat
     = subst (λ (x : FlatStack). IsLiveStack t reach x) (sym c.put.ensures.flat)
     (live_push t reach c.unmark-pair.new.self.flat (HeldVal c.in_ok-v.v) left.rest val) in
-    subst (λ (r : Reach). IsLiveStack t r c.put.new.frames.flat) (sym c.restore_pair.ensures.reach) on
+    subst (λ (r : Reach). IsLiveStack t r c.put.new.frames.flat) (sym c.restore_pair.ensures.same.reach) on

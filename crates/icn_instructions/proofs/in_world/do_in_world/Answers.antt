@@ -1,4 +1,4 @@
-use Rattle.std.proofs.Common.{[], Ok, Err, refl}
+use Rattle.std.proofs.Common.{[], Ok, Err, refl, rules}
 use Rattle.icn_heap.specs.Heaps.{extent_of}
 use Rattle.icn_vars.specs.Worlds.{reach_of}
 use Rattle.icn_vars.proofs.KeptItems.{items_all}
@@ -113,21 +113,23 @@ pub returns-in-Ok-clause-live : goal.returns-in-Ok-clause-live
 returns-in-Ok-clause-live g c =
     c.in-Ok.ensures.live (tables_of c.args.code.now) c.requires.live
 
-pub returns-in-Ok-clause-kept : goal.returns-in-Ok-clause-kept
-returns-in-Ok-clause-kept g c =
-    c.push_string.ensures.kept
-
-pub returns-in-Ok-clause-counts : goal.returns-in-Ok-clause-counts
-returns-in-Ok-clause-counts g c =
-    seen_keeps c.args.world.now c.push_string.new.world c.push_string.ensures.heap
+pub returns-in-Ok-clause-leaves : goal.returns-in-Ok-clause-leaves
+returns-in-Ok-clause-leaves g c = record {
+  kept = c.push_string.ensures.kept;
+  counts = seen_keeps c.args.world.now c.push_string.new.world c.push_string.ensures.heap;
+  halt = search rules;
+}
 
 pub returns-in-Ok-clause-no_memory : goal.returns-in-Ok-clause-no_memory
 returns-in-Ok-clause-no_memory g c =
     λ e. ok_memory Stages.Runs
 
-pub returns-in-Err-clause-kept : goal.returns-in-Err-clause-kept
-returns-in-Err-clause-kept g c =
-    c.push_string.ensures.kept
+pub returns-in-Err-clause-leaves : goal.returns-in-Err-clause-leaves
+returns-in-Err-clause-leaves g c = record {
+  kept = c.push_string.ensures.kept;
+  counts = search rules;
+  halt = search rules;
+}
 
 pub returns-in-Err-clause-no_memory : goal.returns-in-Err-clause-no_memory
 returns-in-Err-clause-no_memory g c =
@@ -142,21 +144,23 @@ pub returns-in-Ok-give_out-clause-live : goal.returns-in-Ok-give_out-clause-live
 returns-in-Ok-give_out-clause-live g c =
     c.in-Ok-give_out.ensures.live (tables_of c.args.code.now) c.requires.live
 
-pub returns-in-Ok-give_out-clause-kept : goal.returns-in-Ok-give_out-clause-kept
-returns-in-Ok-give_out-clause-kept g c =
-    reach_keeps c.args.world.now c.give_out.new.world c.give_out.ensures.reach
-
-pub returns-in-Ok-give_out-clause-counts : goal.returns-in-Ok-give_out-clause-counts
-returns-in-Ok-give_out-clause-counts g c =
-    heap_keeps c.args.world.now c.give_out.new.world c.give_out.ensures.heap
+pub returns-in-Ok-give_out-clause-leaves : goal.returns-in-Ok-give_out-clause-leaves
+returns-in-Ok-give_out-clause-leaves g c = record {
+  kept = reach_keeps c.args.world.now c.give_out.new.world c.give_out.ensures.same.reach;
+  counts = heap_keeps c.args.world.now c.give_out.new.world c.give_out.ensures.same.heap;
+  halt = search rules;
+}
 
 pub returns-in-Ok-give_out-clause-no_memory : goal.returns-in-Ok-give_out-clause-no_memory
 returns-in-Ok-give_out-clause-no_memory g c =
     λ e. ok_memory Stages.Runs
 
-pub returns-in-Err-give_out-clause-kept : goal.returns-in-Err-give_out-clause-kept
-returns-in-Err-give_out-clause-kept g c =
-    reach_keeps c.args.world.now c.give_out.new.world c.give_out.ensures.reach
+pub returns-in-Err-give_out-clause-leaves : goal.returns-in-Err-give_out-clause-leaves
+returns-in-Err-give_out-clause-leaves g c = record {
+  kept = reach_keeps c.args.world.now c.give_out.new.world c.give_out.ensures.same.reach;
+  counts = search rules;
+  halt = c.in-Err-give_out.ensures.halt;
+}
 
 pub returns-in-Err-give_out-clause-no_memory : goal.returns-in-Err-give_out-clause-no_memory
 returns-in-Err-give_out-clause-no_memory g c =
@@ -167,10 +171,6 @@ returns-in-Err-give_out-clause-step g c =
     comes_as (tables_of c.args.code.now) c.args.instr Instrs.Eret c.args.world.now c.args.frames.now.flat c.give_out.new.world c.give_out.new.frames.flat
     (Err c.in-Err-give_out.halt) c.in-Eret.is (λ st e. c.in-Err-give_out.ensures.step (tables_of c.args.code.now) st e)
 
-pub returns-in-Err-give_out-clause-halt : goal.returns-in-Err-give_out-clause-halt
-returns-in-Err-give_out-clause-halt g c =
-    c.in-Err-give_out.ensures.halt
-
 pub returns-in-Ok-open_scan-clause-step : goal.returns-in-Ok-open_scan-clause-step
 returns-in-Ok-open_scan-clause-step g c =
     comes_as (tables_of c.args.code.now) c.args.instr Instrs.Bscan c.args.world.now c.args.frames.now.flat c.open_scan.new.world c.open_scan.new.frames.flat
@@ -180,21 +180,23 @@ pub returns-in-Ok-open_scan-clause-live : goal.returns-in-Ok-open_scan-clause-li
 returns-in-Ok-open_scan-clause-live g c =
     c.in-Ok-open_scan.ensures.live (tables_of c.args.code.now) c.requires.live
 
-pub returns-in-Ok-open_scan-clause-kept : goal.returns-in-Ok-open_scan-clause-kept
-returns-in-Ok-open_scan-clause-kept g c =
-    c.open_scan.ensures.kept
-
-pub returns-in-Ok-open_scan-clause-counts : goal.returns-in-Ok-open_scan-clause-counts
-returns-in-Ok-open_scan-clause-counts g c =
-    c.in-Ok-open_scan.ensures.counts
+pub returns-in-Ok-open_scan-clause-leaves : goal.returns-in-Ok-open_scan-clause-leaves
+returns-in-Ok-open_scan-clause-leaves g c = record {
+  kept = c.open_scan.ensures.leaves.kept;
+  counts = c.in-Ok-open_scan.ensures.leaves.counts;
+  halt = search rules;
+}
 
 pub returns-in-Ok-open_scan-clause-no_memory : goal.returns-in-Ok-open_scan-clause-no_memory
 returns-in-Ok-open_scan-clause-no_memory g c =
     λ e. ok_memory Stages.Runs
 
-pub returns-in-Err-open_scan-clause-kept : goal.returns-in-Err-open_scan-clause-kept
-returns-in-Err-open_scan-clause-kept g c =
-    c.open_scan.ensures.kept
+pub returns-in-Err-open_scan-clause-leaves : goal.returns-in-Err-open_scan-clause-leaves
+returns-in-Err-open_scan-clause-leaves g c = record {
+  kept = c.open_scan.ensures.leaves.kept;
+  counts = search rules;
+  halt = c.in-Err-open_scan.ensures.leaves.halt;
+}
 
 pub returns-in-Err-open_scan-clause-no_memory : goal.returns-in-Err-open_scan-clause-no_memory
 returns-in-Err-open_scan-clause-no_memory g c =
@@ -205,10 +207,6 @@ returns-in-Err-open_scan-clause-step g c =
     comes_as (tables_of c.args.code.now) c.args.instr Instrs.Bscan c.args.world.now c.args.frames.now.flat c.open_scan.new.world c.open_scan.new.frames.flat
     (Err c.in-Err-open_scan.halt) c.in-Bscan.is (λ st e. c.in-Err-open_scan.ensures.step (tables_of c.args.code.now) st e)
 
-pub returns-in-Err-open_scan-clause-halt : goal.returns-in-Err-open_scan-clause-halt
-returns-in-Err-open_scan-clause-halt g c =
-    c.in-Err-open_scan.ensures.halt
-
 pub returns-in-Ok-leave_scan-clause-step : goal.returns-in-Ok-leave_scan-clause-step
 returns-in-Ok-leave_scan-clause-step g c =
     comes_as (tables_of c.args.code.now) c.args.instr Instrs.Escan c.args.world.now c.args.frames.now.flat c.leave_scan.new.world
@@ -218,21 +216,23 @@ pub returns-in-Ok-leave_scan-clause-live : goal.returns-in-Ok-leave_scan-clause-
 returns-in-Ok-leave_scan-clause-live g c =
     c.in-Ok-leave_scan.ensures.live (tables_of c.args.code.now) c.requires.live
 
-pub returns-in-Ok-leave_scan-clause-kept : goal.returns-in-Ok-leave_scan-clause-kept
-returns-in-Ok-leave_scan-clause-kept g c =
-    reach_keeps c.args.world.now c.leave_scan.new.world c.leave_scan.ensures.reach
-
-pub returns-in-Ok-leave_scan-clause-counts : goal.returns-in-Ok-leave_scan-clause-counts
-returns-in-Ok-leave_scan-clause-counts g c =
-    heap_keeps c.args.world.now c.leave_scan.new.world c.leave_scan.ensures.heap
+pub returns-in-Ok-leave_scan-clause-leaves : goal.returns-in-Ok-leave_scan-clause-leaves
+returns-in-Ok-leave_scan-clause-leaves g c = record {
+  kept = reach_keeps c.args.world.now c.leave_scan.new.world c.leave_scan.ensures.same.reach;
+  counts = heap_keeps c.args.world.now c.leave_scan.new.world c.leave_scan.ensures.same.heap;
+  halt = search rules;
+}
 
 pub returns-in-Ok-leave_scan-clause-no_memory : goal.returns-in-Ok-leave_scan-clause-no_memory
 returns-in-Ok-leave_scan-clause-no_memory g c =
     λ e. ok_memory Stages.Runs
 
-pub returns-in-Err-leave_scan-clause-kept : goal.returns-in-Err-leave_scan-clause-kept
-returns-in-Err-leave_scan-clause-kept g c =
-    reach_keeps c.args.world.now c.leave_scan.new.world c.leave_scan.ensures.reach
+pub returns-in-Err-leave_scan-clause-leaves : goal.returns-in-Err-leave_scan-clause-leaves
+returns-in-Err-leave_scan-clause-leaves g c = record {
+  kept = reach_keeps c.args.world.now c.leave_scan.new.world c.leave_scan.ensures.same.reach;
+  counts = search rules;
+  halt = search rules;
+}
 
 pub returns-in-Err-leave_scan-clause-no_memory : goal.returns-in-Err-leave_scan-clause-no_memory
 returns-in-Err-leave_scan-clause-no_memory g c =
@@ -247,17 +247,12 @@ pub returns-in-Limit-clause-live : goal.returns-in-Limit-clause-live
 returns-in-Limit-clause-live g c =
     c.limit.ensures.live (tables_of c.args.code.now) c.requires.live
 
-pub returns-in-Limit-clause-halt : goal.returns-in-Limit-clause-halt
-returns-in-Limit-clause-halt g c =
-    c.limit.ensures.halt
-
-pub returns-in-Limit-clause-kept : goal.returns-in-Limit-clause-kept
-returns-in-Limit-clause-kept g c =
-    items_all (reach_of c.args.world.now [])
-
-pub returns-in-Limit-clause-counts : goal.returns-in-Limit-clause-counts
-returns-in-Limit-clause-counts g c =
-    ok_all c.limit.result (KeepsCounts c.args.world.now c.args.world.now) (record { bounds = refl; coexps = refl })
+pub returns-in-Limit-clause-leaves : goal.returns-in-Limit-clause-leaves
+returns-in-Limit-clause-leaves g c = record {
+  kept = items_all (reach_of c.args.world.now []);
+  counts = ok_all c.limit.result (KeepsCounts c.args.world.now c.args.world.now) (record { bounds = refl; coexps = refl });
+  halt = c.limit.ensures.halt;
+}
 
 pub returns-in-Limit-clause-no_memory : goal.returns-in-Limit-clause-no_memory
 returns-in-Limit-clause-no_memory g c =
@@ -272,18 +267,14 @@ pub returns-in-Psusp-clause-live : goal.returns-in-Psusp-clause-live
 returns-in-Psusp-clause-live g c =
     c.suspend_with.ensures.live (tables_of c.args.code.now) c.requires.live
 
-pub returns-in-Psusp-clause-halt : goal.returns-in-Psusp-clause-halt
-returns-in-Psusp-clause-halt g c =
-    c.suspend_with.ensures.halt
-
-pub returns-in-Psusp-clause-kept : goal.returns-in-Psusp-clause-kept
-returns-in-Psusp-clause-kept g c =
-    reach_keeps c.args.world.now c.suspend_with.new.world c.suspend_with.ensures.reach
-
-pub returns-in-Psusp-clause-counts : goal.returns-in-Psusp-clause-counts
-returns-in-Psusp-clause-counts g c =
-    ok_all c.suspend_with.result (KeepsCounts c.args.world.now c.suspend_with.new.world)
-    (heap_keeps c.args.world.now c.suspend_with.new.world c.suspend_with.ensures.heap)
+pub returns-in-Psusp-clause-leaves : goal.returns-in-Psusp-clause-leaves
+returns-in-Psusp-clause-leaves g c = record {
+  kept = reach_keeps c.args.world.now c.suspend_with.new.world c.suspend_with.ensures.same.reach;
+  counts = (
+      ok_all c.suspend_with.result (KeepsCounts c.args.world.now c.suspend_with.new.world)
+      (heap_keeps c.args.world.now c.suspend_with.new.world c.suspend_with.ensures.same.heap));
+  halt = c.suspend_with.ensures.halt;
+}
 
 pub returns-in-Psusp-clause-no_memory : goal.returns-in-Psusp-clause-no_memory
 returns-in-Psusp-clause-no_memory g c =
@@ -298,18 +289,14 @@ pub returns-in-Pret-clause-live : goal.returns-in-Pret-clause-live
 returns-in-Pret-clause-live g c =
     c.give_back.ensures.live (tables_of c.args.code.now) c.requires.live
 
-pub returns-in-Pret-clause-halt : goal.returns-in-Pret-clause-halt
-returns-in-Pret-clause-halt g c =
-    c.give_back.ensures.halt
-
-pub returns-in-Pret-clause-kept : goal.returns-in-Pret-clause-kept
-returns-in-Pret-clause-kept g c =
-    reach_keeps c.args.world.now c.give_back.new.world c.give_back.ensures.reach
-
-pub returns-in-Pret-clause-counts : goal.returns-in-Pret-clause-counts
-returns-in-Pret-clause-counts g c =
-    ok_all c.give_back.result (KeepsCounts c.args.world.now c.give_back.new.world)
-    (heap_keeps c.args.world.now c.give_back.new.world c.give_back.ensures.heap)
+pub returns-in-Pret-clause-leaves : goal.returns-in-Pret-clause-leaves
+returns-in-Pret-clause-leaves g c = record {
+  kept = reach_keeps c.args.world.now c.give_back.new.world c.give_back.ensures.same.reach;
+  counts = (
+      ok_all c.give_back.result (KeepsCounts c.args.world.now c.give_back.new.world)
+      (heap_keeps c.args.world.now c.give_back.new.world c.give_back.ensures.same.heap));
+  halt = c.give_back.ensures.halt;
+}
 
 pub returns-in-Pret-clause-no_memory : goal.returns-in-Pret-clause-no_memory
 returns-in-Pret-clause-no_memory g c =
@@ -324,13 +311,12 @@ pub returns-in-Pfail-clause-live : goal.returns-in-Pfail-clause-live
 returns-in-Pfail-clause-live g c =
     c.fail_procedure.ensures.live (tables_of c.args.code.now) c.requires.live
 
-pub returns-in-Pfail-clause-kept : goal.returns-in-Pfail-clause-kept
-returns-in-Pfail-clause-kept g c =
-    reach_keeps c.args.world.now c.fail_procedure.new.world c.fail_procedure.ensures.reach
-
-pub returns-in-Pfail-clause-counts : goal.returns-in-Pfail-clause-counts
-returns-in-Pfail-clause-counts g c =
-    heap_keeps c.args.world.now c.fail_procedure.new.world c.fail_procedure.ensures.heap
+pub returns-in-Pfail-clause-leaves : goal.returns-in-Pfail-clause-leaves
+returns-in-Pfail-clause-leaves g c = record {
+  kept = reach_keeps c.args.world.now c.fail_procedure.new.world c.fail_procedure.ensures.same.reach;
+  counts = heap_keeps c.args.world.now c.fail_procedure.new.world c.fail_procedure.ensures.same.heap;
+  halt = search rules;
+}
 
 pub returns-in-Pfail-clause-no_memory : goal.returns-in-Pfail-clause-no_memory
 returns-in-Pfail-clause-no_memory g c =

@@ -160,7 +160,7 @@ returns-in-World-clause-step g c =
       limits = c.args.m.now.limits;
     } in
     λ outside. world_comes after (tables_of c.args.code.now) c.requires.goes_on.0 outside c.args.m.now.world c.args.m.now.stacks.table
-    c.frames-in-World.result.now.flat c.do_in_world.new.frames.flat c.args.instr c.do_in_world.result refl c.do_in_world.ensures.kept
+    c.frames-in-World.result.now.flat c.do_in_world.new.frames.flat c.args.instr c.do_in_world.result refl c.do_in_world.ensures.leaves.kept
     c.requires.sound.stacks c.frames-in-World.ensures.running c.do_in_world.ensures.step c.requires.goes_on.1
 
 pub returns-in-World-clause-sound : goal.returns-in-World-clause-sound
@@ -173,7 +173,7 @@ returns-in-World-clause-sound g c =
     on_both c.do_in_world.result (IsLiveStack (tables_of c.args.code.now) (reach_of v []) c.do_in_world.new.frames.flat) (KeepsCounts m.world v)
     (IsSound (tables_of c.args.code.now) after)
     (λ live counts. record {
-      stacks = stacks_grow (tables_of c.args.code.now) m.world v m.stacks.table c.do_in_world.new.frames.flat c.do_in_world.ensures.kept live k.stacks;
+      stacks = stacks_grow (tables_of c.args.code.now) m.world v m.stacks.table c.do_in_world.new.frames.flat c.do_in_world.ensures.leaves.kept live k.stacks;
       bounds = counts.bounds ∙ k.bounds;
       counts = ap length counts.coexps ∙ k.counts;
       counted = record {
@@ -181,11 +181,11 @@ returns-in-World-clause-sound g c =
             (heap_of v.heap).coexps counts.coexps k.counted.results;
         activators = k.counted.activators;
       };
-    }) c.do_in_world.ensures.live c.do_in_world.ensures.counts
+    }) c.do_in_world.ensures.live c.do_in_world.ensures.leaves.counts
 
 pub returns-in-World-clause-halt : goal.returns-in-World-clause-halt
 returns-in-World-clause-halt g c =
-    c.do_in_world.ensures.halt
+    c.do_in_world.ensures.leaves.halt
 
 pub returns-in-World-clause-no_memory : goal.returns-in-World-clause-no_memory
 returns-in-World-clause-no_memory g c =

@@ -11,37 +11,26 @@ use Rattle.icn_instructions.proofs.LiftSteps.{runs_live}
 use Rattle.icn_instructions.proofs.RangeSteps.{begun_there}
 use Rattle.icn_instructions.proofs.on_machine.do_on_machine.Goals as goal
 
-pub push_keyword-requires-clause-sound : goal.push_keyword-requires-clause-sound
-push_keyword-requires-clause-sound g c =
-    ((tables_of c.args.code.now), c.requires.sound)
+pub push_keyword-requires : goal.push_keyword-requires
+push_keyword-requires g c = record { stands = record { runs = c.requires.runs; sound = ((tables_of c.args.code.now), c.requires.sound) } }
 
-pub make_list-requires-clause-sound : goal.make_list-requires-clause-sound
-make_list-requires-clause-sound g c =
-    ((tables_of c.args.code.now), c.requires.sound)
+pub make_list-requires-clause-stands : goal.make_list-requires-clause-stands
+make_list-requires-clause-stands g c = record {
+  runs = c.requires.runs;
+  sound = ((tables_of c.args.code.now), c.requires.sound);
+}
 
-pub unmark-requires-clause-sound : goal.unmark-requires-clause-sound
-unmark-requires-clause-sound g c =
-    ((tables_of c.args.code.now), c.requires.sound)
+pub unmark-requires-clause-stands : goal.unmark-requires-clause-stands
+unmark-requires-clause-stands g c = record {
+  runs = c.requires.runs;
+  sound = ((tables_of c.args.code.now), c.requires.sound);
+}
 
-pub lsusp-requires-clause-sound : goal.lsusp-requires-clause-sound
-lsusp-requires-clause-sound g c =
-    ((tables_of c.args.code.now), c.requires.sound)
-
-pub push_keyword-requires-clause-runs : goal.push_keyword-requires-clause-runs
-push_keyword-requires-clause-runs g c =
-    c.requires.runs
-
-pub make_list-requires-clause-runs : goal.make_list-requires-clause-runs
-make_list-requires-clause-runs g c =
-    c.requires.runs
-
-pub unmark-requires-clause-runs : goal.unmark-requires-clause-runs
-unmark-requires-clause-runs g c =
-    c.requires.runs
-
-pub lsusp-requires-clause-runs : goal.lsusp-requires-clause-runs
-lsusp-requires-clause-runs g c =
-    c.requires.runs
+pub lsusp-requires-clause-stands : goal.lsusp-requires-clause-stands
+lsusp-requires-clause-stands g c = record {
+  runs = c.requires.runs;
+  sound = ((tables_of c.args.code.now), c.requires.sound);
+}
 
 pub go_back-requires-clause-runs : goal.go_back-requires-clause-runs
 go_back-requires-clause-runs g c =
@@ -134,15 +123,15 @@ returns-in-Llist-clause-step g c =
 
 pub returns-in-Llist-clause-sound : goal.returns-in-Llist-clause-sound
 returns-in-Llist-clause-sound g c =
-    c.make_list.ensures.sound (tables_of c.args.code.now) c.requires.sound
+    c.make_list.ensures.keeps.sound (tables_of c.args.code.now) c.requires.sound
 
 pub returns-in-Llist-clause-halt : goal.returns-in-Llist-clause-halt
 returns-in-Llist-clause-halt g c =
-    c.make_list.ensures.halt
+    c.make_list.ensures.keeps.halt
 
 pub returns-in-Llist-clause-limits : goal.returns-in-Llist-clause-limits
 returns-in-Llist-clause-limits g c =
-    c.make_list.ensures.limits
+    c.make_list.ensures.keeps.limits
 
 pub returns-in-Llist-clause-no_memory : goal.returns-in-Llist-clause-no_memory
 returns-in-Llist-clause-no_memory g c =
@@ -230,11 +219,11 @@ returns-in-Loop-clause-step g c =
 
 pub returns-in-Loop-clause-sound : goal.returns-in-Loop-clause-sound
 returns-in-Loop-clause-sound g c =
-    c.go_back.ensures.sound (tables_of c.args.code.now) c.requires.sound
+    c.go_back.ensures.keeps.sound (tables_of c.args.code.now) c.requires.sound
 
 pub returns-in-Loop-clause-limits : goal.returns-in-Loop-clause-limits
 returns-in-Loop-clause-limits g c =
-    c.go_back.ensures.limits
+    c.go_back.ensures.keeps.limits
 
 pub returns-in-Loop-clause-no_memory : goal.returns-in-Loop-clause-no_memory
 returns-in-Loop-clause-no_memory g c =
@@ -244,7 +233,7 @@ pub returns-in-Ok-clause-stack : goal.returns-in-Ok-clause-stack
 returns-in-Ok-clause-stack g c = c.in-Ok.ensures.stack
 
 pub returns-in-Llist-clause-stack : goal.returns-in-Llist-clause-stack
-returns-in-Llist-clause-stack g c = c.make_list.ensures.stack
+returns-in-Llist-clause-stack g c = c.make_list.ensures.keeps.stack
 
 pub returns-in-Unmark-clause-stack : goal.returns-in-Unmark-clause-stack
 returns-in-Unmark-clause-stack g c = c.unmark.ensures.stack
@@ -256,7 +245,7 @@ pub returns-in-Efail-clause-stack : goal.returns-in-Efail-clause-stack
 returns-in-Efail-clause-stack g c = c.requires.runs
 
 pub returns-in-Loop-clause-stack : goal.returns-in-Loop-clause-stack
-returns-in-Loop-clause-stack g c = c.go_back.ensures.stack
+returns-in-Loop-clause-stack g c = c.go_back.ensures.keeps.stack
 
 pub returns-in-Init-clause-stack : goal.returns-in-Init-clause-stack
 returns-in-Init-clause-stack g c = c.init.ensures.stack

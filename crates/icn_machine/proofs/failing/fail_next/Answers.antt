@@ -1,4 +1,4 @@
-use Rattle.std.proofs.Common.{◌≡◌, ◌∙◌, subst, [], IfOk}
+use Rattle.std.proofs.Common.{◌≡◌, ◌∙◌, subst, [], IfOk, rules}
 use Rattle.icn_value.specs.Store.{Names, Outside, outside_of}
 use Rattle.icn_named.specs.Named.{WorldNamed}
 use Rattle.icn_vars.specs.Worlds.{world_of}
@@ -15,11 +15,11 @@ use Rattle.icn_machine.specs.Stepping.{FailsFurther, IsReady}
 use Rattle.icn_machine.proofs.FailingSteps.{Lands, at_due, by_due, due_named, failed, failed_further, failed_kept, failed_performing, failed_quietly, if_both, if_on, if_so, kept_seen, lands_performing, lands_quietly, never_failed}
 use Rattle.icn_machine.proofs.failing.fail_next.Goals as goal
 
-pub fail_once-requires-clause-runs : goal.fail_once-requires-clause-runs
-fail_once-requires-clause-runs g c = c.requires.ready.1.1.stack
-
-pub fail_once-requires-clause-sound : goal.fail_once-requires-clause-sound
-fail_once-requires-clause-sound g c = (c.requires.ready.0, c.requires.ready.1.1.sound)
+pub fail_once-requires-clause-stands : goal.fail_once-requires-clause-stands
+fail_once-requires-clause-stands g c = record {
+  runs = c.requires.ready.1.1.stack;
+  sound = (c.requires.ready.0, c.requires.ready.1.1.sound);
+}
 
 pub fail_once-requires-clause-goes_on : goal.fail_once-requires-clause-goes_on
 fail_once-requires-clause-goes_on g c =
@@ -31,39 +31,39 @@ begin_again-requires g c = record { bounds = (c.fail_once.ensures.sound c.requir
 pub reenter-requires-clause-bounds : goal.reenter-requires-clause-bounds
 reenter-requires-clause-bounds g c = (c.fail_once.ensures.sound c.requires.ready.0 c.requires.ready.1.1.sound).bounds
 
-pub resume-requires-clause-runs : goal.resume-requires-clause-runs
-resume-requires-clause-runs g c = c.fail_once.ensures.runs
+pub resume-requires-clause-stands : goal.resume-requires-clause-stands
+resume-requires-clause-stands g c = record {
+  runs = c.fail_once.ensures.runs;
+  sound = (c.requires.ready.0, c.fail_once.ensures.sound c.requires.ready.0 c.requires.ready.1.1.sound);
+}
 
-pub reenter-requires-clause-runs : goal.reenter-requires-clause-runs
-reenter-requires-clause-runs g c = c.fail_once.ensures.runs
+pub reenter-requires-clause-stands : goal.reenter-requires-clause-stands
+reenter-requires-clause-stands g c = record {
+  runs = c.fail_once.ensures.runs;
+  sound = (c.requires.ready.0, c.fail_once.ensures.sound c.requires.ready.0 c.requires.ready.1.1.sound);
+}
 
-pub end_failing-requires-clause-runs : goal.end_failing-requires-clause-runs
-end_failing-requires-clause-runs g c = c.fail_once.ensures.runs
-
-pub resume-requires-clause-sound : goal.resume-requires-clause-sound
-resume-requires-clause-sound g c = (c.requires.ready.0, c.fail_once.ensures.sound c.requires.ready.0 c.requires.ready.1.1.sound)
-
-pub reenter-requires-clause-sound : goal.reenter-requires-clause-sound
-reenter-requires-clause-sound g c = (c.requires.ready.0, c.fail_once.ensures.sound c.requires.ready.0 c.requires.ready.1.1.sound)
-
-pub end_failing-requires-clause-sound : goal.end_failing-requires-clause-sound
-end_failing-requires-clause-sound g c = (c.requires.ready.0, c.fail_once.ensures.sound c.requires.ready.0 c.requires.ready.1.1.sound)
+pub end_failing-requires-clause-stands : goal.end_failing-requires-clause-stands
+end_failing-requires-clause-stands g c = record {
+  runs = c.fail_once.ensures.runs;
+  sound = (c.requires.ready.0, c.fail_once.ensures.sound c.requires.ready.0 c.requires.ready.1.1.sound);
+}
 
 pub resume-requires-clause-rest : goal.resume-requires-clause-rest
 resume-requires-clause-rest g c = rw c.in-Resuming.is at c.fail_once.ensures.due
 
-pub resume-requires-clause-stack_named : goal.resume-requires-clause-stack_named
-resume-requires-clause-stack_named g c =
-    let tables = c.requires.ready.0 in
-    let k = kept_seen tables c.args.m.now c.requires.ready.1.1.kept (outside_of []) in
-    subst (λ (n : Names). StackNamed n (stack_seen c.fail_once.new.m)) c.requires.ready.1.0 (c.fail_once.ensures.named.stack (all_names tables) k.named.0).0
-
-pub resume-requires-clause-world_named : goal.resume-requires-clause-world_named
-resume-requires-clause-world_named g c =
-    let tables = c.requires.ready.0 in
-    let k = kept_seen tables c.args.m.now c.requires.ready.1.1.kept (outside_of []) in
-    subst (λ (n : Names). WorldNamed n (world_of c.fail_once.new.m.world)) c.requires.ready.1.0
-    (c.fail_once.ensures.named.store (all_names tables) tables (outside_of []) k.named.1).world
+pub resume-requires-clause-named : goal.resume-requires-clause-named
+resume-requires-clause-named g c = record {
+  stack_named = (
+      let tables = c.requires.ready.0 in
+      let k = kept_seen tables c.args.m.now c.requires.ready.1.1.kept (outside_of []) in
+      subst (λ (n : Names). StackNamed n (stack_seen c.fail_once.new.m)) c.requires.ready.1.0 (c.fail_once.ensures.named.stack (all_names tables) k.named.0).0);
+  world_named = (
+      let tables = c.requires.ready.0 in
+      let k = kept_seen tables c.args.m.now c.requires.ready.1.1.kept (outside_of []) in
+      subst (λ (n : Names). WorldNamed n (world_of c.fail_once.new.m.world)) c.requires.ready.1.0
+      (c.fail_once.ensures.named.store (all_names tables) tables (outside_of []) k.named.1).world);
+}
 
 pub resume-requires-clause-rest_named : goal.resume-requires-clause-rest_named
 resume-requires-clause-rest_named g c =
@@ -102,8 +102,11 @@ returns-in-Failing-clause-further g c =
     (lands_quietly tables c.args.m.now c.fail_once.new.m Stages.Fails (λ o. at_due tables o (failed tables c.args.m.now o) c.fail_once.new.m
     c.fail_once.result Dues.Failing c.in-Failing.is (c.fail_once.ensures.step tables o)))
 
-pub returns-in-Failing-clause-limits : goal.returns-in-Failing-clause-limits
-returns-in-Failing-clause-limits g c = c.fail_once.ensures.limits
+pub returns-in-Failing-clause-within : goal.returns-in-Failing-clause-within
+returns-in-Failing-clause-within g c = record {
+  halt = search rules;
+  limits = c.fail_once.ensures.limits;
+}
 
 pub returns-in-Running-clause-steps : goal.returns-in-Running-clause-steps
 returns-in-Running-clause-steps g c tables named ready =
@@ -120,8 +123,11 @@ returns-in-Running-clause-ready g c tables named ready = record {
       c.fail_once.result Dues.Running c.in-Running.is (c.fail_once.ensures.step tables o)));
 }
 
-pub returns-in-Running-clause-limits : goal.returns-in-Running-clause-limits
-returns-in-Running-clause-limits g c = c.fail_once.ensures.limits
+pub returns-in-Running-clause-within : goal.returns-in-Running-clause-within
+returns-in-Running-clause-within g c = record {
+  halt = search rules;
+  limits = c.fail_once.ensures.limits;
+}
 
 pub returns-in-Beginning-clause-steps : goal.returns-in-Beginning-clause-steps
 returns-in-Beginning-clause-steps g c tables named ready =
@@ -150,8 +156,11 @@ returns-in-Beginning-clause-further g c =
     (at_due tables o (failed tables c.args.m.now o) c.fail_once.new.m c.fail_once.result Dues.Beginning c.in-Beginning.is (c.fail_once.ensures.step tables o))
     (c.begin_again.ensures.step tables o)))
 
-pub returns-in-Beginning-clause-limits : goal.returns-in-Beginning-clause-limits
-returns-in-Beginning-clause-limits g c = c.begin_again.ensures.limits ∙ c.fail_once.ensures.limits
+pub returns-in-Beginning-clause-within : goal.returns-in-Beginning-clause-within
+returns-in-Beginning-clause-within g c = record {
+  halt = search rules;
+  limits = c.begin_again.ensures.limits ∙ c.fail_once.ensures.limits;
+}
 
 pub returns-in-Reentering-clause-steps : goal.returns-in-Reentering-clause-steps
 returns-in-Reentering-clause-steps g c tables named ready =
@@ -161,8 +170,8 @@ returns-in-Reentering-clause-steps g c tables named ready =
 
 pub returns-in-Reentering-clause-ready : goal.returns-in-Reentering-clause-ready
 returns-in-Reentering-clause-ready g c tables named ready = record {
-  sound = c.reenter.ensures.sound tables (c.fail_once.ensures.sound tables ready.sound);
-  stack = c.reenter.ensures.stack;
+  sound = c.reenter.ensures.keeps.sound tables (c.fail_once.ensures.sound tables ready.sound);
+  stack = c.reenter.ensures.keeps.stack;
   kept =
       failed_kept tables c.steps_keep_names.ensures.kept c.steps_keep_sizes.ensures.kept c.args.m.now c.reenter.new.m c.reenter.result ready.kept
       (lands_quietly tables c.args.m.now c.reenter.new.m c.reenter.result (λ o. by_due tables o _ _ c.reenter.new.m c.reenter.result (at_due tables o
@@ -178,8 +187,11 @@ returns-in-Reentering-clause-further g c =
     (failed tables c.args.m.now o) c.fail_once.new.m c.fail_once.result Dues.Reentering c.in-Reentering.is
     (c.fail_once.ensures.step tables o)) (c.reenter.ensures.step tables o)))
 
-pub returns-in-Reentering-clause-limits : goal.returns-in-Reentering-clause-limits
-returns-in-Reentering-clause-limits g c = c.reenter.ensures.limits ∙ c.fail_once.ensures.limits
+pub returns-in-Reentering-clause-within : goal.returns-in-Reentering-clause-within
+returns-in-Reentering-clause-within g c = record {
+  halt = search rules;
+  limits = c.reenter.ensures.keeps.limits ∙ c.fail_once.ensures.limits;
+}
 
 pub returns-in-Leaving-clause-steps : goal.returns-in-Leaving-clause-steps
 returns-in-Leaving-clause-steps g c tables named ready =
@@ -190,8 +202,8 @@ returns-in-Leaving-clause-steps g c tables named ready =
 
 pub returns-in-Leaving-clause-ready : goal.returns-in-Leaving-clause-ready
 returns-in-Leaving-clause-ready g c tables named ready = record {
-  sound = c.end_failing.ensures.sound tables (c.fail_once.ensures.sound tables ready.sound);
-  stack = c.end_failing.ensures.stack;
+  sound = c.end_failing.ensures.keeps.sound tables (c.fail_once.ensures.sound tables ready.sound);
+  stack = c.end_failing.ensures.keeps.stack;
   kept =
       failed_kept tables c.steps_keep_names.ensures.kept c.steps_keep_sizes.ensures.kept c.args.m.now c.end_failing.new.m c.end_failing.result
       ready.kept
@@ -208,8 +220,11 @@ returns-in-Leaving-clause-further g c =
     (at_due tables o (failed tables c.args.m.now o) c.fail_once.new.m c.fail_once.result Dues.Leaving c.in-Leaving.is (c.fail_once.ensures.step tables o))
     (c.end_failing.ensures.step tables o)))
 
-pub returns-in-Leaving-clause-limits : goal.returns-in-Leaving-clause-limits
-returns-in-Leaving-clause-limits g c = c.end_failing.ensures.limits ∙ c.fail_once.ensures.limits
+pub returns-in-Leaving-clause-within : goal.returns-in-Leaving-clause-within
+returns-in-Leaving-clause-within g c = record {
+  halt = search rules;
+  limits = c.end_failing.ensures.keeps.limits ∙ c.fail_once.ensures.limits;
+}
 
 pub returns-in-Resuming-clause-steps : goal.returns-in-Resuming-clause-steps
 returns-in-Resuming-clause-steps g c tables named ready =
@@ -232,7 +247,7 @@ returns-in-Resuming-clause-ready g c tables named ready =
     (c.fail_once.ensures.step tables o))
     (c.resume.ensures.step tables) in
     let kept : IfOk c.resume.result (λ (stage : Stage). HasStack c.resume.new.m stage × Lands tables c.args.m.now c.resume.new.m stage)
-    = if_both c.resume.result (HasStack c.resume.new.m) (Lands tables c.args.m.now c.resume.new.m) _ (λ stage p q. (p, q)) c.resume.ensures.stack lands in
+    = if_both c.resume.result (HasStack c.resume.new.m) (Lands tables c.args.m.now c.resume.new.m) _ (λ stage p q. (p, q)) c.resume.ensures.keeps.stack lands in
     if_on c.resume.result (IsSound tables c.resume.new.m)
     (λ (stage : Stage). HasStack c.resume.new.m stage × Lands tables c.args.m.now c.resume.new.m stage) (IsReady tables c.resume.new.m)
     (λ stage sound q.
@@ -242,7 +257,7 @@ returns-in-Resuming-clause-ready g c tables named ready =
       kept = failed_kept tables c.steps_keep_names.ensures.kept c.steps_keep_sizes.ensures.kept c.args.m.now
           c.resume.new.m stage ready.kept q.1;
     })
-    (c.resume.ensures.sound tables (c.fail_once.ensures.sound tables ready.sound)) kept
+    (c.resume.ensures.keeps.sound tables (c.fail_once.ensures.sound tables ready.sound)) kept
 
 pub returns-in-Resuming-clause-further : goal.returns-in-Resuming-clause-further
 returns-in-Resuming-clause-further g c =
@@ -257,8 +272,8 @@ returns-in-Resuming-clause-further g c =
     (c.fail_once.ensures.step tables o))
     (c.resume.ensures.step tables))
 
-pub returns-in-Resuming-clause-halt : goal.returns-in-Resuming-clause-halt
-returns-in-Resuming-clause-halt g c = c.resume.ensures.halt
-
-pub returns-in-Resuming-clause-limits : goal.returns-in-Resuming-clause-limits
-returns-in-Resuming-clause-limits g c = c.resume.ensures.limits ∙ c.fail_once.ensures.limits
+pub returns-in-Resuming-clause-within : goal.returns-in-Resuming-clause-within
+returns-in-Resuming-clause-within g c = record {
+  halt = c.resume.ensures.keeps.halt;
+  limits = c.resume.ensures.keeps.limits ∙ c.fail_once.ensures.limits;
+}

@@ -1,4 +1,4 @@
-use Rattle.std.proofs.Common.{◌≡◌, ◌<◌, ◌-◌, refl, sym, ◌∙◌, subst, true}
+use Rattle.std.proofs.Common.{◌≡◌, ◌<◌, ◌-◌, refl, sym, ◌∙◌, subst, true, rules}
 use Rattle.icn_machine.specs.Stepping.{is_failing, stays}
 use Rattle.icn_machine.proofs.LoopSteps.{an_error, failing_goes, left_if, loop_err, loop_ok, no_answer, turns_fall}
 use Rattle.icn_machine.proofs.failing.fail_through.Goals as goal
@@ -27,11 +27,11 @@ returns-in_err-stage-clause-ready g c tables named ready = no_answer c.from_resi
 pub returns-in_err-stage-clause-fails_no_more : goal.returns-in_err-stage-clause-fails_no_more
 returns-in_err-stage-clause-fails_no_more g c = no_answer c.from_residual.result _ _ c.from_residual.ensures.1
 
-pub returns-in_err-stage-clause-halt : goal.returns-in_err-stage-clause-halt
-returns-in_err-stage-clause-halt g c = an_error c.from_residual.result c.in_err-stage.field-0.0 _ c.from_residual.ensures.1 c.in_err-stage.ensures.halt
-
-pub returns-in_err-stage-clause-limits : goal.returns-in_err-stage-clause-limits
-returns-in_err-stage-clause-limits g c = c.in_err-stage.ensures.limits ∙ c.loop-m.invariant.limits
+pub returns-in_err-stage-clause-within : goal.returns-in_err-stage-clause-within
+returns-in_err-stage-clause-within g c = record {
+  halt = an_error c.from_residual.result c.in_err-stage.field-0.0 _ c.from_residual.ensures.1 c.in_err-stage.ensures.within.halt;
+  limits = c.in_err-stage.ensures.within.limits ∙ c.loop-m.invariant.limits;
+}
 
 pub loop-m-smaller : goal.loop-m-smaller
 loop-m-smaller g c =
@@ -39,7 +39,7 @@ loop-m-smaller g c =
     subst (λ b. left_if (is_failing c.in_ok-stage.stage) (c.fail_turn.new.m.limits.turns - c.fail_turn.new.m.turns) < left_if b
     (c.loop-m.m.limits.turns - c.loop-m.m.turns))
     (sym test)
-    (turns_fall c.loop-m.m c.fail_turn.new.m c.in_ok-stage.stage c.in_ok-stage.ensures.limits c.in_ok-stage.ensures.turn)
+    (turns_fall c.loop-m.m c.fail_turn.new.m c.in_ok-stage.stage c.in_ok-stage.ensures.within.limits c.in_ok-stage.ensures.turn)
 
 pub loop-m-preserved : goal.loop-m-preserved
 loop-m-preserved g c = record {
@@ -47,7 +47,7 @@ loop-m-preserved g c = record {
       (failing_goes c.loop-m.stage (sym c.is_failing.ensures ∙ c.loop-m-test.true)) (c.loop-m.invariant.steps tables named ready)
       (c.in_ok-stage.ensures.steps tables named (c.loop-m.invariant.ready tables named ready));
   ready = λ tables named ready. c.in_ok-stage.ensures.ready tables named (c.loop-m.invariant.ready tables named ready);
-  limits = c.in_ok-stage.ensures.limits ∙ c.loop-m.invariant.limits;
+  limits = c.in_ok-stage.ensures.within.limits ∙ c.loop-m.invariant.limits;
 }
 
 pub returns-clause-steps : goal.returns-clause-steps
@@ -59,5 +59,8 @@ returns-clause-ready g c tables named ready = c.loop-m.invariant.ready tables na
 pub returns-clause-fails_no_more : goal.returns-clause-fails_no_more
 returns-clause-fails_no_more g c = sym c.is_failing.ensures ∙ c.loop-m-test.false
 
-pub returns-clause-limits : goal.returns-clause-limits
-returns-clause-limits g c = c.loop-m.invariant.limits
+pub returns-clause-within : goal.returns-clause-within
+returns-clause-within g c = record {
+  halt = search rules;
+  limits = c.loop-m.invariant.limits;
+}

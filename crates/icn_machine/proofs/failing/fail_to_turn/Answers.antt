@@ -1,4 +1,4 @@
-use Rattle.std.proofs.Common.{◌≡◌, ◌<◌, inl, refl, sym, ◌∙◌, subst, true, length}
+use Rattle.std.proofs.Common.{◌≡◌, ◌<◌, inl, refl, sym, ◌∙◌, subst, true, length, rules}
 use Rattle.icn_control.specs.Machines.{stack_seen}
 use Rattle.icn_control.specs.declared.machine.Stage.{Stage}
 use Rattle.icn_control.specs.declared.machine.Stage.TheVariants as Stages
@@ -45,11 +45,11 @@ returns-in_err-stage-clause-ready g c tables named ready = no_answer c.from_resi
 pub returns-in_err-stage-clause-turn : goal.returns-in_err-stage-clause-turn
 returns-in_err-stage-clause-turn g c = no_answer c.from_residual.result _ _ c.from_residual.ensures.1
 
-pub returns-in_err-stage-clause-halt : goal.returns-in_err-stage-clause-halt
-returns-in_err-stage-clause-halt g c = an_error c.from_residual.result c.in_err-stage.field-0.0 _ c.from_residual.ensures.1 c.in_err-stage.ensures.halt
-
-pub returns-in_err-stage-clause-limits : goal.returns-in_err-stage-clause-limits
-returns-in_err-stage-clause-limits g c = c.in_err-stage.ensures.limits ∙ c.loop-stage.invariant.limits
+pub returns-in_err-stage-clause-within : goal.returns-in_err-stage-clause-within
+returns-in_err-stage-clause-within g c = record {
+  halt = an_error c.from_residual.result c.in_err-stage.field-0.0 _ c.from_residual.ensures.1 c.in_err-stage.ensures.within.halt;
+  limits = c.in_err-stage.ensures.within.limits ∙ c.loop-stage.invariant.limits;
+}
 
 pub loop-stage-smaller : goal.loop-stage-smaller
 loop-stage-smaller g c =
@@ -74,7 +74,7 @@ loop-stage-preserved g c =
           λ tables named ready. c.in_ok-stage.ensures.ready tables named
           (subst (λ (s : Stage). IsReady tables c.loop-stage.m s) fails.0 (c.loop-stage.invariant.ready tables named ready));
       turn = within_more c.args.m.now c.loop-stage.m c.fail_next.new.m c.in_ok-stage.stage fails.1 c.loop-stage.invariant.limits c.in_ok-stage.ensures.further;
-      limits = c.in_ok-stage.ensures.limits ∙ c.loop-stage.invariant.limits;
+      limits = c.in_ok-stage.ensures.within.limits ∙ c.loop-stage.invariant.limits;
       turns = refl;
     }
 
@@ -89,5 +89,8 @@ returns-clause-turn g c =
     within_ended c.args.m.now c.loop-stage.m c.loop-stage.stage c.args.m.now.turns refl (sym c.fails_within.ensures ∙ c.loop-stage-test.false)
     c.loop-stage.invariant.turn
 
-pub returns-clause-limits : goal.returns-clause-limits
-returns-clause-limits g c = c.loop-stage.invariant.limits
+pub returns-clause-within : goal.returns-clause-within
+returns-clause-within g c = record {
+  halt = search rules;
+  limits = c.loop-stage.invariant.limits;
+}

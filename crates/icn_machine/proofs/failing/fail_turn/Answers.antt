@@ -1,4 +1,4 @@
-use Rattle.std.proofs.Common.{refl, subst}
+use Rattle.std.proofs.Common.{refl, subst, rules}
 use Rattle.icn_control.specs.declared.machine.Stage.{Stage}
 use Rattle.icn_machine.specs.Stepping.{IsReady, advances, stays}
 use Rattle.icn_machine.proofs.failing.fail_turn.Goals as goal
@@ -24,11 +24,11 @@ returns-in-Fails-clause-ready g c tables named ready =
 pub returns-in-Fails-clause-turn : goal.returns-in-Fails-clause-turn
 returns-in-Fails-clause-turn g c = c.fail_to_turn.ensures.turn
 
-pub returns-in-Fails-clause-halt : goal.returns-in-Fails-clause-halt
-returns-in-Fails-clause-halt g c = c.fail_to_turn.ensures.halt
-
-pub returns-in-Fails-clause-limits : goal.returns-in-Fails-clause-limits
-returns-in-Fails-clause-limits g c = c.fail_to_turn.ensures.limits
+pub returns-in-Fails-clause-within : goal.returns-in-Fails-clause-within
+returns-in-Fails-clause-within g c = record {
+  halt = c.fail_to_turn.ensures.within.halt;
+  limits = c.fail_to_turn.ensures.within.limits;
+}
 
 pub returns-in-HopDue-clause-steps : goal.returns-in-HopDue-clause-steps
 returns-in-HopDue-clause-steps g c tables named ready =
@@ -41,8 +41,11 @@ returns-in-HopDue-clause-ready g c tables named ready =
 pub returns-in-HopDue-clause-turn : goal.returns-in-HopDue-clause-turn
 returns-in-HopDue-clause-turn g c = c.hop_next.ensures.turn
 
-pub returns-in-HopDue-clause-limits : goal.returns-in-HopDue-clause-limits
-returns-in-HopDue-clause-limits g c = c.hop_next.ensures.limits
+pub returns-in-HopDue-clause-within : goal.returns-in-HopDue-clause-within
+returns-in-HopDue-clause-within g c = record {
+  halt = search rules;
+  limits = c.hop_next.ensures.limits;
+}
 
 pub returns-in-Runs-clause-steps : goal.returns-in-Runs-clause-steps
 returns-in-Runs-clause-steps g c tables named ready = rw c.in-Runs.is (stays refl refl refl)
@@ -50,8 +53,11 @@ returns-in-Runs-clause-steps g c tables named ready = rw c.in-Runs.is (stays ref
 pub returns-in-Runs-clause-ready : goal.returns-in-Runs-clause-ready
 returns-in-Runs-clause-ready g c tables named ready = subst (λ (s : Stage). IsReady tables c.args.m.now s) c.in-Runs.is ready
 
-pub returns-in-Runs-clause-limits : goal.returns-in-Runs-clause-limits
-returns-in-Runs-clause-limits g c = refl
+pub returns-in-Runs-clause-within : goal.returns-in-Runs-clause-within
+returns-in-Runs-clause-within g c = record {
+  halt = search rules;
+  limits = refl;
+}
 
 pub returns-in-Over-clause-steps : goal.returns-in-Over-clause-steps
 returns-in-Over-clause-steps g c tables named ready = rw c.in-Over.is (stays refl refl refl)
@@ -59,8 +65,11 @@ returns-in-Over-clause-steps g c tables named ready = rw c.in-Over.is (stays ref
 pub returns-in-Over-clause-ready : goal.returns-in-Over-clause-ready
 returns-in-Over-clause-ready g c tables named ready = subst (λ (s : Stage). IsReady tables c.args.m.now s) c.in-Over.is ready
 
-pub returns-in-Over-clause-limits : goal.returns-in-Over-clause-limits
-returns-in-Over-clause-limits g c = refl
+pub returns-in-Over-clause-within : goal.returns-in-Over-clause-within
+returns-in-Over-clause-within g c = record {
+  halt = search rules;
+  limits = refl;
+}
 
 pub returns-in-AtBound-clause-steps : goal.returns-in-AtBound-clause-steps
 returns-in-AtBound-clause-steps g c tables named ready = rw c.in-AtBound.is (stays refl refl refl)
@@ -68,5 +77,8 @@ returns-in-AtBound-clause-steps g c tables named ready = rw c.in-AtBound.is (sta
 pub returns-in-AtBound-clause-ready : goal.returns-in-AtBound-clause-ready
 returns-in-AtBound-clause-ready g c tables named ready = subst (λ (s : Stage). IsReady tables c.args.m.now s) c.in-AtBound.is ready
 
-pub returns-in-AtBound-clause-limits : goal.returns-in-AtBound-clause-limits
-returns-in-AtBound-clause-limits g c = refl
+pub returns-in-AtBound-clause-within : goal.returns-in-AtBound-clause-within
+returns-in-AtBound-clause-within g c = record {
+  halt = search rules;
+  limits = refl;
+}

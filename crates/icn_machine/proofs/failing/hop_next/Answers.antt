@@ -12,8 +12,8 @@ returns-clause-steps g c tables h ready = hopped_quietly tables c.args.m.now c.h
 
 pub returns-clause-ready : goal.returns-clause-ready
 returns-clause-ready g c tables ready = record {
-  sound = c.hop.ensures.sound tables ready.sound;
-  stack = c.hop.ensures.stack;
+  sound = c.hop.ensures.keeps.sound tables ready.sound;
+  stack = c.hop.ensures.keeps.stack;
   kept =
       hopped_kept tables c.steps_keep_names.ensures.kept c.steps_keep_sizes.ensures.kept c.args.m.now c.hop.new.m c.hop.result ready.kept
       (c.hop.ensures.step tables);
@@ -24,4 +24,4 @@ returns-clause-turn g c =
     hopped_turn c.requires.ready.0 c.args.m.now c.hop.new.m c.hop.result c.requires.ready.1.sound.bounds (c.hop.ensures.step c.requires.ready.0)
 
 pub returns-clause-limits : goal.returns-clause-limits
-returns-clause-limits g c = c.hop.ensures.limits
+returns-clause-limits g c = c.hop.ensures.keeps.limits

@@ -1,4 +1,4 @@
-use Rattle.std.proofs.Common.{◌≡◌, ◌+◌, true, false, nat_lt, ◌∷◌, Option, IsSome, [], refl, ap, ◌∙◌, subst, add-one}
+use Rattle.std.proofs.Common.{◌≡◌, ◌+◌, true, false, nat_lt, ◌∷◌, Option, IsSome, [], refl, ap, ◌∙◌, subst, add-one, rules}
 use Rattle.std.proofs.lemmas.Option.{same_Some}
 use Rattle.std.specs.List.{All}
 use Rattle.std.proofs.lemmas.List.Elements.{All-head, All-tail}
@@ -36,7 +36,7 @@ returns-then-m-clause-step g c =
     let after : Machine g.row.K.Denot
     = record { world = m.world; stacks = with_stack m.stacks c.take_two-two.new.frames; turns = m.turns; begun = m.begun; limits = m.limits } in
     let none : nat_lt m.turns (heap_of m.world.heap).bounds.turns ≡ false
-    = ap (λ (x : Bounds). nat_lt m.turns x.turns) c.requires.sound.1.bounds ∙ no_more m.turns m.limits.turns c.if-m.true in
+    = ap (λ (x : Bounds). nat_lt m.turns x.turns) c.requires.stands.sound.1.bounds ∙ no_more m.turns m.limits.turns c.if-m.true in
     bound_performs m after t Instrs.Appl 2 (applied_to_elements flat t) c.frames.result.now.flat c.take_two-two.new.frames.flat
     (c.take_two-two.result.0 ∷ c.take_two-two.result.1 ∷ []) _
     (λ a st. refl) c.frames.ensures.running
@@ -64,30 +64,41 @@ returns-then-m-clause-named g c =
     let all = extent_of m.world.heap in (
       (taken_named names all 2 c.frames.result.now.flat c.take_two-two.new.frames.flat (c.take_two-two.result.0 ∷ c.take_two-two.result.1 ∷ [])
           c.take_two-two.ensures
-          (subst (λ (o : Option FlatStack). StackNamed names (stack_in all (running_of o))) c.frames.ensures.running c.requires.stack_named)).1,
-      c.requires.world_named,
+          (subst (λ (o : Option FlatStack). StackNamed names (stack_in all (running_of o))) c.frames.ensures.running c.requires.named.stack_named)).1,
+      c.requires.named.world_named,
     )
 
 pub returns-then-m-clause-store_named : goal.returns-then-m-clause-store_named
 returns-then-m-clause-store_named g c outside h = record { world = h.world; coexps = h.coexps }
 
 pub call_with_elements-requires-clause-bounds : goal.call_with_elements-requires-clause-bounds
-call_with_elements-requires-clause-bounds g c = c.requires.sound.1.bounds
+call_with_elements-requires-clause-bounds g c = c.requires.stands.sound.1.bounds
 
-pub call_with_elements-requires-clause-stack : goal.call_with_elements-requires-clause-stack
-call_with_elements-requires-clause-stack g c =
-    let m = c.args.m.now in
-    let t = c.requires.sound.0 in
-    let live = running_live t (reach_of m.world []) m.stacks.table c.frames.result.now.flat c.frames.ensures.running c.requires.sound.1.stacks in
-    let rest = live_taken t (reach_of m.world []) 2 c.frames.result.now.flat c.take_two-two.new.frames.flat
-    (c.take_two-two.result.0 ∷ c.take_two-two.result.1 ∷ []) c.take_two-two.ensures live in
-    (t, subst (λ (x : FlatStack). IsLiveStack t (reach_of m.world []) x) (same_Some _ _ c.frames-2.ensures.running) rest.rest)
+pub call_with_elements-requires-clause-here : goal.call_with_elements-requires-clause-here
+call_with_elements-requires-clause-here g c = record {
+  stack = (
+      let m = c.args.m.now in
+      let t = c.requires.stands.sound.0 in
+      let live = running_live t (reach_of m.world []) m.stacks.table c.frames.result.now.flat c.frames.ensures.running c.requires.stands.sound.1.stacks in
+      let rest = live_taken t (reach_of m.world []) 2 c.frames.result.now.flat c.take_two-two.new.frames.flat
+      (c.take_two-two.result.0 ∷ c.take_two-two.result.1 ∷ []) c.take_two-two.ensures live in
+      (t, subst (λ (x : FlatStack). IsLiveStack t (reach_of m.world []) x) (same_Some _ _ c.frames-2.ensures.running) rest.rest));
+  stack_named = (
+      let m = c.args.m.now in
+      let names = g.N.Names.known c.args.names.now in
+      let all = extent_of m.world.heap in
+      let both = taken_named names all 2 c.frames.result.now.flat c.take_two-two.new.frames.flat (c.take_two-two.result.0 ∷ c.take_two-two.result.1 ∷ [])
+      c.take_two-two.ensures
+      (subst (λ (o : Option FlatStack). StackNamed names (stack_in all (running_of o))) c.frames.ensures.running c.requires.named.stack_named) in
+      subst (λ (x : FlatStack). StackNamed names (stack_in all x)) (same_Some _ _ c.frames-2.ensures.running) both.1);
+  world_named = search rules;
+}
 
 pub call_with_elements-requires-clause-callee : goal.call_with_elements-requires-clause-callee
 call_with_elements-requires-clause-callee g c =
     let m = c.args.m.now in
-    let t = c.requires.sound.0 in
-    let live = running_live t (reach_of m.world []) m.stacks.table c.frames.result.now.flat c.frames.ensures.running c.requires.sound.1.stacks in
+    let t = c.requires.stands.sound.0 in
+    let live = running_live t (reach_of m.world []) m.stacks.table c.frames.result.now.flat c.frames.ensures.running c.requires.stands.sound.1.stacks in
     let rest = live_taken t (reach_of m.world []) 2 c.frames.result.now.flat c.take_two-two.new.frames.flat
     (c.take_two-two.result.0 ∷ c.take_two-two.result.1 ∷ []) c.take_two-two.ensures live in
     let reach : Reach = with_locals (held.local_count c.frames-2.result.now.flat) (reach_of m.world []) in
@@ -99,8 +110,8 @@ call_with_elements-requires-clause-callee g c =
 pub call_with_elements-requires-clause-from : goal.call_with_elements-requires-clause-from
 call_with_elements-requires-clause-from g c =
     let m = c.args.m.now in
-    let t = c.requires.sound.0 in
-    let live = running_live t (reach_of m.world []) m.stacks.table c.frames.result.now.flat c.frames.ensures.running c.requires.sound.1.stacks in
+    let t = c.requires.stands.sound.0 in
+    let live = running_live t (reach_of m.world []) m.stacks.table c.frames.result.now.flat c.frames.ensures.running c.requires.stands.sound.1.stacks in
     let rest = live_taken t (reach_of m.world []) 2 c.frames.result.now.flat c.take_two-two.new.frames.flat
     (c.take_two-two.result.0 ∷ c.take_two-two.result.1 ∷ []) c.take_two-two.ensures live in
     let reach : Reach = with_locals (held.local_count c.frames-2.result.now.flat) (reach_of m.world []) in
@@ -109,16 +120,6 @@ call_with_elements-requires-clause-from g c =
     (subst
     (λ (x : FlatStack). All (IsLiveItem (with_locals (held.local_count x) (reach_of m.world []))) (c.take_two-two.result.0 ∷ c.take_two-two.result.1 ∷ []))
     (same_Some _ _ c.frames-2.ensures.running) rest.items_live))
-
-pub call_with_elements-requires-clause-stack_named : goal.call_with_elements-requires-clause-stack_named
-call_with_elements-requires-clause-stack_named g c =
-    let m = c.args.m.now in
-    let names = g.N.Names.known c.args.names.now in
-    let all = extent_of m.world.heap in
-    let both = taken_named names all 2 c.frames.result.now.flat c.take_two-two.new.frames.flat (c.take_two-two.result.0 ∷ c.take_two-two.result.1 ∷ [])
-    c.take_two-two.ensures
-    (subst (λ (o : Option FlatStack). StackNamed names (stack_in all (running_of o))) c.frames.ensures.running c.requires.stack_named) in
-    subst (λ (x : FlatStack). StackNamed names (stack_in all x)) (same_Some _ _ c.frames-2.ensures.running) both.1
 
 pub returns-clause-step : goal.returns-clause-step
 returns-clause-step g c =
@@ -133,13 +134,13 @@ returns-clause-step g c =
       limits = m.limits;
     } in
     let more : nat_lt m.turns (heap_of m.world.heap).bounds.turns ≡ true
-    = ap (λ (x : Bounds). nat_lt m.turns x.turns) c.requires.sound.1.bounds ∙ under m.turns m.limits.turns c.if-m.false in
-    operands_perform m after c.requires.sound.0 t Instrs.Appl 2 (applied_to_elements flat t) c.frames.result.now.flat c.take_two-two.new.frames.flat
+    = ap (λ (x : Bounds). nat_lt m.turns x.turns) c.requires.stands.sound.1.bounds ∙ under m.turns m.limits.turns c.if-m.false in
+    operands_perform m after c.requires.stands.sound.0 t Instrs.Appl 2 (applied_to_elements flat t) c.frames.result.now.flat c.take_two-two.new.frames.flat
     c.frames-2.result.now.flat c.call_with_elements.new.frames.flat
     (c.take_two-two.result.0 ∷ c.take_two-two.result.1 ∷ []) (c.take_two-two.result.0 ∷ c.take_two-two.result.1 ∷ []) _ _ c.call_with_elements.result
     (λ a st. refl) c.frames.ensures.running
     c.take_two-two.ensures
-    (same_Some _ _ c.frames-2.ensures.running) refl more c.call_with_elements.ensures.kept c.requires.sound.1.stacks (add-one m.turns) refl refl
+    (same_Some _ _ c.frames-2.ensures.running) refl more c.call_with_elements.ensures.leaves.kept c.requires.stands.sound.1.stacks (add-one m.turns) refl refl
     c.call_with_elements.ensures.going c.call_with_elements.ensures.step
 
 pub returns-clause-sound : goal.returns-clause-sound
@@ -161,8 +162,8 @@ returns-clause-sound g c k =
     = subst (λ (x : FlatStack). IsLiveStack t (reach_of m.world []) x) (same_Some _ _ c.frames-2.ensures.running) rest.rest in
     both_on c.call_with_elements.result (IsLiveStack t (reach_of c.call_with_elements.new.world []) c.call_with_elements.new.frames.flat)
     (KeepsCounts m.world c.call_with_elements.new.world) (IsSound t after)
-    (c.call_with_elements.ensures.live here) c.call_with_elements.ensures.counts
-    (λ l counts. sound_after m after t c.call_with_elements.new.frames.flat refl refl refl c.call_with_elements.ensures.kept l counts k)
+    (c.call_with_elements.ensures.live here) c.call_with_elements.ensures.leaves.counts
+    (λ l counts. sound_after m after t c.call_with_elements.new.frames.flat refl refl refl c.call_with_elements.ensures.leaves.kept l counts k)
 
 pub returns-clause-stack : goal.returns-clause-stack
 returns-clause-stack g c =
@@ -181,6 +182,6 @@ pub returns-clause-store_named : goal.returns-clause-store_named
 returns-clause-store_named g c outside h =
     let m = c.args.m.now in
     let names = g.N.Names.known c.args.names.now in
-    store_left c.requires.sound.0 names (all_names (tables_of c.args.code.now)) outside m.world c.call_with_elements.new.world m.turns (m.turns + 1)
+    store_left c.requires.stands.sound.0 names (all_names (tables_of c.args.code.now)) outside m.world c.call_with_elements.new.world m.turns (m.turns + 1)
     m.begun.items m.stacks.table c.call_with_elements.new.frames.flat c.call_with_elements.result
-    c.call_with_elements.ensures.kept c.requires.sound.1.stacks c.call_with_elements.ensures.named h
+    c.call_with_elements.ensures.leaves.kept c.requires.stands.sound.1.stacks c.call_with_elements.ensures.named h

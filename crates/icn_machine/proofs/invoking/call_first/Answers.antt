@@ -1,4 +1,4 @@
-use Rattle.std.proofs.Common.{◌≡◌, [], List, length, map, suc, sym, ap, subst, arith}
+use Rattle.std.proofs.Common.{◌≡◌, [], List, length, map, suc, sym, ap, subst, arith, rules}
 use Rattle.std.specs.List.{All}
 use Rattle.std.proofs.lemmas.List.Elements.{All-head, All-tail}
 use Rattle.icn_value.specs.declared.item.Item.{Item}
@@ -27,7 +27,7 @@ unreachable-unreachable g c = omega (arith, c.requires.some, c.in_default.ensure
 pub value_of-requires-clause-item : goal.value_of-requires-clause-item
 value_of-requires-clause-item g c =
     let live : Reach = with_locals (held.local_count c.args.frames.now.flat) (reach_of c.args.world.now []) in
-    All-head (IsLiveItem live) _ _ (subst (λ (xs : List Item). All (IsLiveItem live) xs) c.in-Some.ensures.cases.0 c.requires.items)
+    All-head (IsLiveItem live) _ _ (subst (λ (xs : List Item). All (IsLiveItem live) xs) c.in-Some.ensures.cases.0 c.requires.given.items)
 
 pub returns-in_err-callee-clause-step : goal.returns-in_err-callee-clause-step
 returns-in_err-callee-clause-step g c =
@@ -35,8 +35,12 @@ returns-in_err-callee-clause-step g c =
     c.args.items.now c.in-Some.first.now c.in-Some.others.now
     c.in_err-callee.field-0.0 _ c.from_residual.result c.in-Some.ensures.cases.0 c.from_residual.ensures.1 c.in_err-callee.ensures.value
 
-pub returns-in_err-callee-clause-kept : goal.returns-in_err-callee-clause-kept
-returns-in_err-callee-clause-kept g c = items_all (reach_of c.args.world.now [])
+pub returns-in_err-callee-clause-leaves : goal.returns-in_err-callee-clause-leaves
+returns-in_err-callee-clause-leaves g c = record {
+  kept = items_all (reach_of c.args.world.now []);
+  counts = search rules;
+  halt = search rules;
+}
 
 pub returns-in_err-callee-clause-named : goal.returns-in_err-callee-clause-named
 returns-in_err-callee-clause-named g c =
@@ -53,31 +57,32 @@ call_value-requires-clause-few g c =
     let more : length c.args.items.now ≡ suc (length c.in-Some.others.now) = ap (λ (xs : List Item). length xs) c.in-Some.ensures.cases.0 in
     omega (arith, more, c.requires.few)
 
-pub call_value-requires-clause-stack : goal.call_value-requires-clause-stack
-call_value-requires-clause-stack g c = (
-  c.requires.stack.0,
-  subst (λ (x : FlatStack). IsLiveStack c.requires.stack.0 (reach_of c.args.world.now []) x) (sym c.value_of.ensures.same)
-      c.requires.stack.1,
-)
+pub call_value-requires-clause-here : goal.call_value-requires-clause-here
+call_value-requires-clause-here g c = record {
+  stack = ((
+    c.requires.here.stack.0,
+    subst (λ (x : FlatStack). IsLiveStack c.requires.here.stack.0 (reach_of c.args.world.now []) x) (sym c.value_of.ensures.same)
+        c.requires.here.stack.1,
+  ));
+  stack_named = (
+      subst (λ (x : FlatStack). StackNamed (g.N.Names.known c.args.names.now) (stack_in (extent_of c.args.world.now.heap) x))
+      (sym c.value_of.ensures.same) c.requires.here.stack_named);
+  world_named = search rules;
+}
 
-pub call_value-requires-clause-items : goal.call_value-requires-clause-items
-call_value-requires-clause-items g c =
-    let live : Reach = with_locals (held.local_count c.args.frames.now.flat) (reach_of c.args.world.now []) in
-    let others : All (IsLiveItem live) c.in-Some.others.now
-    = All-tail (IsLiveItem live) _ _ (subst (λ (xs : List Item). All (IsLiveItem live) xs) c.in-Some.ensures.cases.0 c.requires.items) in
-    subst (λ (x : FlatStack). All (IsLiveItem (with_locals (held.local_count x) (reach_of c.args.world.now []))) c.in-Some.others.now)
-    (sym c.value_of.ensures.same) others
-
-pub call_value-requires-clause-stack_named : goal.call_value-requires-clause-stack_named
-call_value-requires-clause-stack_named g c =
-    subst (λ (x : FlatStack). StackNamed (g.N.Names.known c.args.names.now) (stack_in (extent_of c.args.world.now.heap) x))
-    (sym c.value_of.ensures.same) c.requires.stack_named
-
-pub call_value-requires-clause-items_named : goal.call_value-requires-clause-items_named
-call_value-requires-clause-items_named g c =
-    let all = extent_of c.args.world.now.heap in
-    All-tail (ItemNamed (g.N.Names.known c.args.names.now)) (item_in all c.in-Some.first.now) (map (item_in all) c.in-Some.others.now)
-    (subst (λ (xs : List Item). All (ItemNamed (g.N.Names.known c.args.names.now)) (map (item_in all) xs)) c.in-Some.ensures.cases.0 c.requires.items_named)
+pub call_value-requires-clause-given : goal.call_value-requires-clause-given
+call_value-requires-clause-given g c = record {
+  items = (
+      let live : Reach = with_locals (held.local_count c.args.frames.now.flat) (reach_of c.args.world.now []) in
+      let others : All (IsLiveItem live) c.in-Some.others.now
+      = All-tail (IsLiveItem live) _ _ (subst (λ (xs : List Item). All (IsLiveItem live) xs) c.in-Some.ensures.cases.0 c.requires.given.items) in
+      subst (λ (x : FlatStack). All (IsLiveItem (with_locals (held.local_count x) (reach_of c.args.world.now []))) c.in-Some.others.now)
+      (sym c.value_of.ensures.same) others);
+  items_named = (
+      let all = extent_of c.args.world.now.heap in
+      All-tail (ItemNamed (g.N.Names.known c.args.names.now)) (item_in all c.in-Some.first.now) (map (item_in all) c.in-Some.others.now)
+      (subst (λ (xs : List Item). All (ItemNamed (g.N.Names.known c.args.names.now)) (map (item_in all) xs)) c.in-Some.ensures.cases.0 c.requires.given.items_named));
+}
 
 pub returns-clause-step : goal.returns-clause-step
 returns-clause-step g c =

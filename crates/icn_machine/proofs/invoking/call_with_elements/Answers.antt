@@ -1,4 +1,4 @@
-use Rattle.std.proofs.Common.{◌<◌, ◌^◌, [], List, Ok, Err, length, map, refl, sym, ◌∙◌, subst}
+use Rattle.std.proofs.Common.{◌<◌, ◌^◌, [], List, Ok, Err, length, map, refl, sym, ◌∙◌, subst, rules}
 use Rattle.icn_value.specs.declared.item.Item.{Item}
 use Rattle.icn_named.specs.Named.{ItemNamed}
 use Rattle.icn_run.specs.Stacks.{flat}
@@ -27,8 +27,12 @@ returns-in_err-callee-clause-step g c =
     c.args.callee c.args.from c.in_err-callee.field-0.0 _ c.from_residual.result
     c.from_residual.ensures.1 c.in_err-callee.ensures.value
 
-pub returns-in_err-callee-clause-kept : goal.returns-in_err-callee-clause-kept
-returns-in_err-callee-clause-kept g c = items_all (reach_of c.args.world.now [])
+pub returns-in_err-callee-clause-leaves : goal.returns-in_err-callee-clause-leaves
+returns-in_err-callee-clause-leaves g c = record {
+  kept = items_all (reach_of c.args.world.now []);
+  counts = search rules;
+  halt = search rules;
+}
 
 pub returns-in_err-callee-clause-named : goal.returns-in_err-callee-clause-named
 returns-in_err-callee-clause-named g c =
@@ -42,9 +46,9 @@ returns-in_err-callee-clause-sized g c fits =
 
 pub value_of-requires-2-clause-stack : goal.value_of-requires-2-clause-stack
 value_of-requires-2-clause-stack g c = (
-  c.requires.stack.0,
-  subst (λ (x : FlatStack). IsLiveStack c.requires.stack.0 (reach_of c.args.world.now []) x) (sym c.value_of.ensures.same)
-      c.requires.stack.1,
+  c.requires.here.stack.0,
+  subst (λ (x : FlatStack). IsLiveStack c.requires.here.stack.0 (reach_of c.args.world.now []) x) (sym c.value_of.ensures.same)
+      c.requires.here.stack.1,
 )
 
 pub value_of-requires-2-clause-item : goal.value_of-requires-2-clause-item
@@ -60,8 +64,12 @@ returns-in_err-from-clause-step g c =
     (found_at c.args.world.now c.args.frames.now.flat c.value_of.new.frames.flat c.args.from (Err c.in_err-from.field-0.0) c.value_of.ensures.same
     c.in_err-from.ensures.value)
 
-pub returns-in_err-from-clause-kept : goal.returns-in_err-from-clause-kept
-returns-in_err-from-clause-kept g c = items_all (reach_of c.args.world.now [])
+pub returns-in_err-from-clause-leaves : goal.returns-in_err-from-clause-leaves
+returns-in_err-from-clause-leaves g c = record {
+  kept = items_all (reach_of c.args.world.now []);
+  counts = search rules;
+  halt = search rules;
+}
 
 pub returns-in_err-from-clause-named : goal.returns-in_err-from-clause-named
 returns-in_err-from-clause-named g c =
@@ -83,8 +91,12 @@ returns-in_err-elements_of-clause-step g c =
     c.in_ok-from.ensures.value)
     c.in_err-elements_of.ensures.elements
 
-pub returns-in_err-elements_of-clause-kept : goal.returns-in_err-elements_of-clause-kept
-returns-in_err-elements_of-clause-kept g c = items_all (reach_of c.args.world.now [])
+pub returns-in_err-elements_of-clause-leaves : goal.returns-in_err-elements_of-clause-leaves
+returns-in_err-elements_of-clause-leaves g c = record {
+  kept = items_all (reach_of c.args.world.now []);
+  counts = search rules;
+  halt = search rules;
+}
 
 pub returns-in_err-elements_of-clause-named : goal.returns-in_err-elements_of-clause-named
 returns-in_err-elements_of-clause-named g c =
@@ -96,31 +108,32 @@ returns-in_err-elements_of-clause-sized g c fits =
     nothing_on c.from_residual-in_err-elements_of.result c.in_err-elements_of.field-0.0
     (FitSizes (field_count (tables_of c.args.code.now)) (heap_of c.args.world.now.heap)) c.from_residual-in_err-elements_of.ensures.1
 
-pub call_value-requires-clause-stack : goal.call_value-requires-clause-stack
-call_value-requires-clause-stack g c = (
-  c.requires.stack.0,
-  subst (λ (x : FlatStack). IsLiveStack c.requires.stack.0 (reach_of c.args.world.now []) x)
-      (sym (c.value_of-2.ensures.same ∙ c.value_of.ensures.same)) c.requires.stack.1,
-)
+pub call_value-requires-clause-here : goal.call_value-requires-clause-here
+call_value-requires-clause-here g c = record {
+  stack = ((
+    c.requires.here.stack.0,
+    subst (λ (x : FlatStack). IsLiveStack c.requires.here.stack.0 (reach_of c.args.world.now []) x)
+        (sym (c.value_of-2.ensures.same ∙ c.value_of.ensures.same)) c.requires.here.stack.1,
+  ));
+  stack_named = (
+      subst (λ (x : FlatStack). StackNamed (g.N.Names.known c.args.names.now) (stack_in (extent_of c.args.world.now.heap) x))
+      (sym (c.value_of-2.ensures.same ∙ c.value_of.ensures.same)) c.requires.here.stack_named);
+  world_named = search rules;
+}
 
-pub call_value-requires-clause-items : goal.call_value-requires-clause-items
-call_value-requires-clause-items g c =
-    let reach : Reach = with_locals (held.local_count c.value_of-2.new.frames.flat) (reach_of c.args.world.now []) in
-    subst (λ (xs : List Item). All (IsLiveItem reach) xs) (sym c.deref.ensures.value) (c.in_ok-elements_of.ensures.live reach refl)
+pub call_value-requires-clause-given : goal.call_value-requires-clause-given
+call_value-requires-clause-given g c = record {
+  items = (
+      let reach : Reach = with_locals (held.local_count c.value_of-2.new.frames.flat) (reach_of c.args.world.now []) in
+      subst (λ (xs : List Item). All (IsLiveItem reach) xs) (sym c.deref.ensures.value) (c.in_ok-elements_of.ensures.live reach refl));
+  items_named = (
+      let all = extent_of c.args.world.now.heap in
+      subst (λ (xs : List Item). All (ItemNamed (g.N.Names.known c.args.names.now)) (map (item_in all) xs)) (sym c.deref.ensures.value)
+      (c.in_ok-elements_of.ensures.named (g.N.Names.known c.args.names.now) c.requires.here.world_named.heap));
+}
 
 pub call_value-requires-clause-few : goal.call_value-requires-clause-few
 call_value-requires-clause-few g c = subst (λ (xs : List Item). length xs < 2 ^ 63) (sym c.deref.ensures.value) c.in_ok-elements_of.ensures.few
-
-pub call_value-requires-clause-stack_named : goal.call_value-requires-clause-stack_named
-call_value-requires-clause-stack_named g c =
-    subst (λ (x : FlatStack). StackNamed (g.N.Names.known c.args.names.now) (stack_in (extent_of c.args.world.now.heap) x))
-    (sym (c.value_of-2.ensures.same ∙ c.value_of.ensures.same)) c.requires.stack_named
-
-pub call_value-requires-clause-items_named : goal.call_value-requires-clause-items_named
-call_value-requires-clause-items_named g c =
-    let all = extent_of c.args.world.now.heap in
-    subst (λ (xs : List Item). All (ItemNamed (g.N.Names.known c.args.names.now)) (map (item_in all) xs)) (sym c.deref.ensures.value)
-    (c.in_ok-elements_of.ensures.named (g.N.Names.known c.args.names.now) c.requires.world_named.heap)
 
 pub returns-clause-step : goal.returns-clause-step
 returns-clause-step g c =

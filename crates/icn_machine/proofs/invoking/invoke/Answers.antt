@@ -47,7 +47,7 @@ returns-then-m-clause-step g c =
     let after : Machine g.row.K.Denot
     = record { world = m.world; stacks = with_stack m.stacks c.take_operands.new.frames; turns = m.turns; begun = m.begun; limits = m.limits } in
     let none : nat_lt m.turns (heap_of m.world.heap).bounds.turns ≡ false
-    = ap (λ (x : Bounds). nat_lt m.turns x.turns) c.requires.sound.1.bounds ∙ no_more m.turns m.limits.turns c.if-m.true in
+    = ap (λ (x : Bounds). nat_lt m.turns x.turns) c.requires.stands.sound.1.bounds ∙ no_more m.turns m.limits.turns c.if-m.true in
     bound_performs m after t (Instrs.Invoke c.args.count) (suc c.args.count) (invoked_with flat t) c.frames.result.now.flat c.take_operands.new.frames.flat
     c.take_operands.new.items.items _
     (λ a st. refl) c.frames.ensures.running
@@ -76,8 +76,8 @@ returns-then-m-clause-named g c =
     let names = g.N.Names.known c.args.names.now in
     let all = extent_of m.world.heap in (
       (taken_named names all (c.args.count + 1) c.frames.result.now.flat c.take_operands.new.frames.flat c.take_operands.new.items.items c.in-Ok.ensures.taken
-          (subst (λ (o : Option FlatStack). StackNamed names (stack_in all (running_of o))) c.frames.ensures.running c.requires.stack_named)).1,
-      c.requires.world_named,
+          (subst (λ (o : Option FlatStack). StackNamed names (stack_in all (running_of o))) c.frames.ensures.running c.requires.named.stack_named)).1,
+      c.requires.named.world_named,
     )
 
 pub returns-then-m-clause-store_named : goal.returns-then-m-clause-store_named
@@ -99,48 +99,49 @@ call_first-requires-clause-few g c =
     omega (arith, count, same, fits)
 
 pub call_first-requires-clause-bounds : goal.call_first-requires-clause-bounds
-call_first-requires-clause-bounds g c = c.requires.sound.1.bounds
+call_first-requires-clause-bounds g c = c.requires.stands.sound.1.bounds
 
-pub call_first-requires-clause-stack : goal.call_first-requires-clause-stack
-call_first-requires-clause-stack g c =
-    let m = c.args.m.now in
-    let t = c.requires.sound.0 in
-    let live = running_live t (reach_of m.world []) m.stacks.table c.frames.result.now.flat c.frames.ensures.running c.requires.sound.1.stacks in
-    let rest = live_taken t (reach_of m.world []) (c.args.count + 1) c.frames.result.now.flat c.take_operands.new.frames.flat
-    c.take_operands.new.items.items c.in-Ok.ensures.taken live in
-    (t, subst (λ (x : FlatStack). IsLiveStack t (reach_of m.world []) x) (same_Some _ _ c.frames-2.ensures.running) rest.rest)
+pub call_first-requires-clause-here : goal.call_first-requires-clause-here
+call_first-requires-clause-here g c = record {
+  stack = (
+      let m = c.args.m.now in
+      let t = c.requires.stands.sound.0 in
+      let live = running_live t (reach_of m.world []) m.stacks.table c.frames.result.now.flat c.frames.ensures.running c.requires.stands.sound.1.stacks in
+      let rest = live_taken t (reach_of m.world []) (c.args.count + 1) c.frames.result.now.flat c.take_operands.new.frames.flat
+      c.take_operands.new.items.items c.in-Ok.ensures.taken live in
+      (t, subst (λ (x : FlatStack). IsLiveStack t (reach_of m.world []) x) (same_Some _ _ c.frames-2.ensures.running) rest.rest));
+  stack_named = (
+      let m = c.args.m.now in
+      let names = g.N.Names.known c.args.names.now in
+      let all = extent_of m.world.heap in
+      let both = taken_named names all (c.args.count + 1) c.frames.result.now.flat c.take_operands.new.frames.flat c.take_operands.new.items.items
+      c.in-Ok.ensures.taken
+      (subst (λ (o : Option FlatStack). StackNamed names (stack_in all (running_of o))) c.frames.ensures.running c.requires.named.stack_named) in
+      subst (λ (x : FlatStack). StackNamed names (stack_in all x)) (same_Some _ _ c.frames-2.ensures.running) both.1);
+  world_named = search rules;
+}
 
-pub call_first-requires-clause-items : goal.call_first-requires-clause-items
-call_first-requires-clause-items g c =
-    let m = c.args.m.now in
-    let t = c.requires.sound.0 in
-    let live = running_live t (reach_of m.world []) m.stacks.table c.frames.result.now.flat c.frames.ensures.running c.requires.sound.1.stacks in
-    let rest = live_taken t (reach_of m.world []) (c.args.count + 1) c.frames.result.now.flat c.take_operands.new.frames.flat
-    c.take_operands.new.items.items c.in-Ok.ensures.taken live in
-    let reach : Reach = with_locals (held.local_count c.frames-2.result.now.flat) (reach_of m.world []) in
-    subst (λ (xs : List Item). All (IsLiveItem reach) xs) (sym c.deref.ensures.value)
-    (subst (λ (x : FlatStack). All (IsLiveItem (with_locals (held.local_count x) (reach_of m.world []))) c.take_operands.new.items.items)
-    (same_Some _ _ c.frames-2.ensures.running) rest.items_live)
-
-pub call_first-requires-clause-stack_named : goal.call_first-requires-clause-stack_named
-call_first-requires-clause-stack_named g c =
-    let m = c.args.m.now in
-    let names = g.N.Names.known c.args.names.now in
-    let all = extent_of m.world.heap in
-    let both = taken_named names all (c.args.count + 1) c.frames.result.now.flat c.take_operands.new.frames.flat c.take_operands.new.items.items
-    c.in-Ok.ensures.taken
-    (subst (λ (o : Option FlatStack). StackNamed names (stack_in all (running_of o))) c.frames.ensures.running c.requires.stack_named) in
-    subst (λ (x : FlatStack). StackNamed names (stack_in all x)) (same_Some _ _ c.frames-2.ensures.running) both.1
-
-pub call_first-requires-clause-items_named : goal.call_first-requires-clause-items_named
-call_first-requires-clause-items_named g c =
-    let m = c.args.m.now in
-    let names = g.N.Names.known c.args.names.now in
-    let all = extent_of m.world.heap in
-    let both = taken_named names all (c.args.count + 1) c.frames.result.now.flat c.take_operands.new.frames.flat c.take_operands.new.items.items
-    c.in-Ok.ensures.taken
-    (subst (λ (o : Option FlatStack). StackNamed names (stack_in all (running_of o))) c.frames.ensures.running c.requires.stack_named) in
-    subst (λ (xs : List Item). All (ItemNamed names) (map (item_in all) xs)) (sym c.deref.ensures.value) both.0
+pub call_first-requires-clause-given : goal.call_first-requires-clause-given
+call_first-requires-clause-given g c = record {
+  items = (
+      let m = c.args.m.now in
+      let t = c.requires.stands.sound.0 in
+      let live = running_live t (reach_of m.world []) m.stacks.table c.frames.result.now.flat c.frames.ensures.running c.requires.stands.sound.1.stacks in
+      let rest = live_taken t (reach_of m.world []) (c.args.count + 1) c.frames.result.now.flat c.take_operands.new.frames.flat
+      c.take_operands.new.items.items c.in-Ok.ensures.taken live in
+      let reach : Reach = with_locals (held.local_count c.frames-2.result.now.flat) (reach_of m.world []) in
+      subst (λ (xs : List Item). All (IsLiveItem reach) xs) (sym c.deref.ensures.value)
+      (subst (λ (x : FlatStack). All (IsLiveItem (with_locals (held.local_count x) (reach_of m.world []))) c.take_operands.new.items.items)
+      (same_Some _ _ c.frames-2.ensures.running) rest.items_live));
+  items_named = (
+      let m = c.args.m.now in
+      let names = g.N.Names.known c.args.names.now in
+      let all = extent_of m.world.heap in
+      let both = taken_named names all (c.args.count + 1) c.frames.result.now.flat c.take_operands.new.frames.flat c.take_operands.new.items.items
+      c.in-Ok.ensures.taken
+      (subst (λ (o : Option FlatStack). StackNamed names (stack_in all (running_of o))) c.frames.ensures.running c.requires.named.stack_named) in
+      subst (λ (xs : List Item). All (ItemNamed names) (map (item_in all) xs)) (sym c.deref.ensures.value) both.0);
+}
 
 pub returns-clause-step : goal.returns-clause-step
 returns-clause-step g c =
@@ -155,13 +156,13 @@ returns-clause-step g c =
       limits = m.limits;
     } in
     let more : nat_lt m.turns (heap_of m.world.heap).bounds.turns ≡ true
-    = ap (λ (x : Bounds). nat_lt m.turns x.turns) c.requires.sound.1.bounds ∙ under m.turns m.limits.turns c.if-m.false in
-    operands_perform m after c.requires.sound.0 t (Instrs.Invoke c.args.count) (suc c.args.count) (invoked_with flat t) c.frames.result.now.flat
+    = ap (λ (x : Bounds). nat_lt m.turns x.turns) c.requires.stands.sound.1.bounds ∙ under m.turns m.limits.turns c.if-m.false in
+    operands_perform m after c.requires.stands.sound.0 t (Instrs.Invoke c.args.count) (suc c.args.count) (invoked_with flat t) c.frames.result.now.flat
     c.take_operands.new.frames.flat c.frames-2.result.now.flat c.call_first.new.frames.flat
     c.take_operands.new.items.items c.deref.result.now _ _ c.call_first.result (λ a st. refl) c.frames.ensures.running
     (subst (λ (n : ℕ). take_operands n c.frames.result.now.flat ≡ Some (c.take_operands.new.items.items, c.take_operands.new.frames.flat))
     (add-one c.args.count) c.in-Ok.ensures.taken)
-    (same_Some _ _ c.frames-2.ensures.running) c.deref.ensures.value more c.call_first.ensures.kept c.requires.sound.1.stacks (add-one m.turns) refl refl
+    (same_Some _ _ c.frames-2.ensures.running) c.deref.ensures.value more c.call_first.ensures.leaves.kept c.requires.stands.sound.1.stacks (add-one m.turns) refl refl
     c.call_first.ensures.going c.call_first.ensures.step
 
 pub returns-clause-sound : goal.returns-clause-sound
@@ -183,8 +184,8 @@ returns-clause-sound g c k =
     = subst (λ (x : FlatStack). IsLiveStack t (reach_of m.world []) x) (same_Some _ _ c.frames-2.ensures.running) rest.rest in
     both_on c.call_first.result (IsLiveStack t (reach_of c.call_first.new.world []) c.call_first.new.frames.flat) (KeepsCounts m.world c.call_first.new.world)
     (IsSound t after)
-    (c.call_first.ensures.live here) c.call_first.ensures.counts
-    (λ l counts. sound_after m after t c.call_first.new.frames.flat refl refl refl c.call_first.ensures.kept l counts k)
+    (c.call_first.ensures.live here) c.call_first.ensures.leaves.counts
+    (λ l counts. sound_after m after t c.call_first.new.frames.flat refl refl refl c.call_first.ensures.leaves.kept l counts k)
 
 pub returns-clause-stack : goal.returns-clause-stack
 returns-clause-stack g c =
@@ -203,6 +204,6 @@ pub returns-clause-store_named : goal.returns-clause-store_named
 returns-clause-store_named g c outside h =
     let m = c.args.m.now in
     let names = g.N.Names.known c.args.names.now in
-    store_left c.requires.sound.0 names (all_names (tables_of c.args.code.now)) outside m.world c.call_first.new.world m.turns (m.turns + 1) m.begun.items
+    store_left c.requires.stands.sound.0 names (all_names (tables_of c.args.code.now)) outside m.world c.call_first.new.world m.turns (m.turns + 1) m.begun.items
     m.stacks.table c.call_first.new.frames.flat c.call_first.result
-    c.call_first.ensures.kept c.requires.sound.1.stacks c.call_first.ensures.named h
+    c.call_first.ensures.leaves.kept c.requires.stands.sound.1.stacks c.call_first.ensures.named h

@@ -1,4 +1,4 @@
-use Rattle.std.proofs.Common.{◌≡◌, ◌+◌, [], Some, add-one, ap, false, nat_lt, refl, true, ◌∙◌}
+use Rattle.std.proofs.Common.{◌≡◌, ◌+◌, [], Some, add-one, ap, false, nat_lt, refl, true, ◌∙◌, rules}
 use Rattle.std.specs.Prelude.{map}
 use Rattle.icn_value.specs.Limited.{Bounds}
 use Rattle.icn_defs.specs.Arities.{arity}
@@ -32,25 +32,30 @@ returns-then-m-clause-step g c tables names =
     let all = extent_of m.world.heap in
     let taken = taken_as c.arity.result (arity c.args.op) c.frames.result.now.flat k k items items c.in-Ok.ensures.taken c.arity.ensures refl refl in
     let none : nat_lt m.turns (heap_of m.world.heap).bounds.turns ≡ false
-    = ap (λ (x : Bounds). nat_lt m.turns x.turns) c.requires.sound.1.bounds ∙ no_more m.turns m.limits.turns c.if-m.true in
+    = ap (λ (x : Bounds). nat_lt m.turns x.turns) c.requires.stands.sound.1.bounds ∙ no_more m.turns m.limits.turns c.if-m.true in
     performs_still _ _ _ _
     (λ was. op_is all tables m.stacks.table c.frames.result.now.flat k items c.args.op (store_seen tables was m) c.frames.ensures.running taken
     ∙ turn_bound tables (store_seen tables was m)
     (store_in (all_names tables) was (world_of m.world) m.turns m.begun.items all (record m.stacks.table { running = Some k }))
     (operate flat c.args.op (map (item_in all) items) (stack_in all k)) none refl)
 
-pub returns-then-m-clause-sound : goal.returns-then-m-clause-sound
-returns-then-m-clause-sound g c tables s =
-    let m = c.args.m.now in
-    let f = c.frames.result.now.flat in
-    let k = c.take_operands.new.frames.flat in
-    record {
-      stacks = stacks_on tables (reach_of m.world []) m.stacks.table f k c.frames.ensures.running
-          (λ l. (live_taken tables (reach_of m.world []) c.arity.result f k c.take_operands.new.items.items c.in-Ok.ensures.taken l).rest) s.stacks;
-      bounds = s.bounds;
-      counts = s.counts;
-      counted = record { results = s.counted.results; activators = s.counted.activators };
-    }
+pub returns-then-m-clause-keeps : goal.returns-then-m-clause-keeps
+returns-then-m-clause-keeps g c = record {
+  sound = λ tables s. (
+      let m = c.args.m.now in
+      let f = c.frames.result.now.flat in
+      let k = c.take_operands.new.frames.flat in
+      record {
+        stacks = stacks_on tables (reach_of m.world []) m.stacks.table f k c.frames.ensures.running
+            (λ l. (live_taken tables (reach_of m.world []) c.arity.result f k c.take_operands.new.items.items c.in-Ok.ensures.taken l).rest) s.stacks;
+        bounds = s.bounds;
+        counts = s.counts;
+        counted = record { results = s.counted.results; activators = s.counted.activators };
+      });
+  halt = search rules;
+  limits = refl;
+  stack = search rules;
+}
 
 pub returns-then-m-clause-named : goal.returns-then-m-clause-named
 returns-then-m-clause-named g c =
@@ -60,8 +65,8 @@ returns-then-m-clause-named g c =
     let f = c.frames.result.now.flat in
     let k = c.take_operands.new.frames.flat in
     let there = named_taken names all c.arity.result f k c.take_operands.new.items.items c.in-Ok.ensures.taken
-    (named_running names all m.stacks.table f c.frames.ensures.running c.requires.stack_named) in
-    (named.stack_out names (stack_in all k) there.rest, c.requires.world_named)
+    (named_running names all m.stacks.table f c.frames.ensures.running c.requires.named.stack_named) in
+    (named.stack_out names (stack_in all k) there.rest, c.requires.named.world_named)
 
 pub perform-requires-clause-applicable : goal.perform-requires-clause-applicable
 perform-requires-clause-applicable g c =
@@ -71,55 +76,56 @@ perform-requires-clause-applicable g c =
     let taken = taken_as c.arity.result (arity c.args.op) f k k items c.deref.result.now c.in-Ok.ensures.taken c.arity.ensures refl c.deref.ensures.value in
     (c.requires.row, taken_count (arity c.args.op) f k c.deref.result.now taken)
 
-pub perform-requires-clause-stack : goal.perform-requires-clause-stack
-perform-requires-clause-stack g c =
-    let m = c.args.m.now in
-    let t = c.requires.sound.0 in
-    let reach = reach_of m.world [] in
-    let f = c.frames.result.now.flat in
-    let k = c.frames-2.result.now.flat in
-    let items = c.take_operands.new.items.items in
-    let taken = taken_as c.arity.result c.arity.result f c.take_operands.new.frames.flat k items items c.in-Ok.ensures.taken refl
-    c.frames-2.ensures.running refl in
-    (t, (live_taken t reach c.arity.result f k items taken (running_live t reach m.stacks.table f c.frames.ensures.running c.requires.sound.1.stacks)).rest)
+pub perform-requires-clause-here : goal.perform-requires-clause-here
+perform-requires-clause-here g c = record {
+  stack = (
+      let m = c.args.m.now in
+      let t = c.requires.stands.sound.0 in
+      let reach = reach_of m.world [] in
+      let f = c.frames.result.now.flat in
+      let k = c.frames-2.result.now.flat in
+      let items = c.take_operands.new.items.items in
+      let taken = taken_as c.arity.result c.arity.result f c.take_operands.new.frames.flat k items items c.in-Ok.ensures.taken refl
+      c.frames-2.ensures.running refl in
+      (t, (live_taken t reach c.arity.result f k items taken (running_live t reach m.stacks.table f c.frames.ensures.running c.requires.stands.sound.1.stacks)).rest));
+  stack_named = (
+      let m = c.args.m.now in
+      let names = g.N.Names.known c.args.names.now in
+      let all = extent_of m.world.heap in
+      let f = c.frames.result.now.flat in
+      let k = c.frames-2.result.now.flat in
+      let items = c.take_operands.new.items.items in
+      let taken = taken_as c.arity.result c.arity.result f c.take_operands.new.frames.flat k items items c.in-Ok.ensures.taken refl
+      c.frames-2.ensures.running refl in
+      let there = named_taken names all c.arity.result f k items taken
+      (named_running names all m.stacks.table f c.frames.ensures.running c.requires.named.stack_named) in
+      named.stack_out names (stack_in all k) there.rest);
+  world_named = search rules;
+}
 
-pub perform-requires-clause-items : goal.perform-requires-clause-items
-perform-requires-clause-items g c =
-    let m = c.args.m.now in
-    let t = c.requires.sound.0 in
-    let reach = reach_of m.world [] in
-    let f = c.frames.result.now.flat in
-    let k = c.frames-2.result.now.flat in
-    let xs = c.deref.result.now in
-    let taken = taken_as c.arity.result c.arity.result f c.take_operands.new.frames.flat k c.take_operands.new.items.items xs c.in-Ok.ensures.taken
-    refl c.frames-2.ensures.running c.deref.ensures.value in
-    (live_taken t reach c.arity.result f k xs taken (running_live t reach m.stacks.table f c.frames.ensures.running c.requires.sound.1.stacks)).items_live
-
-pub perform-requires-clause-stack_named : goal.perform-requires-clause-stack_named
-perform-requires-clause-stack_named g c =
-    let m = c.args.m.now in
-    let names = g.N.Names.known c.args.names.now in
-    let all = extent_of m.world.heap in
-    let f = c.frames.result.now.flat in
-    let k = c.frames-2.result.now.flat in
-    let items = c.take_operands.new.items.items in
-    let taken = taken_as c.arity.result c.arity.result f c.take_operands.new.frames.flat k items items c.in-Ok.ensures.taken refl
-    c.frames-2.ensures.running refl in
-    let there = named_taken names all c.arity.result f k items taken
-    (named_running names all m.stacks.table f c.frames.ensures.running c.requires.stack_named) in
-    named.stack_out names (stack_in all k) there.rest
-
-pub perform-requires-clause-items_named : goal.perform-requires-clause-items_named
-perform-requires-clause-items_named g c =
-    let m = c.args.m.now in
-    let names = g.N.Names.known c.args.names.now in
-    let all = extent_of m.world.heap in
-    let f = c.frames.result.now.flat in
-    let k = c.take_operands.new.frames.flat in
-    let xs = c.deref.result.now in
-    let taken = taken_as c.arity.result c.arity.result f k k c.take_operands.new.items.items xs c.in-Ok.ensures.taken refl refl c.deref.ensures.value in
-    let there = named_taken names all c.arity.result f k xs taken (named_running names all m.stacks.table f c.frames.ensures.running c.requires.stack_named) in
-    named.all_of (ItemNamed names) (map (item_in all) xs) there.items_named
+pub perform-requires-clause-given : goal.perform-requires-clause-given
+perform-requires-clause-given g c = record {
+  items = (
+      let m = c.args.m.now in
+      let t = c.requires.stands.sound.0 in
+      let reach = reach_of m.world [] in
+      let f = c.frames.result.now.flat in
+      let k = c.frames-2.result.now.flat in
+      let xs = c.deref.result.now in
+      let taken = taken_as c.arity.result c.arity.result f c.take_operands.new.frames.flat k c.take_operands.new.items.items xs c.in-Ok.ensures.taken
+      refl c.frames-2.ensures.running c.deref.ensures.value in
+      (live_taken t reach c.arity.result f k xs taken (running_live t reach m.stacks.table f c.frames.ensures.running c.requires.stands.sound.1.stacks)).items_live);
+  items_named = (
+      let m = c.args.m.now in
+      let names = g.N.Names.known c.args.names.now in
+      let all = extent_of m.world.heap in
+      let f = c.frames.result.now.flat in
+      let k = c.take_operands.new.frames.flat in
+      let xs = c.deref.result.now in
+      let taken = taken_as c.arity.result c.arity.result f k k c.take_operands.new.items.items xs c.in-Ok.ensures.taken refl refl c.deref.ensures.value in
+      let there = named_taken names all c.arity.result f k xs taken (named_running names all m.stacks.table f c.frames.ensures.running c.requires.named.stack_named) in
+      named.all_of (ItemNamed names) (map (item_in all) xs) there.items_named);
+}
 
 pub returns-clause-step : goal.returns-clause-step
 returns-clause-step g c tables names =
@@ -131,34 +137,36 @@ returns-clause-step g c tables names =
     let taken = taken_as c.arity.result (arity c.args.op) f c.take_operands.new.frames.flat k c.take_operands.new.items.items xs c.in-Ok.ensures.taken
     c.arity.ensures c.frames-2.ensures.running c.deref.ensures.value in
     let more : nat_lt m.turns (heap_of m.world.heap).bounds.turns ≡ true
-    = ap (λ (x : Bounds). nat_lt m.turns x.turns) c.requires.sound.1.bounds ∙ under m.turns m.limits.turns c.if-m.false in
+    = ap (λ (x : Bounds). nat_lt m.turns x.turns) c.requires.stands.sound.1.bounds ∙ under m.turns m.limits.turns c.if-m.false in
     let after : Machine g.row.K.Denot
     = record { world = c.perform.new.world; stacks = with_stack m.stacks c.perform.new.frames; turns = m.turns + 1; begun = m.begun; limits = m.limits } in
-    performs_on after c.requires.sound.0 tables m.world m.turns m.stacks.table k c.perform.new.frames.flat row _ _ _ c.perform.result
-    c.perform.ensures.kept c.requires.sound.1.stacks refl (add-one m.turns)
+    performs_on after c.requires.stands.sound.0 tables m.world m.turns m.stacks.table k c.perform.new.frames.flat row _ _ _ c.perform.result
+    c.perform.ensures.leaves.kept c.requires.stands.sound.1.stacks refl (add-one m.turns)
     (λ was. operates tables (g.N.Names.known c.args.names.now) m.world m.stacks.table f k xs c.args.op after m.turns was c.requires.row
     c.frames.ensures.running taken more names)
     c.perform.ensures.row
 
-pub returns-clause-sound : goal.returns-clause-sound
-returns-clause-sound g c tables s =
-    let m = c.args.m.now in
-    let reach = reach_of m.world [] in
-    let f = c.frames.result.now.flat in
-    let k = c.frames-2.result.now.flat in
-    let items = c.take_operands.new.items.items in
-    let taken = taken_as c.arity.result c.arity.result f c.take_operands.new.frames.flat k items items c.in-Ok.ensures.taken refl
-    c.frames-2.ensures.running refl in
-    let live = (live_taken tables reach c.arity.result f k items taken (running_live tables reach m.stacks.table f c.frames.ensures.running s.stacks)).rest in
-    let after : Machine g.row.K.Denot
-    = record { world = c.perform.new.world; stacks = with_stack m.stacks c.perform.new.frames; turns = m.turns + 1; begun = m.begun; limits = m.limits } in
-    both_ok c.perform.result _ _ _ (c.perform.ensures.live tables live) c.perform.ensures.counts
-    (λ l counts. sound_after m after tables c.perform.new.frames.flat c.perform.ensures.kept refl refl refl s l counts)
-
-pub returns-clause-stack : goal.returns-clause-stack
-returns-clause-stack g c =
-    let m = c.args.m.now in
-    let row = rows.apply (g.N.Names.known c.args.names.now) (rows.Operation c.args.op) (map (item_in (extent_of m.world.heap)) c.deref.result.now) in
-    let after : Machine g.row.K.Denot
-    = record { world = c.perform.new.world; stacks = with_stack m.stacks c.perform.new.frames; turns = m.turns + 1; begun = m.begun; limits = m.limits } in
-    has_stack after m.world c.frames-2.result.now.flat c.perform.new.frames.flat row _ _ c.perform.result refl c.perform.ensures.row
+pub returns-clause-keeps : goal.returns-clause-keeps
+returns-clause-keeps g c = record {
+  sound = λ tables s. (
+      let m = c.args.m.now in
+      let reach = reach_of m.world [] in
+      let f = c.frames.result.now.flat in
+      let k = c.frames-2.result.now.flat in
+      let items = c.take_operands.new.items.items in
+      let taken = taken_as c.arity.result c.arity.result f c.take_operands.new.frames.flat k items items c.in-Ok.ensures.taken refl
+      c.frames-2.ensures.running refl in
+      let live = (live_taken tables reach c.arity.result f k items taken (running_live tables reach m.stacks.table f c.frames.ensures.running s.stacks)).rest in
+      let after : Machine g.row.K.Denot
+      = record { world = c.perform.new.world; stacks = with_stack m.stacks c.perform.new.frames; turns = m.turns + 1; begun = m.begun; limits = m.limits } in
+      both_ok c.perform.result _ _ _ (c.perform.ensures.live tables live) c.perform.ensures.leaves.counts
+      (λ l counts. sound_after m after tables c.perform.new.frames.flat c.perform.ensures.leaves.kept refl refl refl s l counts));
+  halt = search rules;
+  limits = refl;
+  stack = (
+      let m = c.args.m.now in
+      let row = rows.apply (g.N.Names.known c.args.names.now) (rows.Operation c.args.op) (map (item_in (extent_of m.world.heap)) c.deref.result.now) in
+      let after : Machine g.row.K.Denot
+      = record { world = c.perform.new.world; stacks = with_stack m.stacks c.perform.new.frames; turns = m.turns + 1; begun = m.begun; limits = m.limits } in
+      has_stack after m.world c.frames-2.result.now.flat c.perform.new.frames.flat row _ _ c.perform.result refl c.perform.ensures.row);
+}

@@ -25,12 +25,12 @@ pub again-answer-requires-clause-rest_named : goal.again-answer-requires-clause-
 again-answer-requires-clause-rest_named g c = c.requires.rest_named
 
 pub again-answer-requires-clause-locals : goal.again-answer-requires-clause-locals
-again-answer-requires-clause-locals g c = live_locals c.requires.stack.0 (reach_of c.args.world.now []) c.args.frames.now.flat c.requires.stack.1
+again-answer-requires-clause-locals g c = live_locals c.requires.here.stack.0 (reach_of c.args.world.now []) c.args.frames.now.flat c.requires.here.stack.1
 
 pub again-answer-requires-clause-named : goal.again-answer-requires-clause-named
 again-answer-requires-clause-named g c = record {
-  world = c.requires.world_named;
-  locals = locals_named (g.N.Names.known c.args.names.now) (extent_of c.args.world.now.heap) c.args.frames.now.flat c.requires.stack_named;
+  world = c.requires.here.world_named;
+  locals = locals_named (g.N.Names.known c.args.names.now) (extent_of c.args.world.now.heap) c.args.frames.now.flat c.requires.here.stack_named;
 }
 
 pub returns-clause-same_reference : goal.returns-clause-same_reference

@@ -1,3 +1,4 @@
+use Rattle.std.proofs.Common.{rules}
 use Rattle.std.specs.Prelude.{[]}
 use Rattle.icn_value.specs.Store.{outside_of}
 use Rattle.icn_heap.specs.Heaps.{extent_of}
@@ -14,14 +15,14 @@ returns-in_err-outcome-clause-row g c =
     performs_err c.from_residual.result c.args.world.now c.again_in.new.world c.args.frames.now.flat k k _ _ _ c.in_err-outcome.field-0.0
     c.from_residual.ensures.1 c.in_err-outcome.ensures.applies
 
-pub returns-in_err-outcome-clause-halt : goal.returns-in_err-outcome-clause-halt
-returns-in_err-outcome-clause-halt g c =
-    halt_live c.from_residual.result c.args.world.now c.again_in.new.world c.args.frames.now.flat c.again_in.new.frames.flat _ _ _
-    c.in_err-outcome.field-0.0 c.from_residual.ensures.1 c.in_err-outcome.ensures.applies
-
-pub returns-in_err-outcome-clause-kept : goal.returns-in_err-outcome-clause-kept
-returns-in_err-outcome-clause-kept g c =
-    kept_after c.args.world.now c.again_in.new.world c.args.frames.now.flat c.again_in.new.frames.flat _ _ _ _ c.in_err-outcome.ensures.applies
+pub returns-in_err-outcome-clause-leaves : goal.returns-in_err-outcome-clause-leaves
+returns-in_err-outcome-clause-leaves g c = record {
+  kept = kept_after c.args.world.now c.again_in.new.world c.args.frames.now.flat c.again_in.new.frames.flat _ _ _ _ c.in_err-outcome.ensures.applies;
+  counts = search rules;
+  halt = (
+      halt_live c.from_residual.result c.args.world.now c.again_in.new.world c.args.frames.now.flat c.again_in.new.frames.flat _ _ _
+      c.in_err-outcome.field-0.0 c.from_residual.ensures.1 c.in_err-outcome.ensures.applies);
+}
 
 pub returns-in_err-outcome-clause-named : goal.returns-in_err-outcome-clause-named
 returns-in_err-outcome-clause-named g c =
@@ -34,8 +35,8 @@ returns-in-Ok-clause-row g c =
     let v = c.again_in.new.world in
     let m = c.args.frames.now.flat in
     let k = c.again_in.new.frames.flat in
-    given_row c.requires.stack.0 w v m k c.give_outcome.new.frames.flat _ _ _ c.in_ok-outcome.outcome c.in-Ok.stage c.in_ok-outcome.ensures.applies
-    c.in_ok-outcome.ensures.stack c.requires.stack.1 c.in-Ok.ensures.gives
+    given_row c.requires.here.stack.0 w v m k c.give_outcome.new.frames.flat _ _ _ c.in_ok-outcome.outcome c.in-Ok.stage c.in_ok-outcome.ensures.applies
+    c.in_ok-outcome.ensures.stack c.requires.here.stack.1 c.in-Ok.ensures.gives
 
 pub returns-in-Ok-clause-live : goal.returns-in-Ok-clause-live
 returns-in-Ok-clause-live g c tables live =
@@ -47,14 +48,14 @@ returns-in-Ok-clause-live g c tables live =
     (outcome_live w v m k _ _ _ c.in_ok-outcome.outcome c.local_count.result c.in_ok-outcome.ensures.applies c.local_count.ensures.count
     c.local_count.ensures.all)
 
-pub returns-in-Ok-clause-kept : goal.returns-in-Ok-clause-kept
-returns-in-Ok-clause-kept g c =
-    kept_after c.args.world.now c.again_in.new.world c.args.frames.now.flat c.again_in.new.frames.flat _ _ _ _ c.in_ok-outcome.ensures.applies
-
-pub returns-in-Ok-clause-counts : goal.returns-in-Ok-clause-counts
-returns-in-Ok-clause-counts g c =
-    counts_after c.args.world.now c.again_in.new.world c.args.frames.now.flat c.again_in.new.frames.flat _ _ _ c.in_ok-outcome.outcome
-    (rows_keep_counts.resumed (residual_in (extent_of c.args.world.now.heap) c.args.rest)) c.in_ok-outcome.ensures.applies
+pub returns-in-Ok-clause-leaves : goal.returns-in-Ok-clause-leaves
+returns-in-Ok-clause-leaves g c = record {
+  kept = kept_after c.args.world.now c.again_in.new.world c.args.frames.now.flat c.again_in.new.frames.flat _ _ _ _ c.in_ok-outcome.ensures.applies;
+  counts = (
+      counts_after c.args.world.now c.again_in.new.world c.args.frames.now.flat c.again_in.new.frames.flat _ _ _ c.in_ok-outcome.outcome
+      (rows_keep_counts.resumed (residual_in (extent_of c.args.world.now.heap) c.args.rest)) c.in_ok-outcome.ensures.applies);
+  halt = search rules;
+}
 
 pub returns-in-Ok-clause-named : goal.returns-in-Ok-clause-named
 returns-in-Ok-clause-named g c =
@@ -62,8 +63,8 @@ returns-in-Ok-clause-named g c =
     let v = c.again_in.new.world in
     let k = c.again_in.new.frames.flat in
     let there =
-    named_with c.requires.stack.0 names c.args.world.now v c.args.frames.now.flat k _ _ _ c.in_ok-outcome.outcome c.in_ok-outcome.ensures.applies
-    c.in_ok-outcome.ensures.stack c.requires.stack.1 c.requires.stack_named c.in_ok-outcome.ensures.named
+    named_with c.requires.here.stack.0 names c.args.world.now v c.args.frames.now.flat k _ _ _ c.in_ok-outcome.outcome c.in_ok-outcome.ensures.applies
+    c.in_ok-outcome.ensures.stack c.requires.here.stack.1 c.requires.here.stack_named c.in_ok-outcome.ensures.named
     in
     (c.in-Ok.ensures.named names (extent_of v.heap) (setting_of (outside_of []) v (flat.locals k)) there.stack there.outcome, there.world)
 
@@ -72,6 +73,9 @@ returns-in-Err-clause-row g c =
     performs_lack c.args.world.now c.again_in.new.world c.args.frames.now.flat c.again_in.new.frames.flat c.give_outcome.new.frames.flat _ _ _
     c.in_ok-outcome.outcome c.in_ok-outcome.ensures.applies
 
-pub returns-in-Err-clause-kept : goal.returns-in-Err-clause-kept
-returns-in-Err-clause-kept g c =
-    kept_after c.args.world.now c.again_in.new.world c.args.frames.now.flat c.again_in.new.frames.flat _ _ _ _ c.in_ok-outcome.ensures.applies
+pub returns-in-Err-clause-leaves : goal.returns-in-Err-clause-leaves
+returns-in-Err-clause-leaves g c = record {
+  kept = kept_after c.args.world.now c.again_in.new.world c.args.frames.now.flat c.again_in.new.frames.flat _ _ _ _ c.in_ok-outcome.ensures.applies;
+  counts = search rules;
+  halt = search rules;
+}

@@ -22,18 +22,18 @@ apply-answer-requires-clause-applicable g c = c.requires.applicable
 pub apply-answer-requires-clause-args : goal.apply-answer-requires-clause-args
 apply-answer-requires-clause-args g c =
     subst (λ (r : Reach). All (IsLiveItem r) c.args.items.now)
-    (reach_is c.args.world.now c.args.frames.now.flat c.local_count.result c.local_count.ensures.count c.local_count.ensures.all) c.requires.items
+    (reach_is c.args.world.now c.args.frames.now.flat c.local_count.result c.local_count.ensures.count c.local_count.ensures.all) c.requires.given.items
 
 pub apply-answer-requires-clause-args_named : goal.apply-answer-requires-clause-args_named
-apply-answer-requires-clause-args_named g c = c.requires.items_named
+apply-answer-requires-clause-args_named g c = c.requires.given.items_named
 
 pub apply-answer-requires-clause-locals : goal.apply-answer-requires-clause-locals
-apply-answer-requires-clause-locals g c = live_locals c.requires.stack.0 (reach_of c.args.world.now []) c.args.frames.now.flat c.requires.stack.1
+apply-answer-requires-clause-locals g c = live_locals c.requires.here.stack.0 (reach_of c.args.world.now []) c.args.frames.now.flat c.requires.here.stack.1
 
 pub apply-answer-requires-clause-named : goal.apply-answer-requires-clause-named
 apply-answer-requires-clause-named g c = record {
-  world = c.requires.world_named;
-  locals = locals_named (g.N.Names.known c.args.names.now) (extent_of c.args.world.now.heap) c.args.frames.now.flat c.requires.stack_named;
+  world = c.requires.here.world_named;
+  locals = locals_named (g.N.Names.known c.args.names.now) (extent_of c.args.world.now.heap) c.args.frames.now.flat c.requires.here.stack_named;
 }
 
 pub returns-clause-same_reference : goal.returns-clause-same_reference

@@ -10,50 +10,50 @@ use Rattle.icn_machine.proofs.DoingSteps.{applied_performs, calls_as}
 use Rattle.icn_machine.proofs.NextSteps.{appl_operands, applied_is, called_ready, done_ready, field_operand, invoke_operands, lands_by, lands_quietly_by, names_as, no_other, no_refresh, op_operands, world_names_as}
 use Rattle.icn_machine.proofs.stepping.do_applied.Goals as goal
 
-pub operate-requires-clause-runs : goal.operate-requires-clause-runs
-operate-requires-clause-runs g c = c.requires.doing.runs
+pub operate-requires-clause-stands : goal.operate-requires-clause-stands
+operate-requires-clause-stands g c = record {
+  runs = c.requires.doing.runs;
+  sound = ((tables_of c.args.code.now), c.requires.doing.sound);
+}
 
-pub operate-requires-clause-sound : goal.operate-requires-clause-sound
-operate-requires-clause-sound g c = ((tables_of c.args.code.now), c.requires.doing.sound)
+pub operate-requires-clause-named : goal.operate-requires-clause-named
+operate-requires-clause-named g c = record {
+  stack_named = names_as _ (tables_of c.args.code.now) c.args.m.now c.args.instr c.requires.known c.requires.doing;
+  world_named = world_names_as _ (tables_of c.args.code.now) c.args.m.now c.args.instr c.requires.known c.requires.doing;
+}
 
-pub operate-requires-clause-stack_named : goal.operate-requires-clause-stack_named
-operate-requires-clause-stack_named g c = names_as _ (tables_of c.args.code.now) c.args.m.now c.args.instr c.requires.known c.requires.doing
+pub field-requires-clause-stands : goal.field-requires-clause-stands
+field-requires-clause-stands g c = record {
+  runs = c.requires.doing.runs;
+  sound = ((tables_of c.args.code.now), c.requires.doing.sound);
+}
 
-pub operate-requires-clause-world_named : goal.operate-requires-clause-world_named
-operate-requires-clause-world_named g c = world_names_as _ (tables_of c.args.code.now) c.args.m.now c.args.instr c.requires.known c.requires.doing
+pub invoke-requires-clause-stands : goal.invoke-requires-clause-stands
+invoke-requires-clause-stands g c = record {
+  runs = c.requires.doing.runs;
+  sound = ((tables_of c.args.code.now), c.requires.doing.sound);
+}
 
-pub field-requires-clause-runs : goal.field-requires-clause-runs
-field-requires-clause-runs g c = c.requires.doing.runs
-
-pub field-requires-clause-sound : goal.field-requires-clause-sound
-field-requires-clause-sound g c = ((tables_of c.args.code.now), c.requires.doing.sound)
-
-pub invoke-requires-clause-runs : goal.invoke-requires-clause-runs
-invoke-requires-clause-runs g c = c.requires.doing.runs
-
-pub invoke-requires-clause-sound : goal.invoke-requires-clause-sound
-invoke-requires-clause-sound g c = ((tables_of c.args.code.now), c.requires.doing.sound)
-
-pub invoke-requires-clause-stack_named : goal.invoke-requires-clause-stack_named
-invoke-requires-clause-stack_named g c = names_as _ (tables_of c.args.code.now) c.args.m.now c.args.instr c.requires.known c.requires.doing
-
-pub invoke-requires-clause-world_named : goal.invoke-requires-clause-world_named
-invoke-requires-clause-world_named g c = world_names_as _ (tables_of c.args.code.now) c.args.m.now c.args.instr c.requires.known c.requires.doing
+pub invoke-requires-clause-named : goal.invoke-requires-clause-named
+invoke-requires-clause-named g c = record {
+  stack_named = names_as _ (tables_of c.args.code.now) c.args.m.now c.args.instr c.requires.known c.requires.doing;
+  world_named = world_names_as _ (tables_of c.args.code.now) c.args.m.now c.args.instr c.requires.known c.requires.doing;
+}
 
 pub invoke-requires-clause-known : goal.invoke-requires-clause-known
 invoke-requires-clause-known g c = c.requires.known
 
-pub appl-requires-clause-runs : goal.appl-requires-clause-runs
-appl-requires-clause-runs g c = c.requires.doing.runs
+pub appl-requires-clause-stands : goal.appl-requires-clause-stands
+appl-requires-clause-stands g c = record {
+  runs = c.requires.doing.runs;
+  sound = ((tables_of c.args.code.now), c.requires.doing.sound);
+}
 
-pub appl-requires-clause-sound : goal.appl-requires-clause-sound
-appl-requires-clause-sound g c = ((tables_of c.args.code.now), c.requires.doing.sound)
-
-pub appl-requires-clause-stack_named : goal.appl-requires-clause-stack_named
-appl-requires-clause-stack_named g c = names_as _ (tables_of c.args.code.now) c.args.m.now c.args.instr c.requires.known c.requires.doing
-
-pub appl-requires-clause-world_named : goal.appl-requires-clause-world_named
-appl-requires-clause-world_named g c = world_names_as _ (tables_of c.args.code.now) c.args.m.now c.args.instr c.requires.known c.requires.doing
+pub appl-requires-clause-named : goal.appl-requires-clause-named
+appl-requires-clause-named g c = record {
+  stack_named = names_as _ (tables_of c.args.code.now) c.args.m.now c.args.instr c.requires.known c.requires.doing;
+  world_named = world_names_as _ (tables_of c.args.code.now) c.args.m.now c.args.instr c.requires.known c.requires.doing;
+}
 
 pub appl-requires-clause-known : goal.appl-requires-clause-known
 appl-requires-clause-known g c = c.requires.known
@@ -88,13 +88,13 @@ returns-in-Op-clause-ready g c =
     (lands_by (tables_of c.args.code.now) (λ o. does (tables_of c.args.code.now) o c.args.instr
     c.args.m.now) _ c.operate.new.m _ c.operate.result (applied_performs (tables_of c.args.code.now) c.args.m.now c.operate.new.m c.args.instr
     (Instrs.Op c.in-Op.op) _ _ c.operate.result c.in-Op.is (c.operate.ensures.step (tables_of c.args.code.now) (sym c.requires.known))))
-    (c.operate.ensures.sound (tables_of c.args.code.now) c.requires.doing.sound) c.operate.ensures.stack
+    (c.operate.ensures.keeps.sound (tables_of c.args.code.now) c.requires.doing.sound) c.operate.ensures.keeps.stack
 
-pub returns-in-Op-clause-halt : goal.returns-in-Op-clause-halt
-returns-in-Op-clause-halt g c = c.operate.ensures.halt
-
-pub returns-in-Op-clause-limits : goal.returns-in-Op-clause-limits
-returns-in-Op-clause-limits g c = c.operate.ensures.limits
+pub returns-in-Op-clause-within : goal.returns-in-Op-clause-within
+returns-in-Op-clause-within g c = record {
+  halt = c.operate.ensures.keeps.halt;
+  limits = c.operate.ensures.keeps.limits;
+}
 
 pub returns-in-Field-clause-step : goal.returns-in-Field-clause-step
 returns-in-Field-clause-step g c =
@@ -111,13 +111,13 @@ returns-in-Field-clause-ready g c =
     c.args.m.now) c.field.new.m c.field.result (λ o.
     subst (λ (x : Instr). ComesTo (tables_of c.args.code.now) o (does (tables_of c.args.code.now) o x c.args.m.now) c.field.new.m c.field.result)
     (sym c.in-Field.is) (c.field.ensures.step o)))
-    (c.field.ensures.sound (tables_of c.args.code.now) c.requires.doing.sound) c.field.ensures.stack
+    (c.field.ensures.keeps.sound (tables_of c.args.code.now) c.requires.doing.sound) c.field.ensures.keeps.stack
 
-pub returns-in-Field-clause-halt : goal.returns-in-Field-clause-halt
-returns-in-Field-clause-halt g c = c.field.ensures.halt
-
-pub returns-in-Field-clause-limits : goal.returns-in-Field-clause-limits
-returns-in-Field-clause-limits g c = c.field.ensures.limits
+pub returns-in-Field-clause-within : goal.returns-in-Field-clause-within
+returns-in-Field-clause-within g c = record {
+  halt = c.field.ensures.keeps.halt;
+  limits = c.field.ensures.keeps.limits;
+}
 
 pub returns-in-Invoke-clause-step : goal.returns-in-Invoke-clause-step
 returns-in-Invoke-clause-step g c =
@@ -132,11 +132,11 @@ returns-in-Invoke-clause-ready g c =
     c.invoke.result c.invoke.ensures.step)
     (c.invoke.ensures.sound c.requires.doing.sound) c.invoke.ensures.stack c.invoke.ensures.named c.invoke.ensures.store_named c.invoke.ensures.sized
 
-pub returns-in-Invoke-clause-halt : goal.returns-in-Invoke-clause-halt
-returns-in-Invoke-clause-halt g c = c.invoke.ensures.halt
-
-pub returns-in-Invoke-clause-limits : goal.returns-in-Invoke-clause-limits
-returns-in-Invoke-clause-limits g c = c.invoke.ensures.limits
+pub returns-in-Invoke-clause-within : goal.returns-in-Invoke-clause-within
+returns-in-Invoke-clause-within g c = record {
+  halt = c.invoke.ensures.within.halt;
+  limits = c.invoke.ensures.within.limits;
+}
 
 pub returns-in-Appl-clause-step : goal.returns-in-Appl-clause-step
 returns-in-Appl-clause-step g c =
@@ -149,11 +149,11 @@ returns-in-Appl-clause-ready g c =
     (lands_by (tables_of c.args.code.now) (λ o. does (tables_of c.args.code.now) o Instrs.Appl c.args.m.now) _ c.appl.new.m _ c.appl.result c.appl.ensures.step)
     (c.appl.ensures.sound c.requires.doing.sound) c.appl.ensures.stack c.appl.ensures.named c.appl.ensures.store_named c.appl.ensures.sized
 
-pub returns-in-Appl-clause-halt : goal.returns-in-Appl-clause-halt
-returns-in-Appl-clause-halt g c = c.appl.ensures.halt
-
-pub returns-in-Appl-clause-limits : goal.returns-in-Appl-clause-limits
-returns-in-Appl-clause-limits g c = c.appl.ensures.limits
+pub returns-in-Appl-clause-within : goal.returns-in-Appl-clause-within
+returns-in-Appl-clause-within g c = record {
+  halt = c.appl.ensures.within.halt;
+  limits = c.appl.ensures.within.limits;
+}
 
 pub unreachable-requires : goal.unreachable-requires
 unreachable-requires g c = no_other c.args.instr c.requires.applied c.in_default.not-Op c.in_default.not-Field c.in_default.not-Invoke c.in_default.not-Appl

@@ -34,11 +34,11 @@ returns-then-is_applied-clause-whole g c instr at whole =
     absurd (whole_applies_none c.next_instr-instr.result (subst (λ (x : Instr). is_whole x ≡ true) same whole)
     (sym c.is_applied.ensures ∙ c.if-is_applied.true))
 
-pub returns-then-is_applied-clause-halt : goal.returns-then-is_applied-clause-halt
-returns-then-is_applied-clause-halt g c = c.do_applied.ensures.halt
-
-pub returns-then-is_applied-clause-limits : goal.returns-then-is_applied-clause-limits
-returns-then-is_applied-clause-limits g c = c.do_applied.ensures.limits ∙ c.next_instr-instr.ensures.limits
+pub returns-then-is_applied-clause-within : goal.returns-then-is_applied-clause-within
+returns-then-is_applied-clause-within g c = record {
+  halt = c.do_applied.ensures.within.halt;
+  limits = c.do_applied.ensures.within.limits ∙ c.next_instr-instr.ensures.limits;
+}
 
 pub do_plain-requires-clause-applied : goal.do_plain-requires-clause-applied
 do_plain-requires-clause-applied g c = sym c.is_applied.ensures ∙ c.if-is_applied.false
@@ -61,8 +61,8 @@ returns-clause-whole g c instr at whole =
     let same : instr ≡ c.next_instr-instr.result = same_Some _ _ (sym at ∙ c.next_instr-instr.ensures.instr) in
     c.do_plain.ensures.whole (subst (λ (x : Instr). is_whole x ≡ true) same whole)
 
-pub returns-clause-halt : goal.returns-clause-halt
-returns-clause-halt g c = c.do_plain.ensures.halt
-
-pub returns-clause-limits : goal.returns-clause-limits
-returns-clause-limits g c = c.do_plain.ensures.limits ∙ c.next_instr-instr.ensures.limits
+pub returns-clause-within : goal.returns-clause-within
+returns-clause-within g c = record {
+  halt = c.do_plain.ensures.within.halt;
+  limits = c.do_plain.ensures.within.limits ∙ c.next_instr-instr.ensures.limits;
+}

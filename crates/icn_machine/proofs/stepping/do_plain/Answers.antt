@@ -43,8 +43,8 @@ returns-clause-whole g c whole =
     whole_done (tables_of c.args.code.now) c.args.m.now c.do_instruction.new.m c.args.instr c.do_instruction.result whole c.do_instruction.ensures.step
     c.do_instruction.ensures.no_memory
 
-pub returns-clause-halt : goal.returns-clause-halt
-returns-clause-halt g c = c.do_instruction.ensures.halt
-
-pub returns-clause-limits : goal.returns-clause-limits
-returns-clause-limits g c = c.do_instruction.ensures.limits
+pub returns-clause-within : goal.returns-clause-within
+returns-clause-within g c = record {
+  halt = c.do_instruction.ensures.halt;
+  limits = c.do_instruction.ensures.limits;
+}

@@ -1,4 +1,4 @@
-use Rattle.std.proofs.Common.{sym}
+use Rattle.std.proofs.Common.{sym, rules}
 use Rattle.icn_code.specs.Seen.{tables_of}
 use Rattle.icn_machine.proofs.DoingSteps.{staged_err}
 use Rattle.icn_machine.proofs.LoopSteps.{an_error, no_answer}
@@ -15,11 +15,11 @@ returns-in_err-stage-clause-steps g c =
 pub returns-in_err-stage-clause-ready : goal.returns-in_err-stage-clause-ready
 returns-in_err-stage-clause-ready g c = no_answer c.from_residual.result _ _ c.from_residual.ensures.1
 
-pub returns-in_err-stage-clause-halt : goal.returns-in_err-stage-clause-halt
-returns-in_err-stage-clause-halt g c = an_error c.from_residual.result c.in_err-stage.field-0.0 _ c.from_residual.ensures.1 c.in_err-stage.ensures.halt
-
-pub returns-in_err-stage-clause-limits : goal.returns-in_err-stage-clause-limits
-returns-in_err-stage-clause-limits g c = c.in_err-stage.ensures.limits
+pub returns-in_err-stage-clause-within : goal.returns-in_err-stage-clause-within
+returns-in_err-stage-clause-within g c = record {
+  halt = an_error c.from_residual.result c.in_err-stage.field-0.0 _ c.from_residual.ensures.1 c.in_err-stage.ensures.within.halt;
+  limits = c.in_err-stage.ensures.within.limits;
+}
 
 pub stepped_of-requires : goal.stepped_of-requires
 stepped_of-requires g c = c.in_ok-stage.ensures.fails_no_more
@@ -30,5 +30,8 @@ returns-clause-steps g c = rw c.stepped_of.ensures (c.in_ok-stage.ensures.steps 
 pub returns-clause-ready : goal.returns-clause-ready
 returns-clause-ready g c = rw c.stepped_of.ensures (c.in_ok-stage.ensures.ready (tables_of c.args.code.now) (sym c.requires.known) c.requires.ready)
 
-pub returns-clause-limits : goal.returns-clause-limits
-returns-clause-limits g c = c.in_ok-stage.ensures.limits
+pub returns-clause-within : goal.returns-clause-within
+returns-clause-within g c = record {
+  halt = search rules;
+  limits = c.in_ok-stage.ensures.within.limits;
+}

@@ -1,4 +1,4 @@
-use Rattle.std.proofs.Common.{◌≡◌, ◌∙◌, sym, true, false}
+use Rattle.std.proofs.Common.{◌≡◌, ◌∙◌, sym, true, false, rules}
 use Rattle.icn_code.specs.Seen.{tables_of}
 use Rattle.icn_control.specs.declared.machine.Stage.TheVariants as Stages
 use Rattle.icn_machine.proofs.DoingSteps.{advanced_err, err_memory, then_fails}
@@ -23,11 +23,11 @@ pub returns-in_err-stage-clause-no_memory : goal.returns-in_err-stage-clause-no_
 returns-in_err-stage-clause-no_memory g c instr at whole =
     err_memory c.in_err-stage.field-0.0 c.from_residual.result c.from_residual.ensures.1 (c.in_err-stage.ensures.whole instr at whole)
 
-pub returns-in_err-stage-clause-halt : goal.returns-in_err-stage-clause-halt
-returns-in_err-stage-clause-halt g c = an_error c.from_residual.result c.in_err-stage.field-0.0 _ c.from_residual.ensures.1 c.in_err-stage.ensures.halt
-
-pub returns-in_err-stage-clause-limits : goal.returns-in_err-stage-clause-limits
-returns-in_err-stage-clause-limits g c = c.in_err-stage.ensures.limits
+pub returns-in_err-stage-clause-within : goal.returns-in_err-stage-clause-within
+returns-in_err-stage-clause-within g c = record {
+  halt = an_error c.from_residual.result c.in_err-stage.field-0.0 _ c.from_residual.ensures.1 c.in_err-stage.ensures.within.halt;
+  limits = c.in_err-stage.ensures.within.limits;
+}
 
 pub fail_to_next-requires-clause-known : goal.fail_to_next-requires-clause-known
 fail_to_next-requires-clause-known g c = c.requires.known
@@ -47,11 +47,11 @@ pub returns-then-is_failing-clause-no_memory : goal.returns-then-is_failing-clau
 returns-then-is_failing-clause-no_memory g c instr at whole =
     let bad : true ≡ false = sym (sym c.is_failing.ensures ∙ c.if-is_failing.true) ∙ c.in_ok-stage.ensures.whole instr at whole in absurd (cc)
 
-pub returns-then-is_failing-clause-halt : goal.returns-then-is_failing-clause-halt
-returns-then-is_failing-clause-halt g c = c.fail_to_next.ensures.halt
-
-pub returns-then-is_failing-clause-limits : goal.returns-then-is_failing-clause-limits
-returns-then-is_failing-clause-limits g c = c.fail_to_next.ensures.limits ∙ c.in_ok-stage.ensures.limits
+pub returns-then-is_failing-clause-within : goal.returns-then-is_failing-clause-within
+returns-then-is_failing-clause-within g c = record {
+  halt = c.fail_to_next.ensures.within.halt;
+  limits = c.fail_to_next.ensures.within.limits ∙ c.in_ok-stage.ensures.within.limits;
+}
 
 pub stepped_of-requires : goal.stepped_of-requires
 stepped_of-requires g c = sym c.is_failing.ensures ∙ c.if-is_failing.false
@@ -65,5 +65,8 @@ returns-clause-ready g c = rw c.stepped_of.ensures c.in_ok-stage.ensures.ready
 pub returns-clause-no_memory : goal.returns-clause-no_memory
 returns-clause-no_memory g c instr at whole = λ e. absurd (cc)
 
-pub returns-clause-limits : goal.returns-clause-limits
-returns-clause-limits g c = c.in_ok-stage.ensures.limits
+pub returns-clause-within : goal.returns-clause-within
+returns-clause-within g c = record {
+  halt = search rules;
+  limits = c.in_ok-stage.ensures.within.limits;
+}

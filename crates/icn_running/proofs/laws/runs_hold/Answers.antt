@@ -1,3 +1,4 @@
+use Rattle.std.proofs.Common.{rules}
 use Rattle.icn_running.proofs.Starts.{start_kept}
 use Rattle.icn_running.proofs.laws.runs_hold.Goals as goal
 

@@ -41,10 +41,10 @@ pub returns-in_err-stepped-clause-turn : goal.returns-in_err-stepped-clause-turn
 returns-in_err-stepped-clause-turn g c = no_answer c.from_residual.result _ _ c.from_residual.ensures.1
 
 pub returns-in_err-stepped-clause-halt : goal.returns-in_err-stepped-clause-halt
-returns-in_err-stepped-clause-halt g c = an_error c.from_residual.result c.in_err-stepped.field-0.0 _ c.from_residual.ensures.1 c.in_err-stepped.ensures.halt
+returns-in_err-stepped-clause-halt g c = an_error c.from_residual.result c.in_err-stepped.field-0.0 _ c.from_residual.ensures.1 c.in_err-stepped.ensures.within.halt
 
 pub returns-in_err-stepped-clause-limits : goal.returns-in_err-stepped-clause-limits
-returns-in_err-stepped-clause-limits g c = c.in_err-stepped.ensures.limits ∙ c.loop-stepped.invariant.limits
+returns-in_err-stepped-clause-limits g c = c.in_err-stepped.ensures.within.limits ∙ c.loop-stepped.invariant.limits
 
 pub loop-stepped-smaller : goal.loop-stepped-smaller
 loop-stepped-smaller g c =
@@ -68,11 +68,11 @@ loop-stepped-preserved g c =
       ready = c.in_ok-stepped.ensures.ready;
       lasts =
           lasts_next tables c.loop-stepped.m _ c.step.new.m _ (c.loop-stepped.invariant.lasts (on_true c.loop-stepped.stepped on.0)) c.in_ok-stepped.stepped
-          c.in_ok-stepped.ensures.limits c.in_ok-stepped.ensures.steps;
+          c.in_ok-stepped.ensures.within.limits c.in_ok-stepped.ensures.steps;
       turn =
           turn_next tables c.loop-stepped.m _ c.step.new.m _ (c.loop-stepped.invariant.lasts (on_true c.loop-stepped.stepped on.0)) c.args.m.now
           c.in_ok-stepped.stepped on.1 c.loop-stepped.invariant.limits c.in_ok-stepped.ensures.steps;
-      limits = c.in_ok-stepped.ensures.limits ∙ c.loop-stepped.invariant.limits;
+      limits = c.in_ok-stepped.ensures.within.limits ∙ c.loop-stepped.invariant.limits;
       turns = refl;
     }
 

@@ -1,0 +1,47 @@
+-- What holds before and after a step of a machine.
+use Rattle.std.specs.Prelude.{◌≡◌, [], IfErr, IfOk, IsSome, OnOk, Result}
+use Rattle.icn_vars.specs.declared.outcome.Halt.{Halt}
+use Rattle.icn_vars.specs.declared.world.World.{World}
+use Rattle.icn_vars.specs.Outcomes.{IsLiveHalt}
+use Rattle.icn_vars.specs.Worlds.{KeepsItems, reach_of}
+use Rattle.icn_code.specs.Codes.{Tables}
+use Rattle.icn_control.specs.Machines.{HasStack, IsSound, world_reach}
+use Rattle.icn_control.specs.Taking.{KeepsCounts}
+use Rattle.icn_control.specs.declared.machine.Machine.{Machine}
+use Rattle.icn_control.specs.declared.machine.Stage.{Stage}
+
+-- a stack runs, and what the machine keeps is sound
+pub record Stands {K : Type 0} (m : Machine K) : Type 0 where
+  pub runs : IsSome m.stacks.table.running
+  pub sound : (tables : Tables) × IsSound tables m
+
+-- A step that may halt: what is sound stays so, a stack runs where the run goes on (but where a hop is due), an error is
+-- about a value of the world, and the limits stay.
+pub record StaysSound {K : Type 0} (before after : Machine K) (result : Result Stage Halt) : Type 0 where
+  pub sound : (tables : Tables) → IsSound tables before → OnOk result (IsSound tables after)
+  pub halt : IfErr result (IsLiveHalt (world_reach after))
+  pub limits : after.limits ≡ before.limits
+  pub stack : IfOk result (HasStack after)
+
+-- the same of a step that never halts
+pub record GoesOnSound {K : Type 0} (before after : Machine K) (stage : Stage) : Type 0 where
+  pub sound : (tables : Tables) → IsSound tables before → IsSound tables after
+  pub limits : after.limits ≡ before.limits
+  pub stack : HasStack after stage
+
+-- the run goes on or halts under the same limits, and an error is about a value of the world
+pub record KeepsLimits {K A : Type 0} (before after : Machine K) (result : Result A Halt) : Type 0 where
+  pub halt : IfErr result (IsLiveHalt (world_reach after))
+  pub limits : after.limits ≡ before.limits
+
+-- What a call leaves of a world: all items stay what they are, and so do the counts of results where nothing halts; an error
+-- is about a value of it.
+pub record LeavesWorld {A : Type 0} (before after : World) (result : Result A Halt) : Type 0 where
+  pub kept : KeepsItems (reach_of before []) (reach_of after [])
+  pub counts : OnOk result (KeepsCounts before after)
+  pub halt : IfErr result (IsLiveHalt (reach_of after []))
+
+-- the world keeps its heap, and what it may name
+pub record KeepsHeap (before after : World) : Type 0 where
+  pub heap : after.heap ≡ before.heap
+  pub reach : reach_of after [] ≡ reach_of before []
