@@ -3,6 +3,10 @@ use Rattle.std.specs.Prelude.{map}
 use Rattle.icn_translate.specs.declared.marks.Open.{Open as KeptOpen}
 use Rattle.icn_translate.specs.declared.marks.Open.TheVariants as Kept
 use Rattle.icn_translate.specs.declared.builder.Builder.{Builder}
+use Rattle.icn_translate.specs.declared.builder.Pass.{Pass}
+use Rattle.icn_translate.specs.declared.builder.Pass.TheVariants.{At, NextResult}
+use Rattle.icn_unit.specs.declared.unit.UnitInstr.{UnitInstr}
+use Rattle.icn_unit.specs.declared.unit.UnitInstr.TheVariants as I
 use Rattle.icn_translate.specs.Drafts.{Draft}
 use Rattle.icn_translate.specs.Open.{Open, Outermost, Marked, Looped, Each}
 
@@ -22,3 +26,8 @@ draft_of b = record {
   loops = b.loops.items;
   cases = b.cases.items;
 }
+
+-- the instruction that goes on with the next pass of a loop
+abbrev pub pass_instr : Pass → UnitInstr
+pass_instr (At label) = I.Loop label
+pass_instr NextResult = I.Efail

@@ -1,12 +1,12 @@
 // The code of a procedure as far as it is written.
 ghost use Rattle.std.specs.Prelude.{◌≡◌, ◌+◌, ◌<◌, ◌≤◌, [], IfOk, OnOk, length, map};
-ghost use Rattle.icn_unit.specs.declared.unit.UnitInstr.TheVariants.{Cofail, Coret, Create as CreateInstr, Efail, Field as FieldInstr, Goto as GotoInstr, Lab as LabInstr, Loop as LoopInstr, Mark as MarkInstr};
+ghost use Rattle.icn_unit.specs.declared.unit.UnitInstr.TheVariants.{Cofail, Coret, Create as CreateInstr, Efail, Field as FieldInstr, Goto as GotoInstr, Lab as LabInstr, Mark as MarkInstr};
 ghost use Rattle.icn_translate.specs.Drafts.{case_end, end_number, in_case, in_loop, innermost, last_number, name_index, next_label, next_number, number_of, with_number, outside_case, outside_loop, put, put_end, put_last, put_next, put_variable, no_ways, with_end, with_label, with_last, with_name, with_next, ◌▹◌};
 ghost use Rattle.icn_translate.specs.Instructions.{literal_instr};
 ghost use Rattle.icn_translate.specs.Open.{unmarks_for_break, unmarks_for_next};
 ghost use Rattle.icn_translate.specs.Room.{IsRoomFor, TakesAtMost, numbers_given};
 ghost use Rattle.icn_translate.specs.Translation.{loop_end, put_mark};
-ghost use Rattle.icn_translate.specs.Views.{draft_of, open_of};
+ghost use Rattle.icn_translate.specs.Views.{draft_of, open_of, pass_instr};
 
 use crate::forms::literal_instr;
 use crate::marks::Open;
@@ -23,6 +23,15 @@ pub struct Ways {
     pub next: Option<u32>,
     /// The last label, which `break` goes to.
     pub last: Option<u32>,
+}
+
+/// How a loop goes on with its next pass.
+#[derive(Clone, Copy)]
+pub enum Pass {
+    /// At this label.
+    At(u32),
+    /// With the next result of its control expression.
+    NextResult,
 }
 
 /// The code of a procedure as far as it is written. Each call that may fail fails for want of memory. Its numbers have 32 bits:
@@ -311,17 +320,17 @@ impl<'a> Builder<'a> {
         Ok(label)
     }
 
-    /// Begins a loop with its first label, and gives the instruction that goes back there.
-    pub fn begin_loop(&mut self) -> Result<UnitInstr, AllocError>
+    /// Begins a loop with its first label.
+    pub fn begin_loop(&mut self) -> Result<u32, AllocError>
         requires { IsRoomFor 1 (draft_of self.old) }
-        ensures back { IfOk result (λ back. back ≡ LoopInstr (next_label (draft_of self.old))) }
+        ensures start { IfOk result (λ start. start ≡ next_label (draft_of self.old)) }
         ensures draft { OnOk result (draft_of self.new ≡ (draft_of self.old ▹ with_label
             ▹ put (LabInstr (next_label (draft_of self.old))) ▹ in_loop no_ways)) }
         ensures given { OnOk result (TakesAtMost 1 (draft_of self.old) (draft_of self.new)) }
     {
         let start = self.put_label()?;
         self.enter_loop(UNMENTIONED)?;
-        Ok(UnitInstr::Loop(start))
+        Ok(start)
     }
 
     /// Writes `mark` with the label that `next` goes to.
@@ -334,14 +343,14 @@ impl<'a> Builder<'a> {
         self.put(UnitInstr::Mark(label))
     }
 
-    /// Writes what ends a loop: the label that `next` goes to, an instruction, and the last label.
-    pub fn end_loop(&mut self, back: UnitInstr) -> Result<(), AllocError>
+    /// Writes what ends a loop: the label that `next` goes to, what goes on with the next pass, and the last label.
+    pub fn end_loop(&mut self, pass: Pass) -> Result<(), AllocError>
         requires { IsRoomFor 2 (draft_of self.old) }
-        ensures draft { OnOk result (draft_of self.new ≡ loop_end back (draft_of self.old)) }
+        ensures draft { OnOk result (draft_of self.new ≡ loop_end (pass_instr pass) (draft_of self.old)) }
         ensures given { OnOk result (TakesAtMost 2 (draft_of self.old) (draft_of self.new)) }
     {
         let next = self.next_label()?;
-        self.put_two(UnitInstr::Lab(next), back)?;
+        self.put_two(UnitInstr::Lab(next), pass_instr(pass))?;
         let last = self.last_label()?;
         self.put(UnitInstr::Lab(last))?;
         self.leave_loop();
@@ -448,4 +457,14 @@ pub fn enter_name<'a>(names: &mut IndexSet<&'a [u8]>, name: &'a [u8]) -> Result<
 {
     let (place, _) = names.insert_full(name)?;
     Ok(counted(place))
+}
+
+// The instruction that goes on with the next pass.
+fn pass_instr(pass: Pass) -> UnitInstr
+    ensures { result ≡ pass_instr pass }
+{
+    match pass {
+        Pass::At(label) => UnitInstr::Loop(label),
+        Pass::NextResult => UnitInstr::Efail,
+    }
 }

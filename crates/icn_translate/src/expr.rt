@@ -1,14 +1,15 @@
 // The code of expressions.
 ghost use Rattle.std.specs.Prelude.{◌≡◌, ◌+◌, IfOk, OnOk};
 ghost use Rattle.icn_tree.specs.TreeOf.{all_clauses_of, all_of, clause_of, tree_of};
-ghost use Rattle.icn_translate.specs.Drafts.{next_label};
-ghost use Rattle.icn_translate.specs.Open.{Marked, Outermost as OutermostOpen};
+ghost use Rattle.icn_unit.specs.declared.unit.UnitInstr.TheVariants as I;
+ghost use Rattle.icn_translate.specs.Drafts.{◌▹◌, aside, in_loop, next_label, no_ways, put, put_last, with_label};
+ghost use Rattle.icn_translate.specs.Open.{Looped, Marked, Outermost as OutermostOpen, around, unmarks_for_break};
 ghost use Rattle.icn_translate.specs.Numbers.{all_numbers, clause_numbers, numbers};
 ghost use Rattle.icn_translate.specs.Room.{IsRoomFor, TakesAtMost, default_numbers, guard_numbers, guarded_numbers};
-ghost use Rattle.icn_translate.specs.Translation.{alternative, arguments, back, bounded_code, case_of, compound, conjunction, control_part, create_code, creations, default_part, either_step, elements, guarded_part, guarded_clause, in_body, in_control, is_empty, is_no_element, looped_body, operands, other_creations, prefix_by, subscripts, translate, unless_empty};
-ghost use Rattle.icn_translate.specs.Views.{draft_of, open_of};
+ghost use Rattle.icn_translate.specs.Translation.{alternative, arguments, augmented_form, back, bounded_code, case_of, compound, conjunction, control_part, create_code, creations, default_part, either_step, elements, guarded_part, guarded_clause, in_body, in_control, is_empty, is_no_element, loop_end, looped_body, operands, other_creations, plain_form, prefix_by, put_mark, subscripts, translate, unless_empty};
+ghost use Rattle.icn_translate.specs.Views.{draft_of, open_of, pass_instr};
 
-use crate::builder::{Builder, UNMENTIONED, counted};
+use crate::builder::{Builder, Pass, UNMENTIONED, counted};
 use crate::forms::{InfixForm, PrefixForm, infix_form, keyword_instr, prefix_form, section_op};
 use crate::marks::{Open, around};
 use icn_text::Op;
@@ -32,29 +33,18 @@ impl<'a> Builder<'a> {
             Expr::Identifier { name } => self.put_variable(name.text.as_slice()),
             Expr::Keyword { name, .. } => self.put(keyword_instr(name.text.as_slice())),
             Expr::Parentheses { elements, .. } => self.put_conjunction(elements, within),
-            Expr::List { elements, .. } => {
-                let count = self.put_arguments(elements, within)?;
-                self.put(UnitInstr::Llist(count))
-            }
+            Expr::List { elements, .. } => self.put_list(elements, within),
             Expr::Compound { exprs, .. } => self.put_compound(exprs, within),
             Expr::Call {
                 callee,
                 arguments,
                 ..
-            } => {
-                self.put_expr(callee, within)?;
-                let count = self.put_arguments(arguments, within)?;
-                self.put(UnitInstr::Invoke(count))
-            }
+            } => self.put_call(callee, arguments, within),
             Expr::CoCall {
                 callee,
                 arguments,
                 ..
-            } => {
-                self.put_expr(callee, within)?;
-                let count = self.put_creations(arguments)?;
-                self.put_two(UnitInstr::Llist(count), UnitInstr::Invoke(1))
-            }
+            } => self.put_co_call(callee, arguments, within),
             Expr::Subscript {
                 subject,
                 subscripts,
@@ -70,8 +60,7 @@ impl<'a> Builder<'a> {
                 to,
                 ..
             } => {
-                self.put_expr(subject, within)?;
-                self.put_expr(from, within)?;
+                self.put_both(subject, from, within)?;
                 self.put_expr(to, within)?;
                 self.put(UnitInstr::Op(section_op(*kind)))
             }
@@ -84,97 +73,21 @@ impl<'a> Builder<'a> {
                 operand,
                 ..
             } => self.put_prefix(operand, prefix_form(*operator), within),
-            Expr::Not { operand, .. } => {
-                let label = self.put_mark()?;
-                self.put_expr(operand, Open::Mark(&within))?;
-                self.put_two(UnitInstr::Unmark, UnitInstr::Efail)?;
-                self.put_two(UnitInstr::Lab(label), UnitInstr::Pnull)
-            }
+            Expr::Not { operand, .. } => self.put_not(operand, within),
             Expr::Binary {
                 operator: Infix::Plain(operator),
                 left,
                 right,
                 ..
-            } => match infix_form(*operator) {
-                InfixForm::Both => {
-                    self.put_expr(left, within)?;
-                    self.put(UnitInstr::Pop)?;
-                    self.put_expr(right, within)
-                }
-                InfixForm::Scanning => {
-                    self.put_expr(left, within)?;
-                    self.put(UnitInstr::Bscan)?;
-                    self.put_expr(right, within)?;
-                    self.put(UnitInstr::Escan)
-                }
-                InfixForm::Either => {
-                    let label = self.put_mark()?;
-                    self.put_expr(left, Open::Mark(&within))?;
-                    self.put(UnitInstr::Esusp)?;
-                    self.put_alternative(right, label, within)
-                }
-                InfixForm::Limiting => {
-                    self.put_expr(right, within)?;
-                    self.put(UnitInstr::Limit)?;
-                    self.put_expr(left, Open::Mark(&within))?;
-                    self.put(UnitInstr::Lsusp)
-                }
-                InfixForm::Activating => {
-                    self.put_expr(left, within)?;
-                    self.put_expr(right, within)?;
-                    self.put(UnitInstr::Coact)
-                }
-                InfixForm::Spreading => {
-                    self.put_expr(left, within)?;
-                    self.put_expr(right, within)?;
-                    self.put(UnitInstr::Appl)
-                }
-                InfixForm::Operating(op) => {
-                    self.put_expr(left, within)?;
-                    self.put_expr(right, within)?;
-                    self.put(UnitInstr::Op(op))
-                }
-            },
+            } => self.put_infix(left, right, infix_form(*operator), within),
             Expr::Binary {
                 operator: Infix::Augmented(operator),
                 left,
                 right,
                 ..
-            } => match infix_form(*operator) {
-                InfixForm::Both => {
-                    self.put_expr(left, within)?;
-                    self.put_expr(right, within)?;
-                    self.put(UnitInstr::Op(Op::Assign))
-                }
-                InfixForm::Scanning => {
-                    self.put_expr(left, within)?;
-                    self.put_two(UnitInstr::Dup, UnitInstr::Bscan)?;
-                    self.put_expr(right, within)?;
-                    self.put_two(UnitInstr::Escan, UnitInstr::Op(Op::Assign))
-                }
-                InfixForm::Either | InfixForm::Limiting => Ok(()),
-                InfixForm::Activating => {
-                    self.put_expr(left, within)?;
-                    self.put(UnitInstr::Dup)?;
-                    self.put_expr(right, within)?;
-                    self.put_two(UnitInstr::Coact, UnitInstr::Op(Op::Assign))
-                }
-                InfixForm::Spreading => {
-                    self.put_expr(left, within)?;
-                    self.put(UnitInstr::Dup)?;
-                    self.put_expr(right, within)?;
-                    self.put_two(UnitInstr::Appl, UnitInstr::Op(Op::Assign))
-                }
-                InfixForm::Operating(op) => {
-                    self.put_expr(left, within)?;
-                    self.put(UnitInstr::Dup)?;
-                    self.put_expr(right, within)?;
-                    self.put_two(UnitInstr::Op(op), UnitInstr::Op(Op::Assign))
-                }
-            },
+            } => self.put_augmented(left, right, infix_form(*operator), within),
             Expr::To { from, to, by, .. } => {
-                self.put_expr(from, within)?;
-                self.put_expr(to, within)?;
+                self.put_both(from, to, within)?;
                 match by {
                     Some(by) => {
                         self.put_expr(by, within)?;
@@ -189,85 +102,424 @@ impl<'a> Builder<'a> {
                 otherwise,
                 ..
             } => match otherwise {
-                Some(otherwise) => {
-                    let label = self.put_mark()?;
-                    self.put_expr(condition, Open::Mark(&within))?;
-                    self.put(UnitInstr::Unmark)?;
-                    self.put_expr(then, within)?;
-                    self.put_alternative(otherwise, label, within)
-                }
-                None => {
-                    self.put(UnitInstr::Mark0)?;
-                    self.put_expr(condition, Open::Mark(&within))?;
-                    self.put(UnitInstr::Unmark)?;
-                    self.put_expr(then, within)
-                }
+                Some(otherwise) => self.put_if_else(condition, then, otherwise, within),
+                None => self.put_if(condition, then, within),
             },
             Expr::Case {
                 subject,
                 clauses,
                 ..
-            } => {
-                self.put(UnitInstr::Mark0)?;
-                self.put_expr(subject, Open::Mark(&within))?;
-                self.put(UnitInstr::Eret)?;
-                self.put_clauses(clauses, within)
-            }
+            } => self.put_case(subject, clauses, within),
             Expr::Loop {
                 kind,
                 control,
                 body,
                 ..
             } => {
-                let back = self.put_control(control, *kind, within)?;
-                match body {
-                    Some(body) => {
-                        self.put_looped(body, *kind, within)?;
-                        self.end_loop(back)
-                    }
-                    None => self.end_loop(back),
+                let pass = self.put_control(control, *kind, within)?;
+                if let Some(body) = body {
+                    self.put_looped(body, *kind, within)?;
                 }
+                self.end_loop(pass)
             }
-            Expr::Repeat { body, .. } => {
-                let back = self.begin_loop()?;
-                self.put_looped(body, LoopKind::While, within)?;
-                self.end_loop(back)
-            }
+            Expr::Repeat { body, .. } => self.put_repeat(body, within),
             Expr::Create { body, .. } => self.put_created(body),
             Expr::Next { .. } => {
                 self.put_unmarks_for_next(within)?;
                 self.put_next_goto()
             }
             Expr::Fail { .. } => self.put(UnitInstr::Pfail),
-            Expr::Break { value, .. } => {
-                self.put_unmarks_for_break(within)?;
-                let ways = self.leave_loop();
-                self.put_expr(value, around(within))?;
-                self.put_last_goto(ways)
-            }
-            Expr::Return { value, .. } => {
-                let label = self.put_mark()?;
-                self.put_expr(value, Open::Mark(&within))?;
-                self.put_two(UnitInstr::Pret, UnitInstr::Lab(label))?;
-                self.put(UnitInstr::Pfail)
-            }
+            Expr::Break { value, .. } => self.put_break(value, within),
+            Expr::Return { value, .. } => self.put_return(value, within),
             Expr::Suspend { value, body, .. } => {
-                let marked = Open::Mark(&within);
-                self.put(UnitInstr::Mark0)?;
-                self.put_expr(value, marked)?;
-                self.put_two(UnitInstr::Psusp, UnitInstr::Pop)?;
+                self.put_suspended(value, within)?;
                 match body {
-                    Some(body) => {
-                        self.put_bounded(body, Open::Mark(&marked))?;
-                        self.put(UnitInstr::Efail)
-                    }
+                    Some(body) => self.put_resumed(body, within)?,
                     None => {
                         self.put_label()?;
-                        self.put(UnitInstr::Efail)
                     }
                 }
+                self.put(UnitInstr::Efail)
             }
         }
+    }
+
+    // Two operands, one behind the other.
+    #[cycle(translate)]
+    fn put_both(
+        &mut self,
+        left: &'a Expr,
+        right: &'a Expr,
+        within: Open<'_>,
+    ) -> Result<(), AllocError>
+        requires { IsRoomFor (numbers (tree_of left.now) + numbers (tree_of right.now)) (draft_of self.old) }
+        ensures draft { OnOk result
+            (draft_of self.new ≡ (draft_of self.old ▹ translate (open_of within.entry) (tree_of left.now)
+            ▹ translate (open_of within.entry) (tree_of right.now))) }
+        ensures given { OnOk result
+            (TakesAtMost (numbers (tree_of left.now) + numbers (tree_of right.now)) (draft_of self.old)
+            (draft_of self.new)) }
+    {
+        self.put_expr(left, within)?;
+        self.put_expr(right, within)
+    }
+
+    // A list.
+    #[cycle(translate)]
+    fn put_list(&mut self, exprs: &'a [Expr], within: Open<'_>) -> Result<(), AllocError>
+        requires { IsRoomFor (all_numbers (all_of exprs.now)) (draft_of self.old) }
+        ensures draft { OnOk result
+            (draft_of self.new ≡ (draft_of self.old ▹ arguments (open_of within.entry) (all_of exprs.now)
+            ▹ put (I.Llist (elements (all_of exprs.now))))) }
+        ensures given { OnOk result
+            (TakesAtMost (all_numbers (all_of exprs.now)) (draft_of self.old) (draft_of self.new)) }
+    {
+        let count = self.put_arguments(exprs, within)?;
+        self.put(UnitInstr::Llist(count))
+    }
+
+    // A call.
+    #[cycle(translate)]
+    fn put_call(
+        &mut self,
+        callee: &'a Expr,
+        exprs: &'a [Expr],
+        within: Open<'_>,
+    ) -> Result<(), AllocError>
+        requires { IsRoomFor (numbers (tree_of callee.now) + all_numbers (all_of exprs.now))
+            (draft_of self.old) }
+        ensures draft { OnOk result
+            (draft_of self.new ≡ (draft_of self.old ▹ translate (open_of within.entry) (tree_of callee.now)
+            ▹ arguments (open_of within.entry) (all_of exprs.now)
+            ▹ put (I.Invoke (elements (all_of exprs.now))))) }
+        ensures given { OnOk result
+            (TakesAtMost (numbers (tree_of callee.now) + all_numbers (all_of exprs.now)) (draft_of self.old)
+            (draft_of self.new)) }
+    {
+        self.put_expr(callee, within)?;
+        let count = self.put_arguments(exprs, within)?;
+        self.put(UnitInstr::Invoke(count))
+    }
+
+    // A call with co-expressions.
+    #[cycle(translate)]
+    fn put_co_call(
+        &mut self,
+        callee: &'a Expr,
+        exprs: &'a [Expr],
+        within: Open<'_>,
+    ) -> Result<(), AllocError>
+        requires { IsRoomFor (numbers (tree_of callee.now) + all_numbers (all_of exprs.now))
+            (draft_of self.old) }
+        ensures draft { OnOk result
+            (draft_of self.new ≡ (draft_of self.old ▹ translate (open_of within.entry) (tree_of callee.now)
+            ▹ creations (all_of exprs.now)
+            ▹ put (I.Llist (elements (all_of exprs.now))) ▹ put (I.Invoke 1))) }
+        ensures given { OnOk result
+            (TakesAtMost (numbers (tree_of callee.now) + all_numbers (all_of exprs.now)) (draft_of self.old)
+            (draft_of self.new)) }
+    {
+        self.put_expr(callee, within)?;
+        let count = self.put_creations(exprs)?;
+        self.put_two(UnitInstr::Llist(count), UnitInstr::Invoke(1))
+    }
+
+    // `not`
+    #[cycle(translate)]
+    fn put_not(&mut self, operand: &'a Expr, within: Open<'_>) -> Result<(), AllocError>
+        requires { IsRoomFor (1 + numbers (tree_of operand.now)) (draft_of self.old) }
+        ensures draft { OnOk result
+            (draft_of self.new ≡ (draft_of self.old ▹ put_mark
+            ▹ translate (Marked (open_of within.entry)) (tree_of operand.now)
+            ▹ put I.Unmark ▹ put I.Efail ▹ put (I.Lab (next_label (draft_of self.old))) ▹ put I.Pnull)) }
+        ensures given { OnOk result
+            (TakesAtMost (1 + numbers (tree_of operand.now)) (draft_of self.old) (draft_of self.new)) }
+    {
+        let label = self.put_mark()?;
+        self.put_expr(operand, Open::Mark(&within))?;
+        self.put_two(UnitInstr::Unmark, UnitInstr::Efail)?;
+        self.put_two(UnitInstr::Lab(label), UnitInstr::Pnull)
+    }
+
+    // An operator between its operands.
+    #[cycle(translate)]
+    fn put_infix(
+        &mut self,
+        left: &'a Expr,
+        right: &'a Expr,
+        form: InfixForm,
+        within: Open<'_>,
+    ) -> Result<(), AllocError>
+        requires { IsRoomFor (2 + numbers (tree_of left.now) + numbers (tree_of right.now))
+            (draft_of self.old) }
+        ensures draft { OnOk result
+            (draft_of self.new ≡ plain_form form (translate (open_of within.entry) (tree_of left.now))
+            (translate (Marked (open_of within.entry)) (tree_of left.now))
+            (translate (open_of within.entry) (tree_of right.now))
+            (draft_of self.old)) }
+        ensures given { OnOk result
+            (TakesAtMost (2 + numbers (tree_of left.now) + numbers (tree_of right.now)) (draft_of self.old)
+            (draft_of self.new)) }
+    {
+        match form {
+            InfixForm::Both => {
+                self.put_expr(left, within)?;
+                self.put(UnitInstr::Pop)?;
+                self.put_expr(right, within)
+            }
+            InfixForm::Scanning => {
+                self.put_expr(left, within)?;
+                self.put(UnitInstr::Bscan)?;
+                self.put_expr(right, within)?;
+                self.put(UnitInstr::Escan)
+            }
+            InfixForm::Either => {
+                let label = self.put_mark()?;
+                self.put_expr(left, Open::Mark(&within))?;
+                self.put(UnitInstr::Esusp)?;
+                self.put_alternative(right, label, within)
+            }
+            InfixForm::Limiting => {
+                self.put_expr(right, within)?;
+                self.put(UnitInstr::Limit)?;
+                self.put_expr(left, Open::Mark(&within))?;
+                self.put(UnitInstr::Lsusp)
+            }
+            InfixForm::Activating => {
+                self.put_both(left, right, within)?;
+                self.put(UnitInstr::Coact)
+            }
+            InfixForm::Spreading => {
+                self.put_both(left, right, within)?;
+                self.put(UnitInstr::Appl)
+            }
+            InfixForm::Operating(op) => {
+                self.put_both(left, right, within)?;
+                self.put(UnitInstr::Op(op))
+            }
+        }
+    }
+
+    // A variable, once more, and an operand.
+    #[cycle(translate)]
+    fn put_doubled(
+        &mut self,
+        left: &'a Expr,
+        right: &'a Expr,
+        within: Open<'_>,
+    ) -> Result<(), AllocError>
+        requires { IsRoomFor (numbers (tree_of left.now) + numbers (tree_of right.now)) (draft_of self.old) }
+        ensures draft { OnOk result
+            (draft_of self.new ≡ (draft_of self.old ▹ translate (open_of within.entry) (tree_of left.now)
+            ▹ put I.Dup ▹ translate (open_of within.entry) (tree_of right.now))) }
+        ensures given { OnOk result
+            (TakesAtMost (numbers (tree_of left.now) + numbers (tree_of right.now)) (draft_of self.old)
+            (draft_of self.new)) }
+    {
+        self.put_expr(left, within)?;
+        self.put(UnitInstr::Dup)?;
+        self.put_expr(right, within)
+    }
+
+    // An operator with `:=` behind it.
+    #[cycle(translate)]
+    fn put_augmented(
+        &mut self,
+        left: &'a Expr,
+        right: &'a Expr,
+        form: InfixForm,
+        within: Open<'_>,
+    ) -> Result<(), AllocError>
+        requires { IsRoomFor (2 + numbers (tree_of left.now) + numbers (tree_of right.now))
+            (draft_of self.old) }
+        ensures draft { OnOk result
+            (draft_of self.new ≡ augmented_form form (translate (open_of within.entry) (tree_of left.now))
+            (translate (open_of within.entry) (tree_of right.now)) (draft_of self.old)) }
+        ensures given { OnOk result
+            (TakesAtMost (2 + numbers (tree_of left.now) + numbers (tree_of right.now)) (draft_of self.old)
+            (draft_of self.new)) }
+    {
+        match form {
+            InfixForm::Both => {
+                self.put_both(left, right, within)?;
+                self.put(UnitInstr::Op(Op::Assign))
+            }
+            InfixForm::Scanning => {
+                self.put_expr(left, within)?;
+                self.put_two(UnitInstr::Dup, UnitInstr::Bscan)?;
+                self.put_expr(right, within)?;
+                self.put_two(UnitInstr::Escan, UnitInstr::Op(Op::Assign))
+            }
+            InfixForm::Either | InfixForm::Limiting => Ok(()),
+            InfixForm::Activating => {
+                self.put_doubled(left, right, within)?;
+                self.put_two(UnitInstr::Coact, UnitInstr::Op(Op::Assign))
+            }
+            InfixForm::Spreading => {
+                self.put_doubled(left, right, within)?;
+                self.put_two(UnitInstr::Appl, UnitInstr::Op(Op::Assign))
+            }
+            InfixForm::Operating(op) => {
+                self.put_doubled(left, right, within)?;
+                self.put_two(UnitInstr::Op(op), UnitInstr::Op(Op::Assign))
+            }
+        }
+    }
+
+    // `if` without `else`
+    #[cycle(translate)]
+    fn put_if(
+        &mut self,
+        condition: &'a Expr,
+        then: &'a Expr,
+        within: Open<'_>,
+    ) -> Result<(), AllocError>
+        requires { IsRoomFor (2 + numbers (tree_of condition.now) + numbers (tree_of then.now))
+            (draft_of self.old) }
+        ensures draft { OnOk result
+            (draft_of self.new ≡ (draft_of self.old ▹ put I.Mark0
+            ▹ translate (Marked (open_of within.entry)) (tree_of condition.now) ▹ put I.Unmark
+            ▹ translate (open_of within.entry) (tree_of then.now))) }
+        ensures given { OnOk result
+            (TakesAtMost (2 + numbers (tree_of condition.now) + numbers (tree_of then.now))
+            (draft_of self.old) (draft_of self.new)) }
+    {
+        self.put(UnitInstr::Mark0)?;
+        self.put_expr(condition, Open::Mark(&within))?;
+        self.put(UnitInstr::Unmark)?;
+        self.put_expr(then, within)
+    }
+
+    // `if` with `else`
+    #[cycle(translate)]
+    fn put_if_else(
+        &mut self,
+        condition: &'a Expr,
+        then: &'a Expr,
+        otherwise: &'a Expr,
+        within: Open<'_>,
+    ) -> Result<(), AllocError>
+        requires { IsRoomFor (2 + numbers (tree_of condition.now) + numbers (tree_of then.now)
+            + numbers (tree_of otherwise.now)) (draft_of self.old) }
+        ensures draft { OnOk result
+            (draft_of self.new ≡ (draft_of self.old ▹ put_mark
+            ▹ translate (Marked (open_of within.entry)) (tree_of condition.now) ▹ put I.Unmark
+            ▹ translate (open_of within.entry) (tree_of then.now)
+            ▹ alternative (translate (open_of within.entry) (tree_of otherwise.now))
+            (next_label (draft_of self.old)))) }
+        ensures given { OnOk result
+            (TakesAtMost (2 + numbers (tree_of condition.now) + numbers (tree_of then.now)
+            + numbers (tree_of otherwise.now)) (draft_of self.old) (draft_of self.new)) }
+    {
+        let label = self.put_mark()?;
+        self.put_expr(condition, Open::Mark(&within))?;
+        self.put(UnitInstr::Unmark)?;
+        self.put_expr(then, within)?;
+        self.put_alternative(otherwise, label, within)
+    }
+
+    // `case`
+    #[cycle(translate)]
+    fn put_case(
+        &mut self,
+        subject: &'a Expr,
+        clauses: &'a [Clause],
+        within: Open<'_>,
+    ) -> Result<(), AllocError>
+        requires { IsRoomFor (1 + numbers (tree_of subject.now) + clause_numbers (all_clauses_of clauses.now))
+            (draft_of self.old) }
+        ensures draft { OnOk result
+            (draft_of self.new ≡ (draft_of self.old ▹ put I.Mark0
+            ▹ translate (Marked (open_of within.entry)) (tree_of subject.now) ▹ put I.Eret
+            ▹ case_of (guarded_part (open_of within.entry) (all_clauses_of clauses.now))
+            (default_part (open_of within.entry) (all_clauses_of clauses.now)))) }
+        ensures given { OnOk result
+            (TakesAtMost (1 + numbers (tree_of subject.now) + clause_numbers (all_clauses_of clauses.now))
+            (draft_of self.old) (draft_of self.new)) }
+    {
+        self.put(UnitInstr::Mark0)?;
+        self.put_expr(subject, Open::Mark(&within))?;
+        self.put(UnitInstr::Eret)?;
+        self.put_clauses(clauses, within)
+    }
+
+    // `repeat`
+    #[cycle(translate)]
+    fn put_repeat(&mut self, body: &'a Expr, within: Open<'_>) -> Result<(), AllocError>
+        requires { IsRoomFor (4 + numbers (tree_of body.now)) (draft_of self.old) }
+        ensures draft { OnOk result
+            (draft_of self.new ≡ (draft_of self.old ▹ with_label
+            ▹ put (I.Lab (next_label (draft_of self.old))) ▹ in_loop no_ways
+            ▹ looped_body (translate (Marked (Looped (open_of within.entry))) (tree_of body.now))
+            ▹ loop_end (I.Loop (next_label (draft_of self.old))))) }
+        ensures given { OnOk result
+            (TakesAtMost (4 + numbers (tree_of body.now)) (draft_of self.old) (draft_of self.new)) }
+    {
+        let start = self.begin_loop()?;
+        self.put_looped(body, LoopKind::While, within)?;
+        self.end_loop(Pass::At(start))
+    }
+
+    // `break`
+    #[cycle(translate)]
+    fn put_break(&mut self, value: &'a Expr, within: Open<'_>) -> Result<(), AllocError>
+        requires { IsRoomFor (1 + numbers (tree_of value.now)) (draft_of self.old) }
+        ensures draft { OnOk result
+            (draft_of self.new ≡ (draft_of self.old ▹ unmarks_for_break (open_of within.entry)
+            ▹ aside (translate (around (open_of within.entry)) (tree_of value.now)) ▹ put_last I.Goto)) }
+        ensures given { OnOk result
+            (TakesAtMost (1 + numbers (tree_of value.now)) (draft_of self.old) (draft_of self.new)) }
+    {
+        self.put_unmarks_for_break(within)?;
+        let ways = self.leave_loop();
+        self.put_expr(value, around(within))?;
+        self.put_last_goto(ways)
+    }
+
+    // `return`
+    #[cycle(translate)]
+    fn put_return(&mut self, value: &'a Expr, within: Open<'_>) -> Result<(), AllocError>
+        requires { IsRoomFor (1 + numbers (tree_of value.now)) (draft_of self.old) }
+        ensures draft { OnOk result
+            (draft_of self.new ≡ (draft_of self.old ▹ put_mark
+            ▹ translate (Marked (open_of within.entry)) (tree_of value.now)
+            ▹ put I.Pret ▹ put (I.Lab (next_label (draft_of self.old))) ▹ put I.Pfail)) }
+        ensures given { OnOk result
+            (TakesAtMost (1 + numbers (tree_of value.now)) (draft_of self.old) (draft_of self.new)) }
+    {
+        let label = self.put_mark()?;
+        self.put_expr(value, Open::Mark(&within))?;
+        self.put_two(UnitInstr::Pret, UnitInstr::Lab(label))?;
+        self.put(UnitInstr::Pfail)
+    }
+
+    // `suspend`, before its `do` part
+    #[cycle(translate)]
+    fn put_suspended(&mut self, value: &'a Expr, within: Open<'_>) -> Result<(), AllocError>
+        requires { IsRoomFor (numbers (tree_of value.now)) (draft_of self.old) }
+        ensures draft { OnOk result
+            (draft_of self.new ≡ (draft_of self.old ▹ put I.Mark0
+            ▹ translate (Marked (open_of within.entry)) (tree_of value.now) ▹ put I.Psusp ▹ put I.Pop)) }
+        ensures given { OnOk result
+            (TakesAtMost (numbers (tree_of value.now)) (draft_of self.old) (draft_of self.new)) }
+    {
+        self.put(UnitInstr::Mark0)?;
+        self.put_expr(value, Open::Mark(&within))?;
+        self.put_two(UnitInstr::Psusp, UnitInstr::Pop)
+    }
+
+    // The `do` part of `suspend`.
+    #[cycle(translate)]
+    fn put_resumed(&mut self, body: &'a Expr, within: Open<'_>) -> Result<(), AllocError>
+        requires { IsRoomFor (1 + numbers (tree_of body.now)) (draft_of self.old) }
+        ensures draft { OnOk result
+            (draft_of self.new ≡ (draft_of self.old
+            ▹ bounded_code (translate (Marked (Marked (open_of within.entry))) (tree_of body.now)))) }
+        ensures given { OnOk result
+            (TakesAtMost (1 + numbers (tree_of body.now)) (draft_of self.old) (draft_of self.new)) }
+    {
+        let marked = Open::Mark(&within);
+        self.put_bounded(body, Open::Mark(&marked))
     }
 
     // An operator before its operand.
@@ -337,16 +589,16 @@ impl<'a> Builder<'a> {
         self.put_two(UnitInstr::Unmark, UnitInstr::Lab(label))
     }
 
-    // A loop with its control expression, before its `do` part. The instruction goes on with the next pass.
+    // A loop with its control expression, before its `do` part, and how it goes on with the next pass.
     #[cycle(translate)]
     fn put_control(
         &mut self,
         control: &'a Expr,
         kind: LoopKind,
         within: Open<'_>,
-    ) -> Result<UnitInstr, AllocError>
+    ) -> Result<Pass, AllocError>
         requires { IsRoomFor (2 + numbers (tree_of control.now)) (draft_of self.old) }
-        ensures back { IfOk result (λ instr. instr ≡ back kind (next_label (draft_of self.old))) }
+        ensures pass { IfOk result (λ pass. pass_instr pass ≡ back kind (next_label (draft_of self.old))) }
         ensures draft { OnOk result (draft_of self.new ≡ control_part kind
             (translate (in_control kind (open_of within.entry)) (tree_of control.now)) (draft_of self.old)) }
         ensures given { OnOk result
@@ -356,26 +608,26 @@ impl<'a> Builder<'a> {
         let marked = Open::Mark(&looped);
         match kind {
             LoopKind::While => {
-                let back = self.begin_loop()?;
+                let start = self.begin_loop()?;
                 self.put(UnitInstr::Mark0)?;
                 self.put_expr(control, marked)?;
                 self.put(UnitInstr::Unmark)?;
-                Ok(back)
+                Ok(Pass::At(start))
             }
             LoopKind::Until => {
-                let back = self.begin_loop()?;
+                let start = self.begin_loop()?;
                 let label = self.put_mark()?;
                 self.put_expr(control, marked)?;
                 self.put_two(UnitInstr::Unmark, UnitInstr::Efail)?;
                 self.put(UnitInstr::Lab(label))?;
-                Ok(back)
+                Ok(Pass::At(start))
             }
             LoopKind::Every => {
                 self.enter_loop(UNMENTIONED)?;
                 self.put(UnitInstr::Mark0)?;
                 self.put_expr(control, Open::Each(&within))?;
                 self.put(UnitInstr::Pop)?;
-                Ok(UnitInstr::Efail)
+                Ok(Pass::NextResult)
             }
         }
     }

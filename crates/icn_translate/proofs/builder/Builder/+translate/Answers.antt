@@ -12,23 +12,11 @@ use Rattle.icn_translate.proofs.builder.Builder.+translate.Goals as goal
 pub put_expr-returns-in-Parentheses-clause-draft : goal.put_expr-returns-in-Parentheses-clause-draft
 put_expr-returns-in-Parentheses-clause-draft n c = search (rules, row_trees, the_lemmas)
 
-pub put_expr-returns-in_ok-count-in-List-clause-draft : goal.put_expr-returns-in_ok-count-in-List-clause-draft
-put_expr-returns-in_ok-count-in-List-clause-draft n c = search (rules, row_trees, the_lemmas)
-
 pub put_expr-returns-in-Compound-clause-draft : goal.put_expr-returns-in-Compound-clause-draft
 put_expr-returns-in-Compound-clause-draft n c = search (rules, row_trees, the_lemmas)
 
-pub put_expr-returns-in_ok-count-in-Call-clause-draft : goal.put_expr-returns-in_ok-count-in-Call-clause-draft
-put_expr-returns-in_ok-count-in-Call-clause-draft n c = search (rules, row_trees, the_lemmas)
-
-pub put_expr-returns-in_ok-count-in-CoCall-clause-draft : goal.put_expr-returns-in_ok-count-in-CoCall-clause-draft
-put_expr-returns-in_ok-count-in-CoCall-clause-draft n c = search (rules, row_trees, the_lemmas)
-
 pub put_expr-returns-in_ok-put_expr-in-Subscript-clause-draft : goal.put_expr-returns-in_ok-put_expr-in-Subscript-clause-draft
 put_expr-returns-in_ok-put_expr-in-Subscript-clause-draft n c = search (rules, row_trees, the_lemmas)
-
-pub put_expr-returns-in_ok-put-in-Case-2-clause-draft : goal.put_expr-returns-in_ok-put-in-Case-2-clause-draft
-put_expr-returns-in_ok-put-in-Case-2-clause-draft n c = search (rules, row_clauses, the_lemmas)
 
 pub put_arguments-returns-then-is_no_element-clause-count : goal.put_arguments-returns-then-is_no_element-clause-count
 put_arguments-returns-then-is_no_element-clause-count n c = no_count (all_of c.args.exprs.now) (sym c.is_no_element.ensures ∙ c.if-is_no_element.true)
@@ -118,78 +106,97 @@ put_expr-put_conjunction-requires n c =
     let room : numbers_given (draft_of c.args.self.now) + all_numbers (all_of c.deref.result.now) < 4294967296 = omega (arith, all, c.requires) in
     search (rules, row_trees, the_lemmas)
 
-pub put_expr-put_arguments-requires : goal.put_expr-put_arguments-requires
-put_expr-put_arguments-requires n c =
-    let all : numbers (tree_of c.args.expr.now) ≡ all_numbers (all_of c.deref-in-List.result.now) = search (rules, row_trees, the_lemmas) in
-    let room : numbers_given (draft_of c.args.self.now) + all_numbers (all_of c.deref-in-List.result.now) < 4294967296 = omega (arith, all, c.requires) in
-    search (rules, row_trees, the_lemmas)
-
 pub put_expr-put_compound-requires : goal.put_expr-put_compound-requires
 put_expr-put_compound-requires n c =
     let all : numbers (tree_of c.args.expr.now) ≡ all_numbers (all_of c.deref-in-Compound.result.now) = search (rules, row_trees, the_lemmas) in
     let room : numbers_given (draft_of c.args.self.now) + all_numbers (all_of c.deref-in-Compound.result.now) < 4294967296 = omega (arith, all, c.requires) in
     search (rules, row_trees, the_lemmas)
 
-pub put_expr-put_arguments-requires-in-Call : goal.put_expr-put_arguments-requires-in-Call
-put_expr-put_arguments-requires-in-Call n c =
-    let all : numbers (tree_of c.args.expr.now)
-    ≡ numbers (tree_of c.deref-in-Call.result.now) + all_numbers (all_of c.deref-in-Call-2.result.now) = search (rules, row_trees, the_lemmas) in
-    let room : numbers_given (draft_of c.put_expr.new.self) + all_numbers (all_of c.deref-in-Call-2.result.now)
-    < 4294967296 = omega (arith, all, c.in_ok-put_expr-in-Call.ensures.given, c.requires) in
-    search (rules, row_trees, the_lemmas)
-
-pub put_expr-put_creations-requires : goal.put_expr-put_creations-requires
-put_expr-put_creations-requires n c =
-    let all : numbers (tree_of c.args.expr.now)
-    ≡ numbers (tree_of c.deref-in-CoCall.result.now) + all_numbers (all_of c.deref-in-CoCall-2.result.now) = search (rules, row_trees, the_lemmas) in
-    let room : numbers_given (draft_of c.put_expr-in-CoCall.new.self) + all_numbers (all_of c.deref-in-CoCall-2.result.now)
-    < 4294967296 = omega (arith, all, c.in_ok-put_expr-in-CoCall.ensures.given, c.requires) in
-    search (rules, row_trees, the_lemmas)
-
-pub put_expr-put_subscripts-requires : goal.put_expr-put_subscripts-requires
-put_expr-put_subscripts-requires n c =
-    let all : numbers (tree_of c.args.expr.now)
-    ≡ numbers (tree_of c.deref-in-Subscript.result.now) + all_numbers (all_of c.deref-in-Subscript-2.result.now) = search (rules, row_trees, the_lemmas) in
-    let room : numbers_given (draft_of c.put_expr-in-Subscript.new.self) + all_numbers (all_of c.deref-in-Subscript-2.result.now)
-    < 4294967296 = omega (arith, all, c.in_ok-put_expr-in-Subscript.ensures.given, c.requires) in
-    search (rules, row_trees, the_lemmas)
-
-pub put_expr-put_clauses-requires : goal.put_expr-put_clauses-requires
-put_expr-put_clauses-requires n c =
-    let all : numbers (tree_of c.args.expr.now) ≡ 1 + numbers (tree_of c.deref-in-Case.result.now)
-    + clause_numbers (all_clauses_of c.deref-in-Case-2.result.now) = search (rules, row_clauses, the_lemmas) in
-    let room : numbers_given (draft_of c.put-in-Case-2.new.self) + (1 + clause_numbers (all_clauses_of c.deref-in-Case-2.result.now)) < 4294967296 =
-    omega (arith, all, c.in_ok-put-in-Case.ensures.given, c.in_ok-put_expr-in-Case.ensures.given, c.in_ok-put-in-Case-2.ensures.given, c.requires) in
-    search (rules, row_clauses, the_lemmas)
-
 pub put_expr-returns-in-Parentheses-clause-given : goal.put_expr-returns-in-Parentheses-clause-given
 put_expr-returns-in-Parentheses-clause-given n c =
     let all : numbers (tree_of c.args.expr.now) ≡ all_numbers (all_of c.deref.result.now) = search (rules, row_trees, the_lemmas) in
     on_ok c.put_conjunction.result _ _ c.put_conjunction.ensures.given (λ h. omega (arith, all, h))
-
-pub put_expr-returns-in_ok-count-in-List-clause-given : goal.put_expr-returns-in_ok-count-in-List-clause-given
-put_expr-returns-in_ok-count-in-List-clause-given n c =
-    let all : numbers (tree_of c.args.expr.now) ≡ all_numbers (all_of c.deref-in-List.result.now) = search (rules, row_trees, the_lemmas) in
-    on_ok c.put-in-List.result _ _ c.put-in-List.ensures.given (λ h. omega (arith, all, h, c.in_ok-count-in-List.ensures.given))
 
 pub put_expr-returns-in-Compound-clause-given : goal.put_expr-returns-in-Compound-clause-given
 put_expr-returns-in-Compound-clause-given n c =
     let all : numbers (tree_of c.args.expr.now) ≡ all_numbers (all_of c.deref-in-Compound.result.now) = search (rules, row_trees, the_lemmas) in
     on_ok c.put_compound.result _ _ c.put_compound.ensures.given (λ h. omega (arith, all, h))
 
-pub put_expr-returns-in_ok-count-in-Call-clause-given : goal.put_expr-returns-in_ok-count-in-Call-clause-given
-put_expr-returns-in_ok-count-in-Call-clause-given n c =
+pub put_expr-returns-in-List-clause-draft : goal.put_expr-returns-in-List-clause-draft
+put_expr-returns-in-List-clause-draft n c = search (rules, row_trees, the_lemmas)
+
+pub put_expr-returns-in-Call-clause-draft : goal.put_expr-returns-in-Call-clause-draft
+put_expr-returns-in-Call-clause-draft n c = search (rules, row_trees, the_lemmas)
+
+pub put_expr-returns-in-CoCall-clause-draft : goal.put_expr-returns-in-CoCall-clause-draft
+put_expr-returns-in-CoCall-clause-draft n c = search (rules, row_trees, the_lemmas)
+
+pub put_expr-returns-in-Case-clause-draft : goal.put_expr-returns-in-Case-clause-draft
+put_expr-returns-in-Case-clause-draft n c = search (rules, row_clauses, the_lemmas)
+
+pub put_expr-put_list-requires : goal.put_expr-put_list-requires
+put_expr-put_list-requires n c =
+    let all : numbers (tree_of c.args.expr.now)
+    ≡ all_numbers (all_of c.deref-in-List.result.now) = search (rules, row_trees, the_lemmas) in
+    let room : numbers_given (draft_of c.args.self.now) + (all_numbers (all_of c.deref-in-List.result.now))
+    < 4294967296 = omega (arith, all, c.requires) in
+    search (rules, row_trees, the_lemmas)
+
+pub put_expr-returns-in-List-clause-given : goal.put_expr-returns-in-List-clause-given
+put_expr-returns-in-List-clause-given n c =
+    let all : numbers (tree_of c.args.expr.now)
+    ≡ all_numbers (all_of c.deref-in-List.result.now) = search (rules, row_trees, the_lemmas) in
+    on_ok c.put_list.result _ _ c.put_list.ensures.given (λ h. omega (arith, all, h))
+
+pub put_expr-put_call-requires : goal.put_expr-put_call-requires
+put_expr-put_call-requires n c =
     let all : numbers (tree_of c.args.expr.now)
     ≡ numbers (tree_of c.deref-in-Call.result.now) + all_numbers (all_of c.deref-in-Call-2.result.now) = search (rules, row_trees, the_lemmas) in
-    on_ok c.put-in-Call.result
-    _ _ c.put-in-Call.ensures.given (λ h. omega (arith, all, h, c.in_ok-put_expr-in-Call.ensures.given, c.in_ok-count-in-Call.ensures.given))
+    let room : numbers_given (draft_of c.args.self.now) + (numbers (tree_of c.deref-in-Call.result.now) + all_numbers (all_of c.deref-in-Call-2.result.now))
+    < 4294967296 = omega (arith, all, c.requires) in
+    search (rules, row_trees, the_lemmas)
 
-pub put_expr-returns-in_ok-count-in-CoCall-clause-given : goal.put_expr-returns-in_ok-count-in-CoCall-clause-given
-put_expr-returns-in_ok-count-in-CoCall-clause-given n c =
+pub put_expr-returns-in-Call-clause-given : goal.put_expr-returns-in-Call-clause-given
+put_expr-returns-in-Call-clause-given n c =
+    let all : numbers (tree_of c.args.expr.now)
+    ≡ numbers (tree_of c.deref-in-Call.result.now) + all_numbers (all_of c.deref-in-Call-2.result.now) = search (rules, row_trees, the_lemmas) in
+    on_ok c.put_call.result _ _ c.put_call.ensures.given (λ h. omega (arith, all, h))
+
+pub put_expr-put_co_call-requires : goal.put_expr-put_co_call-requires
+put_expr-put_co_call-requires n c =
     let all : numbers (tree_of c.args.expr.now)
     ≡ numbers (tree_of c.deref-in-CoCall.result.now) + all_numbers (all_of c.deref-in-CoCall-2.result.now) = search (rules, row_trees, the_lemmas) in
-    on_ok c.put_two.result
-    _ _ c.put_two.ensures.given (λ h. omega (arith, all, h, c.in_ok-put_expr-in-CoCall.ensures.given, c.in_ok-count-in-CoCall.ensures.given))
+    let room : numbers_given (draft_of c.args.self.now) + (numbers (tree_of c.deref-in-CoCall.result.now) + all_numbers (all_of c.deref-in-CoCall-2.result.now))
+    < 4294967296 = omega (arith, all, c.requires) in
+    search (rules, row_trees, the_lemmas)
+
+pub put_expr-returns-in-CoCall-clause-given : goal.put_expr-returns-in-CoCall-clause-given
+put_expr-returns-in-CoCall-clause-given n c =
+    let all : numbers (tree_of c.args.expr.now)
+    ≡ numbers (tree_of c.deref-in-CoCall.result.now) + all_numbers (all_of c.deref-in-CoCall-2.result.now) = search (rules, row_trees, the_lemmas) in
+    on_ok c.put_co_call.result _ _ c.put_co_call.ensures.given (λ h. omega (arith, all, h))
+
+pub put_expr-put_case-requires : goal.put_expr-put_case-requires
+put_expr-put_case-requires n c =
+    let all : numbers (tree_of c.args.expr.now)
+    ≡ 1 + numbers (tree_of c.deref-in-Case.result.now) + clause_numbers (all_clauses_of c.deref-in-Case-2.result.now) = search (rules, row_clauses, the_lemmas) in
+    let room : numbers_given (draft_of c.args.self.now) + (1 + numbers (tree_of c.deref-in-Case.result.now) + clause_numbers (all_clauses_of c.deref-in-Case-2.result.now))
+    < 4294967296 = omega (arith, all, c.requires) in
+    search (rules, row_clauses, the_lemmas)
+
+pub put_expr-returns-in-Case-clause-given : goal.put_expr-returns-in-Case-clause-given
+put_expr-returns-in-Case-clause-given n c =
+    let all : numbers (tree_of c.args.expr.now)
+    ≡ 1 + numbers (tree_of c.deref-in-Case.result.now) + clause_numbers (all_clauses_of c.deref-in-Case-2.result.now) = search (rules, row_clauses, the_lemmas) in
+    on_ok c.put_case.result _ _ c.put_case.ensures.given (λ h. omega (arith, all, h))
+
+pub put_expr-put_subscripts-requires : goal.put_expr-put_subscripts-requires
+put_expr-put_subscripts-requires n c =
+    let all : numbers (tree_of c.args.expr.now)
+    ≡ numbers (tree_of c.deref-in-Subscript.result.now) + all_numbers (all_of c.deref-in-Subscript-2.result.now) = search (rules, row_trees, the_lemmas) in
+    let room : numbers_given (draft_of c.put_expr.new.self) + all_numbers (all_of c.deref-in-Subscript-2.result.now)
+    < 4294967296 = omega (arith, all, c.in_ok-put_expr-in-Subscript.ensures.given, c.requires) in
+    search (rules, row_trees, the_lemmas)
 
 pub put_expr-returns-in_ok-put_expr-in-Subscript-clause-given : goal.put_expr-returns-in_ok-put_expr-in-Subscript-clause-given
 put_expr-returns-in_ok-put_expr-in-Subscript-clause-given n c =
@@ -197,9 +204,41 @@ put_expr-returns-in_ok-put_expr-in-Subscript-clause-given n c =
     ≡ numbers (tree_of c.deref-in-Subscript.result.now) + all_numbers (all_of c.deref-in-Subscript-2.result.now) = search (rules, row_trees, the_lemmas) in
     on_ok c.put_subscripts.result _ _ c.put_subscripts.ensures.given (λ h. omega (arith, all, h, c.in_ok-put_expr-in-Subscript.ensures.given))
 
-pub put_expr-returns-in_ok-put-in-Case-2-clause-given : goal.put_expr-returns-in_ok-put-in-Case-2-clause-given
-put_expr-returns-in_ok-put-in-Case-2-clause-given n c =
-    let all : numbers (tree_of c.args.expr.now) ≡ 1 + numbers (tree_of c.deref-in-Case.result.now)
-    + clause_numbers (all_clauses_of c.deref-in-Case-2.result.now) = search (rules, row_clauses, the_lemmas) in
-    on_ok c.put_clauses.result _ _ c.put_clauses.ensures.given (λ h.
-    omega (arith, all, h, c.in_ok-put-in-Case.ensures.given, c.in_ok-put_expr-in-Case.ensures.given, c.in_ok-put-in-Case-2.ensures.given))
+pub put_both-put_expr-requires-2 : goal.put_both-put_expr-requires-2
+put_both-put_expr-requires-2 n c = omega (arith, c.in_ok-put_expr.ensures.given, c.requires)
+
+pub put_doubled-put_expr-requires-2 : goal.put_doubled-put_expr-requires-2
+put_doubled-put_expr-requires-2 n c = omega (arith, c.in_ok-put_expr.ensures.given, c.in_ok-put.ensures.given, c.requires)
+
+pub put_call-put_arguments-requires : goal.put_call-put_arguments-requires
+put_call-put_arguments-requires n c = omega (arith, c.in_ok-put_expr.ensures.given, c.requires)
+
+pub put_co_call-put_creations-requires : goal.put_co_call-put_creations-requires
+put_co_call-put_creations-requires n c = omega (arith, c.in_ok-put_expr.ensures.given, c.requires)
+
+pub put_case-put_clauses-requires : goal.put_case-put_clauses-requires
+put_case-put_clauses-requires n c = omega (arith, c.in_ok-put.ensures.given, c.in_ok-put_expr.ensures.given, c.in_ok-put-2.ensures.given, c.requires)
+
+pub put_if-put_expr-requires-2 : goal.put_if-put_expr-requires-2
+put_if-put_expr-requires-2 n c = omega (arith, c.in_ok-put.ensures.given, c.in_ok-put_expr.ensures.given, c.in_ok-put-2.ensures.given, c.requires)
+
+pub put_if_else-put_expr-requires-2 : goal.put_if_else-put_expr-requires-2
+put_if_else-put_expr-requires-2 n c = omega (arith, c.in_ok-label.ensures.given, c.in_ok-put_expr.ensures.given, c.in_ok-put.ensures.given, c.requires)
+
+pub put_if_else-put_alternative-requires : goal.put_if_else-put_alternative-requires
+put_if_else-put_alternative-requires n c = omega (arith, c.in_ok-label.ensures.given, c.in_ok-put_expr.ensures.given, c.in_ok-put.ensures.given, c.in_ok-put_expr-2.ensures.given, c.requires)
+
+pub put_infix-put_expr-requires-in-Both : goal.put_infix-put_expr-requires-in-Both
+put_infix-put_expr-requires-in-Both n c = omega (arith, c.in_ok-put_expr-in-Both.ensures.given, c.in_ok-put-in-Both.ensures.given, c.requires)
+
+pub put_infix-put_expr-requires-in-Scanning-2 : goal.put_infix-put_expr-requires-in-Scanning-2
+put_infix-put_expr-requires-in-Scanning-2 n c = omega (arith, c.in_ok-put_expr-in-Scanning.ensures.given, c.in_ok-put-in-Scanning.ensures.given, c.requires)
+
+pub put_infix-put_alternative-requires : goal.put_infix-put_alternative-requires
+put_infix-put_alternative-requires n c = omega (arith, c.in_ok-label-in-Either.ensures.given, c.in_ok-put_expr-in-Either.ensures.given, c.in_ok-put-in-Either.ensures.given, c.requires)
+
+pub put_infix-put_expr-requires-in-Limiting : goal.put_infix-put_expr-requires-in-Limiting
+put_infix-put_expr-requires-in-Limiting n c = omega (arith, c.requires)
+
+pub put_augmented-put_expr-requires-in-Scanning : goal.put_augmented-put_expr-requires-in-Scanning
+put_augmented-put_expr-requires-in-Scanning n c = omega (arith, c.in_ok-put_expr-in-Scanning.ensures.given, c.in_ok-put_two-in-Scanning.ensures.given, c.requires)
