@@ -8,3 +8,4 @@ mod Deciding
 mod Powers
 mod Fitting
 mod WrittenIntegers
+mod GrowingDigits

@@ -5,3 +5,5 @@ pub mod Keywords
 pub mod Ops
 pub mod RandomNumbers
 pub mod Reading
+pub mod WordNumbers
+pub mod WordTexts

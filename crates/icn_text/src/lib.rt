@@ -1,4 +1,4 @@
-//! Text and numbers, tied both ways, and the tables of operations, functions and keywords.
+//! Text and numbers, tied both ways, numbers as words of a command, and the tables of operations, functions and keywords.
 #![tactic(auto)]
 
 mod arithmetic;
@@ -9,6 +9,7 @@ mod keyword;
 mod laws;
 mod op;
 mod random;
+mod word_number;
 
 pub use arithmetic::{Arith, add, div, mul, power, rem, sub};
 pub use digits::{Digits, decimal};
@@ -18,3 +19,4 @@ pub use keyword::{Keyword, keyword_named};
 pub use laws::{decimal_read_back, found_integer, names_differ, one_integer};
 pub use op::Op;
 pub use random::{pick, random_step};
+pub use word_number::number_within;

@@ -5,7 +5,7 @@ use Rattle.std.specs.List.{list_all}
 use Rattle.std.specs.Option.{option_and_then, option_map, option_map_or}
 use Rattle.std.proofs.lemmas.Bool.Decides.{nat_tests}
 use Rattle.std.proofs.lemmas.Option.{none-some, same_Some}
-use Rattle.icn_words.specs.Numbers.{is_digit, number_within, value_from, within}
+use Rattle.icn_text.specs.WordNumbers.{is_digit, number_within, value_from, within}
 use Rattle.icont_words.specs.Words.{Order, WordsReading, Run, Task, Translate, Link, Generate, Asks, Faulty, ComeTo, behind_run, bound_of, files_task, number_of, order_of, own_words, run_of, task_of, wrong_kind}
 use Rattle.icont_units.proofs.ShortTexts.{both_second}
 

@@ -20,7 +20,7 @@ use Rattle.icont_words.specs.declared.words.WordsFault.TheVariants as WordsFault
 use Rattle.icont_words.specs.Asking.{IsReading, task_seen}
 use Rattle.icont_words.specs.Words.{Asks, ComeTo, Generate, Link, WordsReading, Run, Task, Translate, Faulty}
 use Rattle.icont_units.specs.Files.{files_named}
-use Rattle.icn_words.specs.Texts.{texts}
+use Rattle.icn_text.specs.WordTexts.{texts}
 use Rattle.icont_units.specs.Units.{Load, Member}
 use Rattle.icont_top.specs.Answered.{IsAnswered, IsCommanded, MissesText}
 use Rattle.icont_top.specs.Answering.{IsDone}

@@ -6,7 +6,7 @@ ghost use Rattle.icn_host.specs.Counts.{Rose};
 ghost use Rattle.icont_units.specs.Fetching.{IsOfLoading, files_seen};
 ghost use Rattle.icont_units.specs.Files.{files_named, sources_in};
 ghost use Rattle.icont_units.specs.Generated.{GeneratedComes};
-ghost use Rattle.icn_words.specs.Texts.{texts};
+ghost use Rattle.icn_text.specs.WordTexts.{texts};
 ghost use Rattle.icont_units.specs.Units.{Load};
 ghost use Rattle.icont_top.specs.Asking.{AreTranslated, IsProgramOf};
 ghost use Rattle.icont_top.specs.Basing.{first_named};

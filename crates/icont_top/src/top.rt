@@ -15,7 +15,7 @@ ghost use Rattle.icn_lines.specs.Reporting.{LineStands, Reports};
 ghost use Rattle.icn_lines.specs.Telling.{call_objects};
 ghost use Rattle.icont_words.specs.Asking.{run_seen};
 ghost use Rattle.icont_words.specs.Words.{Translate, Link, Generate, Asks, ComeTo};
-ghost use Rattle.icn_words.specs.Texts.{texts};
+ghost use Rattle.icn_text.specs.WordTexts.{texts};
 ghost use Rattle.icont_units.specs.Files.{files_named};
 ghost use Rattle.icont_units.specs.Generated.{sizes_line};
 ghost use Rattle.icn_lines.specs.InputLeft.{LosesSome};

@@ -1,6 +1,6 @@
 -- Which files names are.
 use Rattle.std.proofs.Common.{◌≡◌, ℕ, ◌-◌, Bool, true, false, not, ◌&&◌, ◌||◌, cond, nat_eq, List, [], ◌∷◌, ◌++◌, map, filter, length, take, Option, None, Some, option_map, MatchOption, Bor, refl, sym, ap, ◌∙◌, append-nil, if◌then◌else◌}
-use Rattle.icn_words.specs.Texts.{texts}
+use Rattle.icn_text.specs.WordTexts.{texts}
 use Rattle.std.specs.List.{ends_with, list_any}
 use Rattle.std.specs.Str.{bytes_eq}
 use Rattle.std.specs.Str.Pattern.{FindsTextSuffix, StripsSuffix}

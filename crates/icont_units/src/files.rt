@@ -1,6 +1,6 @@
 // The files that words name.
 ghost use Rattle.std.specs.Prelude.{◌≡◌, ◌∷◌, ◌++◌, List, IfOk, OnOk, string_bytes};
-ghost use Rattle.icn_words.specs.Texts.{texts};
+ghost use Rattle.icn_text.specs.WordTexts.{texts};
 ghost use Rattle.std.specs.Option.{option_map};
 ghost use Rattle.icont_units.specs.Files.{File as Named, base_before, file_named, file_without_icn, files_named, source, sources_in, ucode};
 ghost use Rattle.icont_units.specs.Fetching.{file_seen, files_seen, new_files};

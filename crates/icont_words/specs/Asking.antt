@@ -1,7 +1,7 @@
 -- How the code tells what the words come to.
 use Rattle.std.specs.Prelude.{ℕ, List, map, string_bytes, Result, Ok, Err}
 use Rattle.std.specs.Option.{option_map}
-use Rattle.icn_words.specs.Texts.{texts}
+use Rattle.icn_text.specs.WordTexts.{texts}
 use Rattle.icont_words.specs.declared.words.Run.{Run as RunHeld}
 use Rattle.icont_words.specs.declared.words.Task.{Task as TaskHeld}
 use Rattle.icont_words.specs.declared.words.Task.TheVariants as Held

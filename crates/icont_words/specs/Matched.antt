@@ -8,7 +8,7 @@ use Rattle.icont_words.specs.declared.order.Order.{Order as OrderHeld}
 use Rattle.icont_words.specs.declared.words.WordsFault.{WordsFault}
 use Rattle.icont_words.specs.declared.words.WordsFault.TheVariants.{Faulty, NoMemory}
 use Rattle.icont_words.specs.Words.{Piece, Image, Turns, Number, Order, Says, AreSaidOnce, first, has_units, names_said, own_words, values}
-use Rattle.icn_words.specs.Texts.{texts}
+use Rattle.icn_text.specs.WordTexts.{texts}
 
 -- an argument that was not used has no values
 abbrev pub values_found : List (List ℕ) → Option (List (List ℕ))

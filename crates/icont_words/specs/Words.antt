@@ -3,7 +3,7 @@ use Rattle.std.specs.Prelude.{◌≡◌, ◌≢◌, ℕ, ◌==◌, ◌||◌, ◌
 use Rattle.std.specs.Option.{option_map, option_and_then, option_map_or}
 use Rattle.std.specs.Str.{bytes_eq}
 use Rattle.icn_profile.specs.Numbers.{greatest_program}
-use Rattle.icn_words.specs.Numbers.{number_within}
+use Rattle.icn_text.specs.WordNumbers.{number_within}
 
 -- Pieces
 

@@ -3,8 +3,8 @@ ghost use Rattle.std.specs.Prelude.{◌≡◌, List, [], map, string_bytes, unwr
 ghost use Rattle.std.specs.Option.{option_map};
 ghost use Rattle.icn_profile.specs.Numbers.{greatest_program};
 ghost use Rattle.clap.specs.Words.{all_of, found_of, rows_of};
-ghost use Rattle.icn_words.specs.Numbers.{number_within};
-ghost use Rattle.icn_words.specs.Texts.{texts};
+ghost use Rattle.icn_text.specs.WordNumbers.{number_within};
+ghost use Rattle.icn_text.specs.WordTexts.{texts};
 ghost use Rattle.icont_words.specs.Words.{
   Piece,
   bound_of,
@@ -24,7 +24,7 @@ ghost use Rattle.icont_words.specs.Matched.{Holds, order_seen, text_of};
 use crate::words::{Run, Task};
 use clap::ArgMatches;
 use icn_profile::GREATEST_PROGRAM;
-use icn_words::number_within;
+use icn_text::number_within;
 use std::alloc::{AllocError, Global};
 
 const MOST_TURNS: u64 = u64::MAX;

@@ -6,7 +6,7 @@ use Rattle.icn_profile.specs.Numbers.{most_cells, most_levels, most_strings}
 use Rattle.icn_value.specs.Limited.{Bounds, default_limits}
 use Rattle.iconx_top.specs.declared.words.Limit.{Limit}
 use Rattle.iconx_top.specs.declared.words.Limit.TheVariants.{Turns, Strings, Cells, Levels}
-use Rattle.icn_words.specs.Numbers.{number_within}
+use Rattle.icn_text.specs.WordNumbers.{number_within}
 
 -- a run of an image under these limits with these arguments, or the way in which the first wrong word is wrong
 pub data WordsReading : Type 0 where

@@ -6,8 +6,8 @@ ghost use Rattle.iconx_top.specs.Words.{words_reading, image_asked, is_dashed, w
 ghost use Rattle.iconx_top.specs.Asking.{reading_of};
 
 use icn_profile::{MOST_CELLS, MOST_LEVELS, MOST_STRINGS};
+use icn_text::number_within;
 use icn_value::Limits;
-use icn_words::number_within;
 
 /// What the words ask for: a run of an image.
 #[derive(Clone, Copy)]

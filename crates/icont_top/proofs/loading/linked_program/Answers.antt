@@ -6,7 +6,7 @@ use Rattle.icont_units.specs.Units.{Load}
 use Rattle.icont_top.specs.Basing.{first_named}
 use Rattle.icont_top.proofs.FirstBase.{load_base}
 use Rattle.icont_top.proofs.LoadedProgram.{no_program_of, told_of}
-use Rattle.icn_words.specs.Texts.{texts}
+use Rattle.icn_text.specs.WordTexts.{texts}
 use Rattle.icont_top.proofs.loading.linked_program.Goals as goal
 
 pub returns-in-Ok-make-clause-program : goal.returns-in-Ok-make-clause-program

@@ -7,7 +7,7 @@ use Rattle.icont_units.specs.Files.{files_named, sources_in}
 use Rattle.icont_units.specs.Units.{Come, units_of}
 use Rattle.icont_top.specs.Writing.{bases}
 use Rattle.icont_top.proofs.FirstBase.{come_names}
-use Rattle.icn_words.specs.Texts.{texts}
+use Rattle.icn_text.specs.WordTexts.{texts}
 use Rattle.icont_top.proofs.WrittenTexts.{all_read, are_ucode}
 use Rattle.icont_top.proofs.loading.translated.Goals as goal
 

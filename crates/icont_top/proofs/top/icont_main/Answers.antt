@@ -9,7 +9,7 @@ use Rattle.icont_words.specs.Asking.{run_seen}
 use Rattle.icont_words.specs.Words.{Generate, Link, Translate}
 use Rattle.icont_top.proofs.AnswersGiven.{task_commanded}
 use Rattle.icont_top.proofs.WholeCommand.{answered_of, complete_by, headline_of, link_misses, names_asked, number_misses, outcome_of, task_asked, units_miss, words_called, words_done, words_end, words_miss, words_reported, written_of}
-use Rattle.icn_words.specs.Texts.{texts}
+use Rattle.icn_text.specs.WordTexts.{texts}
 use Rattle.icont_top.proofs.top.icont_main.Goals as goal
 
 pub returns-in-Ok-Translate-clause-outcome : goal.returns-in-Ok-Translate-clause-outcome

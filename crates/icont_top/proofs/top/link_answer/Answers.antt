@@ -4,7 +4,7 @@ use Rattle.icn_lines.proofs.Counts.{err_counts, refused_ends, absence_of}
 use Rattle.icn_lines.proofs.Leaving.{leaves_after, leaves_both}
 use Rattle.icn_lines.proofs.Reports.{reports_of}
 use Rattle.icn_lines.proofs.Telling.{at_some, if_some}
-use Rattle.icn_words.specs.Texts.{texts}
+use Rattle.icn_text.specs.WordTexts.{texts}
 use Rattle.icont_units.specs.Files.{files_named}
 use Rattle.icont_units.specs.Units.{Load}
 use Rattle.icont_top.specs.Job.{of_files}

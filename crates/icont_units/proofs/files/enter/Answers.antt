@@ -1,5 +1,5 @@
 use Rattle.std.proofs.Common.{◌++◌, ap, ◌∙◌}
-use Rattle.icn_words.specs.Texts.{texts}
+use Rattle.icn_text.specs.WordTexts.{texts}
 use Rattle.icont_units.specs.Files.{file_named}
 use Rattle.icont_units.specs.Fetching.{files_seen, new_files}
 use Rattle.icont_units.proofs.Naming.{known_file, new_file, was_known, was_new}

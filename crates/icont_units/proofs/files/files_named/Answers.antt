@@ -1,5 +1,5 @@
 use Rattle.std.proofs.Common.{drop}
-use Rattle.icn_words.specs.Texts.{texts}
+use Rattle.icn_text.specs.WordTexts.{texts}
 use Rattle.std.proofs.lemmas.List.{drop_all}
 use Rattle.icont_units.specs.Fetching.{files_seen}
 use Rattle.icont_units.proofs.Naming.{all_named}

@@ -1,5 +1,5 @@
 use Rattle.std.proofs.Common.{◌≡◌, [], ◌++◌, drop, map}
-use Rattle.icn_words.specs.Texts.{texts}
+use Rattle.icn_text.specs.WordTexts.{texts}
 use Rattle.icont_units.specs.Files.{file_named}
 use Rattle.icont_units.specs.Fetching.{files_seen, new_files}
 use Rattle.icont_units.proofs.files.files_named.Given as goal

@@ -1,6 +1,6 @@
 -- More digits make no smaller number.
 use Rattle.std.proofs.Common.{◌≡◌, ℕ, ◌+◌, ◌-◌, ◌*◌, ◌^◌, ◌≤◌, ap, List, [], ◌∷◌, arith}
-use Rattle.icn_words.specs.Numbers.{value_from}
+use Rattle.icn_text.specs.WordNumbers.{value_from}
 
 pub grows : (n : ℕ) (digits : List ℕ) → n ≤ value_from n digits
 grows n [] = omega arith

@@ -1,7 +1,7 @@
-// Numbers as words.
+// Numbers as words of a command.
 ghost use Rattle.std.specs.Prelude.{◌≡◌, ◌+◌, ◌-◌, ◌*◌, ◌≤◌, ◌^◌, MatchOption};
 ghost use Rattle.std.specs.List.{list_all};
-ghost use Rattle.icn_words.specs.Numbers.{is_digit, number_within, value_from};
+ghost use Rattle.icn_text.specs.WordNumbers.{is_digit, number_within, value_from};
 
 /// The number from `low` to `high` that one or more decimal digits write.
 pub fn number_within(text: &[u8], low: u64, high: u64) -> Option<u64>

@@ -1,6 +1,6 @@
 use Rattle.std.proofs.Common.{◌≡◌, length}
-use Rattle.icn_words.specs.Numbers.{value_from}
-use Rattle.icn_words.proofs.number.value.Given as goal
+use Rattle.icn_text.specs.WordNumbers.{value_from}
+use Rattle.icn_text.proofs.word_number.value.Given as goal
 
 abbrev pub invariant-loop-byte : goal.invariant-loop-byte
 invariant-loop-byte l = value_from l.value l.rest ≡ value_from 0 l.text

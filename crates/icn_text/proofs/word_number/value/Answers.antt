@@ -1,5 +1,5 @@
-use Rattle.icn_words.proofs.Digits.{too_large}
-use Rattle.icn_words.proofs.number.value.Goals as goal
+use Rattle.icn_text.proofs.GrowingDigits.{too_large}
+use Rattle.icn_text.proofs.word_number.value.Goals as goal
 
 pub returns-in_default-with_digit : goal.returns-in_default-with_digit
 returns-in_default-with_digit c =

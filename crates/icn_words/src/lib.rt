@@ -1,6 +1,0 @@
-//! Words of the commands.
-#![tactic(auto)]
-
-mod number;
-
-pub use number::number_within;
