@@ -17,9 +17,8 @@ ROUNDS = 5_000_000
 PROGRAM = """//! Two co-expressions that pass a value to and fro.
 #![tactic(auto)]
 
-use icn_cells::{Stack, VecStack};
 use icn_coexp::Stacks;
-use icn_frames::{Cell, Frames};
+use icn_frames::{Cell, Frames, Stack, VecStack};
 use icn_value::Val;
 use std::alloc::{AllocError, Global};
 use std::process::ExitCode;
@@ -105,7 +104,7 @@ def written(folder, lines, names):
     with open(os.path.join(folder, "crates.txt"), "w") as file:
         for name in names:
             file.write("%s: %s\n" % (name, " ".join(lines[name])))
-        file.write("transfer_times: icn_cells icn_frames icn_coexp icn_value\n")
+        file.write("transfer_times: icn_frames icn_coexp icn_value\n")
     subprocess.run(["git", "init", "-q", "."], cwd=folder, check=True)
 
 

@@ -3,9 +3,8 @@
 
 #[cfg(test)]
 mod tests {
-    use icn_cells::{Stack, VecStack};
     use icn_coexp::{Stacks, Went};
-    use icn_frames::{Cell, Frames};
+    use icn_frames::{Cell, Frames, Stack, VecStack};
     use icn_value::Val;
     use std::alloc::{AllocError, Global};
     use std::process::Abort;

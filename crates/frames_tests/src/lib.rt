@@ -6,8 +6,7 @@ ghost use Rattle.icn_frames.specs.Stacks.{GoesOn};
 
 #[cfg(test)]
 mod tests {
-    use icn_cells::{Stack, VecStack};
-    use icn_frames::{Cell, Frames, Why};
+    use icn_frames::{Cell, Frames, Stack, VecStack, Why};
     use icn_value::{Item, Pair, Residual, Span, Val};
     use std::alloc::{AllocError, Global};
     use std::process::Abort;

@@ -20,10 +20,9 @@ ghost use Rattle.icn_control.specs.Taking.{KeepsCounts};
 ghost use Rattle.icn_control.specs.Soundness.{LeavesWorld};
 
 use crate::arguments::{add_nulls, fit};
-use icn_cells::Stack;
 use icn_code::Code;
 use icn_control::list_of;
-use icn_frames::{Cell, Frames};
+use icn_frames::{Cell, Frames, Stack};
 use icn_value::{Limits, Val};
 use icn_vars::{Halt, Stop, World};
 use std::alloc::AllocError;

@@ -19,10 +19,9 @@ ghost use Rattle.icn_control.specs.Taking.{KeepsCounts, MakesValue};
 ghost use Rattle.icn_control.specs.Soundness.{LeavesWorld};
 
 use crate::arguments::fit;
-use icn_cells::Stack;
 use icn_code::Code;
 use icn_control::Activation;
-use icn_frames::{Cell, Frames};
+use icn_frames::{Cell, Frames, Stack};
 use icn_structfn::new_record;
 use icn_value::{Item, Val};
 use icn_vars::{Halt, Stop, World};

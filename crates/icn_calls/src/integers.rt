@@ -16,10 +16,9 @@ ghost use Rattle.icn_control.specs.Parts.{HaltsWith, StandsWith};
 ghost use Rattle.icn_control.specs.Standing.{stack_in};
 ghost use Rattle.icn_calls.specs.Calling.{IsGoing};
 
-use icn_cells::Stack;
 use icn_control::Stage;
 use icn_convert::to_integer;
-use icn_frames::{Cell, Frames};
+use icn_frames::{Cell, Frames, Stack};
 use icn_heap::Heap;
 use icn_value::{Item, Val};
 use icn_vars::{Halt, World, place_of};

@@ -21,10 +21,9 @@ use crate::callees::{Callee, callee_of};
 use crate::calling::call_procedure;
 use crate::constructors::construct;
 use crate::integers::call_integer;
-use icn_cells::Stack;
 use icn_code::Code;
 use icn_control::{Stage, values_of};
-use icn_frames::{Cell, Frames};
+use icn_frames::{Cell, Frames, Stack};
 use icn_value::{Item, Limits, Val};
 use icn_vars::{Halt, World};
 

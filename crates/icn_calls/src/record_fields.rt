@@ -16,10 +16,9 @@ ghost use Rattle.icn_control.specs.Standing.{stack_in};
 ghost use Rattle.icn_calls.specs.Calling.{field_count, is_number};
 
 use crate::callees::record_count;
-use icn_cells::Stack;
 use icn_code::Code;
 use icn_control::value_of;
-use icn_frames::{Cell, Frames};
+use icn_frames::{Cell, Frames, Stack};
 use icn_value::{Item, Root, Val, VarRef};
 use icn_vars::{Halt, World};
 

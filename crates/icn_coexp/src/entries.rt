@@ -7,8 +7,7 @@ ghost use Rattle.icn_coexp.specs.Keeping.{status_seen, status_at, status_put, ac
 ghost use Rattle.icn_coexp.specs.declared.entries.Running.TheVariants as Runnings;
 ghost use Rattle.icn_coexp.specs.declared.entries.Status.TheVariants as Statuses;
 
-use icn_cells::Stack;
-use icn_frames::{Cell, Frames};
+use icn_frames::{Cell, Frames, Stack};
 use icn_value::{Item, Val};
 use std::mem;
 

@@ -6,8 +6,7 @@ ghost use Rattle.icn_coexp.specs.Transfers.{first_table, source, status_of, valu
 use crate::entries::{
     Entry, Running, Status, fail_to, give_to, is_exhausted, replace_status, set_activator, wait,
 };
-use icn_cells::Stack;
-use icn_frames::{Cell, Frames};
+use icn_frames::{Cell, Frames, Stack};
 use icn_value::Val;
 use std::alloc::{AllocError, Global};
 use std::marker::Model;

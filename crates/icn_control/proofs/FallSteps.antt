@@ -1,7 +1,7 @@
 -- Steps of failing.
 use Rattle.std.proofs.Common.{◌≡◌, ◌≢◌, ℕ, Bool, true, false, Option, Some, None, is_none, IsSome, refl, sym, ap, ◌∙◌, subst}
 use Rattle.std.specs.Option.{option_map, option_and_then}
-use Rattle.icn_cells.specs.Heights.{cut}
+use Rattle.icn_frames.specs.Heights.{cut}
 use Rattle.icn_value.specs.declared.item.Pair.{Pair as HeldPair}
 use Rattle.icn_value.specs.declared.residual.Residual.{Residual as HeldResidual}
 use Rattle.icn_value.specs.Store.{World as StoreWorld}

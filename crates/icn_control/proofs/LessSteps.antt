@@ -3,7 +3,7 @@ use Rattle.std.proofs.Common.{◌≡◌, ℕ, suc, ◌-◌, ◌<◌, ◌≤◌, 
 use Rattle.std.specs.Option.{option_and_then}
 use Rattle.std.proofs.lemmas.Option.{same_Some}
 use Rattle.std.proofs.lemmas.List.{length-set}
-use Rattle.icn_cells.specs.Heights.{cut, cell_at}
+use Rattle.icn_frames.specs.Heights.{cut, cell_at}
 use Rattle.icn_value.specs.declared.item.Pair.{Pair}
 use Rattle.icn_frames.specs.declared.layout.Why.{Why}
 use Rattle.icn_frames.specs.declared.layout.Why.TheVariants.{Alt, Op, Scan, Escan, Proc}

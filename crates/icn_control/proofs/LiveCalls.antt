@@ -1,7 +1,7 @@
 -- What each call of a stack leaves is of the world.
 use Rattle.std.proofs.Common.{◌≡◌, ℕ, suc, ◌-◌, ◌<◌, ◌≤◌, false, List, [], ◌∷◌, length, drop, Option, Some, None, refl, sym, ap, ◌∙◌, subst, arith}
 use Rattle.std.proofs.lemmas.Option.{same_Some}
-use Rattle.icn_cells.specs.Heights.{cell_at, cut}
+use Rattle.icn_frames.specs.Heights.{cell_at, cut}
 use Rattle.icn_value.specs.declared.item.Item.{Item}
 use Rattle.icn_value.specs.declared.item.Item.TheVariants.{Val as HeldVal}
 use Rattle.icn_value.specs.declared.val.Val.TheVariants.{Null}

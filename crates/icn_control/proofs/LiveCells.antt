@@ -1,7 +1,7 @@
 -- What stays of the world on a stack whose cells change.
 use Rattle.std.proofs.Common.{◌≡◌, ℕ, zero, suc, ◌-◌, ◌≤◌, List, [], ◌∷◌, length, drop, slice_get, Option, Some, None, inl, inr, refl, sym, ap, ◌∙◌, subst, arith, length-drop}
 use Rattle.std.proofs.lemmas.Bool.{cases_lt}
-use Rattle.icn_cells.specs.Heights.{cell_at, cut}
+use Rattle.icn_frames.specs.Heights.{cell_at, cut}
 use Rattle.icn_value.specs.declared.item.Item.{Item}
 use Rattle.icn_vars.specs.Worlds.{Reach}
 use Rattle.icn_frames.specs.declared.layout.Why.{Why}

@@ -4,7 +4,7 @@ use Rattle.std.specs.Option.{option_and_then}
 use Rattle.std.specs.List.{All}
 use Rattle.std.proofs.lemmas.List.Elements.{All-head, All-tail}
 use Rattle.std.proofs.lemmas.Option.{same_Some}
-use Rattle.icn_cells.specs.Heights.{cell_at, cut, set_cell}
+use Rattle.icn_frames.specs.Heights.{cell_at, cut, set_cell}
 use Rattle.icn_value.specs.declared.val.Val.{Val}
 use Rattle.icn_value.specs.declared.item.Pair.{Pair}
 use Rattle.icn_heap.specs.Extents.{IsLive}

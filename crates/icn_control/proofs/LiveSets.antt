@@ -2,7 +2,7 @@
 use Rattle.std.proofs.Common.{◌≡◌, ℕ, zero, suc, ◌-◌, ◌<◌, ◌≤◌, true, false, List, [], ◌∷◌, length, drop, slice_get, slice_set, Option, Some, None, is_none, refl, sym, ap, ◌∙◌, subst, arith}
 use Rattle.std.proofs.lemmas.Option.{same_Some}
 use Rattle.std.proofs.lemmas.List.{length-set}
-use Rattle.icn_cells.specs.Heights.{cell_at, cut, set_cell}
+use Rattle.icn_frames.specs.Heights.{cell_at, cut, set_cell}
 use Rattle.icn_value.specs.declared.item.Item.{Item}
 use Rattle.icn_value.specs.declared.item.Pair.{Pair}
 use Rattle.icn_vars.specs.Worlds.{Reach, IsLiveItem}

@@ -3,7 +3,7 @@ use Rattle.std.proofs.Common.{◌≡◌, ℕ, zero, suc, ◌-◌, true, false, L
 use Rattle.std.specs.Option.{option_map}
 use Rattle.std.specs.Prelude.{IsErrAnd}
 use Rattle.std.proofs.lemmas.Option.{same_Some}
-use Rattle.icn_cells.specs.Heights.{cell_at}
+use Rattle.icn_frames.specs.Heights.{cell_at}
 use Rattle.icn_value.specs.declared.val.Val.{Val}
 use Rattle.icn_value.specs.declared.item.Root.{Root}
 use Rattle.icn_value.specs.declared.item.Root.TheVariants as Roots

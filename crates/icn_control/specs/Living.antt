@@ -2,7 +2,7 @@
 use Rattle.std.specs.Prelude.{◌≡◌, ℕ, ◌+◌, ◌<◌, ◌≤◌, List, [], ◌∷◌, length, slice_get, Option, None, Some, ⊤}
 use Rattle.std.specs.Option.{option_map_or}
 use Rattle.icn_profile.specs.Numbers.{most_levels}
-use Rattle.icn_cells.specs.Heights.{cell_at}
+use Rattle.icn_frames.specs.Heights.{cell_at}
 use Rattle.icn_value.specs.declared.item.Pair.{Pair}
 use Rattle.icn_heap.specs.Extents.{Extent, IsLive, IsText, text_in}
 use Rattle.icn_vars.specs.Worlds.{Reach, IsLiveItem}

@@ -1,8 +1,7 @@
 // The locals of the activation that runs.
 ghost use Rattle.icn_frames.specs.Stacks as flat;
 
-use icn_cells::Stack;
-use icn_frames::{Cell, Frames};
+use icn_frames::{Cell, Frames, Stack};
 use icn_value::Val;
 use icn_vars::Locals;
 

@@ -16,8 +16,7 @@ ghost use Rattle.icn_control.specs.Soundness.{KeepsHeap};
 
 use crate::scans::swap_pairs;
 use crate::world::set_pair;
-use icn_cells::Stack;
-use icn_frames::{Cell, Frames, Why};
+use icn_frames::{Cell, Frames, Stack, Why};
 use icn_value::Residual;
 use icn_vars::World;
 

@@ -11,8 +11,7 @@ ghost use Rattle.icn_control.specs.Soundness.{Stands};
 
 use crate::failing::{Due, fall};
 use crate::machine::Machine;
-use icn_cells::Stack;
-use icn_frames::Cell;
+use icn_frames::{Cell, Stack};
 
 /// One step of failing, but for the turns and the ends that are due after it. It takes no memory.
 pub fn fail_once<K: Stack<Cell> + Drop>(m: &mut Machine<K>) -> Due

@@ -11,9 +11,8 @@ ghost use Rattle.icn_control.specs.Machines.{StandsAt, stack_seen, store_seen};
 ghost use Rattle.icn_control.specs.Soundness.{GoesOnSound};
 
 use crate::machine::{Machine, Stage};
-use icn_cells::Stack;
 use icn_coexp::Went;
-use icn_frames::Cell;
+use icn_frames::{Cell, Stack};
 
 /// The expression of the active co-expression, which must not be `&main`, fails, as a turn: it is exhausted, and what entered
 /// it last is entered with failure. It takes no memory.

@@ -8,8 +8,7 @@ ghost use Rattle.icn_control.specs.Machines.{IsSound, StandsAt, does, stack_of};
 ghost use Rattle.icn_control.specs.declared.machine.Stage.TheVariants as Stages;
 
 use crate::machine::Machine;
-use icn_cells::Stack;
-use icn_frames::Cell;
+use icn_frames::{Cell, Stack};
 
 /// Goes to a label where the procedure that runs did its `initial` before, and else notes that it does. It takes no memory.
 pub fn init<K: Stack<Cell> + Drop>(m: &mut Machine<K>, label: u32)

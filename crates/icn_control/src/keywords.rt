@@ -18,8 +18,7 @@ ghost use Rattle.icn_control.specs.Machines.{HasStack, IsSound, StandsAt, does};
 ghost use Rattle.icn_control.specs.Soundness.{Stands};
 
 use crate::machine::{Machine, Stage};
-use icn_cells::Stack;
-use icn_frames::Cell;
+use icn_frames::{Cell, Stack};
 use icn_text::Keyword;
 use icn_value::{Cset, File, Item, KeywordVariable, Root, Val, VarRef};
 use std::alloc::AllocError;

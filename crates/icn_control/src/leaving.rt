@@ -10,8 +10,7 @@ ghost use Rattle.icn_control.specs.Soundness.{GoesOnSound, Stands};
 use crate::hops::exhaust;
 use crate::machine::{Machine, Stage};
 use crate::returns::leave_failing;
-use icn_cells::Stack;
-use icn_frames::Cell;
+use icn_frames::{Cell, Stack};
 
 /// Ends what fails and has no mark left: a create body is exhausted, as a turn, and a procedure fails in its caller. It takes
 /// no memory.

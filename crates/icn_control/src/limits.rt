@@ -10,9 +10,8 @@ ghost use Rattle.icn_control.specs.Parts.{ComesWith, natural_of};
 
 use crate::machine::Stage;
 use crate::values::value_of;
-use icn_cells::Stack;
 use icn_convert::to_integer;
-use icn_frames::{Cell, Frames};
+use icn_frames::{Cell, Frames, Stack};
 use icn_vars::{Halt, World};
 
 /// Opens a limit mark, with the value of the top operand as its count. At 0 it fails.

@@ -17,8 +17,7 @@ ghost use Rattle.icn_control.specs.Taking.{push_list, take_operands};
 use crate::machine::{Machine, Stage};
 use crate::operands::take_operands;
 use crate::values::{list_of, values_of};
-use icn_cells::Stack;
-use icn_frames::{Cell, Frames};
+use icn_frames::{Cell, Frames, Stack};
 use icn_value::{Item, Val};
 use icn_vars::{Halt, World};
 

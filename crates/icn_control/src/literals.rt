@@ -9,9 +9,8 @@ ghost use Rattle.icn_run.specs.Step.{statics_before};
 ghost use Rattle.icn_control.specs.Living.{IsLiveStack, StaysLive};
 ghost use Rattle.icn_control.specs.Standing.{GoesOn, GoesOnIn};
 
-use icn_cells::Stack;
 use icn_code::Code;
-use icn_frames::{Cell, Frames};
+use icn_frames::{Cell, Frames, Stack};
 use icn_value::{Cset, Item, Root, Val, VarRef};
 use std::alloc::AllocError;
 

@@ -1,7 +1,6 @@
 // The machine.
-use icn_cells::Stack;
 use icn_coexp::Stacks;
-use icn_frames::Cell;
+use icn_frames::{Cell, Stack};
 use icn_value::Limits;
 use icn_vars::World;
 

@@ -11,8 +11,7 @@ ghost use Rattle.icn_control.specs.declared.machine.Stage.TheVariants as Stages;
 use crate::machine::Machine;
 use crate::on_stack::{drop_mark, give_limited};
 use crate::world::restore_pair;
-use icn_cells::Stack;
-use icn_frames::Cell;
+use icn_frames::{Cell, Stack};
 use std::alloc::AllocError;
 
 /// Drops the innermost mark, which must not be the frame, with all above it. It takes no memory.

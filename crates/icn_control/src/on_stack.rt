@@ -7,8 +7,7 @@ ghost use Rattle.icn_frames.specs.Stacks as flat;
 ghost use Rattle.icn_control.specs.Living.{MaybeStaysLive, StaysLive};
 ghost use Rattle.icn_control.specs.Standing.{GoesOn, GoesOnLeaving, mark_of};
 
-use icn_cells::Stack;
-use icn_frames::{Cell, Frames, Why};
+use icn_frames::{Cell, Frames, Stack, Why};
 use icn_value::{Item, Pair, Val};
 use std::alloc::AllocError;
 

@@ -21,8 +21,7 @@ use crate::on_stack::put;
 use crate::scans::swap_if_scanning;
 use crate::values::value_of;
 use crate::world::restore_pair;
-use icn_cells::Stack;
-use icn_frames::{Cell, Frames, Why};
+use icn_frames::{Cell, Frames, Stack, Why};
 use icn_value::{Item, Root, VarRef};
 use icn_vars::{Halt, Stop, World};
 

@@ -14,8 +14,7 @@ ghost use Rattle.icn_run.specs.Step.{State, Store, maybe_exchanged, pair_now, wi
 ghost use Rattle.icn_control.specs.Soundness.{KeepsHeap};
 
 use crate::world::set_pair;
-use icn_cells::Stack;
-use icn_frames::{Cell, Frames, Why};
+use icn_frames::{Cell, Frames, Stack, Why};
 use icn_vars::{Halt, World};
 
 /// Exchanges the pair of the world with that of the oldest open scan of the procedure, or of the newest one. One must be open.

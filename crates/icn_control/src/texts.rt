@@ -12,9 +12,8 @@ ghost use Rattle.icn_control.specs.Living.{IsLiveStack};
 ghost use Rattle.icn_control.specs.Parts.{RunsWith};
 ghost use Rattle.icn_control.specs.Standing.{instruction_state};
 
-use icn_cells::Stack;
 use icn_code::Code;
-use icn_frames::{Cell, Frames};
+use icn_frames::{Cell, Frames, Stack};
 use icn_value::{Item, Span, Val};
 use icn_vars::World;
 use std::alloc::AllocError;

@@ -13,8 +13,7 @@ ghost use Rattle.icn_control.specs.Soundness.{GoesOnSound, Stands};
 
 use crate::machine::{Machine, Stage};
 use crate::scans::swap_if_scanning;
-use icn_cells::Stack;
-use icn_frames::Cell;
+use icn_frames::{Cell, Stack};
 
 /// Goes back to a label, as a turn. It takes no memory.
 pub fn go_back<K: Stack<Cell> + Drop>(m: &mut Machine<K>, label: u32) -> Stage

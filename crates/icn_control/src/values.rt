@@ -17,8 +17,7 @@ ghost use Rattle.icn_control.specs.Taking.{FindsValues, KeepsCounts, MakesValue}
 
 use crate::activation::Activation;
 use icn_args::new_list;
-use icn_cells::Stack;
-use icn_frames::{Cell, Frames};
+use icn_frames::{Cell, Frames, Stack};
 use icn_value::{Item, Val};
 use icn_vars::{Stop, World, deref};
 use std::alloc::AllocError;

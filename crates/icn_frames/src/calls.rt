@@ -4,10 +4,10 @@ ghost use Rattle.icn_frames.specs.Stacks as flat;
 ghost use Rattle.icn_frames.specs.Shapes.{shape, IsScan, MayBeAt};
 
 use crate::layout::{Cell, Registers, Why};
+use crate::stack::Stack;
 use crate::steps::{
     at_frame, bottom_of, hang, is_same, oldest_from, opening, raise, saved_by, scan_after, swap_at,
 };
-use icn_cells::Stack;
 use icn_value::{Item, Pair, Val};
 use std::alloc::{AllocError, Global};
 use std::marker::Model;

@@ -1,11 +1,11 @@
 // What calls do to the cells.
 ghost use Rattle.std.specs.Prelude.{◌≡◌, ◌+◌, ◌≤◌, ◌==◌, ℕ, ◌∷◌, length, map, Option, Bool, OnOk, OnErr, IfOk};
 ghost use Rattle.icn_frames.specs.Stacks as flat;
-ghost use Rattle.icn_cells.specs.Heights.{with_copy};
+ghost use Rattle.icn_frames.specs.Heights.{with_copy};
 ghost use Rattle.icn_frames.specs.Shapes.{shape, AMark, KindAt, IsScan, MayBeAt, Fit, bottom, FrameAt, IsMarked};
 
 use crate::layout::{Cell, Registers, Why};
-use icn_cells::Stack;
+use crate::stack::Stack;
 use icn_value::{Item, Pair, Val};
 use std::alloc::AllocError;
 

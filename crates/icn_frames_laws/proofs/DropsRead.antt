@@ -1,6 +1,6 @@
 -- What dropping a mark leaves, by what the calls of a stack tell of the mark.
 use Rattle.std.proofs.Common.{◌≡◌, ℕ, zero, suc, ◌-◌, true, false, List, [], ◌∷◌, length, drop, map, slice_get, Option, Some, None, refl, ap, ◌∙◌}
-use Rattle.icn_cells.specs.Heights.{cut}
+use Rattle.icn_frames.specs.Heights.{cut}
 use Rattle.icn_value.specs.declared.item.Pair.{Pair}
 use Rattle.icn_frames.specs.declared.layout.Cell.{Cell}
 use Rattle.icn_frames.specs.declared.layout.Cell.TheVariants.{Base, Call, Local, Mark, Limit, Suspension, Operand}

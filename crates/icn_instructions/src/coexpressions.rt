@@ -9,10 +9,9 @@ ghost use Rattle.icn_instructions.specs.Doing.{HasMemory};
 ghost use Rattle.icn_instructions.specs.Groups.{group_of, takes_no_memory};
 ghost use Rattle.icn_instructions.specs.declared.groups.Group.TheVariants as Groups;
 
-use icn_cells::Stack;
 use icn_code::{Code, Instr};
 use icn_control::{Machine, Stage, coact, coret, create, exhaust, refresh};
-use icn_frames::Cell;
+use icn_frames::{Cell, Stack};
 use icn_vars::Halt;
 
 /// Does an instruction that makes, enters or leaves a co-expression.

@@ -9,9 +9,8 @@ ghost use Rattle.icn_control.specs.Parts.{DoesWith};
 ghost use Rattle.icn_instructions.specs.Doing.{LacksNothingIn};
 ghost use Rattle.icn_control.specs.Soundness.{KeepsHeap};
 
-use icn_cells::Stack;
 use icn_control::{put, restore_pair, value_of};
-use icn_frames::{Cell, Frames};
+use icn_frames::{Cell, Frames, Stack};
 use icn_value::Item;
 use icn_vars::{Halt, World};
 

@@ -9,12 +9,11 @@ ghost use Rattle.icn_instructions.specs.declared.groups.Group.TheVariants as Gro
 ghost use Rattle.icn_control.specs.Soundness.{LeavesWorld};
 
 use crate::eret::give_out;
-use icn_cells::Stack;
 use icn_code::{Code, Instr};
 use icn_control::{
     Stage, fail_procedure, give_back, leave_scan, limit, open_scan, push_string, suspend_with,
 };
-use icn_frames::{Cell, Frames};
+use icn_frames::{Cell, Frames, Stack};
 use icn_vars::{Halt, World};
 
 /// Does an instruction that touches the stack that runs and the world, and nothing else.

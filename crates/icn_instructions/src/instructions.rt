@@ -16,10 +16,9 @@ use crate::groups::{Group, group_of};
 use crate::in_world::do_in_world;
 use crate::on_machine::do_on_machine;
 use crate::on_stack::do_on_stack;
-use icn_cells::Stack;
 use icn_code::{Code, Instr};
 use icn_control::{Machine, Stage};
-use icn_frames::Cell;
+use icn_frames::{Cell, Stack};
 use icn_value::{Item, Val};
 use icn_vars::Halt;
 

@@ -11,10 +11,9 @@ ghost use Rattle.icn_instructions.specs.Groups.{group_of, takes_no_memory};
 ghost use Rattle.icn_instructions.specs.Ranges.{HasVariables, IsInRange};
 ghost use Rattle.icn_instructions.specs.declared.groups.Group.TheVariants as Groups;
 
-use icn_cells::Stack;
 use icn_code::{Code, Instr};
 use icn_control::{Machine, Stage, go_back, init, lsusp, make_list, push_keyword, unmark};
-use icn_frames::Cell;
+use icn_frames::{Cell, Stack};
 use icn_value::{Item, Val};
 use icn_vars::Halt;
 

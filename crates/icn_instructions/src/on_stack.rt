@@ -12,13 +12,12 @@ ghost use Rattle.icn_instructions.specs.Ranges.{HasCaseMark, IsInRange, MayName}
 ghost use Rattle.icn_instructions.specs.declared.groups.Group.TheVariants as Groups;
 
 use crate::statics::first_static;
-use icn_cells::Stack;
 use icn_code::{Code, Instr};
 use icn_control::{
     change_label, drop_operand, duplicate, give_suspended, go_to, open_mark, push_below, push_cset,
     push_global, push_integer, push_local, push_null, push_static,
 };
-use icn_frames::{Cell, Frames};
+use icn_frames::{Cell, Frames, Stack};
 use std::alloc::AllocError;
 
 /// Does an instruction that touches nothing but the stack that runs. The error is want of memory.

@@ -27,7 +27,7 @@ use Rattle.icn_frames.specs.declared.layout.Cell.{Cell}
 use Rattle.icn_frames.specs.declared.layout.Cell.TheVariants.{Base, Call, Local, Mark, Limit, Suspension, Operand}
 use Rattle.icn_frames.specs.Stacks as held
 use Rattle.icn_frames.specs.Stacks.{FlatStack, set_from, set_local}
-use Rattle.icn_cells.specs.Heights.{cell_at}
+use Rattle.icn_frames.specs.Heights.{cell_at}
 use Rattle.icn_frames_laws.proofs.CallsRead.{locals_read, set_locals_read}
 use Rattle.icn_code.specs.Codes.{Tables}
 use Rattle.icn_streams.specs.Answers.{Answers, CausedBy, Comes, Stops, StopsReading, StopsPutting, call_state, outside_after, idle, reading, putting}

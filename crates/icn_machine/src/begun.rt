@@ -2,8 +2,7 @@
 ghost use Rattle.std.specs.Prelude.{◌≡◌};
 ghost use Rattle.icn_frames.specs.Stacks as flat;
 
-use icn_cells::Stack;
-use icn_frames::{Cell, Frames};
+use icn_frames::{Cell, Frames, Stack};
 use icn_value::Val;
 use icn_vars::Locals;
 use std::marker::{Brand, PhantomData};

@@ -8,10 +8,9 @@ ghost use Rattle.icn_control.specs.declared.machine.Stage.TheVariants as Stages;
 ghost use Rattle.icn_machine.specs.Stepping.{Advances, FailsFurther, GoesOn, IsReady, MakesTurn, fails_within, is_failing};
 
 use crate::operations::resume;
-use icn_cells::Stack;
 use icn_control::{Due, Machine, Stage, begin_again, end_failing, fail_once, hop, reenter};
 use icn_convert::Names;
-use icn_frames::Cell;
+use icn_frames::{Cell, Stack};
 use icn_host::{Sink, Source};
 use icn_run_named::{steps_keep_names, steps_keep_sizes};
 use icn_vars::Halt;

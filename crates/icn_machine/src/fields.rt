@@ -11,10 +11,9 @@ ghost use Rattle.icn_control.specs.Machines.{ComesTo, does, stack_of};
 ghost use Rattle.icn_control.specs.Soundness.{Stands, StaysSound};
 
 use icn_calls::push_field;
-use icn_cells::Stack;
 use icn_code::Code;
 use icn_control::{Machine, Stage};
-use icn_frames::Cell;
+use icn_frames::{Cell, Stack};
 use icn_vars::Halt;
 
 /// Pushes the variable of a field of the record that is the top operand, which must be there, as a turn.

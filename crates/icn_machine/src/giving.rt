@@ -12,9 +12,8 @@ ghost use Rattle.icn_control.specs.Standing.{stack_in};
 ghost use Rattle.icn_run_named.specs.StateNames.{StackNamed};
 ghost use Rattle.icn_machine.specs.Giving.{GivesOutcome};
 
-use icn_cells::Stack;
 use icn_control::Stage;
-use icn_frames::{Cell, Frames, Why};
+use icn_frames::{Cell, Frames, Stack, Why};
 use icn_vars::Outcome;
 use std::alloc::AllocError;
 

@@ -21,11 +21,10 @@ ghost use Rattle.icn_machine.specs.Naming.{IsNamed};
 
 use crate::performing::{perform, perform_again};
 use icn_apply::Applied;
-use icn_cells::Stack;
 use icn_control::{Machine, Stage, take_operands};
 use icn_convert::Names;
 use icn_defs::arity;
-use icn_frames::Cell;
+use icn_frames::{Cell, Stack};
 use icn_host::{Sink, Source};
 use icn_text::Op;
 use icn_value::{Item, Residual};

@@ -21,11 +21,10 @@ ghost use Rattle.icn_vars.specs.Worlds.{world_of};
 ghost use Rattle.icn_machine.specs.Starting.{BeginsWith, ChargesWords, StartsAs, WordsFit, about_nothing, bare, launch_with, world_charged};
 
 use icn_calls::{add_nulls, take_parameters};
-use icn_cells::Stack;
 use icn_code::{Code, Global as Variable, Procedure, Start};
 use icn_coexp::Stacks;
 use icn_control::{Machine, list_of};
-use icn_frames::{Cell, Frames};
+use icn_frames::{Cell, Frames, Stack};
 use icn_heap::Heap;
 use icn_value::{Limits, Val};
 use icn_vars::{Halt, Stop, World};

@@ -16,10 +16,9 @@ ghost use Rattle.icn_running.specs.Halting.{IsAboutLive, IsUnbegun};
 
 use crate::fault::RunFault;
 use crate::report::error_report;
-use icn_cells::Stack;
 use icn_code::Code;
 use icn_control::Machine;
-use icn_frames::Cell;
+use icn_frames::{Cell, Stack};
 use icn_heap::Heap;
 use icn_host::{Sink, put_line};
 use icn_machine::Stepped;

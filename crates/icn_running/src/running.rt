@@ -10,9 +10,8 @@ ghost use Rattle.icn_machine.specs.Steps.{stage_of, stage_result};
 ghost use Rattle.icn_running.specs.Lasting.{Lasts, MadeTurn};
 ghost use Rattle.icn_running.specs.Ons.{is_on, is_within};
 
-use icn_cells::Stack;
 use icn_control::Machine;
-use icn_frames::Cell;
+use icn_frames::{Cell, Stack};
 use icn_host::{Sink, Source};
 use icn_machine::{Rooms, Stepped, step};
 use icn_vars::Halt;

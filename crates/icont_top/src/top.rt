@@ -32,9 +32,8 @@ ghost use Rattle.icont_top.specs.Writing.{texts_seen};
 
 use crate::loading::{Program, linked_program, numbered_program, translated};
 use crate::writing::{Text, write_all};
-use icn_cells::VecStack;
 use icn_defs::broken_off;
-use icn_frames::Cell;
+use icn_frames::{Cell, VecStack};
 use icn_host::{Fault, Files, Sink, Source, put_line};
 use icn_image::one_spelling;
 use icn_lines::{Answer, answer_of, own_line, refuse};

@@ -20,9 +20,8 @@ ghost use Rattle.iconx_top.specs.Words.{words_reading as read, image_name};
 
 use crate::load::load;
 use crate::words::{RunAsked, asked};
-use icn_cells::VecStack;
 use icn_defs::broken_off;
-use icn_frames::Cell;
+use icn_frames::{Cell, VecStack};
 use icn_host::{Files, Sink, Source};
 use icn_lines::{Answer, answer_of, own_line, refuse};
 use icn_running::run;

@@ -2,8 +2,7 @@
 use crate::code::code_of;
 use crate::counted::CountedStack;
 use crate::observed::{Object, observed};
-use icn_cells::VecStack;
-use icn_frames::Cell;
+use icn_frames::{Cell, VecStack};
 use icn_verify::Verified;
 use std::alloc::{AllocError, Global};
 

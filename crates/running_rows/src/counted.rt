@@ -1,7 +1,7 @@
 // A stack of another kind.
-ghost use Rattle.icn_cells.specs.VecStacks.{cells_of, spare_of};
+ghost use Rattle.icn_frames.specs.VecStacks.{cells_of, spare_of};
 
-use icn_cells::{Stack, VecStack};
+use icn_frames::{Stack, VecStack};
 use std::alloc::{AllocError, Global};
 
 // A stack in one block that counts what is pushed, as one would that measures a program.
@@ -14,7 +14,7 @@ pub struct CountedStack<T: Copy> {
 impl<T: Copy> Stack<T> for CountedStack<T> {
     ghost use Rattle.std.proofs.Common.{arith};
     ghost use Rattle.std.proofs.lemmas.List.{length-reverse};
-    ghost use Rattle.icn_cells.specs.VecStacks.{cells_of, spare_of};
+    ghost use Rattle.icn_frames.specs.VecStacks.{cells_of, spare_of};
 
     ghost cells = { λ s. cells_of s.held };
 

@@ -1,6 +1,5 @@
 // What is observed of a run.
-use icn_cells::Stack;
-use icn_frames::Cell;
+use icn_frames::{Cell, Stack};
 use icn_host::{MemSink, MemSource};
 use icn_run::Ending;
 use icn_running::{RunFault, run};

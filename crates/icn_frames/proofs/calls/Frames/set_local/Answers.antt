@@ -1,5 +1,5 @@
 use Rattle.std.proofs.Common.{◌<◌, ℕ, subst, map}
-use Rattle.icn_cells.specs.Heights.{cell_at}
+use Rattle.icn_frames.specs.Heights.{cell_at}
 use Rattle.icn_frames.specs.Shapes.{shape, count_of}
 use Rattle.icn_frames.proofs.CellFacts.{sound_set_shape, count_at}
 use Rattle.icn_frames.specs.Stacks.{FlatStack}

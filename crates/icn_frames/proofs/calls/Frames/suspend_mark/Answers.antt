@@ -1,5 +1,5 @@
 use Rattle.std.proofs.Common.{◌-◌, ◌≤◌, length, refl, ap, arith}
-use Rattle.icn_cells.specs.Heights.{cut}
+use Rattle.icn_frames.specs.Heights.{cut}
 use Rattle.icn_frames.specs.Stacks.{FlatStack}
 use Rattle.icn_frames.specs.Shapes.{Sound, outer_of}
 use Rattle.icn_frames.specs.declared.layout.Why.TheVariants.{Alt}

@@ -1,5 +1,5 @@
 use Rattle.std.proofs.Common.{◌-◌, refl, sym, ap, ◌∙◌, arith}
-use Rattle.icn_cells.specs.Heights.{cut}
+use Rattle.icn_frames.specs.Heights.{cut}
 use Rattle.icn_frames.specs.Stacks.{FlatStack, is_base_cell}
 use Rattle.icn_frames.specs.Shapes.{Sound, IsFramed}
 use Rattle.icn_frames.specs.declared.layout.Why.TheVariants.{Proc}

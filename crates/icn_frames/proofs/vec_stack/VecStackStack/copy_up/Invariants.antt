@@ -1,5 +1,5 @@
 use Rattle.std.proofs.Common.{◌≡◌, ◌+◌, ◌-◌, ◌++◌, take, drop, vec_len, vec_capacity}
-use Rattle.icn_cells.proofs.vec_stack.VecStackStack.copy_up.Given as goal
+use Rattle.icn_frames.proofs.vec_stack.VecStackStack.copy_up.Given as goal
 
 abbrev pub invariant-loop-i : goal.invariant-loop-i
 invariant-loop-i g l = record {

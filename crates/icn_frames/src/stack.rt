@@ -1,6 +1,6 @@
 // What a stack of cells does.
 ghost use Rattle.std.specs.Prelude.{◌≡◌, ◌+◌, ◌-◌, ◌^◌, ◌<◌, ◌≤◌, ℕ, List, [], ◌∷◌, length, Option, OnOk, IsOk};
-ghost use Rattle.icn_cells.specs.Heights.{cut, cell_at, set_cell, with_copy};
+ghost use Rattle.icn_frames.specs.Heights.{cut, cell_at, set_cell, with_copy};
 
 use std::alloc::{AllocError, Global};
 

@@ -1,7 +1,7 @@
 use Rattle.std.proofs.Common.{◌<◌, length, arith}
 use Rattle.std.proofs.lemmas.List.{length-reverse}
-use Rattle.icn_cells.proofs.ReversedLists.{reverse_set}
-use Rattle.icn_cells.proofs.vec_stack.VecStackStack.set.Goals as goal
+use Rattle.icn_frames.proofs.ReversedLists.{reverse_set}
+use Rattle.icn_frames.proofs.vec_stack.VecStackStack.set.Goals as goal
 
 pub returns-clause-cells : goal.returns-clause-cells
 returns-clause-cells g c =

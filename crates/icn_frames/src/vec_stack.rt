@@ -1,6 +1,6 @@
 // A stack in one block.
 ghost use Rattle.std.specs.Prelude.{◌≡◌, []};
-ghost use Rattle.icn_cells.specs.VecStacks.{cells_of, spare_of};
+ghost use Rattle.icn_frames.specs.VecStacks.{cells_of, spare_of};
 
 use crate::stack::Stack;
 use std::alloc::{AllocError, Global};

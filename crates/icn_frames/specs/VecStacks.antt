@@ -1,6 +1,6 @@
 -- What a stack in one block holds.
 use Rattle.std.specs.Prelude.{ℕ, ◌-◌, List, reverse, vec_len, vec_capacity}
-use Rattle.icn_cells.specs.declared.vec_stack.VecStack.{VecStack}
+use Rattle.icn_frames.specs.declared.vec_stack.VecStack.{VecStack}
 
 -- its cells, the newest first
 abbrev pub cells_of : {T : Type 0} → VecStack T → List T

@@ -1,7 +1,7 @@
 use Rattle.std.proofs.Common.{◌≡◌, ◌-◌, ◌<◌, ◌≤◌, ℕ, [], ◌∷◌, ◌++◌, length, take, drop, reverse, ap, ◌∙◌, arith}
 use Rattle.std.proofs.lemmas.List.{reverse-append, length-reverse}
-use Rattle.icn_cells.proofs.ReversedLists.{reverse_between, copy_more}
-use Rattle.icn_cells.proofs.vec_stack.VecStackStack.copy_up.Goals as goal
+use Rattle.icn_frames.proofs.ReversedLists.{reverse_between, copy_more}
+use Rattle.icn_frames.proofs.vec_stack.VecStackStack.copy_up.Goals as goal
 
 pub loop-i-preserved : goal.loop-i-preserved
 loop-i-preserved g c =
