@@ -13,3 +13,5 @@ pub mod RowsWithin
 pub mod Observations
 pub mod Facts
 pub mod AnyOutside
+pub mod LeastWeights
+pub mod StepsFall

@@ -4,3 +4,5 @@ pub mod NoStuck
 pub mod Ended
 pub mod Facts
 pub mod AnyOutside
+pub mod LeastWeights
+pub mod StepMeasure

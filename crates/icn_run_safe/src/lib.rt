@@ -1,4 +1,4 @@
-//! Verified code is never stuck, and each of its runs ends.
+//! Verified code is never stuck, and each of its runs ends, step by step.
 #![tactic(auto)]
 
 ghost use Rattle.std.specs.Prelude.{◌≡◌, true};
@@ -13,6 +13,7 @@ ghost use Rattle.icn_run_safe.specs.Within.{RowsStayWithin};
 ghost use Rattle.icn_run_safe.specs.Ended.{AreOver};
 ghost use Rattle.icn_run_safe.specs.Facts.{AreShaped, HasFacts, shapes_of};
 ghost use Rattle.icn_run_safe.specs.NoStuck.{IsNeverStuck};
+ghost use Rattle.icn_run_safe.specs.StepMeasure.{EachStepFalls};
 
 /// No run of verified code lacks what an instruction needs.
 pub fn never_stuck()
@@ -47,4 +48,13 @@ pub fn rows_stay()
 pub fn runs_end()
     ensures verified { (tables : Tables) → keeps_rules tables ≡ true → IsVerified tables → AreOver tables }
     ensures shaped { (tables : Tables) → keeps_rules tables ≡ true → HaveShapes tables → AreOver tables }
+{}
+
+/// Each step of a run of verified code makes one of the turns that may be made, or leaves less to do before the next turn,
+/// whatever is read. So a loop over steps ends by the turns that are left, and between two turns by what is left to do.
+pub fn each_step_falls()
+    ensures verified { (tables : Tables) → keeps_rules tables ≡ true → IsVerified tables → (launch : Launch)
+        → EachStepFalls tables launch }
+    ensures shaped { (tables : Tables) → keeps_rules tables ≡ true → HaveShapes tables → (launch : Launch)
+        → EachStepFalls tables launch }
 {}

@@ -8,7 +8,7 @@ use Rattle.icn_run.specs.Step.{State, running, failing, hopping, over, stuck, st
 use Rattle.icn_run_laws.specs.Measure.{IsEnd}
 use Rattle.icn_run_safe.specs.AnyOutside.{over_outside, run_over}
 use Rattle.icn_run_safe.proofs.AnyOutside.{over_twice}
-use Rattle.icn_run_ends.specs.Falling.{Falls, ends, turned, lighter, left_of, turns_of}
+use Rattle.icn_run_safe.specs.StepMeasure.{Falls, ends, turned, lighter, left_of, turns_of}
 use Rattle.icn_streams.specs.Handed.{CallStreams}
 use Rattle.icn_control.specs.declared.machine.Machine.{Machine}
 use Rattle.icn_control.specs.declared.machine.Stage.TheVariants as Stages

@@ -11,7 +11,7 @@ use Rattle.icn_run.specs.Step.{State, running, failing, hopping, over, stuck, st
 use Rattle.icn_run_named.specs.StateNames.{StateNamed}
 use Rattle.icn_run_named.specs.KeepingSizes.{StateFits}
 use Rattle.icn_run_safe.specs.AnyOutside.{IsNeverStuckOver, over_outside, run_over}
-use Rattle.icn_run_ends.specs.Falling.{EachStepFalls}
+use Rattle.icn_run_safe.specs.StepMeasure.{EachStepFalls}
 use Rattle.icn_control.specs.Machines.{IsSound, stack_seen, store_seen}
 use Rattle.icn_control.specs.declared.machine.Machine.{Machine}
 use Rattle.icn_control.specs.declared.machine.Stage.TheVariants as Stages

@@ -7,7 +7,7 @@ use Rattle.icn_run.specs.Calls.{Why, Alt, Op, Scan, Escan, Proc}
 use Rattle.icn_run.specs.Stacks.{Cell, call, mark, limit, suspension, Registers, cut}
 use Rattle.icn_run_laws.specs.Measure.{worth}
 use Rattle.icn_run_laws.specs.StackWeights.{label_weight, Back, Fit, fit, Newest, nothing, newest_at, Outer, at_mark, at_limit, at_call, at_base}
-use Rattle.icn_run_ends.specs.Weights.{back_weight, outer_weight, newest_weight, weight_up_to, weight_to_depth}
+use Rattle.icn_run_safe.specs.LeastWeights.{back_weight, outer_weight, newest_weight, weight_up_to, weight_to_depth}
 
 module _ (N : ℕ) where
   abbrev W : ℕ → List Cell → Registers → ℕ

@@ -1,8 +1,8 @@
 use Rattle.icn_verify.proofs.Deciding.{shapes_given}
 use Rattle.icn_run_safe.proofs.TablesKept.{tables_ok}
 use Rattle.icn_run_safe.proofs.RowsWithin.{rows_stay_within}
-use Rattle.icn_run_ends.proofs.Falling.{each_falls}
-use Rattle.icn_run_ends.proofs.each_step_falls.Goals as goal
+use Rattle.icn_run_safe.proofs.StepsFall.{each_falls}
+use Rattle.icn_run_safe.proofs.each_step_falls.Goals as goal
 
 pub returns-clause-shaped : goal.returns-clause-shaped
 returns-clause-shaped c = λ tables rules have launch. each_falls tables have (tables_ok tables rules) rows_stay_within launch

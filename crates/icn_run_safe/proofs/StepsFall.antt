@@ -34,9 +34,9 @@ use Rattle.icn_run_safe.proofs.Observations.{goes_forward}
 use Rattle.icn_run_safe.proofs.Entries.{within}
 use Rattle.icn_run_safe.proofs.Facts.{Follows, IsDue, Near, follows_next, given, shaped_in}
 use Rattle.icn_run_safe.proofs.NoStuck.{start_safe, step_ok}
-use Rattle.icn_run_ends.specs.Falling.{EachStepFalls, Falls, ends, turned as turn_made, lighter, backward_worth, instr_count, left_of, turns_of}
-use Rattle.icn_run_ends.specs.Weights.{stack_weight}
-use Rattle.icn_run_ends.proofs.Weights.{least, bounds}
+use Rattle.icn_run_safe.specs.StepMeasure.{EachStepFalls, Falls, ends, turned as turn_made, lighter, backward_worth, instr_count, left_of, turns_of}
+use Rattle.icn_run_safe.specs.LeastWeights.{stack_weight}
+use Rattle.icn_run_safe.proofs.LeastWeights.{least, bounds}
 
 -- a place with an instruction is below the count of all
 place_within : (procs : List Procedure) (n place : ℕ) (instr : Instr)
