@@ -1,12 +1,18 @@
-//! The code of a program that breaks no rule is verified code: the verifier finds none of its own rules broken in it.
+//! The code of a program that breaks no rule is verified code: the verifier finds none of its own rules broken in it. So the
+//! program means something: its evaluation ends, whatever the words, the limits and the input are.
 #![tactic(auto)]
 
-ghost use Rattle.std.specs.Prelude.{List};
+ghost use Rattle.std.specs.Prelude.{◌≡◌, true, List};
+ghost use Rattle.icn_defs.specs.Running.{Launch, Observation};
 ghost use Rattle.icn_code.specs.Codes.{Tables};
+ghost use Rattle.icn_code.specs.Rules.{keeps_rules};
 ghost use Rattle.icn_tree.specs.Trees.{Declaration};
 ghost use Rattle.icn_verify.specs.Faults.{IsVerified};
-ghost use Rattle.icn_simulation.specs.Law.{IsLinked};
+ghost use Rattle.icn_simulation.specs.Law.{IsLinked, FilesMean};
 ghost use Rattle.icn_code_sound.specs.Bridge.{CodesHaveShapes, CodesSound};
+
+use icn_run_safe::runs_end;
+use icn_simulation::same_ends;
 
 /// The joined code of files that break no rule is verified code.
 pub fn joined_code_is_verified()
@@ -20,3 +26,15 @@ pub fn translations_are_sound()
     ensures shapes { CodesHaveShapes }
     ensures sound { CodesSound }
 {}
+
+/// Where the files of a program break no rule, and their joined code keeps the limits of a code, the program comes to an end of which
+/// something is observed: it neither goes on for ever nor lacks anything on the way.
+pub fn programs_mean()
+    ensures { (files : List (List Declaration)) (tables : Tables) (launch : Launch)
+        → IsLinked files tables → keeps_rules tables ≡ true
+        → (seen : Observation) × FilesMean files launch seen }
+{
+    joined_code_is_verified();
+    runs_end();
+    same_ends();
+}

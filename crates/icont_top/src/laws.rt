@@ -13,8 +13,7 @@ ghost use Rattle.icont_top.specs.Outcomes.{IsReadBack, WritesAll};
 ghost use Rattle.icont_top.specs.Programs.{Links, linked_code};
 ghost use Rattle.icont_top.specs.Relinking.{AllFit, AreHeld, GathersAlike, HoldTheOthers, LinksAlike, StandAgain, ucode_members, ucode_named};
 
-use icn_adequacy::programs_mean;
-use icn_code_sound::joined_code_is_verified;
+use icn_code_sound::{joined_code_is_verified, programs_mean};
 use icn_link::{joined_keeps_rules, units_are_joinable};
 use icn_meaning::one_observation;
 use icn_run_safe::runs_end;

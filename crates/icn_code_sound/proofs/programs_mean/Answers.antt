@@ -1,4 +1,4 @@
-use Rattle.icn_adequacy.proofs.programs_mean.Goals as goal
+use Rattle.icn_code_sound.proofs.programs_mean.Goals as goal
 
 pub returns : goal.returns
 returns c = λ files tables launch linked rules.
