@@ -11,7 +11,6 @@ pub mod Agree
 pub mod Segments
 pub mod Stand
 pub mod Routines
-pub mod Example
 pub mod Files
 pub mod Sizes
 pub mod FirstMentions

@@ -7,3 +7,4 @@ pub mod ErrorsHold
 pub mod LibraryHold
 pub mod BoundedHold
 pub mod ReadingsHold
+pub mod JoiningsHold

@@ -10,3 +10,4 @@ pub mod Errors
 pub mod Library
 pub mod Bounded
 pub mod Readings
+pub mod Joinings

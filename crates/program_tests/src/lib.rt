@@ -4,5 +4,5 @@
 mod table;
 
 pub use table::{
-    bounded, coexpressions, errors, generators, library, loops, plain, readings, scans,
+    bounded, coexpressions, errors, generators, joinings, library, loops, plain, readings, scans,
 };

@@ -5,6 +5,7 @@ ghost use Rattle.program_tests.specs.Bounded.{bounded_cases};
 ghost use Rattle.program_tests.specs.Coexpressions.{coexpressions};
 ghost use Rattle.program_tests.specs.Errors.{errors};
 ghost use Rattle.program_tests.specs.Generators.{generators};
+ghost use Rattle.program_tests.specs.Joinings.{HasItsCode, joinings};
 ghost use Rattle.program_tests.specs.Library.{library};
 ghost use Rattle.program_tests.specs.Loops.{loops};
 ghost use Rattle.program_tests.specs.Plain.{plain};
@@ -54,4 +55,9 @@ pub fn bounded()
 /// What a run leaves of the input, and the readings that it makes.
 pub fn readings()
     ensures { AllByRecursion Reads readings }
+{}
+
+/// Files, and their joined code, each table in its order.
+pub fn joinings()
+    ensures { AllByRecursion HasItsCode joinings }
 {}
