@@ -9,7 +9,7 @@ use Rattle.icn_heap.specs.Heaps.{heap_of}
 use Rattle.icn_defs.specs.Running.{Ending, Done, Exit, Errored, AtBound, bound_report}
 use Rattle.icn_vars.specs.declared.outcome.Halt.{Halt}
 use Rattle.icn_vars.specs.declared.outcome.Halt.TheVariants as Halts
-use Rattle.icn_run.specs.declared.ending.Ending.{Ending as HeldEnding}
+use Rattle.icn_defs.specs.declared.ending.Ending.{Ending as HeldEnding}
 use Rattle.icn_streams.specs.Handed.{CallStreams, KeepsAllCounts, KeepsCounts, WantsMemory, uncounted, errors_want}
 use Rattle.icn_control.specs.Machines.{extent}
 use Rattle.icn_control.specs.declared.machine.Machine.{Machine}

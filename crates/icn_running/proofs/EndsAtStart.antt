@@ -7,7 +7,7 @@ use Rattle.icn_defs.specs.Running.{Launch}
 use Rattle.icn_vars.specs.declared.outcome.Halt.{Halt}
 use Rattle.icn_vars.specs.declared.outcome.Halt.TheVariants as Halts
 use Rattle.icn_code.specs.Codes.{Tables}
-use Rattle.icn_run.specs.declared.ending.Ending.{Ending as HeldEnding}
+use Rattle.icn_defs.specs.declared.ending.Ending.{Ending as HeldEnding}
 use Rattle.icn_machine.specs.Starting.{StartsAs}
 use Rattle.icn_running.specs.Halting.{IsUnbegun}
 use Rattle.icn_running.specs.declared.fault.RunFault.{RunFault}

@@ -14,7 +14,7 @@ use Rattle.icn_defs.specs.Running.{Ending, Done, Exit, Errored, AtBound, Launch,
 use Rattle.icn_vars.specs.declared.outcome.Halt.{Halt}
 use Rattle.icn_vars.specs.declared.outcome.Halt.TheVariants as Halts
 use Rattle.icn_code.specs.Codes.{Tables}
-use Rattle.icn_run.specs.declared.ending.Ending.{Ending as HeldEnding}
+use Rattle.icn_defs.specs.declared.ending.Ending.{Ending as HeldEnding}
 use Rattle.icn_run.specs.FlatStep.{Runs, start}
 use Rattle.icn_run.specs.Stacks.{Frames}
 use Rattle.icn_run.specs.Step.{State, all_names, first_store, running}

@@ -11,8 +11,8 @@ use Rattle.icn_defs.specs.Errors.{error_report}
 use Rattle.icn_defs.specs.Running.{Ending, Done, Exit, Errored, AtBound, bound_report}
 use Rattle.icn_vars.specs.declared.outcome.Halt.{Halt}
 use Rattle.icn_vars.specs.declared.outcome.Halt.TheVariants as Halts
-use Rattle.icn_run.specs.declared.ending.Ending.{Ending as HeldEnding}
-use Rattle.icn_run.specs.declared.ending.Ending.TheVariants as HeldEndings
+use Rattle.icn_defs.specs.declared.ending.Ending.{Ending as HeldEnding}
+use Rattle.icn_defs.specs.declared.ending.Ending.TheVariants as HeldEndings
 use Rattle.icn_control.specs.Machines.{extent}
 use Rattle.icn_control.specs.declared.machine.Machine.{Machine}
 use Rattle.icn_machine.specs.declared.stepping.Stepped.{Stepped}

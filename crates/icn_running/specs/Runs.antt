@@ -7,7 +7,7 @@ use Rattle.icn_defs.specs.Running.{Ending, Launch, Observation, launch_of}
 use Rattle.icn_code.specs.Codes.{Tables}
 use Rattle.icn_run.specs.FlatStep.{Runs, start}
 use Rattle.icn_run.specs.Step.{running}
-use Rattle.icn_run.specs.declared.ending.Ending.{Ending as HeldEnding}
+use Rattle.icn_defs.specs.declared.ending.Ending.{Ending as HeldEnding}
 use Rattle.icn_run_safe.specs.StepMeasure.{EachStepFalls}
 use Rattle.icn_streams.specs.Handed.{CallStreams, KeepsAllCounts, WantsMemory}
 use Rattle.icn_control.specs.Machines.{stack_seen, store_seen}

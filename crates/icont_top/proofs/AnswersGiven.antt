@@ -5,11 +5,11 @@ use Rattle.std.specs.Option.{option_map}
 use Rattle.icn_host.specs.Counts.{Rose}
 use Rattle.icn_host.specs.FileMaps.{FileMap}
 use Rattle.icn_host.specs.Sinks.{SinkState}
-use Rattle.icn_lines.specs.declared.answer.Answer.{Answer}
-use Rattle.icn_lines.specs.declared.answer.Answer.TheVariants.{Wrote, Ran, Refused, Command, BadUcode, FileFault, ReadFault, WriteFault, NoMemory}
-use Rattle.icn_lines.specs.Answers.{IsFault, IsRefusal, IsAbsence, IsCommand}
-use Rattle.icn_lines.specs.Refusing.{Refuses as PutsRefusal, put, own, write_fault, want}
-use Rattle.icn_run.specs.declared.ending.Ending.{Ending}
+use Rattle.icn_answer.specs.declared.answer.Answer.{Answer}
+use Rattle.icn_answer.specs.declared.answer.Answer.TheVariants.{Wrote, Ran, Refused, Command, BadUcode, FileFault, ReadFault, WriteFault, NoMemory}
+use Rattle.icn_answer.specs.Answers.{IsFault, IsRefusal, IsAbsence, IsCommand}
+use Rattle.icn_answer.specs.Refusing.{Refuses as PutsRefusal, put, own, write_fault, want}
+use Rattle.icn_defs.specs.declared.ending.Ending.{Ending}
 use Rattle.icont_words.specs.declared.words.WordsFault.{WordsFault}
 use Rattle.icont_words.specs.declared.words.WordsFault.TheVariants as WordsFaults
 use Rattle.icont_words.specs.declared.words.Task.{Task as TaskHeld}

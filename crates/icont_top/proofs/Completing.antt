@@ -10,11 +10,11 @@ use Rattle.icn_link.specs.declared.fault.LinkFault.{LinkFault}
 use Rattle.icn_link.specs.declared.fault.LinkFault.TheVariants.{K1, K2, K3, NoMemory}
 use Rattle.icn_link.specs.LinkFaults.{first_fault}
 use Rattle.icn_verify.specs.Laws.{HaveOneFault, HaveNoFault}
-use Rattle.icn_lines.specs.declared.answer.Answer.{Answer}
-use Rattle.icn_lines.specs.declared.answer.Answer.TheVariants.{BadUcode, Command, Refused}
-use Rattle.icn_lines.specs.Answers.{IsFault}
-use Rattle.icn_lines.specs.Endings.{ending_held}
-use Rattle.icn_lines.proofs.Reports.{no_fault, ran_no_fault, wrote_no_fault}
+use Rattle.icn_answer.specs.declared.answer.Answer.{Answer}
+use Rattle.icn_answer.specs.declared.answer.Answer.TheVariants.{BadUcode, Command, Refused}
+use Rattle.icn_answer.specs.Answers.{IsFault}
+use Rattle.icn_answer.specs.Endings.{ending_held}
+use Rattle.icn_answer.proofs.NoFaults.{no_fault, ran_no_fault, wrote_no_fault}
 use Rattle.icont_words.specs.Words.{WordsReading, Task, Translate, Link, Generate, Asks, Faulty, ComeTo}
 use Rattle.icont_units.specs.Files.{files_named, first_name, sources_in}
 use Rattle.icont_units.specs.Units.{Member, Come, link_answer, unit_named, units_of}

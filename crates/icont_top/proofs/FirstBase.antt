@@ -5,7 +5,7 @@ use Rattle.icn_unit.specs.PlainUnits.{UnitRead}
 use Rattle.icn_unit.specs.UnitTexts.{decls_text, procs_text}
 use Rattle.icn_ucode.specs.UnitReading.{UnitOutcome, Whole, Faulty, unit_read}
 use Rattle.icn_link.specs.LinkFaults.{unit_names}
-use Rattle.icn_lines.specs.declared.answer.Answer.{Answer}
+use Rattle.icn_answer.specs.declared.answer.Answer.{Answer}
 use Rattle.icont_units.specs.Files.{File}
 use Rattle.icont_units.specs.Units.{AreJudged, Come, Comes, FromSource, FromUcode, Gather, Load, Member, links_in, unit_found, unit_of, units_of}
 use Rattle.icont_units.specs.Units.{first_too_long, second_too_long, read as texts_read, no_tokens, broken, translated, not_there, not_read, none, one_more, first_refused, later_refused, all, known, absent, gathered}

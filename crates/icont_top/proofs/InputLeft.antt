@@ -2,9 +2,9 @@
 use Rattle.std.proofs.Common.{ℕ, List, Option}
 use Rattle.icn_code.specs.Codes.{Tables}
 use Rattle.icn_streams.specs.Handed.{CallStreams}
-use Rattle.icn_lines.specs.declared.answer.Answer.{Answer}
-use Rattle.icn_lines.specs.InputLeft.{LosesSome}
-use Rattle.icn_lines.proofs.InputLeft.{Begin, Break, Leave, broken_lost, ended_lost}
+use Rattle.icn_answer.specs.declared.answer.Answer.{Answer}
+use Rattle.icn_run_answer.specs.InputLeft.{LosesSome}
+use Rattle.icn_run_answer.proofs.InputLeft.{Begin, Break, Leave, broken_lost, ended_lost}
 use Rattle.icont_words.specs.Words.{Run}
 use Rattle.icont_top.specs.Job.{run_launch}
 use Rattle.icont_top.specs.Running.{HasRun, has_ended, was_broken, was_broken_behind}

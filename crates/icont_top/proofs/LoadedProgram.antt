@@ -2,8 +2,8 @@
 use Rattle.std.proofs.Common.{◌≡◌, ◌⊎◌, inl, inr, ℕ, List, [], ◌∷◌, Some, Result, Ok, Err, refl, sym, ap, subst}
 use Rattle.icn_link.specs.declared.fault.LinkFault.TheVariants.{K2}
 use Rattle.icn_link.specs.LinkFaults.{missing}
-use Rattle.icn_lines.specs.declared.answer.Answer.{Answer}
-use Rattle.icn_lines.specs.declared.answer.Answer.TheVariants.{NoMemory}
+use Rattle.icn_answer.specs.declared.answer.Answer.{Answer}
+use Rattle.icn_answer.specs.declared.answer.Answer.TheVariants.{NoMemory}
 use Rattle.icn_host.specs.Counts.{Rose}
 use Rattle.icont_units.specs.declared.members.Members.{Members}
 use Rattle.icont_units.specs.Generated.{GeneratedComes, generated_base}

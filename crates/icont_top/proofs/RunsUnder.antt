@@ -3,17 +3,17 @@ use Rattle.std.proofs.Common.{◌≡◌, ℕ, List, Err, refl, sym, ap, subst}
 use Rattle.icn_code.specs.Codes.{Tables}
 use Rattle.icn_value.specs.Limited.{Bounds}
 use Rattle.icn_defs.specs.Running.{Launch, launch_of}
-use Rattle.icn_run.specs.declared.ending.Ending.{Ending}
+use Rattle.icn_defs.specs.declared.ending.Ending.{Ending}
 use Rattle.icn_streams.specs.Handed.{CallStreams}
 use Rattle.icn_running.specs.declared.fault.RunFault.{RunFault}
 use Rattle.icn_running.specs.Reported.{ending_seen}
 use Rattle.icn_running.specs.Runs.{EndsAtFirst as RunEnds, IsBrokenOff, RunsTo}
-use Rattle.icn_lines.specs.declared.answer.Answer.TheVariants.{Ran}
-use Rattle.icn_lines.specs.Faulting.{of_run}
-use Rattle.icn_lines.specs.Refusing.{PutsOwn}
-use Rattle.icn_lines.specs.Reporting.{PutsSome}
-use Rattle.icn_lines.specs.Telling.{with_errors}
-use Rattle.icn_lines.proofs.Reports.{broken_puts, puts_own}
+use Rattle.icn_answer.specs.declared.answer.Answer.TheVariants.{Ran}
+use Rattle.icn_run_answer.specs.Faulting.{of_run}
+use Rattle.icn_answer.specs.Refusing.{PutsOwn}
+use Rattle.icn_run_answer.specs.Reporting.{PutsSome}
+use Rattle.icn_run_answer.specs.Telling.{with_errors}
+use Rattle.icn_run_answer.proofs.Reports.{broken_puts, puts_own}
 use Rattle.icont_words.specs.Words.{Run}
 use Rattle.icont_top.specs.Job.{bounds_with, run_launch}
 use Rattle.icont_top.specs.Running.{IsRanOrBroken, broken, ran}

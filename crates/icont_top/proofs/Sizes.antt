@@ -8,8 +8,8 @@ use Rattle.icn_host.specs.Puts.{LeadsBy}
 use Rattle.icn_host.specs.Sinks.{Gains, SinkState}
 use Rattle.icn_code.specs.Codes.{Tables}
 use Rattle.icn_defs.specs.Running.{Launch, Observation, Done, Exit, Errored, AtBound, Ending as SeenEnding}
-use Rattle.icn_run.specs.declared.ending.Ending.{Ending}
-use Rattle.icn_run.specs.declared.ending.Ending.TheVariants as Endings
+use Rattle.icn_defs.specs.declared.ending.Ending.{Ending}
+use Rattle.icn_defs.specs.declared.ending.Ending.TheVariants as Endings
 use Rattle.icn_simulation.specs.Law.{RunsFlat}
 use Rattle.icn_streams.specs.Handed.{CallStreams, KeepsAllCounts, KeepsCounts, call_streams, uncounted, output_wants}
 use Rattle.icn_machine.specs.Stepping.{output_fails}
@@ -17,13 +17,13 @@ use Rattle.icn_running.specs.declared.fault.RunFault.{RunFault}
 use Rattle.icn_running.specs.declared.fault.RunFault.TheVariants as Runs
 use Rattle.icn_running.specs.Reported.{ending_seen}
 use Rattle.icn_running.specs.Runs.{EndsAtFirst as RunEnds}
-use Rattle.icn_lines.specs.declared.answer.Answer.{Answer}
-use Rattle.icn_lines.specs.declared.answer.Answer.TheVariants.{Wrote, Ran, Refused, Command, Missing, BadUcode, BadImage, FileFault, ReadFault, WriteFault, NoMemory}
-use Rattle.icn_lines.specs.Causes.{RunEndsAtFirst}
-use Rattle.icn_lines.specs.Endings.{ending_held}
-use Rattle.icn_lines.specs.Faulting.{of_run}
-use Rattle.icn_lines.specs.Reporting.{PutsSome, Reports}
-use Rattle.icn_lines.proofs.Reports.{fault_reports, puts_own}
+use Rattle.icn_answer.specs.declared.answer.Answer.{Answer}
+use Rattle.icn_answer.specs.declared.answer.Answer.TheVariants.{Wrote, Ran, Refused, Command, Missing, BadUcode, BadImage, FileFault, ReadFault, WriteFault, NoMemory}
+use Rattle.icn_run_answer.specs.Causes.{RunEndsAtFirst}
+use Rattle.icn_answer.specs.Endings.{ending_held}
+use Rattle.icn_run_answer.specs.Faulting.{of_run}
+use Rattle.icn_run_answer.specs.Reporting.{PutsSome, Reports}
+use Rattle.icn_run_answer.proofs.Reports.{fault_reports, puts_own}
 use Rattle.icont_units.specs.Generated.{sizes_line}
 use Rattle.icont_top.specs.Job.{sizes_behind}
 use Rattle.icont_top.specs.Outcomes.{StopsPut}

@@ -23,7 +23,7 @@ use Rattle.icn_simulation.specs.Faultless.{IsFaultless}
 use Rattle.icn_simulation.specs.Joined.{IsJoined}
 use Rattle.icn_simulation.specs.Law.{IsLinked, FilesMean}
 use Rattle.link_laws.specs.TranslatedUnits.{translated_units}
-use Rattle.icn_lines.specs.declared.answer.Answer.{Answer}
+use Rattle.icn_answer.specs.declared.answer.Answer.{Answer}
 use Rattle.icont_words.specs.Words.{WordsReading, Run, Translate, Link, Generate, Asks, Faulty, ComeTo}
 use Rattle.icont_units.specs.Files.{files_named, sources_in}
 use Rattle.icont_units.specs.Generated.{GeneratedComes}

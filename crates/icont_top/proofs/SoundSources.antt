@@ -15,7 +15,7 @@ use Rattle.icn_translate.specs.FileUnits.{translated_unit}
 use Rattle.icn_link.specs.JoinableUnits.{is_joinable}
 use Rattle.icn_simulation.specs.Faultless.{IsFaultless}
 use Rattle.source_bytes.specs.LineBytes.{lines_are_of_bytes}
-use Rattle.icn_lines.specs.declared.answer.Answer.{Answer}
+use Rattle.icn_answer.specs.declared.answer.Answer.{Answer}
 use Rattle.icont_words.specs.Words.{WordsReading, Generate, Asks, ComeTo}
 use Rattle.icont_units.specs.Files.{File, files_named, source_name}
 use Rattle.icont_units.specs.Generated.{GeneratedComes, generated_base, generated_lines}

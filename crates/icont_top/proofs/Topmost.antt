@@ -22,15 +22,16 @@ use Rattle.icn_image.specs.Reading.{image_read}
 use Rattle.icn_image.specs.Spelling.{image_of}
 use Rattle.icn_simulation.specs.Law.{IsLinked, FilesMean, RunsFlat}
 use Rattle.icn_streams.specs.Handed.{CallStreams, call_streams}
-use Rattle.icn_lines.specs.declared.answer.Answer.{Answer}
-use Rattle.icn_lines.specs.declared.answer.Answer.TheVariants.{Wrote, Ran, Refused, Command, Missing, BadUcode, BadImage, FileFault, ReadFault, WriteFault, NoMemory}
-use Rattle.icn_lines.specs.Answers.{IsFault}
-use Rattle.icn_lines.specs.Faulting.{IsOfRun}
-use Rattle.icn_lines.specs.Lines.{line_of}
-use Rattle.icn_lines.specs.Refusing.{PutsOwn, Refuses as PutsRefusal, put, own, write_fault, want}
-use Rattle.icn_lines.specs.Telling.{CallObjects, call_objects}
-use Rattle.icn_lines.proofs.Reports.{is_run_fault, no_fault, puts_own}
-use Rattle.icn_lines.proofs.Telling.{at_some, if_some}
+use Rattle.icn_answer.specs.declared.answer.Answer.{Answer}
+use Rattle.icn_answer.specs.declared.answer.Answer.TheVariants.{Wrote, Ran, Refused, Command, Missing, BadUcode, BadImage, FileFault, ReadFault, WriteFault, NoMemory}
+use Rattle.icn_answer.specs.Answers.{IsFault}
+use Rattle.icn_run_answer.specs.Faulting.{IsOfRun}
+use Rattle.icn_answer.specs.Lines.{line_of}
+use Rattle.icn_answer.specs.Refusing.{PutsOwn, Refuses as PutsRefusal, put, own, write_fault, want}
+use Rattle.icn_run_answer.specs.Telling.{CallObjects, call_objects}
+use Rattle.icn_answer.proofs.NoFaults.{no_fault}
+use Rattle.icn_run_answer.proofs.Reports.{is_run_fault, puts_own}
+use Rattle.icn_answer.proofs.ToldContent.{at_some, if_some}
 use Rattle.icont_words.specs.Asking.{run_seen}
 use Rattle.icont_words.specs.Words.{Run, Translate, Asks, ComeTo}
 use Rattle.icont_units.specs.Files.{files_named, sources_in}

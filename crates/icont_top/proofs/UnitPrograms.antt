@@ -18,8 +18,8 @@ use Rattle.icn_verify.specs.declared.fault.VerifyFault.TheVariants.{V}
 use Rattle.icn_verify.specs.Faults.{IsVerified}
 use Rattle.icn_verify.specs.Refusals.{Refuses}
 use Rattle.icn_simulation.specs.Law.{IsLinked}
-use Rattle.icn_lines.specs.declared.answer.Answer.{Answer}
-use Rattle.icn_lines.specs.declared.answer.Answer.TheVariants.{BadUcode, NoMemory}
+use Rattle.icn_answer.specs.declared.answer.Answer.{Answer}
+use Rattle.icn_answer.specs.declared.answer.Answer.TheVariants.{BadUcode, NoMemory}
 use Rattle.icont_units.specs.declared.members.Members.{Members}
 use Rattle.icont_units.specs.Files.{first_name}
 use Rattle.icont_units.specs.Loading.{IsSound, Stands}

@@ -12,7 +12,7 @@ use Rattle.icn_image.specs.Spelling.{image_of}
 use Rattle.icn_link.specs.Joined.{joined_code}
 use Rattle.icn_link.specs.LinkFaults.{first_fault, unit_names}
 use Rattle.icn_verify.specs.Faults.{IsVerified}
-use Rattle.icn_lines.specs.declared.answer.Answer.{Answer}
+use Rattle.icn_answer.specs.declared.answer.Answer.{Answer}
 use Rattle.icont_units.specs.Files.{File, ucode}
 use Rattle.icont_units.specs.Units.{Member, FromUcode, unit_of, units_of, both_texts, unit_found, texts_held, is_there, links_of, links_in, AreJudged, Comes, Come, IsAbsent, IsHeld, Gather, Load}
 use Rattle.icont_units.proofs.Matching.{same_Ok, ok-err}

@@ -3,15 +3,16 @@ use Rattle.std.proofs.Common.{◌≡◌, ◌⊎◌, inl, inr, ℕ, true, false, 
 use Rattle.std.specs.Str.{is_utf8}
 use Rattle.icn_host.specs.FileMaps.{FileMap}
 use Rattle.icn_host.specs.Sinks.{SinkState}
-use Rattle.icn_lines.specs.declared.answer.Answer.{Answer}
-use Rattle.icn_lines.specs.declared.answer.Answer.TheVariants.{NoMemory}
-use Rattle.icn_lines.specs.Answers.{IsFault, IsAbsence}
-use Rattle.icn_lines.specs.Causes.{EndsAtFirst, outside}
-use Rattle.icn_lines.specs.Refusing.{Refuses as PutsRefusal}
-use Rattle.icn_lines.specs.Reporting.{Reports}
-use Rattle.icn_lines.specs.Telling.{CallObjects, call_objects}
-use Rattle.icn_lines.proofs.Counts.{no_cause, refused_ends, unmoved, absence_of}
-use Rattle.icn_lines.proofs.Reports.{reports_of}
+use Rattle.icn_answer.specs.declared.answer.Answer.{Answer}
+use Rattle.icn_answer.specs.declared.answer.Answer.TheVariants.{NoMemory}
+use Rattle.icn_answer.specs.Answers.{IsFault, IsAbsence}
+use Rattle.icn_run_answer.specs.Causes.{EndsAtFirst, outside}
+use Rattle.icn_answer.specs.Refusing.{Refuses as PutsRefusal}
+use Rattle.icn_run_answer.specs.Reporting.{Reports}
+use Rattle.icn_run_answer.specs.Telling.{CallObjects, call_objects}
+use Rattle.icn_answer.proofs.FaultCounts.{no_cause, unmoved}
+use Rattle.icn_run_answer.proofs.Counts.{refused_ends, absence_of}
+use Rattle.icn_run_answer.proofs.Reports.{reports_of}
 use Rattle.icn_streams.specs.Handed.{call_streams}
 use Rattle.icn_verify.specs.Laws.{HaveOneFault, HaveNoFault}
 use Rattle.icont_words.specs.declared.words.Task.{Task as TaskHeld}

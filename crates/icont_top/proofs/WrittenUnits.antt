@@ -13,7 +13,7 @@ use Rattle.icn_unit.specs.PlainUnits.{UnitRead}
 use Rattle.icn_unit.specs.UnitTexts.{decls_text, procs_text}
 use Rattle.icn_link.specs.LinkFaults.{unit_names}
 use Rattle.icn_simulation.specs.Mentions.{firsts}
-use Rattle.icn_lines.specs.declared.answer.Answer.{Answer}
+use Rattle.icn_answer.specs.declared.answer.Answer.{Answer}
 use Rattle.icont_units.specs.Files.{File, file_named, files_named, first_name, is_source_file, same_base, second_name, sources_in}
 use Rattle.icont_units.specs.Units.{Member, both_texts, unit_of, unit_texts, units_of, Comes, Come}
 use Rattle.icont_units.proofs.ShortTexts.{has}

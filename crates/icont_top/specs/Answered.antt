@@ -5,10 +5,10 @@ use Rattle.icn_host.specs.FileMaps.{FileMap}
 use Rattle.icn_code.specs.Codes.{Tables}
 use Rattle.icn_link.specs.declared.fault.LinkFault.TheVariants.{K2}
 use Rattle.icn_link.specs.LinkFaults.{missing}
-use Rattle.icn_run.specs.declared.ending.Ending.{Ending}
-use Rattle.icn_lines.specs.declared.answer.Answer.{Answer}
-use Rattle.icn_lines.specs.declared.answer.Answer.TheVariants.{Wrote, Ran, Command}
-use Rattle.icn_lines.specs.Answers.{IsCommand, IsFault}
+use Rattle.icn_defs.specs.declared.ending.Ending.{Ending}
+use Rattle.icn_answer.specs.declared.answer.Answer.{Answer}
+use Rattle.icn_answer.specs.declared.answer.Answer.TheVariants.{Wrote, Ran, Command}
+use Rattle.icn_answer.specs.Answers.{IsCommand, IsFault}
 use Rattle.icont_words.specs.Words.{Run, Task, Link, Asks, Faulty, ComeTo}
 use Rattle.icont_units.specs.Files.{files_named}
 use Rattle.icont_units.specs.Units.{Load, Member, units_of}

@@ -1,8 +1,8 @@
 -- What a part of the call comes to, where the files tell what they hold.
 use Rattle.std.specs.Prelude.{ℕ, List, IfSome}
 use Rattle.icn_host.specs.FileMaps.{FileMap}
-use Rattle.icn_lines.specs.declared.answer.Answer.{Answer}
-use Rattle.icn_lines.specs.Telling.{CallObjects}
+use Rattle.icn_answer.specs.declared.answer.Answer.{Answer}
+use Rattle.icn_run_answer.specs.Telling.{CallObjects}
 use Rattle.icont_top.specs.Answered.{IsAnswered}
 use Rattle.icont_top.specs.Outcomes.{HasWritten, HoldsWritten, LeavesFiles, Outcome}
 

@@ -5,9 +5,9 @@ use Rattle.std.specs.Str.{is_utf8}
 use Rattle.icn_host.specs.FileMaps.{FileMap}
 use Rattle.icn_link.specs.declared.fault.LinkFault.TheVariants.{K2}
 use Rattle.icn_link.specs.LinkFaults.{missing}
-use Rattle.icn_lines.specs.declared.answer.Answer.{Answer}
-use Rattle.icn_lines.specs.declared.answer.Answer.TheVariants.{Command, NoMemory}
-use Rattle.icn_lines.specs.Answers.{IsFault}
+use Rattle.icn_answer.specs.declared.answer.Answer.{Answer}
+use Rattle.icn_answer.specs.declared.answer.Answer.TheVariants.{Command, NoMemory}
+use Rattle.icn_answer.specs.Answers.{IsFault}
 use Rattle.icont_words.specs.Asking.{run_seen}
 use Rattle.icont_words.specs.declared.words.WordsFault.{WordsFault}
 use Rattle.icont_words.specs.declared.words.WordsFault.TheVariants as WordsFaults

@@ -6,10 +6,10 @@ use Rattle.icn_value.specs.Limited.{Bounds, default_limits}
 use Rattle.icn_code.specs.Codes.{Tables}
 use Rattle.icn_image.specs.Spelling.{image_of}
 use Rattle.icn_defs.specs.Running.{Ending, Done, Exit, Errored, AtBound, Launch, Observation, launch_of}
-use Rattle.icn_lines.specs.declared.answer.Answer.{Answer}
-use Rattle.icn_lines.specs.declared.answer.Answer.TheVariants.{Wrote, Ran, Command}
-use Rattle.icn_lines.specs.Lines.{line_of}
-use Rattle.icn_lines.specs.Endings.{ending_held}
+use Rattle.icn_answer.specs.declared.answer.Answer.{Answer}
+use Rattle.icn_answer.specs.declared.answer.Answer.TheVariants.{Wrote, Ran, Command}
+use Rattle.icn_answer.specs.Lines.{line_of}
+use Rattle.icn_answer.specs.Endings.{ending_held}
 use Rattle.icont_words.specs.Words.{Run, Translate, Link, Generate, Asks, Faulty, ComeTo as WordsComeTo}
 use Rattle.icont_units.specs.Generated.{GeneratedComes, sizes_line}
 use Rattle.icont_units.specs.Files.{files_named, sources_in}

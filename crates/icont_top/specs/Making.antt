@@ -11,8 +11,8 @@ use Rattle.icn_unit.specs.PlainUnits.{UnitRead}
 use Rattle.icn_link.specs.LinkFaults.{first_fault}
 use Rattle.icn_verify.specs.Faults.{IsFirstFault}
 use Rattle.icn_simulation.specs.Law.{IsLinked}
-use Rattle.icn_lines.specs.declared.answer.Answer.{Answer}
-use Rattle.icn_lines.specs.declared.answer.Answer.TheVariants.{Refused, BadUcode, NoMemory}
+use Rattle.icn_answer.specs.declared.answer.Answer.{Answer}
+use Rattle.icn_answer.specs.declared.answer.Answer.TheVariants.{Refused, BadUcode, NoMemory}
 use Rattle.icont_units.specs.Files.{first_name}
 use Rattle.icont_units.specs.Units.{Member, link_answer, unit_named}
 use Rattle.icont_top.specs.declared.programs.Made.{Made}

@@ -14,16 +14,16 @@ use Rattle.icn_image.specs.Reading.{image_read}
 use Rattle.icn_verify.specs.Faults.{IsVerified}
 use Rattle.icn_simulation.specs.Law.{RunsFlat}
 use Rattle.icn_streams.specs.Handed.{CallStreams}
-use Rattle.icn_run.specs.declared.ending.Ending.{Ending}
+use Rattle.icn_defs.specs.declared.ending.Ending.{Ending}
 use Rattle.icn_running.specs.declared.fault.RunFault.{RunFault}
 use Rattle.icn_running.specs.declared.fault.RunFault.TheVariants as RunFaults
 use Rattle.icn_running.specs.Runs.{EndsAtFirst, LeavesBy}
-use Rattle.icn_lines.specs.declared.answer.Answer.{Answer}
-use Rattle.icn_lines.specs.declared.answer.Answer.TheVariants.{Wrote, Ran, Refused, Command, Missing, BadUcode, BadImage, FileFault, ReadFault, WriteFault, NoMemory}
-use Rattle.icn_lines.specs.Answers.{IsFault}
-use Rattle.icn_lines.specs.Faulting.{of_run}
-use Rattle.icn_lines.specs.Lines.{fault_line}
-use Rattle.icn_lines.specs.Telling.{CallObjects, with_errors}
+use Rattle.icn_answer.specs.declared.answer.Answer.{Answer}
+use Rattle.icn_answer.specs.declared.answer.Answer.TheVariants.{Wrote, Ran, Refused, Command, Missing, BadUcode, BadImage, FileFault, ReadFault, WriteFault, NoMemory}
+use Rattle.icn_answer.specs.Answers.{IsFault}
+use Rattle.icn_run_answer.specs.Faulting.{of_run}
+use Rattle.icn_answer.specs.Lines.{fault_line}
+use Rattle.icn_run_answer.specs.Telling.{CallObjects, with_errors}
 use Rattle.icont_words.specs.Words.{Run}
 use Rattle.icont_units.specs.Generated.{sizes_line}
 use Rattle.icont_units.specs.Units.{Member, unit_of}

@@ -4,7 +4,7 @@ ghost use Rattle.icn_host.specs.FileMaps.{FileMap, HoldBytes};
 ghost use Rattle.icn_tree.specs.declared.token.Token.{Token};
 ghost use Rattle.icn_tree.specs.Trees.{Declaration};
 ghost use Rattle.icn_code.specs.Codes.{Tables};
-ghost use Rattle.icn_lines.specs.Answers.{IsFault};
+ghost use Rattle.icn_answer.specs.Answers.{IsFault};
 ghost use Rattle.icont_units.specs.Files.{File};
 ghost use Rattle.icont_units.specs.Translating.{TokensGive};
 ghost use Rattle.icont_units.specs.Units.{Come, Gather, Load, Member, units_of};

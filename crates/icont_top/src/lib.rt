@@ -7,7 +7,7 @@ mod programs;
 mod top;
 mod writing;
 
-pub use icn_lines::Answer;
-pub use icn_run::Ending;
+pub use icn_answer::Answer;
+pub use icn_defs::Ending;
 pub use laws::{one_job, one_program, units_link_alike};
 pub use top::icont_main;

@@ -1,7 +1,7 @@
 // What is made of the files that the words name.
 ghost use Rattle.std.specs.Prelude.{◌≡◌, ⊤, IfErr, IfOk, IfSome, IsErrOf};
-ghost use Rattle.icn_lines.specs.Answers.{IsErrOfAbsence};
-ghost use Rattle.icn_lines.specs.FilesRead.{ReadsFiles, files_state};
+ghost use Rattle.icn_answer.specs.Answers.{IsErrOfAbsence};
+ghost use Rattle.icn_answer.specs.FilesRead.{ReadsFiles, files_state};
 ghost use Rattle.icn_host.specs.Counts.{Rose};
 ghost use Rattle.icont_units.specs.Fetching.{IsOfLoading, files_seen};
 ghost use Rattle.icont_units.specs.Files.{files_named, sources_in};
@@ -13,8 +13,8 @@ ghost use Rattle.icont_top.specs.Basing.{first_named};
 
 use crate::programs::{Made, make};
 use crate::writing::{Text, ucode_texts};
+use icn_answer::Answer;
 use icn_host::Files;
-use icn_lines::Answer;
 use icn_ucode::one_spelling;
 use icont_units::{File, come, files_named, generated, load, sources_in};
 use std::alloc::{AllocError, Global};

@@ -5,16 +5,16 @@ ghost use Rattle.icn_link.specs.Joined.{joined_code};
 ghost use Rattle.icn_link.specs.LinkFaults.{first_fault};
 ghost use Rattle.icn_link.specs.Units.{units_seen};
 ghost use Rattle.icn_verify.specs.Faults.{IsVerified};
-ghost use Rattle.icn_lines.specs.declared.answer.Answer.TheVariants.{BadUcode, Refused};
+ghost use Rattle.icn_answer.specs.declared.answer.Answer.TheVariants.{BadUcode, Refused};
 ghost use Rattle.icont_units.specs.Files.{first_name};
 ghost use Rattle.icont_units.specs.Loading.{IsSound, Stands};
 ghost use Rattle.icont_units.specs.Units.{Member, link_answer, unit_named};
 ghost use Rattle.icont_top.specs.Making.{IsOfLink, Makes, RefusesCode, RefusesLink};
 
+use icn_answer::Answer;
 use icn_code::Code;
 use icn_code_sound::joined_code_is_verified;
 use icn_image::write_image;
-use icn_lines::Answer;
 use icn_link::{LinkFault, link};
 use icn_tree::{Bytes, Rule};
 use icn_unit::Unit;

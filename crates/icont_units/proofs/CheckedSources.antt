@@ -8,9 +8,9 @@ use Rattle.icn_tree.specs.declared.tree.Place.{Place}
 use Rattle.icn_tree.specs.TreeOf.{declarations_of}
 use Rattle.icn_decls.specs.declared.checked.Checked.{Checked}
 use Rattle.icn_parse.specs.Outcomes.{IsOutcome, IsTree}
-use Rattle.icn_lines.specs.declared.answer.Answer.{Answer}
-use Rattle.icn_lines.specs.declared.answer.Answer.TheVariants.{NoMemory}
-use Rattle.icn_lines.specs.Answers.{IsFault}
+use Rattle.icn_answer.specs.declared.answer.Answer.{Answer}
+use Rattle.icn_answer.specs.declared.answer.Answer.TheVariants.{NoMemory}
+use Rattle.icn_answer.specs.Answers.{IsFault}
 use Rattle.icont_units.specs.Fetching.{AreFile, IsSource}
 use Rattle.icont_units.specs.Files.{source_name}
 use Rattle.icont_units.specs.Sources.{Scan, refused_at, source_read}

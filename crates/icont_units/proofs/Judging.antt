@@ -16,9 +16,9 @@ use Rattle.icn_unit.specs.declared.unit.Unit.{Unit as HeldUnit}
 use Rattle.icn_ucode.specs.DeclViews.{outcome_of}
 use Rattle.icn_ucode.specs.UnitReading.{UnitOutcome, Whole, Faulty, unit_read}
 use Rattle.icn_link.specs.Units.{unit_seen}
-use Rattle.icn_lines.specs.declared.answer.Answer.{Answer}
-use Rattle.icn_lines.specs.declared.answer.Answer.TheVariants.{BadUcode, Missing, NoMemory}
-use Rattle.icn_lines.specs.Answers.{IsFault}
+use Rattle.icn_answer.specs.declared.answer.Answer.{Answer}
+use Rattle.icn_answer.specs.declared.answer.Answer.TheVariants.{BadUcode, Missing, NoMemory}
+use Rattle.icn_answer.specs.Answers.{IsFault}
 use Rattle.icont_units.specs.declared.ucode.UnitTexts.{UnitTexts}
 use Rattle.icont_units.specs.Fetching.{AreTexts, HeldAre, IsJudged, IsNamedUnit, first_bytes}
 use Rattle.icont_units.specs.Files.{first_name, second_name, ucode}

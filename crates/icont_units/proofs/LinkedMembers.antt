@@ -15,9 +15,9 @@ use Rattle.icn_link.specs.declared.fault.LinkFault.TheVariants.{K2}
 use Rattle.icn_link.specs.Gathering.{with_text, with_texts}
 use Rattle.icn_link.specs.LinkFaults.{missing, unit_names}
 use Rattle.icn_link.specs.Units.{unit_seen, units_seen}
-use Rattle.icn_lines.specs.declared.answer.Answer.{Answer}
-use Rattle.icn_lines.specs.declared.answer.Answer.TheVariants.{NoMemory}
-use Rattle.icn_lines.specs.Answers.{IsFault}
+use Rattle.icn_answer.specs.declared.answer.Answer.{Answer}
+use Rattle.icn_answer.specs.declared.answer.Answer.TheVariants.{NoMemory}
+use Rattle.icn_answer.specs.Answers.{IsFault}
 use Rattle.icont_units.specs.declared.members.Members.{Members}
 use Rattle.icont_units.specs.Fetching.{HeldAre}
 use Rattle.icont_units.specs.Loading.{Adds, AreSought, Grows, IsGathered, IsMissed, IsSought, IsSound, Knows, Refuses, Stands, kept_of, links_at, texts_in, with_ucode, with_units}

@@ -12,9 +12,9 @@ use Rattle.icn_unit.specs.PlainUnits.{UnitRead}
 use Rattle.icn_translate.specs.FileUnits.{translated_unit}
 use Rattle.icn_link.specs.Units.{units_seen}
 use Rattle.icn_simulation.specs.Faultless.{IsFaultless}
-use Rattle.icn_lines.specs.declared.answer.Answer.{Answer}
-use Rattle.icn_lines.specs.declared.answer.Answer.TheVariants.{Refused, Missing, BadUcode, FileFault, NoMemory}
-use Rattle.icn_lines.specs.Answers.{IsFault}
+use Rattle.icn_answer.specs.declared.answer.Answer.{Answer}
+use Rattle.icn_answer.specs.declared.answer.Answer.TheVariants.{Refused, Missing, BadUcode, FileFault, NoMemory}
+use Rattle.icn_answer.specs.Answers.{IsFault}
 use Rattle.icont_units.specs.declared.members.Members.{Members}
 use Rattle.icont_units.specs.Fetching.{file_seen, files_seen, IsOfLinked, IsOfLoading, IsOfNamed}
 use Rattle.icont_units.specs.declared.files.File.{File as HeldFile}

@@ -5,10 +5,10 @@ use Rattle.icn_tree.specs.declared.rule.Rule.TheVariants.{U8}
 use Rattle.icn_prep.specs.SourceLines.{source_lines}
 use Rattle.icn_unit.specs.PlainUnits.{UnitRead}
 use Rattle.icn_ucode.specs.UnitReading.{UnitOutcome, Whole, Faulty, unit_read}
-use Rattle.icn_lines.specs.declared.answer.Answer.{Answer}
-use Rattle.icn_lines.specs.declared.answer.Answer.TheVariants.{BadUcode, Missing}
-use Rattle.icn_lines.specs.Answers.{IsFault}
-use Rattle.icn_lines.proofs.Reports.{no_fault}
+use Rattle.icn_answer.specs.declared.answer.Answer.{Answer}
+use Rattle.icn_answer.specs.declared.answer.Answer.TheVariants.{BadUcode, Missing}
+use Rattle.icn_answer.specs.Answers.{IsFault}
+use Rattle.icn_answer.proofs.NoFaults.{no_fault}
 use Rattle.icont_units.specs.Files.{File, first_name, second_name, source_name}
 use Rattle.icont_units.specs.Generated.{GeneratedComes, generated_name}
 use Rattle.icont_units.specs.Sources.{refused_at}

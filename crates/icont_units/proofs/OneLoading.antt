@@ -7,8 +7,8 @@ use Rattle.icn_tree.specs.declared.rule.Rule.TheVariants.{S1, U8}
 use Rattle.icn_tree.specs.Tokens.{Outcome, Scanned, Fault, tokens_of}
 use Rattle.icn_unit.specs.PlainUnits.{UnitRead}
 use Rattle.icn_ucode.specs.UnitReading.{unit_read}
-use Rattle.icn_lines.specs.declared.answer.Answer.{Answer}
-use Rattle.icn_lines.specs.declared.answer.Answer.TheVariants.{Missing, BadUcode}
+use Rattle.icn_answer.specs.declared.answer.Answer.{Answer}
+use Rattle.icn_answer.specs.declared.answer.Answer.TheVariants.{Missing, BadUcode}
 use Rattle.icont_units.specs.declared.files.Kind.{Kind}
 use Rattle.icont_units.specs.declared.files.Kind.TheVariants.{Source, Ucode}
 use Rattle.icont_units.specs.Files.{File, source_name, first_name, second_name}

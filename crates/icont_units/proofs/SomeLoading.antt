@@ -15,7 +15,7 @@ use Rattle.icn_unit.specs.PlainUnits.{owned_names}
 use Rattle.icn_unit.specs.UnitTexts.{decls_text, procs_text}
 use Rattle.icn_ucode.specs.UnitReading.{UnitOutcome, Whole, Faulty, unit_read}
 use Rattle.icn_link.specs.LinkFaults.{base_of}
-use Rattle.icn_lines.specs.declared.answer.Answer.{Answer}
+use Rattle.icn_answer.specs.declared.answer.Answer.{Answer}
 use Rattle.icont_units.specs.declared.files.Kind.{Kind}
 use Rattle.icont_units.specs.declared.files.Kind.TheVariants.{Source, Ucode}
 use Rattle.icont_units.specs.Files.{File, source_name}

@@ -6,7 +6,7 @@ use Rattle.icn_tree.specs.declared.token.Token.{Token}
 use Rattle.icn_tree.specs.Trees.{Declaration}
 use Rattle.icn_unit.specs.PlainUnits.{UnitRead}
 use Rattle.icn_unit.specs.UnitRules.{keeps_rules}
-use Rattle.icn_lines.specs.declared.answer.Answer.{Answer}
+use Rattle.icn_answer.specs.declared.answer.Answer.{Answer}
 use Rattle.icont_units.specs.Files.{File, source_name}
 use Rattle.icont_units.specs.Generated.{GeneratedComes, generated_base, generated_lines}
 use Rattle.icont_units.specs.Sources.{Scan, source_read}

@@ -15,9 +15,9 @@ use Rattle.icn_prep.specs.declared.fault.PrepFault.TheVariants as Prep
 use Rattle.icn_prep.specs.Answers.{IsAbsent, IsTextFault}
 use Rattle.icn_prep.specs.SourceLines.{Source, source_lines}
 use Rattle.icn_prep.proofs.Faults.{fault_of_text}
-use Rattle.icn_lines.specs.declared.answer.Answer.{Answer}
-use Rattle.icn_lines.specs.declared.answer.Answer.TheVariants.{Refused, FileFault, NoMemory}
-use Rattle.icn_lines.specs.Answers.{IsFault, IsAbsence}
+use Rattle.icn_answer.specs.declared.answer.Answer.{Answer}
+use Rattle.icn_answer.specs.declared.answer.Answer.TheVariants.{Refused, FileFault, NoMemory}
+use Rattle.icn_answer.specs.Answers.{IsFault, IsAbsence}
 use Rattle.icont_units.specs.Sources.{refused_at, tokens_read, fault_answer, lines_read}
 use Rattle.icont_units.proofs.Matching.{same_Err, ok-err}
 

@@ -13,8 +13,8 @@ use Rattle.icn_decls.specs.declared.fault.ContextFault.{ContextFault}
 use Rattle.icn_decls.specs.declared.fault.ContextFault.TheVariants as Context
 use Rattle.icn_decls.specs.Faults.{context_faults}
 use Rattle.icn_decls.specs.Views.{Checks}
-use Rattle.icn_lines.specs.declared.answer.Answer.{Answer}
-use Rattle.icn_lines.specs.declared.answer.Answer.TheVariants.{NoMemory}
+use Rattle.icn_answer.specs.declared.answer.Answer.{Answer}
+use Rattle.icn_answer.specs.declared.answer.Answer.TheVariants.{NoMemory}
 use Rattle.icont_units.specs.Faults.{of_parse, of_context}
 use Rattle.icont_units.specs.Sources.{refused_at, IsTreeRule, IsOfTokens}
 use Rattle.icont_units.specs.Stages.{Stops}

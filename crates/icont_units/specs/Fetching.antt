@@ -10,9 +10,9 @@ use Rattle.icn_tree.specs.declared.tree.Place.{Place}
 use Rattle.icn_decls.specs.declared.checked.Checked.{Checked}
 use Rattle.icn_unit.specs.declared.unit.Unit.{Unit as HeldUnit}
 use Rattle.icn_link.specs.Units.{unit_seen}
-use Rattle.icn_lines.specs.declared.answer.Answer.{Answer}
-use Rattle.icn_lines.specs.declared.answer.Answer.TheVariants.{Missing, BadUcode, Refused, FileFault, NoMemory}
-use Rattle.icn_lines.specs.Answers.{IsFault}
+use Rattle.icn_answer.specs.declared.answer.Answer.{Answer}
+use Rattle.icn_answer.specs.declared.answer.Answer.TheVariants.{Missing, BadUcode, Refused, FileFault, NoMemory}
+use Rattle.icn_answer.specs.Answers.{IsFault}
 use Rattle.icont_units.specs.declared.files.File.{File as HeldFile}
 use Rattle.icont_units.specs.declared.ucode.UnitTexts.{UnitTexts}
 use Rattle.icont_units.specs.Files.{File, source, ucode}

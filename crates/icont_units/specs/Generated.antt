@@ -7,7 +7,7 @@ use Rattle.icn_tree.specs.declared.token.Token.{Token}
 use Rattle.icn_tree.specs.declared.tree.Place.{Place}
 use Rattle.icn_tree.specs.Tokens.{Scanned, Fault, tokens_of}
 use Rattle.icn_tree.specs.Trees.{Declaration}
-use Rattle.icn_lines.specs.declared.answer.Answer.{Answer}
+use Rattle.icn_answer.specs.declared.answer.Answer.{Answer}
 use Rattle.icont_units.specs.Sources.{refused_at}
 use Rattle.icont_units.specs.Translating.{TokensGive}
 use Rattle.icont_units.specs.Units.{FromSource, Member}

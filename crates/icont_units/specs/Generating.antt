@@ -3,9 +3,9 @@ use Rattle.std.specs.Prelude.{◌≡◌, ◌⊎◌, ℕ, List, [], ◌∷◌, Re
 use Rattle.icn_tree.specs.declared.rule.Rule.{Rule}
 use Rattle.icn_tree.specs.declared.tree.Place.{Place}
 use Rattle.icn_tree.specs.Trees.{Declaration}
-use Rattle.icn_lines.specs.declared.answer.Answer.{Answer}
-use Rattle.icn_lines.specs.declared.answer.Answer.TheVariants.{Refused, NoMemory}
-use Rattle.icn_lines.specs.Answers.{IsFault}
+use Rattle.icn_answer.specs.declared.answer.Answer.{Answer}
+use Rattle.icn_answer.specs.declared.answer.Answer.TheVariants.{Refused, NoMemory}
+use Rattle.icn_answer.specs.Answers.{IsFault}
 use Rattle.icont_units.specs.declared.members.Members.{Members}
 use Rattle.icont_units.specs.Generated.{GeneratedComes, generated_base}
 use Rattle.icont_units.specs.Loading.{Stands}

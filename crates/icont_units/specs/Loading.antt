@@ -11,8 +11,8 @@ use Rattle.icn_link.specs.Gathering.{with_texts}
 use Rattle.icn_link.specs.LinkFaults.{missing, unit_names}
 use Rattle.icn_link.specs.Units.{units_seen}
 use Rattle.icn_simulation.specs.Faultless.{IsFaultless}
-use Rattle.icn_lines.specs.declared.answer.Answer.{Answer}
-use Rattle.icn_lines.specs.Answers.{IsFault}
+use Rattle.icn_answer.specs.declared.answer.Answer.{Answer}
+use Rattle.icn_answer.specs.Answers.{IsFault}
 use Rattle.icont_units.specs.declared.members.Members.{Members}
 use Rattle.icont_units.specs.Files.{File}
 use Rattle.icont_units.specs.Units.{Come, Comes, FromSource, FromUcode, Gather, IsAbsent, Load, Member, links_of, units_of}

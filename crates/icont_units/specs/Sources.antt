@@ -10,9 +10,9 @@ use Rattle.icn_prep.specs.declared.fault.PrepFault.{PrepFault}
 use Rattle.icn_prep.specs.declared.fault.PrepFault.TheVariants as Prep
 use Rattle.icn_prep.specs.SourceLines.{Source, source_lines}
 use Rattle.icont_units.specs.declared.source.SourceTokens.{SourceTokens}
-use Rattle.icn_lines.specs.declared.answer.Answer.{Answer}
-use Rattle.icn_lines.specs.declared.answer.Answer.TheVariants.{Refused, Missing, FileFault, NoMemory}
-use Rattle.icn_lines.specs.Answers.{IsFault}
+use Rattle.icn_answer.specs.declared.answer.Answer.{Answer}
+use Rattle.icn_answer.specs.declared.answer.Answer.TheVariants.{Refused, Missing, FileFault, NoMemory}
+use Rattle.icn_answer.specs.Answers.{IsFault}
 
 -- the name of a file by its place, as the lines have it
 abbrev pub name_at : List (List ℕ) → ℕ → List ℕ

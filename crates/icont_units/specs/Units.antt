@@ -16,8 +16,8 @@ use Rattle.icn_translate.specs.FileUnits.{translated_unit}
 use Rattle.icn_link.specs.declared.fault.LinkFault.{LinkFault}
 use Rattle.icn_link.specs.declared.fault.LinkFault.TheVariants.{K1, K2, K3, NoMemory}
 use Rattle.icn_link.specs.LinkFaults.{base_of as linked_base, unit_names}
-use Rattle.icn_lines.specs.declared.answer.Answer.{Answer}
-use Rattle.icn_lines.specs.declared.answer.Answer.TheVariants.{Refused, Missing, BadUcode}
+use Rattle.icn_answer.specs.declared.answer.Answer.{Answer}
+use Rattle.icn_answer.specs.declared.answer.Answer.TheVariants.{Refused, Missing, BadUcode}
 use Rattle.icont_units.specs.Sources.{Scan, refused_at, source_read}
 use Rattle.icont_units.specs.Translating.{TokensGive}
 use Rattle.icont_units.specs.Files.{File, source, ucode, source_name, first_name, second_name}

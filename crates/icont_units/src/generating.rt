@@ -4,7 +4,7 @@ ghost use Rattle.icn_tree.specs.TreeOf.{declarations_of};
 ghost use Rattle.icn_decls.specs.Spelled.{AreScanned};
 ghost use Rattle.icont_units.specs.Generated.{generated_base};
 ghost use Rattle.icont_units.specs.Generating.{AreMember, IsGenerated, IsOfLines};
-ghost use Rattle.icn_lines.specs.Answers.{IsErrOfAbsence};
+ghost use Rattle.icn_answer.specs.Answers.{IsErrOfAbsence};
 ghost use Rattle.icont_units.specs.Loading.{IsSound, Stands};
 ghost use Rattle.icont_units.specs.Sources.{IsOfTokens, scan_of};
 ghost use Rattle.icont_units.specs.Units.{FromSource};
@@ -12,8 +12,8 @@ ghost use Rattle.icont_units.specs.Units.{FromSource};
 use crate::members::Members;
 use crate::program_lines::generated_lines;
 use crate::source::{SourceTokens, checked_tokens, line_tokens};
+use icn_answer::Answer;
 use icn_decls::Checked;
-use icn_lines::Answer;
 use icn_units::unit;
 use std::alloc::{AllocError, Global};
 

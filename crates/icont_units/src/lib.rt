@@ -13,7 +13,7 @@ mod ucode;
 
 pub use files::{File, Kind, file_named, files_named, name_with, sources_in};
 pub use generating::generated;
-pub use icn_lines::Answer;
+pub use icn_answer::Answer;
 pub use members::{Members, come, load};
 pub use program_lines::sizes_line;
 pub use source::checked_source;

@@ -6,15 +6,15 @@ ghost use Rattle.icn_unit.specs.UnitViews.{decl_seen};
 ghost use Rattle.icn_link.specs.Gathering.{with_text, with_texts};
 ghost use Rattle.icn_link.specs.LinkFaults.{base_of, unit_names};
 ghost use Rattle.icn_link.specs.Units.{units_seen};
-ghost use Rattle.icn_lines.specs.FilesRead.{ReadsFiles, files_state};
+ghost use Rattle.icn_answer.specs.FilesRead.{ReadsFiles, files_state};
 ghost use Rattle.icont_units.specs.Fetching.{IsOfLinked};
 ghost use Rattle.icont_units.specs.Loading.{AreSought, Grows, IsGathered, IsSought, IsSound, Knows, Stands, kept_of, texts_in, links_at};
 ghost use Rattle.icont_units.specs.Units.{IsAbsent, Member, link_in, links_in};
 
 use crate::members::{Members, push_ucode};
 use crate::ucode::linked_unit;
+use icn_answer::Answer;
 use icn_host::Files;
-use icn_lines::Answer;
 use icn_link::base_of;
 use icn_unit::{Unit, UnitDecl};
 use indexmap::IndexSet;

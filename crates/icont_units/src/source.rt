@@ -2,19 +2,19 @@
 ghost use Rattle.std.specs.Prelude.{◌≡◌, ◌⊎◌, IfSome, IfOk, IfErr, IsErrOf};
 ghost use Rattle.icn_tree.specs.Tokens.{tokens_of};
 ghost use Rattle.icn_decls.specs.Spelled.{AreScanned};
-ghost use Rattle.icn_lines.specs.declared.answer.Answer.TheVariants.{Missing};
-ghost use Rattle.icn_lines.specs.Answers.{IsErrOfAbsence};
-ghost use Rattle.icn_lines.specs.FilesRead.{ReadsFiles, files_state};
+ghost use Rattle.icn_answer.specs.declared.answer.Answer.TheVariants.{Missing};
+ghost use Rattle.icn_answer.specs.Answers.{IsErrOfAbsence};
+ghost use Rattle.icn_answer.specs.FilesRead.{ReadsFiles, files_state};
 ghost use Rattle.icont_units.specs.Fetching.{AreFile, IsSource};
 ghost use Rattle.icont_units.specs.Sources.{name_at, refused_at, tokens_read, fault_answer, scan_of, source_read, IsRead, IsOfRead, IsOfTokens};
 
 use crate::checking::checked;
 use crate::files::name_with;
 use crate::program_fault::ProgramFault;
+use icn_answer::Answer;
 use icn_decls::Checked;
 use icn_host::Files;
 use icn_lex::{LexFault, tokens};
-use icn_lines::Answer;
 use icn_prep::{PrepFault, preprocess};
 use icn_tree::{Bytes, Lines, Place, Rule, Token};
 use std::alloc::Global;

@@ -5,13 +5,13 @@ use Rattle.icn_host.specs.Sinks.{SinkState}
 use Rattle.icn_value.specs.Limited.{Bounds}
 use Rattle.icn_code.specs.Seen.{tables_of}
 use Rattle.icn_verify.specs.declared.verified.Verified.{Verified}
-use Rattle.icn_lines.specs.declared.answer.Answer.{Answer}
-use Rattle.icn_lines.specs.declared.answer.Answer.TheVariants.{Ran, Missing, BadImage, FileFault, ReadFault, WriteFault, NoMemory}
+use Rattle.icn_answer.specs.declared.answer.Answer.{Answer}
+use Rattle.icn_answer.specs.declared.answer.Answer.TheVariants.{Ran, Missing, BadImage, FileFault, ReadFault, WriteFault, NoMemory}
 use Rattle.iconx_top.specs.Answered.{IsAnswered, fault, missing, bad, ran}
-use Rattle.icn_lines.specs.Faulting.{IsOfRun}
+use Rattle.icn_run_answer.specs.Faulting.{IsOfRun}
 use Rattle.iconx_top.specs.Loading.{IsLoaded}
 use Rattle.iconx_top.specs.Usage.{usage}
-use Rattle.icn_lines.specs.Refusing.{Refuses, own, put, want, write_fault}
+use Rattle.icn_answer.specs.Refusing.{Refuses, own, put, want, write_fault}
 use Rattle.iconx_top.specs.Words.{Asks, words_reading}
 
 pub answer_put : {words : List (List ℕ)} {files : FileMap} {name : List ℕ} {before after : SinkState} (answer given : Answer) → IsAnswered words files answer

@@ -11,8 +11,8 @@ use Rattle.icn_verify.specs.Laws.{HaveOneFault, HaveNoFault}
 use Rattle.icn_defs.specs.Running.{Launch, Observation}
 use Rattle.icn_run.specs.FlatStep.{Runs}
 use Rattle.icn_run.proofs.Observing.{flat_once}
-use Rattle.icn_lines.specs.Answers.{IsFault}
-use Rattle.icn_lines.specs.declared.answer.Answer.TheVariants.{Command, Missing, BadImage}
+use Rattle.icn_answer.specs.Answers.{IsFault}
+use Rattle.icn_answer.specs.declared.answer.Answer.TheVariants.{Command, Missing, BadImage}
 use Rattle.iconx_top.specs.Images.{IsJudged, too_long, broken, unverified, runs}
 use Rattle.iconx_top.specs.Job.{Job, IsJob, IsRun, wrong_words, missing, bad, ran, refusal, observation}
 use Rattle.iconx_top.specs.Words.{WordsReading, Asks, Faulty, words_reading}

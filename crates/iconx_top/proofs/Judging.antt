@@ -9,9 +9,9 @@ use Rattle.icn_image.specs.Readers.{Fails}
 use Rattle.icn_image.specs.declared.fault.ImageFault.{ImageFault}
 use Rattle.icn_image.specs.declared.fault.ImageFault.TheVariants.{Broken, NoMemory as WantsMemory}
 use Rattle.icn_verify.specs.declared.verified.Verified.{Verified}
-use Rattle.icn_lines.specs.declared.answer.Answer.{Answer}
-use Rattle.icn_lines.specs.declared.answer.Answer.TheVariants.{Refused, Missing, BadImage, FileFault, NoMemory}
-use Rattle.icn_lines.specs.Answers.{IsErrOfAbsence}
+use Rattle.icn_answer.specs.declared.answer.Answer.{Answer}
+use Rattle.icn_answer.specs.declared.answer.Answer.TheVariants.{Refused, Missing, BadImage, FileFault, NoMemory}
+use Rattle.icn_answer.specs.Answers.{IsErrOfAbsence}
 use Rattle.iconx_top.specs.Images.{IsJudged, too_long, broken, unverified, runs}
 use Rattle.iconx_top.specs.Loading.{IsChecked, IsJudgement, IsLoaded, IsOfImage, IsOfLoading, Takes, of_image}
 

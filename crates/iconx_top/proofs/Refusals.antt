@@ -12,24 +12,26 @@ use Rattle.icn_defs.specs.Running.{Launch}
 use Rattle.icn_streams.specs.Handed.{CallStreams, call_streams}
 use Rattle.icn_code.specs.Codes.{Tables}
 use Rattle.icn_code.specs.Seen.{tables_of}
-use Rattle.icn_run.specs.declared.ending.Ending.{Ending}
+use Rattle.icn_defs.specs.declared.ending.Ending.{Ending}
 use Rattle.icn_verify.specs.declared.verified.Verified.{Verified}
 use Rattle.icn_running.specs.declared.fault.RunFault.{RunFault}
 use Rattle.icn_running.specs.Reported.{ending_seen}
 use Rattle.icn_running.specs.Runs.{EndsAtFirst as RunEnds, IsBrokenOff, RunsTo}
-use Rattle.icn_lines.specs.declared.answer.Answer.{Answer}
-use Rattle.icn_lines.specs.declared.answer.Answer.TheVariants.{Wrote, Ran, Refused, Command, Missing, BadUcode, BadImage, FileFault, ReadFault, WriteFault, NoMemory}
-use Rattle.icn_lines.specs.Answers.{IsFault, IsAbsence}
-use Rattle.icn_lines.specs.Causes.{EndsAtFirst, outside}
-use Rattle.icn_lines.specs.Endings.{ending_held}
-use Rattle.icn_lines.specs.Faulting.{of_run}
-use Rattle.icn_lines.specs.Lines.{line_of}
-use Rattle.icn_lines.specs.Refusing.{PutsOwn, Refuses, own, put, want, write_fault}
-use Rattle.icn_lines.specs.Reporting.{PutsSome}
-use Rattle.icn_lines.specs.Telling.{CallObjects, call_objects}
-use Rattle.icn_lines.proofs.Counts.{absence_of, broken_first, no_cause, refused_ends, unmoved}
-use Rattle.icn_lines.proofs.Endings.{held_seen}
-use Rattle.icn_lines.proofs.Reports.{broken_puts, is_run_fault, no_fault, puts_own}
+use Rattle.icn_answer.specs.declared.answer.Answer.{Answer}
+use Rattle.icn_answer.specs.declared.answer.Answer.TheVariants.{Wrote, Ran, Refused, Command, Missing, BadUcode, BadImage, FileFault, ReadFault, WriteFault, NoMemory}
+use Rattle.icn_answer.specs.Answers.{IsFault, IsAbsence}
+use Rattle.icn_run_answer.specs.Causes.{EndsAtFirst, outside}
+use Rattle.icn_answer.specs.Endings.{ending_held}
+use Rattle.icn_run_answer.specs.Faulting.{of_run}
+use Rattle.icn_answer.specs.Lines.{line_of}
+use Rattle.icn_answer.specs.Refusing.{PutsOwn, Refuses, own, put, want, write_fault}
+use Rattle.icn_run_answer.specs.Reporting.{PutsSome}
+use Rattle.icn_run_answer.specs.Telling.{CallObjects, call_objects}
+use Rattle.icn_answer.proofs.FaultCounts.{no_cause, unmoved}
+use Rattle.icn_run_answer.proofs.Counts.{absence_of, broken_first, refused_ends}
+use Rattle.icn_run_answer.proofs.Endings.{held_seen}
+use Rattle.icn_answer.proofs.NoFaults.{no_fault}
+use Rattle.icn_run_answer.proofs.Reports.{broken_puts, is_run_fault, puts_own}
 use Rattle.iconx_top.specs.Job.{IsJob, IsRun, Job, bad, missing, observation, ran, refusal}
 use Rattle.iconx_top.specs.Loading.{IsLoaded, IsOfLoading}
 use Rattle.iconx_top.specs.Outcomes.{IsIdleFault, Outcome, broke, done, fault, idle}

@@ -1,10 +1,10 @@
 -- How the line of an answer stands on the error output.
 use Rattle.std.proofs.Common.{◌≡◌, ℕ, List, Option}
 use Rattle.icn_host.specs.Sinks.{SinkState}
-use Rattle.icn_run.specs.declared.ending.Ending.{Ending}
-use Rattle.icn_lines.specs.declared.answer.Answer.{Answer}
-use Rattle.icn_lines.specs.declared.answer.Answer.TheVariants.{Ran}
-use Rattle.icn_lines.specs.Reporting.{Reports}
+use Rattle.icn_defs.specs.declared.ending.Ending.{Ending}
+use Rattle.icn_answer.specs.declared.answer.Answer.{Answer}
+use Rattle.icn_answer.specs.declared.answer.Answer.TheVariants.{Ran}
+use Rattle.icn_run_answer.specs.Reporting.{Reports}
 use Rattle.iconx_top.specs.Loading.{IsOfLoading}
 use Rattle.iconx_top.specs.Usage.{usage}
 use Rattle.iconx_top.specs.Words.{WordsReading, image_name}

@@ -4,10 +4,10 @@ use Rattle.icn_host.specs.FileMaps.{FileMap}
 use Rattle.icn_tree.specs.declared.rule.Rule.{Rule}
 use Rattle.icn_value.specs.Limited.{Bounds}
 use Rattle.icn_code.specs.Codes.{Tables}
-use Rattle.icn_run.specs.declared.ending.Ending.{Ending}
-use Rattle.icn_lines.specs.declared.answer.Answer.{Answer}
-use Rattle.icn_lines.specs.declared.answer.Answer.TheVariants.{Ran, Command, Missing, BadImage}
-use Rattle.icn_lines.specs.Answers.{IsFault}
+use Rattle.icn_defs.specs.declared.ending.Ending.{Ending}
+use Rattle.icn_answer.specs.declared.answer.Answer.{Answer}
+use Rattle.icn_answer.specs.declared.answer.Answer.TheVariants.{Ran, Command, Missing, BadImage}
+use Rattle.icn_answer.specs.Answers.{IsFault}
 use Rattle.iconx_top.specs.Images.{IsJudged}
 use Rattle.iconx_top.specs.Words.{Asks, Faulty, words_reading}
 

@@ -1,8 +1,8 @@
 -- Which answers say that the words are faulty.
 use Rattle.std.specs.Prelude.{◌≡◌, ◌⊎◌}
-use Rattle.icn_lines.specs.declared.answer.Answer.{Answer}
-use Rattle.icn_lines.specs.declared.answer.Answer.TheVariants.{Command}
-use Rattle.icn_lines.specs.Answers.{IsCommand, IsFault}
+use Rattle.icn_answer.specs.declared.answer.Answer.{Answer}
+use Rattle.icn_answer.specs.declared.answer.Answer.TheVariants.{Command}
+use Rattle.icn_answer.specs.Answers.{IsCommand, IsFault}
 use Rattle.iconx_top.specs.Words.{WordsReading, Asks, Faulty}
 
 -- faulty words are answered in their way, and no others are called faulty

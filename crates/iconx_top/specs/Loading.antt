@@ -7,8 +7,8 @@ use Rattle.icn_image.specs.declared.fault.ImageFault.{ImageFault}
 use Rattle.icn_image.specs.declared.fault.ImageFault.TheVariants.{Broken, NoMemory as WantsMemory}
 use Rattle.icn_verify.specs.Faults.{IsFirstFault, IsVerified}
 use Rattle.icn_verify.specs.declared.verified.Verified.{Verified}
-use Rattle.icn_lines.specs.declared.answer.Answer.{Answer}
-use Rattle.icn_lines.specs.declared.answer.Answer.TheVariants.{Missing, BadImage, FileFault, NoMemory}
+use Rattle.icn_answer.specs.declared.answer.Answer.{Answer}
+use Rattle.icn_answer.specs.declared.answer.Answer.TheVariants.{Missing, BadImage, FileFault, NoMemory}
 use Rattle.iconx_top.specs.Images.{IsJudged}
 
 -- the first bytes of a text, up to one more than an image may have

@@ -7,13 +7,13 @@ use Rattle.icn_defs.specs.Running.{Launch}
 use Rattle.icn_code.specs.Codes.{Tables}
 use Rattle.icn_running.specs.declared.fault.RunFault.{RunFault}
 use Rattle.icn_running.specs.Runs.{IsBrokenOff}
-use Rattle.icn_lines.specs.declared.answer.Answer.{Answer}
-use Rattle.icn_lines.specs.declared.answer.Answer.TheVariants.{Wrote, Ran, Refused, Command, Missing, BadUcode, BadImage, FileFault, ReadFault, WriteFault, NoMemory}
-use Rattle.icn_lines.specs.Answers.{IsFault}
-use Rattle.icn_lines.specs.Causes.{IsFirstFaultOf}
-use Rattle.icn_lines.specs.Faulting.{of_run}
-use Rattle.icn_lines.specs.Lines.{fault_line}
-use Rattle.icn_lines.specs.Telling.{CallObjects, with_errors}
+use Rattle.icn_answer.specs.declared.answer.Answer.{Answer}
+use Rattle.icn_answer.specs.declared.answer.Answer.TheVariants.{Wrote, Ran, Refused, Command, Missing, BadUcode, BadImage, FileFault, ReadFault, WriteFault, NoMemory}
+use Rattle.icn_answer.specs.Answers.{IsFault}
+use Rattle.icn_run_answer.specs.Causes.{IsFirstFaultOf}
+use Rattle.icn_run_answer.specs.Faulting.{of_run}
+use Rattle.icn_answer.specs.Lines.{fault_line}
+use Rattle.icn_run_answer.specs.Telling.{CallObjects, with_errors}
 use Rattle.iconx_top.specs.Job.{Job, IsJob, IsRun}
 
 -- the job was done

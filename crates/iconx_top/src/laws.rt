@@ -1,7 +1,7 @@
 // Laws of the job.
 ghost use Rattle.std.specs.Prelude.{◌≡◌, ℕ, List};
 ghost use Rattle.icn_host.specs.FileMaps.{FileMap, HoldBytes};
-ghost use Rattle.icn_lines.specs.Answers.{IsFault};
+ghost use Rattle.icn_answer.specs.Answers.{IsFault};
 ghost use Rattle.iconx_top.specs.Job.{IsJob, Job};
 
 use icn_image::one_spelling;

@@ -6,7 +6,7 @@ mod load;
 mod top;
 mod words;
 
-pub use icn_lines::Answer;
-pub use icn_run::Ending;
+pub use icn_answer::Answer;
+pub use icn_defs::Ending;
 pub use laws::one_job;
 pub use top::iconx_main;

@@ -1,14 +1,14 @@
 // The image that is to run.
 ghost use Rattle.std.specs.Prelude.{◌≡◌, ◌⊎◌, ℕ, List, Some, None, IfSome, IfErr};
-ghost use Rattle.icn_lines.specs.Answers.{IsErrOfAbsence};
-ghost use Rattle.icn_lines.specs.FilesRead.{ReadsFiles, files_state};
+ghost use Rattle.icn_answer.specs.Answers.{IsErrOfAbsence};
+ghost use Rattle.icn_answer.specs.FilesRead.{ReadsFiles, files_state};
 ghost use Rattle.icn_code.specs.Seen.{tables_of};
 ghost use Rattle.iconx_top.specs.Loading.{IsChecked, IsJudgement, IsLoaded, IsOfImage, IsOfLoading, Takes, of_image};
 
+use icn_answer::Answer;
 use icn_code::Code;
 use icn_host::{Files, Look};
 use icn_image::{ImageFault, read_image};
-use icn_lines::Answer;
 use icn_profile::MOST_BYTES_OF_IMAGE;
 use icn_tree::{Bytes, Rule};
 use icn_verify::{Verified, VerifyFault, verify};

@@ -1,7 +1,7 @@
 // What is observed of a run.
+use icn_defs::Ending;
 use icn_frames::{Cell, Stack};
 use icn_host::{MemSink, MemSource};
-use icn_run::Ending;
 use icn_running::{RunFault, run};
 use icn_value::Limits;
 use icn_verify::Verified;

@@ -1,8 +1,9 @@
 use Rattle.std.proofs.Common.{refl, ap, Ok, Err}
-use Rattle.icn_lines.proofs.Counts.{no_cause, refused_ends, unmoved, absence_of}
-use Rattle.icn_lines.proofs.Leaving.{leaves_both}
-use Rattle.icn_lines.proofs.Reports.{reports_of}
-use Rattle.icn_lines.proofs.Telling.{if_some}
+use Rattle.icn_answer.proofs.FaultCounts.{no_cause, unmoved}
+use Rattle.icn_run_answer.proofs.Counts.{refused_ends, absence_of}
+use Rattle.icn_run_answer.proofs.Leaving.{leaves_both}
+use Rattle.icn_run_answer.proofs.Reports.{reports_of}
+use Rattle.icn_answer.proofs.ToldContent.{if_some}
 use Rattle.icont_units.specs.Generated.{GeneratedComes}
 use Rattle.icont_top.specs.Job.{of_number}
 use Rattle.icont_top.proofs.AnswersGiven.{command_refuses, loading_no_image, loading_no_read, loading_no_run, loading_no_write, no_command}

@@ -1,9 +1,9 @@
 use Rattle.std.proofs.Common.{map}
 use Rattle.std.specs.Prelude.{string_bytes}
 use Rattle.std.specs.Option.{option_map}
-use Rattle.icn_lines.proofs.Counts.{faultless_of}
-use Rattle.icn_lines.proofs.Reports.{line_of_reports}
-use Rattle.icn_lines.proofs.Telling.{at_some, if_some}
+use Rattle.icn_run_answer.proofs.Counts.{faultless_of}
+use Rattle.icn_run_answer.proofs.Reports.{line_of_reports}
+use Rattle.icn_answer.proofs.ToldContent.{at_some, if_some}
 use Rattle.icont_words.specs.declared.words.Task.TheVariants as Held
 use Rattle.icont_words.specs.Asking.{run_seen}
 use Rattle.icont_words.specs.Words.{Generate, Link, Translate}

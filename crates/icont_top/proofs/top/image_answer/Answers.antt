@@ -1,10 +1,11 @@
 use Rattle.std.proofs.Common.{◌∙◌, ap, arith, Err, refl}
 use Rattle.std.specs.Option.{option_map}
-use Rattle.icn_lines.specs.declared.answer.Answer.TheVariants.{Wrote}
-use Rattle.icn_lines.proofs.Counts.{none_counts, own_counts, run_no_absence, run_no_file}
-use Rattle.icn_lines.proofs.Leaving.{leaves_both}
-use Rattle.icn_lines.proofs.Reports.{own_reports, wrote_no_fault}
-use Rattle.icn_lines.proofs.Telling.{at_some, if_some}
+use Rattle.icn_answer.specs.declared.answer.Answer.TheVariants.{Wrote}
+use Rattle.icn_run_answer.proofs.Counts.{none_counts, own_counts, run_no_absence, run_no_file}
+use Rattle.icn_run_answer.proofs.Leaving.{leaves_both}
+use Rattle.icn_answer.proofs.NoFaults.{wrote_no_fault}
+use Rattle.icn_run_answer.proofs.Reports.{own_reports}
+use Rattle.icn_answer.proofs.ToldContent.{at_some, if_some}
 use Rattle.icont_words.specs.Asking.{run_seen}
 use Rattle.icont_units.proofs.Matching.{same_Err}
 use Rattle.icont_top.proofs.AnswersGiven.{said_name, torn_no_absence, torn_no_read, torn_no_write}

@@ -1,9 +1,10 @@
 use Rattle.std.proofs.Common.{◌∙◌, inr, Ok, refl}
-use Rattle.icn_lines.specs.declared.answer.Answer.TheVariants.{FileFault}
-use Rattle.icn_lines.proofs.Counts.{err_counts, refused_ends, absence_of}
-use Rattle.icn_lines.proofs.Leaving.{leaves_after, leaves_both}
-use Rattle.icn_lines.proofs.Reports.{reports_of}
-use Rattle.icn_lines.proofs.Telling.{at_some, if_some}
+use Rattle.icn_answer.specs.declared.answer.Answer.TheVariants.{FileFault}
+use Rattle.icn_answer.proofs.FaultCounts.{err_counts}
+use Rattle.icn_run_answer.proofs.Counts.{refused_ends, absence_of}
+use Rattle.icn_run_answer.proofs.Leaving.{leaves_after, leaves_both}
+use Rattle.icn_run_answer.proofs.Reports.{reports_of}
+use Rattle.icn_answer.proofs.ToldContent.{at_some, if_some}
 use Rattle.icn_text.specs.WordTexts.{texts}
 use Rattle.icont_units.specs.Files.{files_named}
 use Rattle.icont_units.specs.Units.{Load}

@@ -1,6 +1,6 @@
 use Rattle.std.proofs.Common.{◌∙◌, sym}
 use Rattle.icont_top.proofs.Sizes.{ran_alone, ran_undone, sizes_reports, sizes_run, some_put}
-use Rattle.icn_lines.proofs.Telling.{at_some, if_some}
+use Rattle.icn_answer.proofs.ToldContent.{at_some, if_some}
 use Rattle.icont_top.proofs.top.ran_answer.Goals as goal
 
 pub returns-in-None-clause-ran : goal.returns-in-None-clause-ran

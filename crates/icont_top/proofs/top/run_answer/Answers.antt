@@ -2,11 +2,11 @@ use Rattle.std.proofs.Common.{ap, refl}
 use Rattle.icn_value.specs.Limited.{Bounds, limits_of}
 use Rattle.icn_defs.specs.Running.{launch_of}
 use Rattle.icn_code.specs.Seen.{tables_of}
-use Rattle.icn_lines.proofs.Counts.{broken_counts, ran_counts}
-use Rattle.icn_lines.proofs.Reports.{fault_reports, ran_reports}
+use Rattle.icn_run_answer.proofs.Counts.{broken_counts, ran_counts}
+use Rattle.icn_run_answer.proofs.Reports.{fault_reports, ran_reports}
 use Rattle.icont_words.specs.Asking.{run_seen}
 use Rattle.icont_top.proofs.RunsUnder.{off_puts, run_broken, run_ended}
-use Rattle.icn_lines.proofs.Telling.{if_some}
+use Rattle.icn_answer.proofs.ToldContent.{if_some}
 use Rattle.icont_top.proofs.top.run_answer.Goals as goal
 
 pub returns-in-Ok-clause-ran : goal.returns-in-Ok-clause-ran

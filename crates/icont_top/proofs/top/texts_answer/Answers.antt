@@ -1,7 +1,8 @@
 use Rattle.std.proofs.Common.{ap, arith, Err}
-use Rattle.icn_lines.specs.declared.answer.Answer.TheVariants.{Wrote}
-use Rattle.icn_lines.proofs.Counts.{none_counts, own_counts}
-use Rattle.icn_lines.proofs.Reports.{own_reports, wrote_no_fault}
+use Rattle.icn_answer.specs.declared.answer.Answer.TheVariants.{Wrote}
+use Rattle.icn_run_answer.proofs.Counts.{none_counts, own_counts}
+use Rattle.icn_answer.proofs.NoFaults.{wrote_no_fault}
+use Rattle.icn_run_answer.proofs.Reports.{own_reports}
 use Rattle.icont_units.proofs.Matching.{same_Err}
 use Rattle.icont_top.specs.Writing.{texts_seen}
 use Rattle.icont_top.proofs.AnswersGiven.{torn_no_absence, torn_no_read, torn_no_write}

@@ -1,8 +1,9 @@
 use Rattle.std.proofs.Common.{◌∙◌, ap}
-use Rattle.icn_lines.specs.declared.answer.Answer.TheVariants.{FileFault}
-use Rattle.icn_lines.proofs.Counts.{after_read, err_counts, refused_ends, absence_of}
-use Rattle.icn_lines.proofs.Reports.{reports_of}
-use Rattle.icn_lines.proofs.Telling.{at_some, if_some}
+use Rattle.icn_answer.specs.declared.answer.Answer.TheVariants.{FileFault}
+use Rattle.icn_answer.proofs.FaultCounts.{err_counts}
+use Rattle.icn_run_answer.proofs.Counts.{after_read, refused_ends, absence_of}
+use Rattle.icn_run_answer.proofs.Reports.{reports_of}
+use Rattle.icn_answer.proofs.ToldContent.{at_some, if_some}
 use Rattle.icn_text.specs.WordTexts.{texts}
 use Rattle.icont_top.specs.Writing.{texts_seen}
 use Rattle.icont_top.proofs.AnswersGiven.{command_refuses, loading_no_image, loading_no_read, loading_no_run, loading_no_write, no_command}

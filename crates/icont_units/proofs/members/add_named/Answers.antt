@@ -1,6 +1,6 @@
 use Rattle.icn_link.specs.Units.{unit_seen}
 use Rattle.icont_units.proofs.NamedMembers.{ucode_pushed, ucode_sound}
-use Rattle.icn_lines.proofs.Telling.{at_some, if_some}
+use Rattle.icn_answer.proofs.ToldContent.{at_some, if_some}
 use Rattle.icont_units.proofs.members.add_named.Goals as goal
 
 pub returns-clause-read : goal.returns-clause-read

@@ -1,6 +1,6 @@
 use Rattle.icn_link.specs.Units.{unit_seen}
 use Rattle.icont_units.proofs.NamedMembers.{source_pushed, source_sound}
-use Rattle.icn_lines.proofs.Telling.{at_some, if_some}
+use Rattle.icn_answer.proofs.ToldContent.{at_some, if_some}
 use Rattle.icont_units.proofs.members.add_source.Goals as goal
 
 pub returns-in-Ok-clause-read : goal.returns-in-Ok-clause-read

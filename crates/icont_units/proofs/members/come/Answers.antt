@@ -1,7 +1,7 @@
 use Rattle.std.proofs.Common.{◌+◌, ◌∙◌, ap, drop, le_trans}
 use Rattle.std.proofs.lemmas.List.{drop_all}
 use Rattle.icont_units.specs.Fetching.{files_seen}
-use Rattle.icn_lines.proofs.Telling.{at_some, if_some}
+use Rattle.icn_answer.proofs.ToldContent.{at_some, if_some}
 use Rattle.icont_units.proofs.NamedMembers.{came_all, came_more, came_refused, come_passed, files_from}
 use Rattle.icont_units.proofs.members.come.Goals as goal
 

@@ -1,6 +1,6 @@
 use Rattle.std.proofs.Common.{◌∙◌}
 use Rattle.icont_units.specs.Fetching.{files_seen}
-use Rattle.icn_lines.proofs.Telling.{at_some, if_some}
+use Rattle.icn_answer.proofs.ToldContent.{at_some, if_some}
 use Rattle.icont_units.proofs.NamedMembers.{load_all, load_gathered, load_passed, load_refused}
 use Rattle.icont_units.proofs.members.load.Goals as goal
 

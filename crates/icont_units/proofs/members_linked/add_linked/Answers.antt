@@ -2,7 +2,7 @@ use Rattle.std.proofs.Common.{[], ◌∷◌, ◌++◌, Ok, subst}
 use Rattle.icn_host.specs.Counts.{HasCause}
 use Rattle.icont_units.specs.Fetching.{IsLinkedUnit, IsLost, IsUnitOfSome}
 use Rattle.icont_units.proofs.LinkedMembers.{fault_sought, none_grows, none_sought, sought_passed, unit_grows, unit_sought}
-use Rattle.icn_lines.proofs.Telling.{at_some, if_some}
+use Rattle.icn_answer.proofs.ToldContent.{at_some, if_some}
 use Rattle.icont_units.proofs.members_linked.add_linked.Goals as goal
 
 pub returns-in_err-unit-clause-sought : goal.returns-in_err-unit-clause-sought

@@ -6,7 +6,7 @@ use Rattle.icont_units.specs.Loading.{Grows, texts_in}
 use Rattle.icont_units.specs.Units.{IsAbsent}
 use Rattle.icont_units.proofs.KnownBases.{knows_units}
 use Rattle.icont_units.proofs.LinkedMembers.{are_sought, gathered_all, gathered_more, gathered_none, gathered_passed, gathered_refused, grown_more, grows_none, held_end, held_small}
-use Rattle.icn_lines.proofs.Telling.{at_some, if_some}
+use Rattle.icn_answer.proofs.ToldContent.{at_some, if_some}
 use Rattle.icont_units.proofs.members_linked.gather.Goals as goal
 
 pub loop-place-init : goal.loop-place-init

@@ -2,7 +2,7 @@ use Rattle.std.proofs.Common.{◌∙◌, sym}
 use Rattle.icont_units.specs.Loading.{texts_in}
 use Rattle.icont_units.proofs.KnownBases.{not_false}
 use Rattle.icont_units.proofs.LinkedMembers.{met_sought}
-use Rattle.icn_lines.proofs.Telling.{if_some}
+use Rattle.icn_answer.proofs.ToldContent.{if_some}
 use Rattle.icont_units.proofs.members_linked.gather_base.Goals as goal
 
 pub returns-in-Ok-false-clause-sought : goal.returns-in-Ok-false-clause-sought

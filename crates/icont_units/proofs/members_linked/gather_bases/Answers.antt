@@ -1,8 +1,8 @@
 use Rattle.std.proofs.Common.{◌⊎◌, [], ◌∷◌, ◌∙◌, subst}
-use Rattle.icn_lines.specs.Answers.{IsFault}
+use Rattle.icn_answer.specs.Answers.{IsFault}
 use Rattle.icont_units.specs.Loading.{Adds, Grows, Refuses, texts_in}
 use Rattle.icont_units.proofs.LinkedMembers.{adds_next, grows_next, refused_at, sought_passed}
-use Rattle.icn_lines.proofs.Telling.{at_some, if_some}
+use Rattle.icn_answer.proofs.ToldContent.{at_some, if_some}
 use Rattle.icont_units.proofs.members_linked.gather_bases.Goals as goal
 
 pub returns-in_err-gather_base-clause-sought : goal.returns-in_err-gather_base-clause-sought

@@ -1,7 +1,7 @@
 use Rattle.std.proofs.Common.{OnOk, ap, arith, subst, ◌∙◌}
 use Rattle.icont_units.specs.Loading.{Grows, IsSought, texts_in}
 use Rattle.icont_units.proofs.LinkedMembers.{unit_links}
-use Rattle.icn_lines.proofs.Telling.{at_some, if_some}
+use Rattle.icn_answer.proofs.ToldContent.{at_some, if_some}
 use Rattle.icont_units.proofs.members_linked.gather_unit.Goals as goal
 
 pub returns-clause-sought : goal.returns-clause-sought

@@ -1,7 +1,7 @@
 use Rattle.std.proofs.Common.{◌∙◌}
 use Rattle.icont_units.specs.Sources.{scan_of}
 use Rattle.icont_units.proofs.CheckedSources.{is_source, no_source}
-use Rattle.icn_lines.proofs.Telling.{at_some, if_some}
+use Rattle.icn_answer.proofs.ToldContent.{at_some, if_some}
 use Rattle.icont_units.proofs.source.checked_source.Goals as goal
 
 pub returns-in-Ok-source_tokens-clause-comes : goal.returns-in-Ok-source_tokens-clause-comes

@@ -1,6 +1,6 @@
 use Rattle.std.proofs.Common.{ap, Err}
 use Rattle.icn_prep.specs.declared.fault.PrepFault.TheVariants as Prep
-use Rattle.icn_lines.specs.declared.answer.Answer.TheVariants.{FileFault}
+use Rattle.icn_answer.specs.declared.answer.Answer.TheVariants.{FileFault}
 use Rattle.icont_units.proofs.Matching.{same_Err}
 use Rattle.icont_units.proofs.Sourcing.{absence_from, file_fault_from}
 use Rattle.icont_units.proofs.source.source_tokens.Goals as goal

@@ -1,7 +1,7 @@
 use Rattle.std.proofs.Common.{◌∙◌}
 use Rattle.icont_units.specs.declared.ucode.UnitTexts.{UnitTexts}
 use Rattle.icont_units.proofs.Judging.{both_there}
-use Rattle.icn_lines.proofs.Telling.{at_some, if_some}
+use Rattle.icn_answer.proofs.ToldContent.{at_some, if_some}
 use Rattle.icont_units.proofs.ucode.both_texts.Goals as goal
 
 pub returns-clause-texts : goal.returns-clause-texts

@@ -1,7 +1,7 @@
 use Rattle.std.proofs.Common.{refl}
-use Rattle.icn_lines.proofs.Counts.{unmoved}
+use Rattle.icn_answer.proofs.FaultCounts.{unmoved}
 use Rattle.icont_units.proofs.Judging.{linked, lost, no_cause, not_linked, not_text}
-use Rattle.icn_lines.proofs.Telling.{at_some, if_some}
+use Rattle.icn_answer.proofs.ToldContent.{at_some, if_some}
 use Rattle.icont_units.proofs.ucode.linked_unit.Goals as goal
 
 pub returns-in_default-clause-links : goal.returns-in_default-clause-links

@@ -1,5 +1,5 @@
 use Rattle.icont_units.proofs.Judging.{named, not_named}
-use Rattle.icn_lines.proofs.Telling.{at_some, if_some}
+use Rattle.icn_answer.proofs.ToldContent.{at_some, if_some}
 use Rattle.icont_units.proofs.ucode.named_unit.Goals as goal
 
 pub returns-in-Ok-clause-comes : goal.returns-in-Ok-clause-comes

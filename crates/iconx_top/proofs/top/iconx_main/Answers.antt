@@ -1,12 +1,12 @@
 use Rattle.std.proofs.Common.{[], refl, sym, inr}
-use Rattle.icn_lines.specs.declared.answer.Answer.TheVariants.{Command}
+use Rattle.icn_answer.specs.declared.answer.Answer.TheVariants.{Command}
 use Rattle.iconx_top.specs.Job.{wrong_words}
 use Rattle.iconx_top.specs.Answered.{wrong_words as by_words}
 use Rattle.iconx_top.proofs.Answering.{answer_put}
 use Rattle.iconx_top.proofs.Refusals.{command_ends, command_no_read, command_no_write, command_unrun, refused}
-use Rattle.icn_lines.proofs.Counts.{faultless_of}
-use Rattle.icn_lines.proofs.Reports.{line_of_reports, reports_of}
-use Rattle.icn_lines.proofs.Telling.{if_some}
+use Rattle.icn_run_answer.proofs.Counts.{faultless_of}
+use Rattle.icn_run_answer.proofs.Reports.{line_of_reports, reports_of}
+use Rattle.icn_answer.proofs.ToldContent.{if_some}
 use Rattle.iconx_top.proofs.ReportLines.{asked_reports}
 use Rattle.iconx_top.proofs.top.iconx_main.Goals as goal
 

@@ -3,11 +3,12 @@ use Rattle.std.specs.Prelude.{string_bytes}
 use Rattle.icn_value.specs.Limited.{limits_of}
 use Rattle.iconx_top.proofs.Answering.{answer_put, load_answered, run_answered}
 use Rattle.iconx_top.proofs.Refusals.{asked_load, held_as, load_no_read, load_no_write, refused}
-use Rattle.icn_lines.specs.declared.answer.Answer.TheVariants.{FileFault}
-use Rattle.icn_lines.proofs.Counts.{err_counts, refused_ends, absence_of, run_no_absence, run_no_file}
-use Rattle.icn_lines.proofs.Leaving.{leaves_both}
-use Rattle.icn_lines.proofs.Reports.{reports_of}
-use Rattle.icn_lines.proofs.Telling.{at_some, if_some}
+use Rattle.icn_answer.specs.declared.answer.Answer.TheVariants.{FileFault}
+use Rattle.icn_answer.proofs.FaultCounts.{err_counts}
+use Rattle.icn_run_answer.proofs.Counts.{refused_ends, absence_of, run_no_absence, run_no_file}
+use Rattle.icn_run_answer.proofs.Leaving.{leaves_both}
+use Rattle.icn_run_answer.proofs.Reports.{reports_of}
+use Rattle.icn_answer.proofs.ToldContent.{at_some, if_some}
 use Rattle.iconx_top.proofs.ReportLines.{load_unrun}
 use Rattle.iconx_top.proofs.top.image_answer.Goals as goal
 

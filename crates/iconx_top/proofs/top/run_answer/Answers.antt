@@ -2,10 +2,10 @@ use Rattle.std.proofs.Common.{refl}
 use Rattle.icn_value.specs.Store.{outside_of}
 use Rattle.icn_code.specs.Seen.{tables_of}
 use Rattle.icn_machine.specs.Starting.{launch_with}
-use Rattle.icn_lines.proofs.Counts.{broken_counts, ran_counts}
-use Rattle.icn_lines.proofs.InputLeft.{broken_lost, ended_lost}
-use Rattle.icn_lines.proofs.Reports.{fault_reports, ran_reports}
-use Rattle.icn_lines.proofs.Telling.{if_some}
+use Rattle.icn_run_answer.proofs.Counts.{broken_counts, ran_counts}
+use Rattle.icn_run_answer.proofs.InputLeft.{broken_lost, ended_lost}
+use Rattle.icn_run_answer.proofs.Reports.{fault_reports, ran_reports}
+use Rattle.icn_answer.proofs.ToldContent.{if_some}
 use Rattle.iconx_top.proofs.Refusals.{broke_outcome, off_puts, ran_outcome, run_asked}
 use Rattle.iconx_top.proofs.top.run_answer.Goals as goal
 

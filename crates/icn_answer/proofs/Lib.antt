@@ -1,0 +1,3 @@
+pub mod NoFaults
+pub mod FaultCounts
+pub mod ToldContent

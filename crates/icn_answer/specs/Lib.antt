@@ -1,0 +1,5 @@
+pub mod Answers
+pub mod Endings
+pub mod Lines
+pub mod Refusing
+pub mod FilesRead

@@ -1,7 +1,0 @@
-pub mod Reports
-pub mod Counts
-pub mod Endings
-pub mod Rising
-pub mod Telling
-pub mod Leaving
-pub mod InputLeft

@@ -1,0 +1,62 @@
+-- What stands on the error output behind a call. Of what a run put, something is said where the input told its content before.
+use Rattle.std.specs.Prelude.{◌≡◌, ◌⊎◌, ℕ, List, Option, IfSome}
+use Rattle.icn_host.specs.Sinks.{Gains, SinkState}
+use Rattle.icn_host.specs.Puts.{Puts, Leads}
+use Rattle.icn_streams.specs.Handed.{FailsOnce, KeepsCounts, WantsOnce}
+use Rattle.icn_defs.specs.declared.ending.Ending.{Ending}
+use Rattle.icn_running.specs.declared.fault.RunFault.{RunFault}
+use Rattle.icn_running.specs.declared.fault.RunFault.TheVariants as Faults
+use Rattle.icn_running.specs.Reported.{PutsReport, ending_seen}
+use Rattle.icn_answer.specs.declared.answer.Answer.{Answer}
+use Rattle.icn_answer.specs.declared.answer.Answer.TheVariants.{Wrote, Ran, Refused, Command, Missing, BadUcode, BadImage, FileFault, ReadFault, WriteFault, NoMemory}
+use Rattle.icn_answer.specs.Answers.{IsFault}
+use Rattle.icn_run_answer.specs.Faulting.{of_run}
+use Rattle.icn_answer.specs.Lines.{fault_line, line_of}
+
+-- the report of a run that ended so stands behind what the program itself put
+abbrev pub ReportStands : Option (List ℕ) → Ending → SinkState → SinkState → Type 0
+ReportStands left ending before after = IfSome left (λ _. PutsReport (ending_seen ending) before after)
+
+-- the line of an answer is what was put; of a run, its report
+abbrev pub LineStands : List ℕ → List ℕ → Option (List ℕ) → Answer → SinkState → SinkState → Type 0
+LineStands usage name left Wrote before after = Gains before.held after.held (line_of usage name Wrote)
+LineStands usage name left (Ran ending) before after = ReportStands left ending before after
+LineStands usage name left (Refused file line rule) before after =
+    Gains before.held after.held (line_of usage name (Refused file line rule))
+LineStands usage name left (Command kind) before after =
+    Gains before.held after.held (line_of usage name (Command kind))
+LineStands usage name left (Missing other) before after =
+    Gains before.held after.held (line_of usage name (Missing other))
+LineStands usage name left (BadUcode other rule) before after =
+    Gains before.held after.held (line_of usage name (BadUcode other rule))
+LineStands usage name left (BadImage rule) before after =
+    Gains before.held after.held (line_of usage name (BadImage rule))
+LineStands usage name left FileFault before after = ⊥
+LineStands usage name left ReadFault before after = ⊥
+LineStands usage name left WriteFault before after = ⊥
+LineStands usage name left NoMemory before after = ⊥
+
+-- the counts of the error output where a run was broken off by this fault: one rose at most, and once
+abbrev pub CountsFault : RunFault → SinkState → SinkState → Type 0
+CountsFault Faults.ReadFault before after = KeepsCounts before after
+CountsFault Faults.WriteFault before after = KeepsCounts before after ⊎ FailsOnce before after
+CountsFault Faults.NoMemory before after = KeepsCounts before after ⊎ WantsOnce before after
+
+-- a program's run put something
+pub record PutsSome (before after : SinkState) : Type 0 where
+  pub own : List ℕ
+  pub gains : Gains before.held after.held own
+
+-- The answer's line; or, of a fault, some first part of the line of an answer that no program ran for, or what a run put, and then the fault's own
+-- line, as far as the error output took it.
+pub data Reports (usage name : List ℕ) (left : Option (List ℕ)) (before after : SinkState)
+    (answer : Answer) : Type 0 where
+  put : (IsFault answer → ⊥) → LineStands usage name left answer before after
+      → Reports usage name left before after answer
+  own : IsFault answer → (other : Answer) → (IsFault other → ⊥) → (between : SinkState)
+      → Leads before between (line_of usage name other)
+      → Puts between after (fault_line answer) → Reports usage name left before after answer
+  broke : (fault : RunFault) → answer ≡ of_run fault → (between : SinkState)
+      → CountsFault fault before between
+      → IfSome left (λ _. PutsSome before between) → Puts between after (fault_line answer)
+      → Reports usage name left before after answer
