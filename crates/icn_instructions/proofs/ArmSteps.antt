@@ -16,7 +16,7 @@ use Rattle.icn_control.specs.declared.machine.Stage.{Stage}
 use Rattle.icn_control.specs.Standing.{instruction_state, GoesOn, GoesOnIn}
 use Rattle.icn_instructions.specs.Doing.{ComesIn, HasMemory}
 use Rattle.icn_instructions.specs.Groups.{takes_no_memory}
-use Rattle.icn_instructions.specs.Ranges.{HasCaseMark}
+use Rattle.icn_run.specs.InstructionNeeds.{HasCaseMark}
 
 pub on_ok : {A E : Type 0} (result : Result A E) (P Q : Type 0) → (P → Q) → OnOk result P → OnOk result Q
 on_ok (Ok x) P Q f h = f h

@@ -19,7 +19,8 @@ use Rattle.icn_control.specs.Living.{IsLiveStack, variables_of}
 use Rattle.icn_control.specs.Machines.{extent, store_seen, world_reach}
 use Rattle.icn_control.specs.declared.machine.Machine.{Machine}
 use Rattle.icn_control.proofs.LiveFrames.{own_count}
-use Rattle.icn_instructions.specs.Ranges.{HasVariables, IsInRange, MayName}
+use Rattle.icn_run.specs.InstructionNeeds.{HasVariables}
+use Rattle.icn_instructions.specs.Ranges.{IsInRange, MayName}
 
 pub range_as : (tables : Tables) (proc : ℕ) (i j : Instr) → i ≡ j → IsInRange tables proc i → IsInRange tables proc j
 range_as tables proc i j e r = subst (λ (x : Instr). IsInRange tables proc x) e r

@@ -1,12 +1,10 @@
 -- What an instruction names is there.
-use Rattle.std.specs.Prelude.{◌≡◌, ℕ, true, length, slice_get, Some, IsSome, ⊤}
+use Rattle.std.specs.Prelude.{◌≡◌, ℕ, true, length, slice_get, Some}
 use Rattle.icn_vars.specs.Worlds.{Reach}
 use Rattle.icn_code.specs.declared.instr.Instr.{Instr}
-use Rattle.icn_code.specs.declared.instr.Instr.TheVariants.{Ccase}
 use Rattle.icn_code.specs.Codes.{Tables, Proc}
 use Rattle.icn_code.specs.Rules.{is_instr}
-use Rattle.icn_run.specs.Stacks.{Frames, unmark}
-use Rattle.icn_run.specs.Step.{Store, static_count}
+use Rattle.icn_run.specs.Step.{static_count}
 
 -- The instruction keeps the rules of the tables in the procedure of this number.
 pub record IsInRange (tables : Tables) (proc : ℕ) (instr : Instr) : Type 0 where
@@ -14,23 +12,7 @@ pub record IsInRange (tables : Tables) (proc : ℕ) (instr : Instr) : Type 0 whe
   pub there : slice_get tables.procs proc ≡ Some entry
   pub rule : is_instr tables entry instr ≡ true
 
--- There are as many globals, statics, and notes of `initial` as the tables have globals, statics and procedures.
-pub record FitTables (tables : Tables) (some_globals some_statics notes : ℕ) : Type 0 where
-  pub globals : some_globals ≡ length tables.globals
-  pub statics : some_statics ≡ static_count tables
-  pub begun : notes ≡ length tables.procs
-
--- A store has the globals and statics of the tables, and notes of each procedure whether it did its `initial`.
-abbrev pub HasVariables : {K : Type 0} → Tables → Store K → Type 0
-HasVariables tables st =
-    FitTables tables (length st.world.globals) (length st.world.statics) (length st.begun)
-
 -- The globals and statics of the tables may be named.
 pub record MayName (tables : Tables) (reach : Reach) : Type 0 where
   pub globals : reach.globals ≡ length tables.globals
   pub statics : reach.statics ≡ static_count tables
-
--- A case compares in a mark that is open in the procedure that runs, as else it would take an operand of the caller.
-abbrev pub HasCaseMark : Instr → Frames → Type 0
-HasCaseMark Ccase m = IsSome (unmark m)
-HasCaseMark instr m = ⊤

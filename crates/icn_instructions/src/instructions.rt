@@ -8,7 +8,8 @@ ghost use Rattle.icn_run.specs.Step.{stuck};
 ghost use Rattle.icn_control.specs.Machines.{ComesTo, HasStack, IsSound, does, stack_of, stack_seen, store_seen, world_reach};
 ghost use Rattle.icn_instructions.specs.Doing.{HasMemory};
 ghost use Rattle.icn_instructions.specs.Groups.{group_of, takes_no_memory};
-ghost use Rattle.icn_instructions.specs.Ranges.{HasCaseMark, HasVariables, IsInRange};
+ghost use Rattle.icn_run.specs.InstructionNeeds.{HasCaseMark, HasVariables};
+ghost use Rattle.icn_instructions.specs.Ranges.{IsInRange};
 ghost use Rattle.icn_instructions.specs.declared.groups.Group.TheVariants as Groups;
 
 use crate::coexpressions::do_with_coexpressions;

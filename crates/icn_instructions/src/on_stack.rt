@@ -8,7 +8,8 @@ ghost use Rattle.icn_control.specs.Living.{IsLiveStack};
 ghost use Rattle.icn_control.specs.Standing.{GoesOnIn, stack_in};
 ghost use Rattle.icn_instructions.specs.Doing.{LacksNothing};
 ghost use Rattle.icn_instructions.specs.Groups.{group_of, takes_no_memory};
-ghost use Rattle.icn_instructions.specs.Ranges.{HasCaseMark, IsInRange, MayName};
+ghost use Rattle.icn_run.specs.InstructionNeeds.{HasCaseMark};
+ghost use Rattle.icn_instructions.specs.Ranges.{IsInRange, MayName};
 ghost use Rattle.icn_instructions.specs.declared.groups.Group.TheVariants as Groups;
 
 use crate::statics::first_static;

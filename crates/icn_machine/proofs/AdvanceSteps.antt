@@ -7,7 +7,7 @@ use Rattle.icn_vars.specs.declared.outcome.Halt.TheVariants as Halts
 use Rattle.icn_code.specs.Codes.{Tables}
 use Rattle.icn_run.specs.Stacks.{Frames, flat}
 use Rattle.icn_run.specs.Step.{State, running, failing, hopping, step, steps}
-use Rattle.icn_run_safe.specs.AnyOutside.{over_outside, run_over}
+use Rattle.icn_run.specs.AnyOutside.{over_outside, run_over}
 use Rattle.icn_streams.specs.Handed.{CallStreams, Follows, KeepsAllCounts, WantsMemory, WritingFails, uncounted, output_wants, errors_want, output_fails as writing_output, errors_fail as writing_errors}
 use Rattle.icn_streams.proofs.Idle.{all_counts}
 use Rattle.icn_streams.proofs.Following.{follows_all, follows_then}

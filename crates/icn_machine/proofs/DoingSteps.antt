@@ -32,7 +32,8 @@ use Rattle.icn_control.proofs.MachineSteps.{stacks_on}
 use Rattle.icn_instructions.proofs.RangeSteps.{instr_in_range}
 use Rattle.icn_instructions.specs.Doing.{HasMemory}
 use Rattle.icn_instructions.specs.Groups.{takes_no_memory}
-use Rattle.icn_instructions.specs.Ranges.{HasCaseMark, HasVariables, IsInRange}
+use Rattle.icn_run.specs.InstructionNeeds.{HasCaseMark, HasVariables}
+use Rattle.icn_instructions.specs.Ranges.{IsInRange}
 use Rattle.icn_machine.specs.Performing.{PerformsOn}
 use Rattle.icn_machine.specs.Steps.{stage_result}
 use Rattle.icn_machine.specs.declared.stepping.Stepped.{Stepped}

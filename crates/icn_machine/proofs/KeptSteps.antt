@@ -7,7 +7,7 @@ use Rattle.icn_run.specs.Step.{State, Store, running, failing, hopping, over, st
 use Rattle.icn_run_named.specs.StateNames.{StateNamed}
 use Rattle.icn_run_named.specs.KeepingNames.{StepsKeepNames}
 use Rattle.icn_run_named.specs.KeepingSizes.{StateFits, StepsKeepSizes}
-use Rattle.icn_run_safe.specs.AnyOutside.{over_outside, run_over}
+use Rattle.icn_run.specs.AnyOutside.{over_outside, run_over}
 use Rattle.icn_control.specs.Machines.{StandsAt}
 use Rattle.icn_control.specs.declared.machine.Machine.{Machine}
 use Rattle.icn_control.specs.declared.machine.Stage.{Stage}

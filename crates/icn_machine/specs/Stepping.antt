@@ -14,9 +14,10 @@ use Rattle.icn_run.specs.Stacks.{Frames, flat}
 use Rattle.icn_run.specs.Step.{State, running, failing, hopping, over, stuck, steps, all_names, instruction_at}
 use Rattle.icn_run_named.specs.StateNames.{StackNamed, StateNamed, StoreNamed}
 use Rattle.icn_run_named.specs.KeepingSizes.{StateFits, StoreFits}
-use Rattle.icn_run_safe.specs.AnyOutside.{run_over}
+use Rattle.icn_run.specs.AnyOutside.{run_over}
 use Rattle.icn_streams.specs.Handed.{CallStreams, Follows, FailsOnce, KeepsAllCounts, KeepsCounts, WantsMemory}
-use Rattle.icn_instructions.specs.Ranges.{HasCaseMark, HasVariables, IsInRange}
+use Rattle.icn_run.specs.InstructionNeeds.{HasCaseMark, HasVariables}
+use Rattle.icn_instructions.specs.Ranges.{IsInRange}
 use Rattle.icn_control.specs.Machines.{ComesTo, HaltsAt, HasStack, IsSound, StandsAt, does, stack_of, stack_seen, store_seen}
 use Rattle.icn_control.specs.declared.machine.Machine.{Machine}
 use Rattle.icn_control.specs.declared.machine.Stage.{Stage}

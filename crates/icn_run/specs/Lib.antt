@@ -5,3 +5,5 @@ pub mod Stacks
 pub mod Step
 pub mod FlatStep
 pub mod LinkedStep
+pub mod AnyOutside
+pub mod InstructionNeeds

@@ -3,3 +3,5 @@ mod StepsNamed
 mod StepsSized
 mod Starting
 pub mod RowCounts
+mod RowVariables
+mod VariablesKept

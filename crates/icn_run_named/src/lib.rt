@@ -1,9 +1,11 @@
-//! What the run of a code names has a name, and each record is as long as its kind; and rows leave the counts of results.
+//! What the run of a code names has a name, each record is as long as its kind, and the variables are those of the tables; and
+//! rows leave the counts of results.
 #![tactic(auto)]
 
 ghost use Rattle.icn_run_named.specs.KeepingCounts.{RowsKeepCounts};
 ghost use Rattle.icn_run_named.specs.KeepingNames.{StepsKeepNames};
 ghost use Rattle.icn_run_named.specs.KeepingSizes.{StepsKeepSizes};
+ghost use Rattle.icn_run_named.specs.KeepingVariables.{StatesHaveVariables};
 ghost use Rattle.icn_run_named.specs.Starts.{StartsFit, StartsNamed};
 
 use icn_named::{names_stay, sizes_stay};
@@ -39,4 +41,10 @@ pub fn start_is_sized()
 /// An operation or a function leaves the limits of the heap and the counts of results, and so does what resumes it.
 pub fn counts_stay()
     ensures kept { RowsKeepCounts }
+{}
+
+/// Each state of a run has the globals, the statics and the notes of `initial` that its tables say, whatever the outside is
+/// before each step.
+pub fn variables_stay()
+    ensures { StatesHaveVariables }
 {}

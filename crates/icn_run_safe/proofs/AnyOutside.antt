@@ -17,9 +17,9 @@ use Rattle.icn_run_laws.proofs.OnSteps.{is_stuck}
 use Rattle.icn_run_laws.proofs.SecondLaw.{starts_so}
 use Rattle.icn_run_safe.specs.Within.{RowsStayWithin}
 use Rattle.icn_run_safe.specs.Shaped.{Safe}
-use Rattle.icn_run_safe.specs.NoStuck.{TablesOk}
+use Rattle.icn_run_safe.specs.NoStuck.{TablesOk, IsNeverStuckOver}
 use Rattle.icn_run_safe.specs.Facts.{shapes_of}
-use Rattle.icn_run_safe.specs.AnyOutside.{over_outside, run_over, IsNeverStuckOver}
+use Rattle.icn_run.specs.AnyOutside.{over_outside, run_over}
 use Rattle.icn_run_safe.proofs.NoStuck.{start_safe}
 use Rattle.icn_run_safe.proofs.Facts.{Follows, IsDue, Near, Sames, follows_next, given}
 

@@ -15,3 +15,4 @@ pub mod Facts
 pub mod AnyOutside
 pub mod LeastWeights
 pub mod StepsFall
+pub mod CaseMarks

@@ -25,7 +25,7 @@ use Rattle.icn_run_laws.proofs.OnMarks.{Lacks}
 use Rattle.icn_run_laws.proofs.OnSteps.{Reaches, made_turns, one_step}
 use Rattle.icn_run_laws.proofs.RowsKeep.{rows_keep}
 use Rattle.icn_run_laws.proofs.SecondLaw.{starts_so}
-use Rattle.icn_run_safe.specs.AnyOutside.{over_outside, run_over}
+use Rattle.icn_run.specs.AnyOutside.{over_outside, run_over}
 use Rattle.icn_run_safe.specs.Facts.{shapes_of, IsFlatShapedAt}
 use Rattle.icn_run_safe.specs.NoStuck.{TablesOk}
 use Rattle.icn_run_safe.specs.Within.{RowsStayWithin}

@@ -3,6 +3,6 @@ pub mod Shaped
 pub mod NoStuck
 pub mod Ended
 pub mod Facts
-pub mod AnyOutside
 pub mod LeastWeights
 pub mod StepMeasure
+pub mod CaseMarks

@@ -1,8 +1,11 @@
 -- Verified code is never stuck.
-use Rattle.std.specs.Prelude.{◌≡◌, ℕ, ◌<◌, Bool, true, Some, slice_get, map, length}
+use Rattle.std.specs.Prelude.{◌≡◌, ◌≢◌, ℕ, ◌<◌, Bool, true, List, Some, slice_get, map, length}
+use Rattle.icn_value.specs.Store.{Outside}
 use Rattle.icn_code.specs.declared.instr.Instr.{Instr}
 use Rattle.icn_code.specs.Codes.{Tables, Proc as Procedure}
-use Rattle.icn_run.specs.Step.{Launch, instrs_of, global_value, main_of}
+use Rattle.icn_run.specs.Stacks.{Frames}
+use Rattle.icn_run.specs.Step.{Launch, State, stuck, instrs_of, global_value, main_of}
+use Rattle.icn_run.specs.AnyOutside.{run_over}
 use Rattle.icn_run.specs.LinkedStep.{repeats_anywhere}
 use Rattle.icn_run_laws.specs.SecondLaw.{MissingCell, LinkedStuck, FlatStuck}
 use Rattle.icn_run_safe.specs.Within.{Each, ValueWithin}
@@ -24,3 +27,7 @@ pub record IsNeverStuck (tables : Tables) : Type 0 where
   pub flat : (launch : Launch) → FlatStuck tables launch → ⊥
   pub covered : (repeats : ℕ → ℕ → Bool) (launch : Launch) → (MissingCell repeats tables launch → ⊥)
       → LinkedStuck repeats tables launch → ⊥
+
+-- no step from here on lacks anything, whatever the outside is before each
+abbrev pub IsNeverStuckOver : Tables → State Frames Frames → Type 0
+IsNeverStuckOver tables state = (outsides : List Outside) → run_over tables outsides state ≢ stuck

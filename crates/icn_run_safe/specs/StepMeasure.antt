@@ -8,7 +8,7 @@ use Rattle.icn_run.specs.FlatStep as Flat
 use Rattle.icn_run.specs.Stacks.{Frames, flat}
 use Rattle.icn_run.specs.Step.{Launch, State, running, failing, hopping, over, stuck, instruction_at, step}
 use Rattle.icn_run_laws.specs.Measure.{worth, IsEnd}
-use Rattle.icn_run_safe.specs.AnyOutside.{over_outside, run_over}
+use Rattle.icn_run.specs.AnyOutside.{over_outside, run_over}
 use Rattle.icn_run_safe.specs.LeastWeights.{stack_weight}
 
 -- no procedure has more instructions than all together

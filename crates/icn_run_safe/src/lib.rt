@@ -8,11 +8,11 @@ ghost use Rattle.icn_verify.specs.Faults.{IsVerified};
 ghost use Rattle.icn_verify.specs.Given.{HaveShapes};
 ghost use Rattle.icn_run.specs.Step.{Launch};
 ghost use Rattle.icn_run.specs.FlatStep as flat;
-ghost use Rattle.icn_run_safe.specs.AnyOutside.{IsNeverStuckOver};
 ghost use Rattle.icn_run_safe.specs.Within.{RowsStayWithin};
 ghost use Rattle.icn_run_safe.specs.Ended.{AreOver};
 ghost use Rattle.icn_run_safe.specs.Facts.{AreShaped, HasFacts, shapes_of};
-ghost use Rattle.icn_run_safe.specs.NoStuck.{IsNeverStuck};
+ghost use Rattle.icn_run_safe.specs.NoStuck.{IsNeverStuck, IsNeverStuckOver};
+ghost use Rattle.icn_run_safe.specs.CaseMarks.{CasesStandOver};
 ghost use Rattle.icn_run_safe.specs.StepMeasure.{EachStepFalls};
 
 /// No run of verified code lacks what an instruction needs.
@@ -57,4 +57,13 @@ pub fn each_step_falls()
         → EachStepFalls tables launch }
     ensures shaped { (tables : Tables) → keeps_rules tables ≡ true → HaveShapes tables → (launch : Launch)
         → EachStepFalls tables launch }
+{}
+
+/// At each state of a run of verified code in which a case is about to compare, a mark is open in the procedure that runs,
+/// whatever the outside is before each step.
+pub fn cases_stand()
+    ensures verified { (tables : Tables) → keeps_rules tables ≡ true → IsVerified tables → (launch : Launch)
+        → CasesStandOver tables (flat.start tables launch) }
+    ensures shaped { (tables : Tables) → keeps_rules tables ≡ true → HaveShapes tables → (launch : Launch)
+        → CasesStandOver tables (flat.start tables launch) }
 {}

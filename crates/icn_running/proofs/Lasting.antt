@@ -6,7 +6,7 @@ use Rattle.icn_code.specs.Codes.{Tables}
 use Rattle.icn_run.specs.Stacks.{Frames, flat}
 use Rattle.icn_run.specs.Step.{State, running, failing, hopping, over, stuck, step}
 use Rattle.icn_run_laws.specs.Measure.{IsEnd}
-use Rattle.icn_run_safe.specs.AnyOutside.{over_outside, run_over}
+use Rattle.icn_run.specs.AnyOutside.{over_outside, run_over}
 use Rattle.icn_run_safe.proofs.AnyOutside.{over_twice}
 use Rattle.icn_run_safe.specs.StepMeasure.{Falls, ends, turned, lighter, left_of, turns_of}
 use Rattle.icn_streams.specs.Handed.{CallStreams}

@@ -10,14 +10,15 @@ use Rattle.icn_run.specs.Stacks.{Frames, flat}
 use Rattle.icn_run.specs.Step.{State, running, failing, hopping, over, stuck, step, all_names}
 use Rattle.icn_run_named.specs.StateNames.{StateNamed}
 use Rattle.icn_run_named.specs.KeepingSizes.{StateFits}
-use Rattle.icn_run_safe.specs.AnyOutside.{IsNeverStuckOver, over_outside, run_over}
+use Rattle.icn_run.specs.AnyOutside.{over_outside, run_over}
+use Rattle.icn_run_safe.specs.NoStuck.{IsNeverStuckOver}
 use Rattle.icn_run_safe.specs.StepMeasure.{EachStepFalls}
 use Rattle.icn_control.specs.Machines.{IsSound, stack_seen, store_seen}
 use Rattle.icn_control.specs.declared.machine.Machine.{Machine}
 use Rattle.icn_control.specs.declared.machine.Stage.TheVariants as Stages
-use Rattle.instruction_laws.specs.Cases.{CaseStands, CasesStandOver}
-use Rattle.instruction_laws.specs.Keeping.{StateHasVariables, StatesHaveVariables}
-use Rattle.instruction_laws.proofs.CaseMarks.{case_mark}
+use Rattle.icn_run_safe.specs.CaseMarks.{CaseStands, CasesStandOver}
+use Rattle.icn_run_named.specs.KeepingVariables.{StateHasVariables, StatesHaveVariables}
+use Rattle.icn_run_safe.proofs.CaseMarks.{case_mark}
 use Rattle.icn_machine.specs.Stepping.{FindsMark, FindsVariables, IsKept, IsReady}
 use Rattle.icn_running.specs.Lasting.{AlwaysFalls, Lasts}
 use Rattle.icn_running.proofs.Lasting.{falls_elsewhere}

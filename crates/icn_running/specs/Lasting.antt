@@ -4,7 +4,7 @@ use Rattle.icn_value.specs.Store.{Outside, outside_of}
 use Rattle.icn_code.specs.Codes.{Tables}
 use Rattle.icn_run.specs.Stacks.{Frames, flat}
 use Rattle.icn_run.specs.Step.{State, running, step}
-use Rattle.icn_run_safe.specs.AnyOutside.{over_outside, run_over}
+use Rattle.icn_run.specs.AnyOutside.{over_outside, run_over}
 use Rattle.icn_run_safe.specs.StepMeasure.{Falls, left_of}
 use Rattle.icn_control.specs.Machines.{stack_seen, store_seen}
 use Rattle.icn_control.specs.declared.machine.Machine.{Machine}

@@ -6,9 +6,8 @@ ghost use Rattle.icn_defs.specs.Running.{Launch};
 ghost use Rattle.icn_verify.specs.Faults.{IsVerified};
 ghost use Rattle.icn_running.specs.Runs.{RunHolds};
 
-use icn_run_named::{start_is_named, start_is_sized};
-use icn_run_safe::{each_step_falls, never_stuck_over_any_outside, runs_end};
-use instruction_laws::{cases_stand, variables_stay};
+use icn_run_named::{start_is_named, start_is_sized, variables_stay};
+use icn_run_safe::{cases_stand, each_step_falls, never_stuck_over_any_outside, runs_end};
 
 /// From its start on nothing ever lacks in a run of verified code, its steps fall, and it has an end.
 pub fn runs_hold()

@@ -15,7 +15,8 @@ use Rattle.icn_control.proofs.CountedSteps.{list_counts}
 use Rattle.icn_control.proofs.GrowthSteps.{stacks_grow}
 use Rattle.icn_control.proofs.LiteralSteps.{running_live}
 use Rattle.icn_control.proofs.MachineSteps.{stacks_on}
-use Rattle.icn_instructions.specs.Ranges.{HasCaseMark, IsInRange}
+use Rattle.icn_run.specs.InstructionNeeds.{HasCaseMark}
+use Rattle.icn_instructions.specs.Ranges.{IsInRange}
 use Rattle.icn_instructions.proofs.ArmSteps.{no_ok, on_both}
 use Rattle.icn_instructions.proofs.LiftSteps.{done_lacks, runs_as, stack_runs, world_comes, world_stack}
 use Rattle.icn_instructions.proofs.RangeSteps.{may_name}

@@ -21,9 +21,9 @@ use Rattle.icn_run.specs.Stacks as flats
 use Rattle.icn_run.specs.Stacks.{Frames, empty, flat}
 use Rattle.icn_run.specs.Step as S
 use Rattle.icn_run.specs.Step.{Status, Fresh, Active, Waiting, Exhausted, Coexp, Store, State, running, failing, hopping, over, stuck, Callee, IsProc, IsRecord, IsFunc, IsNothing}
-use Rattle.icn_run_safe.specs.AnyOutside.{over_outside}
-use Rattle.icn_instructions.specs.Ranges.{FitTables, HasVariables}
-use Rattle.instruction_laws.specs.Keeping.{KeepVariables, RowsKeepVariables, StateHasVariables, StatesHaveVariables, world_after}
+use Rattle.icn_run.specs.AnyOutside.{over_outside}
+use Rattle.icn_run.specs.InstructionNeeds.{FitTables, HasVariables}
+use Rattle.icn_run_named.specs.KeepingVariables.{KeepVariables, RowsKeepVariables, StateHasVariables, StatesHaveVariables, world_after}
 
 -- there are as many in the world that a row leaves, beside so many notes
 abbrev OutcomeHas : Tables → ℕ → Outcome → Type 0

@@ -22,7 +22,7 @@ use Rattle.icn_defs.specs.InputOutput.{Piece, pieces}
 use Rattle.icn_defs.specs.Applying.{operation_on, function_of, again}
 use Rattle.icn_defs.specs.StepRows.{coexpression_row, list_row, record_row, text_row}
 use Rattle.icn_defs.specs.Running.{words_row}
-use Rattle.instruction_laws.specs.Keeping.{KeepVariables, RowsKeepVariables, world_after}
+use Rattle.icn_run_named.specs.KeepingVariables.{KeepVariables, RowsKeepVariables, world_after}
 
 -- Settings and outcomes, each as a record, so that it is found by its name
 

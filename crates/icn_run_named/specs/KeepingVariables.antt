@@ -15,8 +15,8 @@ use Rattle.icn_run.specs.Calls.{Why}
 use Rattle.icn_run.specs.FlatStep.{start}
 use Rattle.icn_run.specs.Stacks.{Frames, flat}
 use Rattle.icn_run.specs.Step.{State, Store, failing, fails, hop, hopping, instruction, over, resume_by, running, step, stuck}
-use Rattle.icn_run_safe.specs.AnyOutside.{over_outside}
-use Rattle.icn_instructions.specs.Ranges.{HasVariables}
+use Rattle.icn_run.specs.AnyOutside.{over_outside}
+use Rattle.icn_run.specs.InstructionNeeds.{HasVariables}
 
 -- Rows
 

@@ -5,7 +5,7 @@ use Rattle.icn_code.specs.declared.instr.Instr.TheVariants.{Ccase}
 use Rattle.icn_code.specs.Codes.{Tables}
 use Rattle.icn_run.specs.Stacks.{Frames, flat, unmark}
 use Rattle.icn_run.specs.Step.{State, failing, hopping, instruction_at, over, running, stuck}
-use Rattle.icn_run_safe.specs.AnyOutside.{run_over}
+use Rattle.icn_run.specs.AnyOutside.{run_over}
 
 abbrev pub CaseStands : Tables → State Frames Frames → Type 0
 CaseStands tables (running m st) = instruction_at flat tables m ≡ Some Ccase → IsSome (unmark m)

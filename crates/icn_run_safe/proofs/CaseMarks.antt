@@ -24,7 +24,7 @@ use Rattle.icn_run_laws.specs.SameStates.{Opens, lift, mark_of, same_running, sa
 use Rattle.icn_run_laws.proofs.RowsKeep.{rows_keep}
 use Rattle.icn_run_laws.proofs.OnLinked.{linked_agrees}
 use Rattle.icn_run_laws.proofs.SecondLaw.{starts_so}
-use Rattle.icn_run_safe.specs.AnyOutside.{over_outside, run_over}
+use Rattle.icn_run.specs.AnyOutside.{over_outside, run_over}
 use Rattle.icn_run_safe.specs.Facts.{marks, shapes_of}
 use Rattle.icn_run_safe.specs.NoStuck.{TablesOk}
 use Rattle.icn_run_safe.specs.Shaped.{ChainOk, Knowledge, OuterOk, Safe}
@@ -33,8 +33,8 @@ use Rattle.icn_run_safe.proofs.AnyOutside.{follows_run, over_own, over_twice, ow
 use Rattle.icn_run_safe.proofs.Facts.{Follows, IsDue, Sames, given}
 use Rattle.icn_run_safe.proofs.Keeping.{here_proc}
 use Rattle.icn_run_safe.proofs.NoStuck.{start_safe}
-use Rattle.icn_instructions.specs.Ranges.{HasCaseMark}
-use Rattle.instruction_laws.specs.Cases.{CaseStands, CasesStandOver}
+use Rattle.icn_run.specs.InstructionNeeds.{HasCaseMark}
+use Rattle.icn_run_safe.specs.CaseMarks.{CaseStands, CasesStandOver}
 
 -- What the verifier asks for
 

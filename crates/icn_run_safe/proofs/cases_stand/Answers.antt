@@ -1,8 +1,8 @@
 use Rattle.icn_verify.proofs.Deciding.{shapes_given}
 use Rattle.icn_run_safe.proofs.RowsWithin.{rows_stay_within}
 use Rattle.icn_run_safe.proofs.TablesKept.{tables_ok}
-use Rattle.instruction_laws.proofs.CaseMarks.{cases_stand}
-use Rattle.instruction_laws.proofs.cases_stand.Goals as goal
+use Rattle.icn_run_safe.proofs.CaseMarks.{cases_stand}
+use Rattle.icn_run_safe.proofs.cases_stand.Goals as goal
 
 pub returns-clause-verified : goal.returns-clause-verified
 returns-clause-verified c =

@@ -1,5 +1,5 @@
 -- Runs in which the outside is another before each step, as where nothing is told of what is read.
-use Rattle.std.specs.Prelude.{◌≢◌, List, [], ◌∷◌}
+use Rattle.std.specs.Prelude.{List, [], ◌∷◌}
 use Rattle.icn_value.specs.Store.{Outside}
 use Rattle.icn_code.specs.Codes.{Tables}
 use Rattle.icn_run.specs.Stacks.{Frames, flat}
@@ -18,7 +18,3 @@ abbrev pub run_over : Tables → List Outside → State Frames Frames → State 
 run_over tables [] state = state
 run_over tables (outside ∷ later) state =
     run_over tables later (step flat tables (over_outside outside state))
-
--- no step from here on lacks anything, whatever the outside is before each
-abbrev pub IsNeverStuckOver : Tables → State Frames Frames → Type 0
-IsNeverStuckOver tables state = (outsides : List Outside) → run_over tables outsides state ≢ stuck

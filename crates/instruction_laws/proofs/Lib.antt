@@ -1,3 +1,0 @@
-pub mod RowVariables
-pub mod StepsKept
-pub mod CaseMarks
