@@ -36,7 +36,7 @@ pub fn record_name(code: &Code, place: usize) -> &[u8]
 
 // The name of a function, by its place among them.
 pub fn function_name(place: usize) -> &'static [u8]
-    requires { place < 51 }
+    requires { place < length functions }
     ensures { slice_get (map func_name functions) place ≡ Some result.now }
 {
     Func::ALL[place].name()

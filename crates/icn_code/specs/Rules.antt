@@ -6,6 +6,7 @@ use Rattle.icn_profile.specs.Numbers.{most_entries}
 use Rattle.icn_value.specs.declared.cset.Cset.{Cset}
 use Rattle.icn_code.specs.declared.instr.Instr.{Instr}
 use Rattle.icn_code.specs.declared.instr.Instr.TheVariants.{Int, Str, Cset as CsetAt, Local, Static, Global as GlobalAt, Llist, Field, Invoke, Mark, Chfail, Goto, Loop, Init, Create}
+use Rattle.icn_code.specs.declared.instr.Instr.TheVariants as I
 use Rattle.icn_code.specs.declared.code.Global.{Global}
 use Rattle.icn_code.specs.declared.code.Start.{Start}
 use Rattle.icn_code.specs.declared.code.Start.TheVariants.{Null, Procedure, Record, Function}
@@ -71,7 +72,28 @@ is_instr tables proc (Goto label) = nat_le label (length proc.instrs)
 is_instr tables proc (Loop label) = nat_le label (length proc.instrs)
 is_instr tables proc (Init label) = nat_le label (length proc.instrs)
 is_instr tables proc (Create label) = nat_le label (length proc.instrs)
-is_instr tables proc _ = true
+is_instr tables proc I.Pnull = true
+is_instr tables proc (I.Keywd keyword) = true
+is_instr tables proc I.Pop = true
+is_instr tables proc I.Dup = true
+is_instr tables proc (I.Op op) = true
+is_instr tables proc I.Appl = true
+is_instr tables proc I.Mark0 = true
+is_instr tables proc I.Unmark = true
+is_instr tables proc I.Eret = true
+is_instr tables proc I.Esusp = true
+is_instr tables proc I.Limit = true
+is_instr tables proc I.Lsusp = true
+is_instr tables proc I.Efail = true
+is_instr tables proc I.Bscan = true
+is_instr tables proc I.Escan = true
+is_instr tables proc I.Ccase = true
+is_instr tables proc I.Psusp = true
+is_instr tables proc I.Pret = true
+is_instr tables proc I.Pfail = true
+is_instr tables proc I.Coact = true
+is_instr tables proc I.Coret = true
+is_instr tables proc I.Cofail = true
 
 -- a last parameter collects only where there is one; parameters and other locals are numbered together
 abbrev pub is_head : ℕ → Proc → Bool

@@ -4,12 +4,13 @@ use Rattle.std.specs.List.{All}
 use Rattle.icn_value.specs.declared.val.Val.{Val}
 use Rattle.icn_value.specs.declared.val.Val.TheVariants.{Null, Integer, Text, Chars, Std, Proc, Rec, List as ListVal, Set, Table, Coexp}
 use Rattle.icn_value.specs.Store.{Names, Heap, Record}
+use Rattle.icn_defs.specs.Images.{functions}
 use Rattle.icn_convert.specs.declared.names.ProcKind.{ProcKind}
 use Rattle.icn_convert.specs.declared.names.ProcKind.TheVariants.{Procedure, Constructor, Function}
 
 -- how many procedures, constructors and functions there are
 abbrev pub name_count : Names → ℕ
-name_count names = length names.procedures + length names.records + 51
+name_count names = length names.procedures + length names.records + length functions
 
 -- procedures come first, then constructors, then functions
 abbrev pub kind_of : Names → ℕ → ProcKind

@@ -9,6 +9,7 @@ use Rattle.icn_structs.specs.Numbered.{NumberedList}
 use Rattle.icn_value.specs.Values.{Value, Null, Integer, Text, Chars, Std, Procedure, ARecord, AList, ASet, ATable, ACoexp, KeywordVariable, Subject, Position, Random, Root, Global, Static, Local, Element, Field, Key, Keyword, Variable, Whole, Part, Item, Val, Var}
 use Rattle.icn_value.specs.Store.{Table, Record, Heap, World, Setting, Names, record_at}
 use Rattle.icn_defs.specs.Conversions.{has_value, fits, contains, members, held_text, held_integer}
+use Rattle.icn_defs.specs.Images.{functions}
 use Rattle.icn_defs.specs.Rows.{Residual, TextBytes, VariableBytes, ListItems, SetMembers, TableValues, TableKeys, RecordFields, InputLines, UndoAssign, UndoExchange, UndoPosition, Counting, Sequence, Balanced, Found, Among, Outcome, Fails, Gives, Suspends, Error, Ends}
 
 -- Values
@@ -21,9 +22,9 @@ are_bytes bytes = list_all (λ byte. nat_lt byte 256) bytes
 abbrev pub is_cset : List ℕ → Bool
 is_cset bytes = bytes_eq bytes (members (contains bytes))
 
--- a procedure, a record constructor, or one of the 51 functions
+-- a procedure, a record constructor, or one of the functions
 abbrev pub is_procedure : Names → ℕ → Bool
-is_procedure names number = nat_lt number (length names.procedures + length names.records + 51)
+is_procedure names number = nat_lt number (length names.procedures + length names.records + length functions)
 
 -- an integer of 64 bits, a text of bytes, a cset in order, or a number of something that is there
 abbrev pub is_live : Names → Heap → Value → Bool

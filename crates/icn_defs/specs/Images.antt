@@ -8,7 +8,7 @@ use Rattle.std.specs.Map.{lookup}
 use Rattle.std.specs.declared.cmp.Ordering.{Ordering}
 use Rattle.icn_profile.specs.Bytes.{backslash, double_quote, single_quote}
 use Rattle.icn_text.specs.declared.func.Func.{Func}
-use Rattle.icn_text.specs.declared.func.Func.TheVariants.{Abs, Any, Bal, Center, Char, Copy, Cset, Delete, Exit, Find, Get, Iand, Icom, Image, Insert, Integer as IntegerF, Ior, Ishift, Ixor, Key, Left, List as ListF, Many, Map, Match, Member, Move, Numeric, Ord, Pop, Pos, Pull, Push, Put, Read, Reads, Repl, Reverse, Right, Seq, Set, Sort, Stop, String, Tab, Table, Trim, TypeOf, Upto, Write, Writes}
+use Rattle.icn_text.specs.declared.func.TheConstants.Func.{ALL}
 use Rattle.icn_text.specs.Funcs.{func_name}
 use Rattle.icn_value.specs.Values.{Value, Null, Integer, Text, Chars, Std, Procedure, ARecord, AList, ASet, ATable, ACoexp, File, Input, Output, Errout}
 use Rattle.icn_value.specs.Store.{Heap, Record, Names, record_at}
@@ -18,11 +18,7 @@ use Rattle.icn_defs.specs.Conversions.{Shape, shape_of, shape_cmp, size_of}
 
 -- the functions in the order of their numbers
 abbrev pub functions : List Func
-functions =
-    Abs ∷ Any ∷ Bal ∷ Center ∷ Char ∷ Copy ∷ Cset ∷ Delete ∷ Exit ∷ Find ∷ Get ∷ Iand ∷ Icom ∷ Image
-    ∷ Insert ∷ IntegerF ∷ Ior ∷ Ishift ∷ Ixor ∷ Key ∷ Left ∷ ListF ∷ Many ∷ Map ∷ Match ∷ Member ∷ Move
-    ∷ Numeric ∷ Ord ∷ Pop ∷ Pos ∷ Pull ∷ Push ∷ Put ∷ Read ∷ Reads ∷ Repl ∷ Reverse ∷ Right
-    ∷ Seq ∷ Set ∷ Sort ∷ Stop ∷ String ∷ Tab ∷ Table ∷ Trim ∷ TypeOf ∷ Upto ∷ Write ∷ Writes ∷ []
+functions = ALL
 
 -- the name of a procedure, record constructor or function by its number, and that of a record by its
 -- constructor's number among the constructors

@@ -4,7 +4,7 @@ ghost use Rattle.icn_defs.specs.Numbers.{func_of, keyword_of, op_of};
 
 use icn_text::{Func, Keyword, Op};
 
-/// The operation of a number, for those from 1 to 45. It takes no memory.
+/// The operation of a number, or none where no operation has it. It takes no memory.
 pub fn op_numbered(number: u32) -> Option<Op>
     ensures { result ≡ op_of number }
 {
@@ -14,7 +14,7 @@ pub fn op_numbered(number: u32) -> Option<Op>
         .find(|op| u32::from(op.number()) == number)
 }
 
-/// The function of a number, for those from 1 to 51. It takes no memory.
+/// The function of a number, or none where no function has it. It takes no memory.
 pub fn func_numbered(number: u32) -> Option<Func>
     ensures { result ≡ func_of number }
 {
@@ -24,7 +24,7 @@ pub fn func_numbered(number: u32) -> Option<Func>
         .find(|func| u32::from(func.number()) == number)
 }
 
-/// The keyword of a number, for those from 1 to 18. It takes no memory.
+/// The keyword of a number, or none where no keyword has it. It takes no memory.
 pub fn keyword_numbered(number: u32) -> Option<Keyword>
     ensures { result ≡ keyword_of number }
 {

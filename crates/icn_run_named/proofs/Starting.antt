@@ -4,9 +4,7 @@ use Rattle.std.specs.Prelude.{◌&&◌, map, nat_le, nat_lt, pred, replicate, sl
 use Rattle.std.specs.List.{list_all}
 use Rattle.std.proofs.lemmas.Bool.{ltb-true}
 use Rattle.std.proofs.lemmas.List.{length-map}
-use Rattle.icn_text.specs.Funcs.{func_number}
-use Rattle.icn_text.specs.declared.func.Func.{Func}
-use Rattle.icn_text.specs.declared.func.Func.TheVariants as Funcs
+use Rattle.icn_text.proofs.FuncNames.{func_below}
 use Rattle.icn_value.specs.Values.{Value, Null}
 use Rattle.icn_code.specs.declared.code.Global.{Global as GlobalEntry}
 use Rattle.icn_code.specs.declared.code.Start.{Start}
@@ -31,59 +29,6 @@ both : (a b : Bool) → (a && b) ≡ true → (a ≡ true) × (b ≡ true)
 both true b is = (refl, is)
 both false b is = let none : ⊥ = cc in absurd none
 
-func_low : (func : Func) → pred (func_number func) < 51
-func_low Funcs.Abs = omega arith
-func_low Funcs.Any = omega arith
-func_low Funcs.Bal = omega arith
-func_low Funcs.Center = omega arith
-func_low Funcs.Char = omega arith
-func_low Funcs.Copy = omega arith
-func_low Funcs.Cset = omega arith
-func_low Funcs.Delete = omega arith
-func_low Funcs.Exit = omega arith
-func_low Funcs.Find = omega arith
-func_low Funcs.Get = omega arith
-func_low Funcs.Iand = omega arith
-func_low Funcs.Icom = omega arith
-func_low Funcs.Image = omega arith
-func_low Funcs.Insert = omega arith
-func_low Funcs.Integer = omega arith
-func_low Funcs.Ior = omega arith
-func_low Funcs.Ishift = omega arith
-func_low Funcs.Ixor = omega arith
-func_low Funcs.Key = omega arith
-func_low Funcs.Left = omega arith
-func_low Funcs.List = omega arith
-func_low Funcs.Many = omega arith
-func_low Funcs.Map = omega arith
-func_low Funcs.Match = omega arith
-func_low Funcs.Member = omega arith
-func_low Funcs.Move = omega arith
-func_low Funcs.Numeric = omega arith
-func_low Funcs.Ord = omega arith
-func_low Funcs.Pop = omega arith
-func_low Funcs.Pos = omega arith
-func_low Funcs.Pull = omega arith
-func_low Funcs.Push = omega arith
-func_low Funcs.Put = omega arith
-func_low Funcs.Read = omega arith
-func_low Funcs.Reads = omega arith
-func_low Funcs.Repl = omega arith
-func_low Funcs.Reverse = omega arith
-func_low Funcs.Right = omega arith
-func_low Funcs.Seq = omega arith
-func_low Funcs.Set = omega arith
-func_low Funcs.Sort = omega arith
-func_low Funcs.Stop = omega arith
-func_low Funcs.String = omega arith
-func_low Funcs.Tab = omega arith
-func_low Funcs.Table = omega arith
-func_low Funcs.Trim = omega arith
-func_low Funcs.TypeOf = omega arith
-func_low Funcs.Upto = omega arith
-func_low Funcs.Write = omega arith
-func_low Funcs.Writes = omega arith
-
 -- Names
 
 module _ (rows : RowsKeepNames) (P : Tables) where
@@ -104,7 +49,7 @@ module _ (rows : RowsKeepNames) (P : Tables) where
   start_named (Starts.Record place) is =
       let low : place < length P.records = ltb-true place (length P.records) is in
       omega (arith, low, length-map P.procs (S.proc_name P), length-map P.records (S.record_name P))
-  start_named (Starts.Function func) is = omega (arith, func_low func, length-map P.procs (S.proc_name P), length-map P.records (S.record_name P))
+  start_named (Starts.Function func) is = omega (arith, func_below func, length-map P.procs (S.proc_name P), length-map P.records (S.record_name P))
 
   globals_named : (globals : List GlobalEntry) → list_all is_one globals ≡ true → Each V (map (S.global_value P) globals)
   globals_named [] are = tt

@@ -1,12 +1,15 @@
--- The list of all holds each at the place of its number.
-use Rattle.std.proofs.Common.{zero, [], ◌∷◌, cond, ◌≡◌, ◌≢◌, ◌≤◌, ◌<◌, ◌+◌, ◌-◌, ◌⊎◌, inl, inr, ℕ, List as Items, false, refl, sym, ap, ◌∙◌, get_or, arith, lit<, lit≤, true}
-use Rattle.std.proofs.lemmas.Bool.{cases_lt}
+-- Each keyword stands in the list of all at the place of its number; the rest is said of that list.
+use Rattle.std.proofs.Common.{◌≡◌, ◌≢◌, ◌≤◌, ◌<◌, ◌+◌, ◌-◌, ◌∙◌, zero, ℕ, Bool, true, false, cond, eqb, List as Items, [], ◌∷◌, length, Option, Some, refl, sym, ap, get_or, lit<, arith}
+use Rattle.std.specs.Prelude.{nat_le, nat_lt, pred}
+use Rattle.std.specs.List.{list_all}
+use Rattle.std.specs.Option.{option_map_or}
 use Rattle.std.specs.Str.{bytes_eq}
-use Rattle.std.proofs.lemmas.Slice.Eq.{bytes_eq-Decides}
+use Rattle.std.proofs.lemmas.Bool.{eqb-true, leb-true, ltb-true}
 use Rattle.icn_text.specs.declared.keyword.Keyword.{Keyword}
 use Rattle.icn_text.specs.declared.keyword.Keyword.TheVariants.{Ascii, Cset, Current, Digits, Errout, Fail, Input, Lcase, Letters, Level, Main, Null, Output, Pos, Random, Source, Subject, Ucase}
 use Rattle.icn_text.specs.declared.keyword.TheConstants.Keyword.{ALL}
 use Rattle.icn_text.specs.Keywords.{keyword_number, keyword_name}
+use Rattle.icn_text.proofs.Listed as listed
 
 keyword_at : (any default : Keyword) → get_or ALL (keyword_number any - 1) default ≡ any
 keyword_at Ascii default = refl
@@ -28,89 +31,34 @@ keyword_at Source default = refl
 keyword_at Subject default = refl
 keyword_at Ucase default = refl
 
-keyword_above : (any : Keyword) → 0 < keyword_number any
-keyword_above Ascii = lit< tt
-keyword_above Cset = lit< tt
-keyword_above Current = lit< tt
-keyword_above Digits = lit< tt
-keyword_above Errout = lit< tt
-keyword_above Fail = lit< tt
-keyword_above Input = lit< tt
-keyword_above Lcase = lit< tt
-keyword_above Letters = lit< tt
-keyword_above Level = lit< tt
-keyword_above Main = lit< tt
-keyword_above Null = lit< tt
-keyword_above Output = lit< tt
-keyword_above Pos = lit< tt
-keyword_above Random = lit< tt
-keyword_above Source = lit< tt
-keyword_above Subject = lit< tt
-keyword_above Ucase = lit< tt
+-- what all of the list pass is passed by each
+pub every_keyword : (test : Keyword → Bool) → list_all test ALL ≡ true → (any : Keyword) → test any ≡ true
+every_keyword = listed.each_passes keyword_number ALL (lit< tt) keyword_at
 
-pub keyword_within : (any : Keyword) → keyword_number any ≤ 18
-keyword_within Ascii = lit≤ tt
-keyword_within Cset = lit≤ tt
-keyword_within Current = lit≤ tt
-keyword_within Digits = lit≤ tt
-keyword_within Errout = lit≤ tt
-keyword_within Fail = lit≤ tt
-keyword_within Input = lit≤ tt
-keyword_within Lcase = lit≤ tt
-keyword_within Letters = lit≤ tt
-keyword_within Level = lit≤ tt
-keyword_within Main = lit≤ tt
-keyword_within Null = lit≤ tt
-keyword_within Output = lit≤ tt
-keyword_within Pos = lit≤ tt
-keyword_within Random = lit≤ tt
-keyword_within Source = lit≤ tt
-keyword_within Subject = lit≤ tt
-keyword_within Ucase = lit≤ tt
+-- what is found under the number of one is this one
+pub keyword_found : (found : Option Keyword) (any : Keyword) → option_map_or (λ x. eqb (keyword_number x) (keyword_number any)) found false ≡ true → found ≡ Some any
+keyword_found = listed.found_again keyword_number ALL (lit< tt) keyword_at
 
-next_is : (any default : Keyword) (index : ℕ) → index < keyword_number any → keyword_number any ≤ index + 1 → get_or ALL index default ≡ any
-next_is any default index above below =
-    let here : index ≡ keyword_number any - 1 = omega arith in
-    ap (λ place. get_or ALL place default) here ∙ keyword_at any default
+pub keyword_within : (any : Keyword) → keyword_number any ≤ length ALL
+keyword_within any = leb-true (keyword_number any) (length ALL) (every_keyword (λ x. nat_le (keyword_number x) (length ALL)) refl any)
 
-no_name : (found name : Items ℕ) → bytes_eq found name ≡ false → found ≢ name
-no_name found name differs same = let clash : false ≡ true = sym differs ∙ (bytes_eq-Decides found name).1 same in cc
+-- the number from 0 on is below how many there are
+pub keyword_below : (any : Keyword) → pred (keyword_number any) < length ALL
+keyword_below any = ltb-true (pred (keyword_number any)) (length ALL) (every_keyword (λ x. nat_lt (pred (keyword_number x)) (length ALL)) refl any)
 
 -- one more is looked at, which has another name
 pub no_more : (index : ℕ) (default : Keyword) (name found : Items ℕ) → found ≡ keyword_name (get_or ALL index default) → bytes_eq found name ≡ false
     → ((any : Keyword) → keyword_number any ≤ index → keyword_name any ≢ name) → (any : Keyword) → keyword_number any ≤ index + 1 → keyword_name any ≢ name
-no_more index default name found is differs before any within = cases (cases_lt index (keyword_number any))
-  where
-    cases : (index < keyword_number any) ⊎ (keyword_number any ≤ index) → keyword_name any ≢ name
-    cases (inl above) = λ same. no_name found name differs (is ∙ ap keyword_name (next_is any default index above within) ∙ same)
-    cases (inr below) = before any below
+no_more = listed.no_more keyword_number ALL (lit< tt) keyword_at keyword_name
 
+-- the number of the first that has this name
 number_of : Items Keyword → Items ℕ → ℕ
 number_of [] name = zero
 number_of (any ∷ others) name = cond (bytes_eq (keyword_name any) name) (keyword_number any) (number_of others name)
 
 number_found : (any : Keyword) → number_of ALL (keyword_name any) ≡ keyword_number any
 unfolding number_of
-number_found Ascii = refl
-number_found Cset = refl
-number_found Current = refl
-number_found Digits = refl
-number_found Errout = refl
-number_found Fail = refl
-number_found Input = refl
-number_found Lcase = refl
-number_found Letters = refl
-number_found Level = refl
-number_found Main = refl
-number_found Null = refl
-number_found Output = refl
-number_found Pos = refl
-number_found Random = refl
-number_found Source = refl
-number_found Subject = refl
-number_found Ucase = refl
+number_found any = eqb-true (number_of ALL (keyword_name any)) (keyword_number any) (every_keyword (λ x. eqb (number_of ALL (keyword_name x)) (keyword_number x)) refl any)
 
 pub one_name : (a b : Keyword) → keyword_name a ≡ keyword_name b → a ≡ b
-one_name a b same =
-    let number : keyword_number a ≡ keyword_number b = sym (number_found a) ∙ ap (number_of ALL) same ∙ number_found b in
-    sym (keyword_at a a) ∙ ap (λ n. get_or ALL (n - 1) a) number ∙ keyword_at b a
+one_name a b same = listed.one_number keyword_number ALL (lit< tt) keyword_at a b (sym (number_found a) ∙ ap (number_of ALL) same ∙ number_found b)

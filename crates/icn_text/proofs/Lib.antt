@@ -1,5 +1,7 @@
-mod FuncNames
-mod KeywordNames
+pub mod Listed
+pub mod FuncNames
+pub mod KeywordNames
+pub mod OpNumbers
 mod DigitSteps
 mod Numerals
 mod Completing

@@ -115,7 +115,7 @@ impl Func {
         Func::Writes,
     ];
 
-    /// The number, from 1 to 51.
+    /// The number, from 1 to how many there are.
     pub fn number(self) -> u8
         ensures { result ≡ func_number self }
     {

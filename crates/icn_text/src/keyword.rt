@@ -49,7 +49,7 @@ impl Keyword {
         Keyword::Ucase,
     ];
 
-    /// The number, from 1 to 18.
+    /// The number, from 1 to how many there are.
     pub fn number(self) -> u8
         ensures { result ≡ keyword_number self }
     {

@@ -147,7 +147,7 @@ impl Op {
         Op::ToBy,
     ];
 
-    /// The number, from 1 to 45.
+    /// The number, from 1 to how many there are.
     pub fn number(self) -> u8
         ensures { result ≡ op_number self }
     {

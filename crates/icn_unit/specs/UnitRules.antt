@@ -8,6 +8,7 @@ use Rattle.icn_unit.specs.declared.unit.NameKind.{NameKind}
 use Rattle.icn_unit.specs.declared.unit.NameKind.TheVariants.{Parameter, Local, Static, Undeclared}
 use Rattle.icn_unit.specs.declared.unit.UnitInstr.{UnitInstr}
 use Rattle.icn_unit.specs.declared.unit.UnitInstr.TheVariants.{Int, Str, Cset, Var, Llist, Field, Invoke, Mark, Chfail, Goto, Loop, Init, Create, Lab}
+use Rattle.icn_unit.specs.declared.unit.UnitInstr.TheVariants as I
 use Rattle.icn_unit.specs.declared.unit.UnitName.{UnitName}
 use Rattle.icn_unit.specs.PlainUnits.{Proc, Decl, Global, Procedure, Link, Record, params_in, proc_names, entry_names, owned_names, declared_names}
 use Rattle.icn_unit.specs.UnitOperands.{is_name, ascends}
@@ -72,7 +73,28 @@ keeps_operand names (Loop label) = is_number label
 keeps_operand names (Init label) = is_number label
 keeps_operand names (Create label) = is_number label
 keeps_operand names (Lab label) = is_number label
-keeps_operand names _ = true
+keeps_operand names I.Pnull = true
+keeps_operand names (I.Keywd keyword) = true
+keeps_operand names I.Pop = true
+keeps_operand names I.Dup = true
+keeps_operand names (I.Op op) = true
+keeps_operand names I.Appl = true
+keeps_operand names I.Mark0 = true
+keeps_operand names I.Unmark = true
+keeps_operand names I.Eret = true
+keeps_operand names I.Esusp = true
+keeps_operand names I.Limit = true
+keeps_operand names I.Lsusp = true
+keeps_operand names I.Efail = true
+keeps_operand names I.Bscan = true
+keeps_operand names I.Escan = true
+keeps_operand names I.Ccase = true
+keeps_operand names I.Psusp = true
+keeps_operand names I.Pret = true
+keeps_operand names I.Pfail = true
+keeps_operand names I.Coact = true
+keeps_operand names I.Coret = true
+keeps_operand names I.Cofail = true
 
 -- the label that has its place there
 abbrev pub own_label : UnitInstr → Option ℕ

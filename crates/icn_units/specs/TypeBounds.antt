@@ -18,7 +18,31 @@ number_fits (I.Loop label) = is_number label
 number_fits (I.Init label) = is_number label
 number_fits (I.Create label) = is_number label
 number_fits (I.Lab label) = is_number label
-number_fits _ = true
+number_fits I.Pnull = true
+number_fits (I.Int n) = true
+number_fits (I.Cset bytes) = true
+number_fits (I.Keywd keyword) = true
+number_fits I.Pop = true
+number_fits I.Dup = true
+number_fits (I.Op op) = true
+number_fits (I.Field name) = true
+number_fits I.Appl = true
+number_fits I.Mark0 = true
+number_fits I.Unmark = true
+number_fits I.Eret = true
+number_fits I.Esusp = true
+number_fits I.Limit = true
+number_fits I.Lsusp = true
+number_fits I.Efail = true
+number_fits I.Bscan = true
+number_fits I.Escan = true
+number_fits I.Ccase = true
+number_fits I.Psusp = true
+number_fits I.Pret = true
+number_fits I.Pfail = true
+number_fits I.Coact = true
+number_fits I.Coret = true
+number_fits I.Cofail = true
 
 -- the numbers of all instructions fit their types
 abbrev pub numbers_fit : Proc → Bool
