@@ -1,6 +1,6 @@
 -- What is called by a number, and arguments for places.
 use Rattle.std.specs.Option.{option_map}
-use Rattle.std.proofs.Common.{true, false, nat_le}
+use Rattle.std.proofs.Common.{true, nat_le}
 use Rattle.std.proofs.lemmas.Bool.Decides.{nat_tests}
 use Rattle.std.proofs.lemmas.List.{length-map}
 use Rattle.std.proofs.lemmas.Option.{slice_get-map, slice_get-get_or}
@@ -130,9 +130,4 @@ entry_at f xs n x within is =
 pub may_call : (level limit seen : ℕ) → seen ≡ level → seen < limit → nat_le (suc level) limit ≡ true
 may_call level limit seen e p =
     let q : suc level ≤ limit = omega (arith, e, p) in
-    grind (arith, nat_tests)
-
-pub may_not_call : (level limit seen : ℕ) → seen ≡ level → limit ≤ seen → nat_le (suc level) limit ≡ false
-may_not_call level limit seen e p =
-    let q : limit < suc level = omega (arith, e, p) in
     grind (arith, nat_tests)

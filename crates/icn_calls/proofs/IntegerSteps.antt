@@ -1,5 +1,5 @@
 -- Which argument an integer chooses.
-use Rattle.std.proofs.Common.{◌≡◌, ℕ, suc, ◌-◌, ◌≤◌, ℤ, List, map, length, slice_get, Option, Some, None, sym, ap, ◌∙◌, arith}
+use Rattle.std.proofs.Common.{◌≡◌, ℕ, suc, ◌-◌, ◌≤◌, ℤ, List, map, length, slice_get, Option, Some, sym, ap, ◌∙◌, arith}
 use Rattle.std.specs.Option.{option_map}
 use Rattle.std.proofs.lemmas.List.{length-map}
 use Rattle.std.proofs.lemmas.Option.{slice_get-map}
@@ -14,10 +14,6 @@ by_place : (all : Extent) (items : List Item) (n : ℤ) (place : Option ℕ) →
 by_place all items n place e =
     ap (λ (k : ℕ). argument_at (place_of n k) (map (item_in all) items)) (length-map items (item_in all))
     ∙ ap (λ (p : Option ℕ). argument_at p (map (item_in all) items)) (sym e)
-
-pub none_chosen : (all : Extent) (items : List Item) (n : ℤ) (place : Option ℕ) → place ≡ place_of n (length items) → place ≡ None
-    → choose_item n (map (item_in all) items) ≡ None
-none_chosen all items n place e f = by_place all items n place e ∙ ap (λ (p : Option ℕ). argument_at p (map (item_in all) items)) f
 
 pub one_chosen : (all : Extent) (items : List Item) (n : ℤ) (place : Option ℕ) (p : ℕ) (found : Option Item) → place ≡ place_of n (length items)
     → place ≡ Some p → 1 ≤ p → found ≡ slice_get items (p - 1)

@@ -1,5 +1,5 @@
 -- Arguments that become parameters, and procedures that are entered with them.
-use Rattle.std.proofs.Common.{◌≡◌, ℕ, zero, suc, ◌+◌, ◌-◌, ◌≤◌, Bool, true, false, nat_le, List, [], ◌∷◌, ◌++◌, map, length, take, drop, replicate, None, Ok, Err, refl, sym, ap, ◌∙◌, subst, arith}
+use Rattle.std.proofs.Common.{◌≡◌, ℕ, zero, suc, ◌+◌, ◌-◌, ◌≤◌, Bool, true, false, nat_le, List, [], ◌∷◌, ◌++◌, map, length, take, drop, replicate, Ok, Err, refl, sym, ap, ◌∙◌, subst, arith}
 use Rattle.std.specs.List.{All}
 use Rattle.std.proofs.lemmas.List.{map-append}
 use Rattle.std.proofs.lemmas.List.Elements.{All-cons, All-head, All-nil, All-tail}
@@ -21,7 +21,7 @@ use Rattle.icn_frames_laws.proofs.CallsRead.{level_read}
 use Rattle.icn_frames_laws.proofs.ScansRead.{enter_read}
 use Rattle.icn_value.specs.Store.{World as StoreWorld}
 use Rattle.icn_control.specs.Standing.{reading_of}
-use Rattle.icn_run.specs.Step.{State, Store, call_procedure, called_if, enter_procedure, errs, fill_nulls, list_made, running, with_world}
+use Rattle.icn_run.specs.Step.{State, Store, call_procedure, called_if, enter_procedure, fill_nulls, list_made, running, with_world}
 use Rattle.icn_control.specs.Parts.{HaltsWith}
 use Rattle.icn_control.specs.Standing.{stack_in}
 use Rattle.icn_control.specs.Taking.{MakesValue}
@@ -136,11 +136,6 @@ called_by w m number entry vals b e st same =
     ap (λ (l : ℕ). F (nat_le (suc l) st.world.heap.bounds.levels)) (level_read (reading_of (extent_of w.heap)) m)
     ∙ ap (λ (x : StoreWorld). F (nat_le (suc (held.level m)) x.heap.bounds.levels)) same
     ∙ ap F e
-
-pub called_deep : (w : World) (m : FlatStack) (number : ℕ) (entry : Proc) (vals : List Val)
-    → nat_le (suc (held.level m)) (heap_of w.heap).bounds.levels ≡ false → (st : Store Frames) → st.world ≡ world_of w
-    → call_procedure flat number entry (map (value_in (extent_of w.heap)) vals) (stack_in (extent_of w.heap) m) st ≡ errs 301 None (with_world (world_of w) st)
-called_deep w m number entry vals e st same = called_by w m number entry vals false e st same ∙ ap (errs 301 None) (same_world w st same)
 
 pub called_runs : (w v : World) (m k n : FlatStack) (number : ℕ) (entry : Proc) (vals parameters : List Val)
     → nat_le (suc (held.level m)) (heap_of w.heap).bounds.levels ≡ true

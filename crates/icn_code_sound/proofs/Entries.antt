@@ -3,7 +3,7 @@ use Rattle.std.proofs.Common.{◌≡◌, ℕ, zero, suc, ◌+◌, ◌<◌, ◌�
 use Rattle.std.specs.Prelude.{slice_get}
 use Rattle.std.proofs.lemmas.Bool.{cases_lt}
 use Rattle.icn_tree.specs.Trees as T
-use Rattle.icn_tree.specs.Trees.{Tree, Trees, NoTrees, More, Initial, NoInitial, Initially}
+use Rattle.icn_tree.specs.Trees.{Trees, NoTrees, More, Initial, NoInitial, Initially}
 use Rattle.icn_code.specs.declared.instr.Instr.{Instr}
 use Rattle.icn_code.specs.declared.instr.Instr.TheVariants as I
 use Rattle.icn_verify.specs.declared.rows.Way.{Way}
@@ -13,7 +13,7 @@ use Rattle.icn_verify.specs.Rows.{row_of, after, next_by, next, forward, back, w
 use Rattle.icn_verify.specs.Reaching.{Reaches, starts, goes}
 use Rattle.icn_verify.specs.Faults.{LacksShape}
 use Rattle.icn_verify.specs.Given as V
-use Rattle.icn_simulation.specs.Translation.{Names, size, bounded_size}
+use Rattle.icn_simulation.specs.Translation.{Names, size}
 use Rattle.icn_simulation.specs.Translation as C
 use Rattle.icn_simulation.specs.Linkage.{Linkage}
 use Rattle.icn_code_sound.specs.Noted.{Note, in_mark, start, bounded_notes, body, procedure, instrs}
@@ -73,11 +73,6 @@ passes_at a m q l i (x ∷ xs) (suc b) h e k w = turn (passes_at a m (suc q) l i
     turn : (m ≤ l) ⊎ (suc q + b < m) → (m ≤ l) ⊎ (q + suc b < m)
     turn (inl u) = inl u
     turn (inr u) = inr (omega arith)
-
-regions_at : (lo p l : ℕ) (i : Instr) (xs : List Note) (b : ℕ) → Regions lo p xs → slice_get (instrs xs) b ≡ Some i → Backs i l → l ≤ p + b
-regions_at lo p l i [] b h e k = absurd (no_some e)
-regions_at lo p l i (x ∷ xs) zero h e k = let u = (h.0 l (same_back (some_is e) k)).1 in omega arith
-regions_at lo p l i (x ∷ xs) (suc b) h e k = let u = regions_at lo (suc p) l i xs b h.1 e k in omega arith
 
 clear_at : (lo p m l : ℕ) (i i' : Instr) (xs : List Note) (a b : ℕ) → Clear p xs → Regions lo p xs → slice_get (instrs xs) a ≡ Some i → Leads i m
     → slice_get (instrs xs) b ≡ Some i' → Backs i' l → p + a < l → (m ≤ l) ⊎ (p + b < m)

@@ -2,8 +2,8 @@
 use Rattle.std.proofs.Common.{◌≡◌, Bool, true, false, refl}
 use Rattle.icn_tree.specs.declared.token.Operator.{Operator}
 use Rattle.icn_tree.specs.declared.token.Operator.TheVariants as Signs
-use Rattle.icn_simulation.specs.Translation.{form_of, prefix_of}
-use Rattle.icn_code_sound.specs.Fit.{Infixes, x_both, x_scan, x_either, x_limit, x_at, x_bang, x_op, Augments, u_both, u_scan, u_at, u_op, Prefixes, p_at, p_bar, p_op}
+use Rattle.icn_simulation.specs.Translation.{form_of}
+use Rattle.icn_code_sound.specs.Fit.{Infixes, x_both, x_scan, x_either, x_limit, x_at, x_bang, x_op, Augments, u_both, u_scan, u_at, u_op}
 use Rattle.icn_code_sound.proofs.Basics.{no}
 
 -- The operators between operands, in assignments and before an operand fit.
@@ -57,19 +57,3 @@ is_before Signs.Question = true
 is_before Signs.Tilde = true
 is_before Signs.Equal = true
 is_before o = false
-
-pub prefix_fits : (o : Operator) → is_before o ≡ true → Prefixes o (prefix_of o)
-prefix_fits Signs.At e = p_at
-prefix_fits Signs.Bar e = p_bar
-prefix_fits Signs.Bang e = p_op refl refl
-prefix_fits Signs.Star e = p_op refl refl
-prefix_fits Signs.Plus e = p_op refl refl
-prefix_fits Signs.Minus e = p_op refl refl
-prefix_fits Signs.Slash e = p_op refl refl
-prefix_fits Signs.Backslash e = p_op refl refl
-prefix_fits Signs.Caret e = p_op refl refl
-prefix_fits Signs.Dot e = p_op refl refl
-prefix_fits Signs.Question e = p_op refl refl
-prefix_fits Signs.Tilde e = p_op refl refl
-prefix_fits Signs.Equal e = p_op refl refl
-prefix_fits o e = absurd (no e)

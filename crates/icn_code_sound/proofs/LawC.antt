@@ -8,7 +8,7 @@ use Rattle.icn_tree.specs.declared.token.Operator.{Operator}
 use Rattle.icn_tree.specs.declared.tree.Infix.TheVariants.{Plain, Augmented}
 use Rattle.icn_tree.specs.declared.tree.LoopKind.TheVariants.{While, Until, Every}
 use Rattle.icn_tree.specs.Trees as T
-use Rattle.icn_tree.specs.Trees.{Tree, Trees, MaybeTree, Clause, Clauses, Absent, Present, NoTrees, More, Default, Guarded, NoClauses, MoreClauses}
+use Rattle.icn_tree.specs.Trees.{Tree, Trees, MaybeTree, Clauses, Absent, Present, NoTrees, More, Default, Guarded, NoClauses, MoreClauses}
 use Rattle.icn_simulation.specs.Translation.{bodies_size, Names, Depth, Ways, loop_of, ways, deeper, opened_in, dropped_by_next, around, size, sizes, elements_size, conjunction_size, compound_size, creates_size, subscripts_size, by_size, body_size, clauses_size, default_size, keyword_code, Form, Both, Scanning, Either, Limiting, Applying, PrefixForm, Activating, Repeating, Operating}
 use Rattle.icn_simulation.specs.Linkage.{Linkage, Loads, l_null, l_integer, l_string, l_cset, l_local, l_static, l_global}
 use Rattle.icn_code_sound.specs.Noted.{bodies_code, Shape, o, flagged_note, start, more, in_mark, within, Limited, with_scan, drops, create_notes, code, operands, elements_code, conjunction, compound, creates, subscripts, by_code, body_code, clauses_code, clause_code, default_code, prefix_code, plain_code, augmented_code}

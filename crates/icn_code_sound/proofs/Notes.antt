@@ -7,7 +7,7 @@ use Rattle.icn_tree.specs.declared.tree.LoopKind.TheVariants.{While, Until, Ever
 use Rattle.icn_tree.specs.Trees.{Initial, NoInitial, Initially, Tree, MaybeTree, Trees, Clause, Clauses, Empty, Constant, Identifier, Keyword, Parentheses, Listing, Compound, Call, CoCall, Subscript, Section, Field, Prefix, Not, Binary, To, If, Case, Loop, Repeat, Create, Next, Fail, Break, Return, Suspend, Absent, Present, NoTrees, More, Default, Guarded, NoClauses, MoreClauses}
 use Rattle.icn_code.specs.declared.instr.Instr.{Instr}
 use Rattle.icn_code.specs.declared.instr.Instr.TheVariants as I
-use Rattle.icn_simulation.specs.Translation.{bodies_size, Names, Depth, Ways, loop_of, deeper, opened_in, dropped_by_next, around, last_way, next_way, is_empty, is_nothing, is_no_element, elements, Form, Both, Scanning, Either, Limiting, Applying, form_of, PrefixForm, Activating, Repeating, Operating, prefix_of, section_op, size, sizes, elements_size, conjunction_size, compound_size, creates_size, subscripts_size, by_size, if_size, body_size, clauses_size, clause_size, default_size, is_default_size, ways, bounded_size}
+use Rattle.icn_simulation.specs.Translation.{bodies_size, Names, Depth, Ways, loop_of, deeper, opened_in, dropped_by_next, around, is_empty, is_nothing, is_no_element, Form, Both, Scanning, Either, Limiting, Applying, form_of, PrefixForm, Activating, Repeating, Operating, prefix_of, size, elements_size, by_size, body_size, clauses_size, clause_size, default_size, ways, bounded_size}
 use Rattle.icn_simulation.specs.Translation as C
 use Rattle.icn_code_sound.specs.Noted.{bodies_code, Shape, Note, start, more, in_mark, within, Limited, with_scan, drops, without_mark, unmarks, create_notes, code, operands, elements_code, conjunction, compound, creates, subscripts, by_code, body_code, clauses_code, clause_code, default_code, prefix_code, plain_code, augmented_code, instrs, bounded_notes, body, procedure}
 use Rattle.icn_simulation.proofs.Sizes as Z

@@ -12,12 +12,10 @@ use Rattle.icn_verify.specs.Rows.{row_of, lacks, meets, fits, next, forward, bac
 use Rattle.icn_verify.specs.Reaching.{Reaches, starts, goes, Carries}
 use Rattle.icn_verify.specs.Faults.{Breaks, LacksShape}
 use Rattle.icn_verify.specs.Given as V
-use Rattle.icn_simulation.specs.Translation.{Names}
 use Rattle.icn_simulation.specs.Translation as C
 use Rattle.icn_code_sound.specs.Noted.{procedure}
-use Rattle.icn_code_sound.specs.Bridge.{plain_at, ReachedAsNoted, NearlySound}
 use Rattle.icn_code_sound.proofs.Basics.{no}
-use Rattle.icn_code_sound.proofs.Bridges.{codes_have_shapes, no_some}
+use Rattle.icn_code_sound.proofs.Bridges.{no_some}
 
 pub some_is : {T : Type 0} {a b : T} → Some a ≡ Some b → a ≡ b
 some_is {a = a} e = ap (λ y. unwrap_or y a) e
@@ -89,9 +87,3 @@ module _ (code : List Instr) (shapes : ℕ → Option PlainShape) (v : V.HasShap
       f.fit (ap (λ i. meets (row_of i).asks (look_of b.shape)) (some_is (sym f.stands ∙ b.met.stands)) ∙ b.unmet))
   nearly p V5 b = let f = v.each p b.shape (reached b.reaches) in absurd (no_none (sym f.stands ∙ ap (λ q. slice_get code q) b.ends ∙ at_end code))
   nearly p rule b = absurd b
-
-pub reached_as_noted : ReachedAsNoted
-reached_as_noted L j N i es f g p t r = reached (C.procedure N i es) (plain_at (procedure N i es)) (codes_have_shapes L j N i es f g) r
-
-pub nearly_sound : NearlySound
-nearly_sound L j N i es f g = nearly (C.procedure N i es) (plain_at (procedure N i es)) (codes_have_shapes L j N i es f g)

@@ -5,7 +5,7 @@ use Rattle.std.specs.Option.{option_map}
 use Rattle.icn_code.specs.declared.instr.Instr.{Instr}
 use Rattle.icn_code.specs.declared.instr.Instr.TheVariants as I
 use Rattle.icn_tree.specs.Trees as T
-use Rattle.icn_tree.specs.Trees.{Tree, Trees, NoTrees, More, Initial, NoInitial, Initially}
+use Rattle.icn_tree.specs.Trees.{Trees, NoTrees, More, Initial, NoInitial, Initially}
 use Rattle.icn_simulation.specs.Translation.{Names, size, bounded_size}
 use Rattle.icn_simulation.specs.Linkage.{Linkage}
 use Rattle.icn_code_sound.specs.Noted.{Shape, Note, o, more, in_mark, start, code, bounded_notes, body, procedure, instrs}

@@ -9,7 +9,7 @@ use Rattle.icn_tree.specs.declared.token.Operator.TheVariants as Signs
 use Rattle.icn_tree.specs.declared.tree.Infix.TheVariants.{Plain, Augmented}
 use Rattle.icn_tree.specs.declared.tree.LoopKind.TheVariants.{While, Until, Every}
 use Rattle.icn_tree.specs.Trees as T
-use Rattle.icn_tree.specs.Trees.{Tree, Trees, MaybeTree, Clause, Clauses, Absent, Present, NoTrees, More, Default, Guarded, NoClauses, MoreClauses, Initial, NoInitial, Initially}
+use Rattle.icn_tree.specs.Trees.{Tree, Trees, MaybeTree, Clause, Clauses, Absent, Present, NoTrees, More, Default, Guarded, NoClauses, MoreClauses}
 use Rattle.icn_code.specs.declared.instr.Instr.TheVariants as I
 use Rattle.icn_defs.specs.Arities.{arity}
 use Rattle.icn_value.specs.Values.{Val, Var, Whole, Integer}

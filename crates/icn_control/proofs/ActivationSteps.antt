@@ -25,7 +25,7 @@ use Rattle.icn_frames.specs.Stacks.{FlatStack}
 use Rattle.icn_frames_laws.proofs.CallsRead.{is_base_read}
 use Rattle.icn_coexp.specs.declared.table.Went.{Went}
 use Rattle.icn_coexp.specs.Transfers as table
-use Rattle.icn_coexp.specs.Transfers.{Coexp, Table, enter_other, exhaust, exhausted_of, give, source, values_of, went_by, with_copy}
+use Rattle.icn_coexp.specs.Transfers.{Coexp, Table, enter_other, exhausted_of, give, values_of, went_by, with_copy}
 use Rattle.icn_coexp.proofs.Others.{entered_runs}
 use Rattle.icn_code.specs.declared.instr.Instr.TheVariants as Instrs
 use Rattle.icn_code.specs.Codes.{Tables}

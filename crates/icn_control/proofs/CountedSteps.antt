@@ -116,20 +116,8 @@ give_by_active tab u n v Active h e = cc
 give_by_active tab u n v (Waiting m) h e = ap (λ (w : Table). w.active) (sym (same_Some _ _ e))
 give_by_active tab u n v Exhausted h e = ap (λ (w : Table). w.active) (sym (same_Some _ _ e))
 
-fail_by_active : (tab u : Table) (n : ℕ) (s : Status FlatStack) → table.fail_by n tab s ≡ Some u → u.active ≡ n
-fail_by_active tab u n Fresh e = cc
-fail_by_active tab u n Active e = cc
-fail_by_active tab u n (Waiting m) e = ap (λ (w : Table). w.active) (sym (same_Some _ _ e))
-fail_by_active tab u n Exhausted e = ap (λ (w : Table). w.active) (sym (same_Some _ _ e))
-
 pub give_active : (v : Val) (tab u : Table) → give v tab ≡ Some u → u.active ≡ source tab
 give_active v tab u e = let left : Table = table.with_waiting tab in give_by_active left u (source tab) v (table.status_of (source tab) left) refl e
-
-pub enter_active : (n : ℕ) (v : Val) (tab u : Table) → enter_other n v tab ≡ Some u → u.active ≡ n
-enter_active n v tab u e =
-    let left : Table = table.with_waiting tab in
-    let next : Table = record left { coexps = table.with_activator n tab.active left.coexps } in
-    give_by_active next u n v (table.status_of n next) refl e
 
 -- Results
 

@@ -8,7 +8,6 @@ use Rattle.icn_value.specs.Values.{Value}
 use Rattle.icn_defs.specs.Rows.{Outcome, Fails, Gives, Suspends, Error, Ends}
 use Rattle.icn_heap.specs.Extents.{value_in}
 use Rattle.icn_frames.specs.Stacks as held
-use Rattle.icn_frames.specs.Stacks.{FlatStack}
 use Rattle.icn_frames_laws.proofs.CallsRead.{locals_read, proc_read}
 use Rattle.icn_coexp.specs.Transfers.{Coexp, Table, values_in, with_copy, with_new}
 use Rattle.icn_coexp.proofs.Puts.{live_entry}

@@ -15,7 +15,7 @@ use Rattle.icn_vars.specs.declared.world.World.{World}
 use Rattle.icn_vars.specs.declared.stop.Stop.{Stop}
 use Rattle.icn_vars.specs.declared.stop.Stop.TheVariants.{Error as StopError, NoMemory as StopNoMemory}
 use Rattle.icn_vars.specs.Stops.{StopsFinding}
-use Rattle.icn_vars.specs.Worlds.{Reach, IsLiveItem, reach_of, setting_of, world_of, item_in}
+use Rattle.icn_vars.specs.Worlds.{Reach, setting_of, world_of, item_in}
 use Rattle.icn_frames.specs.declared.layout.Cell.{Cell}
 use Rattle.icn_frames.specs.declared.layout.Cell.TheVariants.{Base, Call, Local, Mark, Limit, Suspension, Operand}
 use Rattle.icn_frames.specs.Stacks as held
@@ -24,7 +24,7 @@ use Rattle.icn_frames_laws.proofs.CallsRead.{locals_read}
 use Rattle.icn_code.specs.Codes.{Tables}
 use Rattle.icn_run.specs.Stacks.{Frames, flat}
 use Rattle.icn_run.specs.Step.{Store, here}
-use Rattle.icn_control.specs.Living.{with_locals, IsLivePair, IsLiveStack, AreLive, locals_at}
+use Rattle.icn_control.specs.Living.{IsLivePair, IsLiveStack, AreLive, locals_at}
 use Rattle.icn_control.specs.Parts.{FindsValue}
 use Rattle.icn_control.specs.Standing.{stack_in, reading_of}
 
@@ -65,10 +65,6 @@ pub here_is : (w : World) (m : FlatStack) (st : Store Frames) → st.world ≡ w
 here_is w m st e =
     let F : StoreWorld → List Value → Setting = λ x y. record { world = x; locals = y; outside = st.outside } in
     ap (λ (x : StoreWorld). F x (flat.locals (stack_in (extent_of w.heap) m))) e ∙ ap (F (world_of w)) (locals_read (reading_of (extent_of w.heap)) m)
-
-pub item_here : (w : World) (m : FlatStack) (item : HeldItem) → held.local_count m ≡ length (held.locals m)
-    → IsLiveItem (with_locals (held.local_count m) (reach_of w [])) item → IsLiveItem (reach_of w (held.locals m)) item
-item_here w m item e l = subst (λ (n : ℕ). IsLiveItem (with_locals n (reach_of w [])) item) e l
 
 pub value_found : (w : World) (m : FlatStack) (item : HeldItem) (result : Result Val Stop)
     → ((outside : Outside) → MatchResult result (λ val. GoesOn (the_value (item_in (extent_of w.heap) item)) (setting_of outside w (held.locals m))

@@ -5,7 +5,6 @@ use Rattle.icn_heap.specs.declared.heap.Heap.{Heap as HeldHeap}
 use Rattle.icn_heap.specs.Extents.{Extent}
 use Rattle.icn_heap.specs.Heaps.{extent_of}
 use Rattle.icn_vars.specs.declared.world.World.{World}
-use Rattle.icn_vars.specs.declared.outcome.Halt.{Halt}
 use Rattle.icn_vars.specs.declared.outcome.Halt.TheVariants as Halts
 use Rattle.icn_vars.specs.Worlds.{world_of}
 use Rattle.icn_frames.specs.Stacks as held
@@ -16,11 +15,11 @@ use Rattle.icn_code.specs.Codes.{Tables}
 use Rattle.icn_run.specs.Rows.{Done}
 use Rattle.icn_run.specs.Stacks.{Frames, flat}
 use Rattle.icn_run.specs.Step.{State, Store, running, failing, over, stuck, all_names, exhaust_active, is_main, proc_fails, without_mark}
-use Rattle.icn_control.specs.Machines.{store_in, running_of, HaltsAt, StandsAt}
+use Rattle.icn_control.specs.Machines.{store_in, running_of, StandsAt}
 use Rattle.icn_control.specs.declared.machine.Machine.{Machine}
 use Rattle.icn_control.specs.declared.machine.Stage.{Stage}
 use Rattle.icn_control.specs.declared.machine.Stage.TheVariants as Stages
-use Rattle.icn_control.specs.Parts.{StandsWith, HaltsWith}
+use Rattle.icn_control.specs.Parts.{StandsWith}
 use Rattle.icn_control.specs.Standing.{stack_in, reading_of}
 
 -- the store of a machine before an instruction, with its turns and what it began
@@ -51,14 +50,6 @@ stands_at m tables outside w table n state Stages.Over t heap h o =
     let F : Bool → State Frames Frames = λ x. if x then over Done outside else stuck in
     h ∙ ap F (ap is_main (o refl))
 stands_at m tables outside w table n state Stages.AtBound t heap h o = absurd h
-
-pub halts_at : {K : Type 0} (m : Machine K) (tables : Tables) (outside : Outside) (w : World) (table : Table) (state : State Frames Frames) (halt : Halt)
-    → HaltsWith state (store_before tables outside w table m) m.world halt → HaltsAt tables outside state m halt
-halts_at m tables outside w table state (Halts.Error number offending) h = h
-halts_at m tables outside w table state (Halts.Ends status) h = absurd h
-halts_at m tables outside w table state Halts.ReadFault h = absurd h
-halts_at m tables outside w table state Halts.WriteFault h = absurd h
-halts_at m tables outside w table state Halts.NoMemory h = tt
 
 -- Ends
 

@@ -22,7 +22,7 @@ use Rattle.icn_code.specs.Codes.{Tables}
 use Rattle.icn_run.specs.Rows as rows
 use Rattle.icn_run.specs.Stacks.{Frames, flat}
 use Rattle.icn_run.specs.Step as code
-use Rattle.icn_run.specs.Step.{State, Store, Status, Active, running, failing, instruction, with_found, push_item, pushed_or_fails}
+use Rattle.icn_run.specs.Step.{State, Store, Active, running, failing, instruction, with_found, push_item, pushed_or_fails}
 use Rattle.icn_control.specs.Living.{IsLiveStack}
 use Rattle.icn_control.specs.Standing.{stack_in, reading_of, GoesOnIn}
 use Rattle.icn_control.specs.Machines.{running_of, AreLiveStacks, IsLiveRunning}

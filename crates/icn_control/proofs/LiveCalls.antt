@@ -1,5 +1,5 @@
 -- What each call of a stack leaves is of the world.
-use Rattle.std.proofs.Common.{◌≡◌, ℕ, suc, ◌-◌, ◌<◌, ◌≤◌, false, List, [], ◌∷◌, length, drop, Option, Some, None, refl, sym, ap, ◌∙◌, subst, arith}
+use Rattle.std.proofs.Common.{◌≡◌, ℕ, suc, ◌-◌, ◌<◌, ◌≤◌, List, [], ◌∷◌, length, drop, Option, Some, None, refl, sym, ap, ◌∙◌, subst, arith}
 use Rattle.std.proofs.lemmas.Option.{same_Some}
 use Rattle.icn_frames.specs.Heights.{cell_at, cut}
 use Rattle.icn_value.specs.declared.item.Item.{Item}
@@ -83,9 +83,6 @@ rooted_mark x m k h =
     let on : IsRooted m.registers (x ∷ m.cells) = rooted_on x m.cells m.registers k in
     let top : suc (length m.cells) ≤ suc (length m.cells) = omega arith in
     record { within = on.within; frame = on.frame; mark_within = top; mark = subst (IsMarkOf m.registers.base) (sym (cell_at_top x m.cells)) h }
-
-pub live_mark : (t : Tables) (reach : Reach) (m : FlatStack) (label : Option ℕ) → IsLiveStack t reach m → IsLiveStack t reach (open_either label None m)
-live_mark t reach m label k = record { root = rooted_mark (Mark label false m.registers) m k.root refl; cells = (k.root, k.cells) }
 
 pub live_limit : (t : Tables) (reach : Reach) (m : FlatStack) (label : Option ℕ) (count : ℕ) → 0 < count → IsLiveStack t reach m
     → IsLiveStack t reach (open_either label (Some count) m)

@@ -1,11 +1,10 @@
 -- Returning from a procedure, suspending it, and leaving it as it fails.
-use Rattle.std.proofs.Common.{◌≡◌, ℕ, zero, suc, ◌-◌, true, false, List, [], ◌∷◌, length, drop, slice_get, Option, Some, None, is_some, Result, Ok, Err, MatchResult, refl, sym, ap, ◌∙◌, subst}
+use Rattle.std.proofs.Common.{◌≡◌, ℕ, zero, suc, ◌-◌, true, false, List, [], ◌∷◌, length, drop, slice_get, Option, Some, None, Result, Ok, Err, MatchResult, refl, sym, ap, ◌∙◌, subst}
 use Rattle.std.specs.Option.{option_map}
 use Rattle.std.specs.Prelude.{IsErrAnd}
 use Rattle.std.proofs.lemmas.Option.{same_Some}
 use Rattle.icn_frames.specs.Heights.{cell_at}
 use Rattle.icn_value.specs.declared.val.Val.{Val}
-use Rattle.icn_value.specs.declared.item.Root.{Root}
 use Rattle.icn_value.specs.declared.item.Root.TheVariants as Roots
 use Rattle.icn_value.specs.declared.item.VarRef.TheVariants.{Whole, Part}
 use Rattle.icn_value.specs.declared.item.Item.{Item}
@@ -19,7 +18,7 @@ use Rattle.icn_vars.specs.declared.world.World.{World}
 use Rattle.icn_vars.specs.declared.stop.Stop.{Stop}
 use Rattle.icn_vars.specs.declared.outcome.Halt.{Halt}
 use Rattle.icn_vars.specs.Stops.{halt_of}
-use Rattle.icn_vars.specs.Worlds.{Reach, IsLiveItem, IsLiveRoot, world_of, item_in}
+use Rattle.icn_vars.specs.Worlds.{Reach, IsLiveItem, world_of, item_in}
 use Rattle.icn_frames.specs.declared.layout.Why.TheVariants.{Alt, Op, Scan, Escan, Proc}
 use Rattle.icn_frames.specs.declared.layout.Cell.{Cell}
 use Rattle.icn_frames.specs.declared.layout.Cell.TheVariants.{Base, Call, Local, Mark, Limit, Suspension, Operand}
@@ -38,11 +37,11 @@ use Rattle.icn_control.specs.Living.{with_locals, IsLiveStack}
 use Rattle.icn_control.specs.Standing.{instruction_state, stack_in, reading_of, maybe_pair_in, pair_in}
 use Rattle.icn_control.specs.Pairs.{world_with_pair, maybe_paired}
 use Rattle.icn_control.specs.Parts.{RunsWith, FailsWith, StandsWith, HaltsWith, FindsValue}
-use Rattle.icn_control.specs.Results.{is_local_item, is_local_root}
+use Rattle.icn_control.specs.Results.{is_local_item}
 use Rattle.icn_control.proofs.StackSteps.{popped_runs, pushed_back}
 use Rattle.icn_control.proofs.LiveCalls.{own, live_push}
 use Rattle.icn_control.proofs.LiveFrames.{live_suspend_proc}
-use Rattle.icn_control.proofs.PartSteps.{same_world, value_goes, value_halts, left_world, at_halt}
+use Rattle.icn_control.proofs.PartSteps.{value_goes, value_halts, left_world, at_halt}
 
 -- Results
 
@@ -63,40 +62,6 @@ local_result all (HeldVar (Part (Roots.Element list number) from len)) e m st ne
 local_result all (HeldVar (Part (Roots.Field rec place) from len)) e m st next = cc
 local_result all (HeldVar (Part (Roots.Key table key) from len)) e m st next = cc
 local_result all (HeldVar (Part (Roots.Keyword word) from len)) e m st next = cc
-
-pub other_result : (all : Extent) (item : Item) → is_local_item item ≡ false → (m : Frames) (st : Store Frames) (next : rows.Item → State Frames Frames)
-    → with_result flat (item_in all item) m st next ≡ next (item_in all item)
-other_result all (HeldVal val) e m st next = refl
-other_result all (HeldVar (Whole (Roots.Local place))) e m st next = cc
-other_result all (HeldVar (Whole (Roots.Global place))) e m st next = refl
-other_result all (HeldVar (Whole (Roots.Static place))) e m st next = refl
-other_result all (HeldVar (Whole (Roots.Element list number))) e m st next = refl
-other_result all (HeldVar (Whole (Roots.Field rec place))) e m st next = refl
-other_result all (HeldVar (Whole (Roots.Key table key))) e m st next = refl
-other_result all (HeldVar (Whole (Roots.Keyword word))) e m st next = refl
-other_result all (HeldVar (Part (Roots.Local place) from len)) e m st next = cc
-other_result all (HeldVar (Part (Roots.Global place) from len)) e m st next = refl
-other_result all (HeldVar (Part (Roots.Static place) from len)) e m st next = refl
-other_result all (HeldVar (Part (Roots.Element list number) from len)) e m st next = refl
-other_result all (HeldVar (Part (Roots.Field rec place) from len)) e m st next = refl
-other_result all (HeldVar (Part (Roots.Key table key) from len)) e m st next = refl
-other_result all (HeldVar (Part (Roots.Keyword word) from len)) e m st next = refl
-
-root_free : (reach : Reach) (n k : ℕ) (root : Root) → is_local_root root ≡ false → IsLiveRoot (with_locals n reach) root → IsLiveRoot (with_locals k reach) root
-root_free reach n k (Roots.Local place) e l = cc
-root_free reach n k (Roots.Global place) e l = record { live = l.live }
-root_free reach n k (Roots.Static place) e l = record { live = l.live }
-root_free reach n k (Roots.Element list number) e l = record { live = l.live }
-root_free reach n k (Roots.Field rec place) e l = record { live = l.live }
-root_free reach n k (Roots.Key table key) e l = record { live = l.live }
-root_free reach n k (Roots.Keyword word) e l = record { live = l.live }
-
--- an item that is no local is of the world in each activation
-pub item_free : (reach : Reach) (n k : ℕ) (item : Item) → is_local_item item ≡ false → IsLiveItem (with_locals n reach) item
-    → IsLiveItem (with_locals k reach) item
-item_free reach n k (HeldVal val) e l = record { live = l.live }
-item_free reach n k (HeldVar (Whole root)) e l = record { live = record { live = root_free reach n k root e l.live.live } }
-item_free reach n k (HeldVar (Part root from len)) e l = record { live = record { live = (root_free reach n k root e l.live.live.0, l.live.live.1) } }
 
 pub result_value : (w : World) (m : FlatStack) (item : Item) (val : Val) → is_local_item item ≡ true
     → ((st : Store Frames) → st.world ≡ world_of w
@@ -185,21 +150,6 @@ no_scan m pair e = by_scan m.registers.scan e
         ≡ None
     by_scan None q = refl
     by_scan (Some h) q = cc
-
-pub none_open : (scan : Option ℕ) → is_some scan ≡ false → scan ≡ None
-none_open None e = refl
-none_open (Some h) e = cc
-
-pub unswapped_on : (w : World) (m : FlatStack) → is_some m.registers.scan ≡ false → (st : Store Frames) (next : Frames → Store Frames → State Frames Frames)
-    → st.world ≡ world_of w
-    → maybe_exchanged (flat.swap_oldest (pair_now st) (stack_in (extent_of w.heap) m)) (stack_in (extent_of w.heap) m) st next
-    ≡ next (stack_in (extent_of w.heap) m) (with_world (world_of w) st)
-unswapped_on w m e st next same =
-    let all : Extent = extent_of w.heap in
-    ap (λ (p : calls.Pair). maybe_exchanged (flat.swap_oldest p (stack_in all m)) (stack_in all m) st next) (present w st same)
-    ∙ ap (λ (o : Option (calls.Pair × Frames)). maybe_exchanged o (stack_in all m) st next)
-    (swap_oldest_read (reading_of all) w.pair m ∙ ap (option_map (swapped_read (reading_of all))) (no_scan m w.pair (none_open m.registers.scan e)))
-    ∙ ap (next (stack_in all m)) (same_world w st same)
 
 -- Leaving
 

@@ -12,7 +12,7 @@ use Rattle.icn_frames.specs.declared.layout.Cell.TheVariants.{Base, Call, Local,
 use Rattle.icn_frames.specs.Stacks as held
 use Rattle.icn_frames.specs.Stacks.{FlatStack}
 use Rattle.icn_frames_laws.specs.Readings.{popped_read, counted_read, unmarked_read}
-use Rattle.icn_frames_laws.proofs.CallsRead.{pop_read, below_read, open_mark_read, relabel_read, count_down_read}
+use Rattle.icn_frames_laws.proofs.CallsRead.{pop_read, below_read, relabel_read, count_down_read}
 use Rattle.icn_frames_laws.proofs.ScansRead.{unmark_read, suspend_mark_read}
 use Rattle.icn_code.specs.declared.instr.Instr.TheVariants as Instrs
 use Rattle.icn_code.specs.Codes.{Tables}
@@ -21,7 +21,7 @@ use Rattle.icn_run.specs.Calls as calls
 use Rattle.icn_run.specs.Stacks.{Frames, flat}
 use Rattle.icn_run.specs.Step.{State, Store, running, with_found, on_pair, push_item, scans_left, limited_result}
 use Rattle.icn_control.proofs.LiveCalls.{given_split}
-use Rattle.icn_control.specs.Standing.{stack_in, reading_of, maybe_pair_in, GoesOn, GoesOnLeaving, mark_of}
+use Rattle.icn_control.specs.Standing.{stack_in, reading_of, maybe_pair_in, GoesOn, GoesOnLeaving}
 
 -- an instruction goes on with a stack
 abbrev on : Store Frames → Frames → State Frames Frames
@@ -39,9 +39,6 @@ pub popped_runs : (m n : FlatStack) (item : Item) → held.pop m ≡ Some (item,
 popped_runs m n item e all next =
     ap (λ (w : Option (rows.Item × Frames)). with_found w (on_pair next)) (pop_read (reading_of all) m ∙ ap (option_map (popped_read (reading_of all))) e)
 
-pub pop_runs : (m n : FlatStack) (item : Item) → held.pop m ≡ Some (item, n) → GoesOn Instrs.Pop m n
-pop_runs m n item e all tables st = popped_runs m n item e all (λ x. on st)
-
 -- an operand that is taken and put back
 pub pushed_back : (m n : FlatStack) (item : Item) → held.pop m ≡ Some (item, n) → held.push item n ≡ m
 pushed_back m n item e = by_cells m.cells e
@@ -56,23 +53,9 @@ pushed_back m n item e = by_cells m.cells e
     by_cells (Limit count r ∷ s) q = cc
     by_cells (Suspension why r place ∷ s) q = cc
 
-pub dup_runs : (m n k l : FlatStack) (item : Item) → held.pop m ≡ Some (item, n) → k ≡ held.push item n → l ≡ held.push item k → GoesOn Instrs.Dup m l
-dup_runs m n k l item e f h all tables st =
-    let same : held.push item m ≡ l = ap (held.push item) (sym (pushed_back m n item e) ∙ sym f) ∙ sym h in
-    popped_runs m n item e all (λ x below. push_item flat x (stack_in all m) st) ∙ ap (on_stack all st) same
-
-pub mark_runs : (m n : FlatStack) (label : Option ℕ) → n ≡ held.open_either label None m → GoesOn (mark_of label) m n
-mark_runs m n (Some label) e all tables st =
-    ap (on st) (open_mark_read (reading_of all) (Some label) m ∙ ap (stack_in all) (sym e))
-mark_runs m n None e all tables st =
-    ap (on st) (open_mark_read (reading_of all) None m ∙ ap (stack_in all) (sym e))
-
 pub relabel_runs : (m n : FlatStack) (label : ℕ) → held.relabel label m ≡ Some n → GoesOn (Instrs.Chfail label) m n
 relabel_runs m n label e all tables st =
     ap (λ (w : Option Frames). with_found w (on st)) (relabel_read (reading_of all) label m ∙ ap (option_map (stack_in all)) e)
-
-pub go_runs : (m n : FlatStack) (label : ℕ) → n ≡ held.go label m → GoesOn (Instrs.Goto label) m n
-go_runs m n label e all tables st = ap (on_stack all st) (sym e)
 
 -- what is left where a mark is dropped, with the rest of the instruction
 pub unmarked_by : (m n : FlatStack) (pair : Option Pair) → held.unmark m ≡ Some (n, pair)

@@ -8,11 +8,11 @@ use Rattle.icn_frames.specs.Stacks as held
 use Rattle.icn_frames.specs.Stacks.{FlatStack}
 use Rattle.icn_frames_laws.proofs.CallsRead.{begin_read}
 use Rattle.icn_coexp.specs.Transfers as table
-use Rattle.icn_coexp.specs.Transfers.{Coexp, Table, source, enter_other, exhaust, give}
+use Rattle.icn_coexp.specs.Transfers.{Coexp, Table, source}
 use Rattle.icn_run.specs.Rows as rows
 use Rattle.icn_run.specs.Stacks.{Frames, flat}
 use Rattle.icn_run.specs.Step as code
-use Rattle.icn_run.specs.Step.{State, Store, Status, Fresh, Active, Waiting, Exhausted, running, failing, hopping, activator_of, coexp_at, status_of, with_status, with_activator, make_active, fail_by, give_by, passed_failure, passed_value, entered_by}
+use Rattle.icn_run.specs.Step.{Store, Status, Fresh, Active, Waiting, Exhausted, running, failing, activator_of, status_of, with_status, with_activator, make_active, fail_by, give_by, passed_failure, passed_value}
 use Rattle.icn_control.specs.Machines.{status_in, coexp_in}
 use Rattle.icn_control.specs.Standing.{stack_in, reading_of}
 use Rattle.icn_control.specs.Landing.{Beside, store_with, land, TransfersAreRead}

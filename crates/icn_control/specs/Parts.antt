@@ -1,5 +1,5 @@
 -- What an instruction does that touches the stack that runs and the world, and nothing else.
-use Rattle.std.specs.Prelude.{◌≡◌, ℕ, ℤ, pos, negsuc, Bool, true, false, Option, Some, None, Result, Ok, Err, MatchResult, ⊤}
+use Rattle.std.specs.Prelude.{◌≡◌, ℕ, ℤ, pos, negsuc, Option, Some, None, Result, Ok, Err, MatchResult, ⊤}
 use Rattle.std.specs.Option.{option_map}
 use Rattle.icn_value.specs.declared.val.Val.{Val}
 use Rattle.icn_value.specs.Store.{Setting}
@@ -15,8 +15,7 @@ use Rattle.icn_frames.specs.Stacks.{FlatStack}
 use Rattle.icn_code.specs.declared.instr.Instr.{Instr}
 use Rattle.icn_code.specs.Codes.{Tables}
 use Rattle.icn_run.specs.Rows.{Item, Val as ItemVal, Gives, Error, value_row}
-use Rattle.icn_run.specs.Calls.{Pair}
-use Rattle.icn_run.specs.Stacks.{Frames, swap_newest, swap_oldest}
+use Rattle.icn_run.specs.Stacks.{Frames}
 use Rattle.icn_run.specs.Step.{State, Store, running, failing, finish_run, errs, with_world}
 use Rattle.icn_control.specs.Standing.{instruction_state, stack_in}
 use Rattle.icn_control.specs.declared.machine.Stage.{Stage}
@@ -65,11 +64,6 @@ FindsValue all item setting (Ok val) = value_row item setting ≡ Gives (ItemVal
 FindsValue all item setting (Err (StopError number offending)) =
     value_row item setting ≡ Error number (option_map (value_in all) offending) setting
 FindsValue all item setting (Err StopNoMemory) = ⊤
-
--- the exchange of the oldest open scan's pair, or of the newest one's
-abbrev pub swap_in : Bool → Pair → Frames → Option (Pair × Frames)
-swap_in true pair m = swap_oldest pair m
-swap_in false pair m = swap_newest pair m
 
 -- an integer that is not below 0
 abbrev pub natural_of : ℤ → Option ℕ

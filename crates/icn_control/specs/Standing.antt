@@ -11,7 +11,7 @@ use Rattle.icn_code.specs.declared.instr.Instr.TheVariants.{Mark, Mark0}
 use Rattle.icn_code.specs.Codes.{Tables}
 use Rattle.icn_run.specs.Calls.{Pair}
 use Rattle.icn_run.specs.Stacks.{Frames, flat}
-use Rattle.icn_run.specs.Step.{State, Store, running, failing, instruction, scans_left}
+use Rattle.icn_run.specs.Step.{State, Store, running, instruction, scans_left}
 
 -- what a saved pair stands for
 abbrev pub pair_in : Extent → HeldPair → Pair
@@ -51,11 +51,6 @@ abbrev pub GoesOnLeaving : Instr → FlatStack → Option HeldPair → FlatStack
 GoesOnLeaving instr m pair n =
     (all : Extent) (tables : Tables) (st : Store Frames) → instruction_state all tables instr m st
     ≡ running (stack_in all n) (scans_left (maybe_pair_in all pair) st)
-
--- It fails with this stack.
-abbrev pub IsFailing : Instr → FlatStack → Type 0
-IsFailing instr m = (all : Extent) (tables : Tables) (st : Store Frames)
-    → instruction_state all tables instr m st ≡ failing (stack_in all m) st
 
 -- the instruction that opens a plain mark with this label, or without one
 abbrev pub mark_of : Option ℕ → Instr

@@ -1,7 +1,7 @@
 -- What every row keeps: how many locals, globals and statics there are, and the limits.
 use Rattle.std.specs.Prelude.{◌≡◌, length}
 use Rattle.icn_value.specs.Store.{Setting}
-use Rattle.icn_defs.specs.Rows.{Row, Outcome, Fails, Gives, Suspends, Error, Ends}
+use Rattle.icn_defs.specs.Rows.{Outcome, Fails, Gives, Suspends, Error, Ends}
 
 pub record Keeps (before after : Setting) : Type 0 where
   pub locals : length after.locals ≡ length before.locals
@@ -16,7 +16,3 @@ KeepsIn before (Gives item seen) = Keeps before seen
 KeepsIn before (Suspends item residual seen) = Keeps before seen
 KeepsIn before (Error number value seen) = Unit {0}
 KeepsIn before (Ends status seen) = Unit {0}
-
--- a row that goes on from any setting that kept them
-abbrev pub RowKeeps : Row → Type 0
-RowKeeps row = (before at : Setting) → Keeps before at → KeepsIn before (row at)

@@ -1,6 +1,5 @@
 -- What a value stands for beside the texts that a heap has and the counts of its structures, and which values are of it.
 use Rattle.std.specs.Prelude.{◌≡◌, ℕ, ◌<◌, List, ⊤}
-use Rattle.std.specs.List.{All}
 use Rattle.std.specs.Coded.{Unit-prop, le_prop}
 use Rattle.icn_strings.specs.declared.byte_range.ByteRange.{ByteRange}
 use Rattle.icn_strings.specs.declared.region.Region.{Region}
@@ -98,6 +97,3 @@ LiveBy-prop all (CoexpVal id) = le_prop
 
 pub IsLive-prop : (all : Extent) (val : Val) → IsProp (IsLive all val)
 IsLive-prop all val = hlevel LiveBy-prop
-
-pub AllLive-prop : (all : Extent) (vals : List Val) → IsProp (All (IsLive all) vals)
-AllLive-prop all vals = hlevel IsLive-prop

@@ -1,5 +1,5 @@
 -- How a put is told.
-use Rattle.std.proofs.Common.{◌≡◌, List, [], ℕ, Result, Ok, Err, OnOk, OnErr, IfErr, IsErrOf, inl, inr, refl}
+use Rattle.std.proofs.Common.{List, [], ℕ, Result, Ok, Err, OnOk, OnErr, IfErr, IsErrOf, inl, inr, refl}
 use Rattle.icn_host.specs.declared.fault.Fault.{Fault}
 use Rattle.icn_host.specs.declared.fault.Fault.TheVariants.{Failed, NoMemory}
 use Rattle.icn_host.specs.Counts.{CountsOnce}
@@ -40,11 +40,6 @@ stops_by before after line (Err NoMemory) err cause want = record { part = err; 
 pub stops_of : (before after : SinkState) (line : List ℕ) (fault : Fault) → StopsBy fault before after line → Stops before after line
 stops_of before after line Failed stops = broken stops
 stops_of before after line NoMemory stops = wanted stops
-
--- a line that was begun
-pub leads_by : (before after : SinkState) (line : List ℕ) (fault : Fault) → StopsBy fault before after line → LeadsBy fault before after line
-leads_by before after line Failed stops = stops
-leads_by before after line NoMemory stops = inr stops
 
 pub leads_of : (before after : SinkState) (line : List ℕ) (fault : Fault) → LeadsBy fault before after line → Leads before after line
 leads_of before after line Failed stops = inr (broken stops)

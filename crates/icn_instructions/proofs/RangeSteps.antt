@@ -36,9 +36,6 @@ entry_at f xs n x within is =
 pub integer_there : (tables : Tables) (proc k : ℕ) → IsInRange tables proc (Instrs.Int k) → k < length tables.integers
 integer_there tables proc k r = ltb-true k (length tables.integers) r.rule
 
-pub string_there : (tables : Tables) (proc k : ℕ) → IsInRange tables proc (Instrs.Str k) → k < length tables.strings
-string_there tables proc k r = ltb-true k (length tables.strings) r.rule
-
 pub cset_there : (tables : Tables) (proc k : ℕ) → IsInRange tables proc (Instrs.Cset k) → k < length tables.csets
 cset_there tables proc k r = ltb-true k (length tables.csets) r.rule
 

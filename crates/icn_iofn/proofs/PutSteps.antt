@@ -214,12 +214,6 @@ stops_idle file text more a fault is = record {
   cause = subst (BrokenBy a a) (sym is) (uncounted (both_all a));
 }
 
--- the put of what waits was broken off
-pub stops_putting : (file : File) (text more whole : List ℕ) (a b : Outputs) (fault : Fault) → PutsPartOn file whole a b fault → whole ≡ text ++ more
-    → Stops (waiting_text file text a) b (put_on file more) fault
-stops_putting file text more whole a b fault puts is = record {
-  gained = λ was. subst (GainedPart a b was) (ap (λ t. put_on file t was) is ∙ sym (put_more file text more was)) (gained_part_on puts was);
-  cause = puts.cause;
 }
 
 -- what is no file is put as its text

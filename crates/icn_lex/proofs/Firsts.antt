@@ -156,9 +156,6 @@ decimal_read b rest =
     ap (λ k. front_token (Some (within_size digits (integer_kind (number_in 10 digits)), k))) none
     ∙ (judged_sized digits (integer_kind (number_in 10 digits)) n (digits_len b rest) ∙ ap (with_length n) (sym (decimal_value (number_in 10 digits))))
 
-take_none : (tail : List ℕ) → take 0 tail ≡ []
-take_none tail = refl
-
 -- what stands behind the digits, where that is not nothing
 abbrev Tail : ℕ → List ℕ → ℕ → List ℕ → Type 0
 Tail b rest c more = drop (prefix_len is_digit (b ∷ rest)) (b ∷ rest) ≡ c ∷ more

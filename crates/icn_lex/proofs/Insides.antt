@@ -1,11 +1,10 @@
 -- What stands inside a literal, step by step.
-use Rattle.std.proofs.Common.{◌==◌, ◌≡◌, ℕ, ◌<◌, zero, suc, Bool, true, false, ◌&&◌, List, [], ◌∷◌, length, drop, None, Some, refl, sym, ◌∙◌, ap, arith}
+use Rattle.std.proofs.Common.{◌==◌, ◌≡◌, ℕ, ◌<◌, zero, Bool, true, false, ◌&&◌, List, [], ◌∷◌, length, drop, Some, refl, sym, ◌∙◌, ap, arith}
 use Rattle.std.proofs.lemmas.Bool.{cond-true, cond-false, ne_eqb}
 use Rattle.icn_tree.specs.declared.lines.SourceLine.{SourceLine}
 use Rattle.icn_tree.specs.Literals.{Literal, with_byte, escape_of}
 use Rattle.icn_tree.specs.Numbers.{is_nothing}
-use Rattle.icn_tree.specs.Tokens.{Broken, State, Between, Inside, bytes_from, closed_then, escape_found, unclosed_literal}
-use Rattle.icn_tree.specs.declared.rule.Rule.TheVariants.{L3}
+use Rattle.icn_tree.specs.Tokens.{Between, Inside, bytes_from, closed_then, escape_found, unclosed_literal}
 use Rattle.icn_tree.proofs.Scanning.{skip}
 use Rattle.icn_lex.specs.Literals.{Later, scan_inside, scan_escape}
 
@@ -52,12 +51,6 @@ at_escape line literal [] later byte count h e = absurd (omega arith)
 at_escape line literal (b ∷ rest) later byte count h e =
     ap (λ found. escape_found line found (λ byte count. bytes_from later line (Inside (with_byte literal byte)) count (b ∷ rest))) (sym e)
     ∙ skip later line (Inside (with_byte literal byte)) count (b ∷ rest)
-
-pub at_bad_escape : (line : SourceLine) (literal : Literal) (bytes : List ℕ) (later : Later) → 0 < length bytes → None ≡ escape_of bytes
-    → scan_escape line literal bytes later ≡ Broken L3 line.number line.file
-at_bad_escape line literal [] later h e = absurd (omega arith)
-at_bad_escape line literal (b ∷ rest) later h e =
-    ap (λ found. escape_found line found (λ byte count. bytes_from later line (Inside (with_byte literal byte)) count (b ∷ rest))) (sym e)
 
 pub not_empty : (test : Bool) (bytes : List ℕ) → test ≡ false → test ≡ (length bytes == 0) → 0 < length bytes
 not_empty test [] h e = absurd (cc)

@@ -46,13 +46,6 @@ with_semicolons_push (a ∷ b ∷ rest) next =
 
 -- Places
 
-nothing_before : (scan : Scan) → all_before [] scan ≡ scan
-nothing_before (Found pieces) = refl
-nothing_before (Broken rule line file) = refl
-
-pub reads_start : (all : Scan) → Reads all [] all
-reads_start all = record { done = []; separated = refl; reads = nothing_before all }
-
 pub reads_same : (all : Scan) (found : List Token) (here there : Scan) → here ≡ there → Reads all found here → Reads all found there
 reads_same all found here there same r = subst (λ (s : Scan). Reads all found s) same r
 

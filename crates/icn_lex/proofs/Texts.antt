@@ -66,9 +66,6 @@ bare_not b rest h =
     let second = both (not (is_space b)) (not (begins_comment b)) first.0 in
     (not_true (is_space b) second.0, not_true (begins_comment b) second.1, not_true (is_quote b) first.1)
 
-pub bare_is : (b : ℕ) (rest bytes : List ℕ) → bytes ≡ b ∷ rest → is_space b ≡ false → begins_comment b ≡ false → is_quote b ≡ false → begins_bare bytes ≡ true
-bare_is b rest bytes is h e q = ap begins_bare is ∙ rw (h, e, q) refl
-
 drop_first : (count b : ℕ) (rest : List ℕ) → 0 < count → drop (count - 1) rest ≡ drop count (b ∷ rest)
 drop_first zero b rest h = absurd (omega arith)
 drop_first (suc n) b rest h = let e : suc n - 1 ≡ n = omega arith in ap (λ k. drop k rest) e

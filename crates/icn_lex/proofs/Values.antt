@@ -20,12 +20,6 @@ pub digit_more : (radix n : ℕ) (digits : List ℕ) (i all : ℕ) → i < lengt
     → number_from radix (n * radix + digit_value (get_or digits i 0)) (drop (i + 1) digits) ≡ all
 digit_more radix n digits i all within h = sym (at_drop_more (number_from radix n) digits i 0 within) ∙ h
 
-limited_some : (n m : ℕ) → Some m ≡ within_limit n → (m ≡ n) × (n ≤ 9223372036854775807)
-limited_some n m h = by_test (nat_le n 9223372036854775807) refl h where
-  by_test : (test : Bool) → nat_le n 9223372036854775807 ≡ test → Some m ≡ cond test (Some n) None → (m ≡ n) × (n ≤ 9223372036854775807)
-  by_test true t h = (cc, grind (arith, nat_tests))
-  by_test false t h = absurd (cc)
-
 limited_none : (n : ℕ) → None ≡ within_limit n → 9223372036854775807 < n
 limited_none n h = by_test (nat_le n 9223372036854775807) refl h where
   by_test : (test : Bool) → nat_le n 9223372036854775807 ≡ test → None ≡ cond test (Some n) None → 9223372036854775807 < n

@@ -1,5 +1,5 @@
 -- Maps by names, and where names stand first.
-use Rattle.std.proofs.Common.{◌≡◌, ℕ, zero, suc, ◌+◌, Bool, true, false, cond, List, ◌∷◌, map, Option, Some, None, if◌then◌else◌, refl, sym, ap, ◌∙◌, arith}
+use Rattle.std.proofs.Common.{◌≡◌, ℕ, suc, ◌+◌, Bool, true, false, cond, List, map, Option, Some, None, if◌then◌else◌, refl, sym, ap, ◌∙◌, arith}
 use Rattle.std.specs.Prelude.{is_some}
 use Rattle.std.specs.Borrow.{Bor}
 use Rattle.std.specs.HashMap.{HashMap, Updates}
@@ -66,23 +66,9 @@ next_by : (n : ℕ) (p : Option ℕ) → option_map (λ k. suc n + k) p ≡ opti
 next_by n None = refl
 next_by n (Some k) = ap Some (omega arith)
 
-pub numbered_step : (n : ℕ) (x : List ℕ) (names : List (List ℕ)) (name : List ℕ) (old new : Option ℕ)
-    → new ≡ option_or old (if bytes_eq name x then Some n else None)
-    → option_or new (numbered (suc n) names name) ≡ option_or old (numbered n (x ∷ names) name)
-numbered_step n x names name (Some k) new e = ap (λ o. option_or o (numbered (suc n) names name)) e
-numbered_step n x names name None new e = ap (λ o. option_or o (numbered (suc n) names name)) e ∙ by (bytes_eq name x)
-  where
-    by : (test : Bool) → option_or (if test then Some n else None) (numbered (suc n) names name)
-        ≡ option_map (λ k. n + k) (if test then Some zero else option_map suc (index_of names name))
-    by true = ap Some (omega arith)
-    by false = next_by n (index_of names name)
-
 from_zero : (p : Option ℕ) → option_map (λ k. 0 + k) p ≡ p
 from_zero None = refl
 from_zero (Some k) = ap Some (omega arith)
-
-pub numbered_from_zero : (names : List (List ℕ)) (name : List ℕ) → numbered 0 names name ≡ index_of names name
-numbered_from_zero names name = from_zero (index_of names name)
 
 -- globals by maps that say where names stand first
 pub entries_same : (M : AllMentions) (f g : List ℕ → Option ℕ) (ps rs names : List (List ℕ)) → ((name : List ℕ) → f name ≡ index_of ps name)

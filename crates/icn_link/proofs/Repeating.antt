@@ -8,8 +8,6 @@ use Rattle.std.specs.Str.{bytes_eq}
 use Rattle.std.proofs.lemmas.List.{at_drop_more, take_more}
 use Rattle.std.proofs.lemmas.List.Folds.{find-append}
 use Rattle.icn_link.specs.declared.fault.DeclPlace.{DeclPlace}
-use Rattle.icn_link.specs.declared.fault.LinkFault.{LinkFault}
-use Rattle.icn_link.specs.declared.fault.LinkFault.TheVariants.{K1}
 use Rattle.icn_link.specs.declared.repeats.Owner.{Owner as KeptOwner}
 use Rattle.icn_link.specs.LinkFaults.{Owner, owner_named, repeat_of, repeated_from}
 use Rattle.icn_link.specs.Views.{owner_seen, entry_in}
@@ -72,17 +70,3 @@ met_step places new owners i none within m lacks h =
     sym (ap (map owner_seen) (take_more owners i none within) ∙ seen_behind (take i owners) owner) in
     subst (λ done. Met new done rest all) one_more
     (met_more places new owner.name before rest all (owner_seen owner) refl (subst (λ later. Met places before later all) behind m) lacks h)
-
--- one that was met
-fault_by : (next : Owner) (found : Option Owner) (first : DeclPlace) (rest : Option LinkFault)
-    → option_map (λ (owner : Owner). owner.place) found ≡ Some first
-    → option_or (option_map (repeat_of next) found) rest ≡ Some (K1 next.place.unit next.name first next.place)
-fault_by next None first rest h = cc
-fault_by next (Some owner) first rest h =
-    let same : owner.place ≡ first = cc in ap (λ place. Some (K1 next.place.unit next.name place next.place)) same
-
-pub met_fault : {S : Type 0} (places : HashMap (Bor (List ℕ)) DeclPlace S) (before others all : List Owner) (next : Owner) (first : DeclPlace)
-    → Met places before (next ∷ others) all → entry_in places next.name ≡ Some first
-    → repeated_from [] all ≡ Some (K1 next.place.unit next.name first next.place)
-met_fault places before others all next first m h =
-    sym m.same ∙ fault_by next (owner_named next.name before) first (repeated_from (before ++ next ∷ []) others) (sym (m.held next.name) ∙ h)

@@ -56,23 +56,6 @@ own_integers_step gives xs i x known later within is e =
     next_item (λ all. with_integers known (flat_map gives all)) xs i x (with_integers later rest) within is
     (ap (λ numbers. with_integers numbers rest) e ∙ sym (integers_append known (gives x) rest))
 
--- one more item, with the things that it adds to a list
-pub items_step : {A B C : Type 0} (seen : A → C) (gives : C → List B) (xs : List A) (i : ℕ) (x : A) (done later : List B)
-    → i < length xs → x ≡ get_or xs i x → later ≡ done ++ gives (seen x)
-    → later ++ flat_map gives (map seen (drop (i + 1) xs)) ≡ done ++ flat_map gives (map seen (drop i xs))
-items_step seen gives xs i x done later within is e =
-    let rest = flat_map gives (map seen (drop (i + 1) xs)) in
-    next_item (λ all. done ++ flat_map gives (map seen all)) xs i x (later ++ rest) within is
-    (ap (λ items. items ++ rest) e ∙ append_assoc done (gives (seen x)) rest)
-
-pub own_items_step : {A B : Type 0} (gives : A → List B) (xs : List A) (i : ℕ) (x : A) (done later : List B)
-    → i < length xs → x ≡ get_or xs i x → later ≡ done ++ gives x
-    → later ++ flat_map gives (drop (i + 1) xs) ≡ done ++ flat_map gives (drop i xs)
-own_items_step gives xs i x done later within is e =
-    let rest = flat_map gives (drop (i + 1) xs) in
-    next_item (λ all. done ++ flat_map gives all) xs i x (later ++ rest) within is
-    (ap (λ items. items ++ rest) e ∙ append_assoc done (gives x) rest)
-
 -- five rows of texts, entered one after the other
 pub five_rows : (k0 k1 k2 k3 k4 k5 a b c d e : List (List ℕ)) → k0 ≡ [] → k1 ≡ with_texts k0 a → k2 ≡ with_texts k1 b → k3 ≡ with_texts k2 c
     → k4 ≡ with_texts k3 d → k5 ≡ with_texts k4 e → k5 ≡ with_texts [] (a ++ (b ++ (c ++ (d ++ e))))

@@ -1,39 +1,18 @@
 -- Counts as faults tell them.
-use Rattle.std.proofs.Common.{◌≡◌, ℕ, ◌+◌, ◌<◌, ◌≤◌, ◌^◌, ◌-◌, cond, List, [], ◌∷◌, get_or, drop, length, map, Some, None, Result, Ok, Err, OnOk, IfErr, sym, ap, ◌∙◌, arith, ⊎_elim}
+use Rattle.std.proofs.Common.{◌≡◌, ℕ, ◌+◌, ◌<◌, ◌≤◌, ◌^◌, ◌-◌, cond, List, [], ◌∷◌, drop, length, Some, None, Result, Ok, Err, OnOk, IfErr, sym, ap, ◌∙◌, arith, ⊎_elim}
 use Rattle.std.specs.Prelude.{find, nat_lt}
-use Rattle.std.specs.List.{sum_by}
 use Rattle.std.specs.Option.{option_map}
 use Rattle.std.proofs.lemmas.Bool.{cases_lt, lt-ltb}
 use Rattle.std.proofs.lemmas.List.{drop_all}
-use Rattle.std.proofs.lemmas.List.Sums.{sum_by-cons}
 use Rattle.icn_link.specs.declared.fault.LinkFault.{LinkFault}
 use Rattle.icn_link.specs.declared.fault.LinkFault.TheVariants.{K3}
 use Rattle.icn_link.specs.LinkFaults.{count_fault, count_told, over}
-use Rattle.icn_link.proofs.Steps.{next_item}
 
 -- A sum in a loop
 
 one_more : (now count told later rest : ℕ) → told ≡ count_told count → later ≡ count_told (now + told)
     → count_told (later + rest) ≡ count_told (now + (count + rest))
 one_more now count told later rest t e = omega (arith, t, e)
-
--- one more item, where its own count is told so
-pub told_step : {A C : Type 0} (seen : A → C) (f : C → ℕ) (xs : List A) (i : ℕ) (x : A) (now told later : ℕ)
-    → i < length xs → x ≡ get_or xs i x → told ≡ count_told (f (seen x)) → later ≡ count_told (now + told)
-    → count_told (later + sum_by f (map seen (drop (i + 1) xs))) ≡ count_told (now + sum_by f (map seen (drop i xs)))
-told_step seen f xs i x now told later within is t e =
-    let rest = sum_by f (map seen (drop (i + 1) xs)) in
-    next_item (λ all. count_told (now + sum_by f (map seen all))) xs i x (count_told (later + rest)) within is
-    (one_more now (f (seen x)) told later rest t e
-    ∙ ap (λ n. count_told (now + n)) (sym (sum_by-cons f (seen x) (map seen (drop (i + 1) xs)))))
-
-pub own_told_step : {A : Type 0} (f : A → ℕ) (xs : List A) (i : ℕ) (x : A) (now told later : ℕ)
-    → i < length xs → x ≡ get_or xs i x → told ≡ count_told (f x) → later ≡ count_told (now + told)
-    → count_told (later + sum_by f (drop (i + 1) xs)) ≡ count_told (now + sum_by f (drop i xs))
-own_told_step f xs i x now told later within is t e =
-    let rest = sum_by f (drop (i + 1) xs) in
-    next_item (λ all. count_told (now + sum_by f all)) xs i x (count_told (later + rest)) within is
-    (one_more now (f x) told later rest t e ∙ ap (λ n. count_told (now + n)) (sym (sum_by-cons f x (drop (i + 1) xs))))
 
 -- and when no item is left
 pub told_all : {A : Type 0} (count : List A → ℕ) (xs : List A) (i now all : ℕ) → count [] ≡ 0 → length xs ≤ i → now < 2 ^ 64

@@ -35,7 +35,7 @@ use Rattle.icn_instructions.specs.Groups.{group_of, group_of_op}
 use Rattle.icn_instructions.specs.declared.groups.Group.TheVariants as Groups
 use Rattle.icn_instructions.proofs.LackSteps.{one_there, take_there}
 use Rattle.icn_machine.specs.Performing.{LeavesNamed, PerformsOn}
-use Rattle.icn_machine.specs.Stepping.{Advances, AlwaysOver, EndsWhole, IsDoing, IsKept, IsReady, KeepsState, LacksNothing, applies_op, is_applied, is_whole}
+use Rattle.icn_machine.specs.Stepping.{Advances, AlwaysOver, IsDoing, IsKept, IsReady, KeepsState, LacksNothing, applies_op, is_applied, is_whole}
 use Rattle.icn_machine.proofs.AdvanceSteps.{performed_step}
 use Rattle.icn_machine.proofs.KeptSteps.{always_next, kept_at, kept_over, next_lacks_nothing}
 
@@ -230,11 +230,3 @@ whole_applies_none (Instrs.Goto label) e h = cc
 whole_applies_none (Instrs.Loop label) e h = cc
 whole_applies_none (Instrs.Init label) e h = cc
 whole_applies_none _ e h = cc
-
-pub ends_whole : (result : Result Stage Halt) → EndsWhole result → result ≢ Err Halts.NoMemory
-ends_whole (Ok stage) h = λ e. absurd (cc)
-ends_whole (Err (Halts.Error number offending)) h = λ e. absurd (cc)
-ends_whole (Err (Halts.Ends status)) h = λ e. absurd (cc)
-ends_whole (Err Halts.ReadFault) h = λ e. absurd (cc)
-ends_whole (Err Halts.WriteFault) h = λ e. absurd (cc)
-ends_whole (Err Halts.NoMemory) h = absurd h

@@ -51,7 +51,7 @@ use Rattle.icn_control.specs.declared.machine.Stage.TheVariants as Stages
 use Rattle.icn_control.proofs.KeptItems.{stack_same, stack_stays}
 use Rattle.icn_control.proofs.LiveSets.{live_replace}
 use Rattle.icn_machine.specs.Answering as answering
-use Rattle.icn_machine.specs.Answering.{AnswersStep, BreaksOff, BreaksPutting, BreaksReading, IsCause, Performs, Tells, behind, with_left, outside_in}
+use Rattle.icn_machine.specs.Answering.{AnswersStep, BreaksOff, BreaksPutting, BreaksReading, IsCause, Tells, behind, with_left, outside_in}
 use Rattle.icn_machine.specs.Giving.{GivesOutcome, StandsAs}
 use Rattle.icn_machine.specs.Performing.{LeavesNamed, PerformsRow, StandsOver, over_outside, row_on}
 

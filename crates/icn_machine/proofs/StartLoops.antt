@@ -1,6 +1,6 @@
 -- Tables of a code that are gone over, and words that are charged.
 use Rattle.std.proofs.Common.{◌≡◌, ◌+◌, ◌≤◌, ℕ, zero, suc, Bool, true, false, ◌&&◌, nat_le, if◌then◌else◌, List, [], ◌∷◌, ◌++◌, length, map, replicate, Result, Ok, Err, inl, inr, refl, sym, ap, ◌∙◌, subst, arith, append_assoc, append-nil, leb-true}
-use Rattle.std.specs.Prelude.{◌-◌, pred, IsErrAnd}
+use Rattle.std.specs.Prelude.{◌-◌, IsErrAnd}
 use Rattle.std.specs.List.{All, list_all, sum_by}
 use Rattle.std.proofs.lemmas.Bool.{le-leb}
 use Rattle.std.proofs.lemmas.List.{map-append, replicate-append-replicate}
@@ -224,10 +224,6 @@ first_fits q first others rest e h =
 pub start_fits : (a b : Bool) → (a && b) ≡ true → b ≡ true
 start_fits true b e = e
 start_fits false b e = cc
-
-pub pred_is : (n : ℕ) → n - 1 ≡ pred n
-pred_is zero = refl
-pred_is (suc n) = omega arith
 
 -- The world
 

@@ -18,7 +18,7 @@ use Rattle.icn_value.specs.Store.{Setting}
 use Rattle.icn_defs.specs.Arguments.{string}
 use Rattle.icn_defs.specs.Calls.{GoesOn}
 use Rattle.icn_defs.specs.Reading.{the_value}
-use Rattle.icn_defs.specs.Rows.{Outcome, costs_text, costs_texts, gives_value, passing}
+use Rattle.icn_defs.specs.Rows.{Outcome, costs_text, costs_texts, passing}
 use Rattle.icn_defs.specs.Scanning.{stands, tabs_to}
 use Rattle.icn_heap.specs.Extents.{Extent, text_in}
 use Rattle.icn_vars.specs.declared.stop.Stop.{Stop}
@@ -29,11 +29,6 @@ use Rattle.icn_ops.specs.Operands.{one_text, texts_in, two_texts, two_values}
 -- 0 less an integer
 pub negated : (n : ℤ) → difference (pos 0) n ≡ within_64_bits (neg_ℤ n)
 negated n = let e : pos 0 -ℤ n ≡ neg_ℤ n = omega (arith, ints) in ap within_64_bits e
-
--- a value that is given where a test is met
-pub compared : (value : Value) (test t : Bool) (setting : Setting) (outcome : Outcome) → t ≡ test → passing t (gives_value value) setting ≡ outcome
-    → passing test (gives_value value) setting ≡ outcome
-compared value test t setting outcome same is = ap (λ met. passing met (gives_value value) setting) (sym same) ∙ is
 
 -- the texts of two operands, by what each call says of them
 pub texts_found : (all : Extent) (x y : Item) (a b : Value) (before after : Setting) (result : Result (Span × Span) Stop)

@@ -1,5 +1,5 @@
 -- The loop of a procedure's body.
-use Rattle.std.proofs.Common.{◌≡◌, ℕ, zero, suc, ◌<◌, ◌≤◌, true, false, List, length, Option, Some, None, refl, ap, ◌∙◌, arith}
+use Rattle.std.proofs.Common.{◌≡◌, ℕ, zero, suc, ◌<◌, ◌≤◌, false, List, length, Option, Some, ap, ◌∙◌, arith}
 use Rattle.icn_tree.specs.declared.token.Kind.TheVariants.{Punctuation as PunctuationKind}
 use Rattle.icn_tree.specs.declared.token.Token.{Token}
 use Rattle.icn_tree.specs.declared.token.Punctuation.TheVariants.{Semicolon}
@@ -27,9 +27,6 @@ pub record BodySo (tokens : List Token) (done : WithHeight Trees) (rest : List T
   pub steps : ℕ
   pub enough : length rest ≤ steps
   pub is : body_read builds_with_height (suc (length tokens)) builds_with_height.no_elements tokens ≡ body_read builds_with_height (suc steps) done rest
-
-pub body_begun : (tokens : List Token) → BodySo tokens builds_with_height.no_elements tokens
-body_begun tokens = record { steps = length tokens; enough = omega arith; is = refl }
 
 -- an expression and its semicolon
 pub body_shorter : (rest middle after : List Token) (value : WithHeight Tree) → expression_read builds_with_height 0 rest ≡ Some (value, middle)
@@ -59,25 +56,3 @@ body_more tokens done rest middle after value so f e s = by_steps so.steps so.en
           >>= λ v. sign_read is_semicolon v.1 >>= λ r. body_read builds_with_height (suc steps) (builds_with_height.with_element done v.0) r) e
           ∙ ap (λ (o : Option (List Token)). o >>= λ r. body_read builds_with_height (suc steps) (builds_with_height.with_element done value) r) s;
     }
-
-pub body_no_value : (tokens : List Token) (done : WithHeight Trees) (rest : List Token) → BodySo tokens done rest → is_end (next rest) ≡ false
-    → expression_read builds_with_height 0 rest ≡ None → body_read builds_with_height (suc (length tokens)) builds_with_height.no_elements tokens ≡ None
-body_no_value tokens done rest so f e =
-    so.is ∙ ap (λ b. body_by builds_with_height b (body_read builds_with_height so.steps) done rest) f
-    ∙ ap (λ (o : Option (WithHeight Tree × List Token)). o
-    >>= λ v. sign_read is_semicolon v.1 >>= λ r. body_read builds_with_height so.steps (builds_with_height.with_element done v.0) r)
-    e
-
-pub body_no_semicolon : (tokens : List Token) (done : WithHeight Trees) (rest middle : List Token) (value : WithHeight Tree) → BodySo tokens done rest
-    → is_end (next rest) ≡ false → expression_read builds_with_height 0 rest ≡ Some (value, middle) → sign_read is_semicolon middle ≡ None
-    → body_read builds_with_height (suc (length tokens)) builds_with_height.no_elements tokens ≡ None
-body_no_semicolon tokens done rest middle value so f e s =
-    so.is ∙ ap (λ b. body_by builds_with_height b (body_read builds_with_height so.steps) done rest) f
-    ∙ ap (λ (o : Option (WithHeight Tree × List Token)). o
-    >>= λ v. sign_read is_semicolon v.1 >>= λ r. body_read builds_with_height so.steps (builds_with_height.with_element done v.0) r)
-    e
-    ∙ ap (λ (o : Option (List Token)). o >>= λ r. body_read builds_with_height so.steps (builds_with_height.with_element done value) r) s
-
-pub body_end : (tokens : List Token) (done : WithHeight Trees) (rest : List Token) → BodySo tokens done rest → is_end (next rest) ≡ true
-    → body_read builds_with_height (suc (length tokens)) builds_with_height.no_elements tokens ≡ Some (done, rest)
-body_end tokens done rest so f = so.is ∙ ap (λ b. body_by builds_with_height b (body_read builds_with_height so.steps) done rest) f

@@ -104,11 +104,3 @@ pub file_stopped : (tokens : List Token) (high : Option Place) (done : List Decl
     → ReadsNothing (file_read builds_with_height (length tokens) tokens) stop
 file_stopped tokens high done rest stop so some (inl is) = inl is
 file_stopped tokens high done rest stop so some (inr e) = inr (file_stops tokens high done rest so some e)
-
-pub file_end : (tokens : List Token) (high : Option Place) (done : List Declaration) → FileSo tokens high done []
-    → option_map (kept_declarations None []) (file_read builds_with_height (length tokens) tokens) ≡ Some (high, done)
-file_end tokens high done so = so.is ∙ ap (option_map (kept_declarations high done)) (nothing_left so.steps)
-  where
-    nothing_left : (steps : ℕ) → file_read builds_with_height steps [] ≡ Some []
-    nothing_left zero = refl
-    nothing_left (suc steps) = refl

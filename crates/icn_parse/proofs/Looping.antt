@@ -97,18 +97,11 @@ pub names_begun : (tokens rest : List Token) (x : Name) → name_read tokens ≡
     → some_read name_of tokens ≡ behind_all (x ∷ []) (further name_of rest)
 names_begun tokens rest x e = begun name_of tokens rest x (sym (name_is_one tokens) ∙ e)
 
-pub names_not_begun : (tokens : List Token) → name_read tokens ≡ None → some_read name_of tokens ≡ None
-names_not_begun tokens e = not_begun name_of tokens (sym (name_is_one tokens) ∙ e)
-
 pub names_more : (whole : Option (List Name × List Token)) (done : List Name) (rest others : List Token) (x : Name)
     → whole ≡ behind_all done (further name_of rest) → is_comma_next (next rest) ≡ true → name_read (behind rest) ≡ Some (x, others)
     → whole ≡ behind_all (done ++ x ∷ []) (further name_of others)
 names_more whole done rest others x so c e =
     so ∙ ap (behind_all done) (one_more name_of rest others x c (sym (name_is_one (behind rest)) ∙ e)) ∙ behind_both done (x ∷ []) (further name_of others)
-
-pub names_not_more : (whole : Option (List Name × List Token)) (done : List Name) (rest : List Token) → whole ≡ behind_all done (further name_of rest)
-    → is_comma_next (next rest) ≡ true → name_read (behind rest) ≡ None → whole ≡ None
-names_not_more whole done rest so c e = so ∙ ap (behind_all done) (not_more name_of rest c (sym (name_is_one (behind rest)) ∙ e))
 
 pub names_end : (whole : Option (List Name × List Token)) (done : List Name) (rest : List Token) → whole ≡ behind_all done (further name_of rest)
     → is_comma_next (next rest) ≡ false → whole ≡ Some (done, rest)
@@ -119,33 +112,11 @@ pub items_begun : (tokens rest : List Token) (x : Item) → item_read tokens ≡
     → some_read item_of tokens ≡ behind_all (x ∷ []) (further item_of rest)
 items_begun tokens rest x e = begun item_of tokens rest x (sym (item_is_one tokens) ∙ e)
 
-pub items_not_begun : (tokens : List Token) → item_read tokens ≡ None → some_read item_of tokens ≡ None
-items_not_begun tokens e = not_begun item_of tokens (sym (item_is_one tokens) ∙ e)
-
 pub items_more : (whole : Option (List Item × List Token)) (done : List Item) (rest others : List Token) (x : Item)
     → whole ≡ behind_all done (further item_of rest) → is_comma_next (next rest) ≡ true → item_read (behind rest) ≡ Some (x, others)
     → whole ≡ behind_all (done ++ x ∷ []) (further item_of others)
 items_more whole done rest others x so c e =
     so ∙ ap (behind_all done) (one_more item_of rest others x c (sym (item_is_one (behind rest)) ∙ e)) ∙ behind_both done (x ∷ []) (further item_of others)
-
-pub items_not_more : (whole : Option (List Item × List Token)) (done : List Item) (rest : List Token) → whole ≡ behind_all done (further item_of rest)
-    → is_comma_next (next rest) ≡ true → item_read (behind rest) ≡ None → whole ≡ None
-items_not_more whole done rest so c e = so ∙ ap (behind_all done) (not_more item_of rest c (sym (item_is_one (behind rest)) ∙ e))
-
-pub items_end : (whole : Option (List Item × List Token)) (done : List Item) (rest : List Token) → whole ≡ behind_all done (further item_of rest)
-    → is_comma_next (next rest) ≡ false → whole ≡ Some (done, rest)
-items_end whole done rest so c = so ∙ ap (behind_all done) (no_more item_of rest c) ∙ behind_end done rest
-
--- a sign is a token, so that less is left behind it
-pub one_shorter : (rest : List Token) (others : List Token) (x : Name) → name_read (behind rest) ≡ Some (x, others) → length others < length rest
-one_shorter [] others x e = absurd (none-some (x, others) e)
-one_shorter (token ∷ []) others x e = absurd (none-some (x, others) e)
-one_shorter (token ∷ y ∷ rest) others x e = let o = one_some name_of y rest others x (name_of y) refl e in omega (arith, ap length o.1)
-
-pub item_shorter : (rest : List Token) (others : List Token) (x : Item) → item_read (behind rest) ≡ Some (x, others) → length others < length rest
-item_shorter [] others x e = absurd (none-some (x, others) e)
-item_shorter (token ∷ []) others x e = absurd (none-some (x, others) e)
-item_shorter (token ∷ y ∷ rest) others x e = let o = one_some item_of y rest others x (item_of y) refl e in omega (arith, ap length o.1)
 
 -- The loop of locals and statics
 
@@ -191,24 +162,6 @@ locals_step kind reads rest others l e =
     ∙ ap (λ (r : Locals × List Token). reads r.1 >>= λ found. Some (r.0 ∷ found.0, found.1)) same
     ∙ with_others l (reads others)
 
-locals_not_step : (kind : LocalKind) (reads : List Token → Option (List Locals × List Token)) (rest : List Token) → locals_one kind rest ≡ None
-    → locals_by (Some kind) reads rest ≡ None
-locals_not_step kind reads rest e = by_names (some_read name_of (behind rest)) e
-  where
-    by_sign : (names : List Name) (s : Option (List Token))
-        → ◌≡◌ {A = Option (Locals × List Token)} (s >>= λ r. Some (record { place = place_of rest; kind = kind; names = names }, r)) None
-        → ◌≡◌ {A = Option (List Locals × List Token)}
-        (s >>= λ r. reads r >>= λ found. Some (record { place = place_of rest; kind = kind; names = names } ∷ found.0, found.1)) None
-    by_sign names None e = refl
-    by_sign names (Some r) e = absurd (none-some _ (sym e))
-
-    by_names : (o : Option (List Name × List Token)) → ◌≡◌ {A = Option (Locals × List Token)}
-        (o >>= λ names. sign_read is_semicolon names.1 >>= λ r. Some (record { place = place_of rest; kind = kind; names = names.0 }, r)) None
-        → ◌≡◌ {A = Option (List Locals × List Token)} (o >>= λ names. sign_read is_semicolon names.1
-        >>= λ r. reads r >>= λ found. Some (record { place = place_of rest; kind = kind; names = names.0 } ∷ found.0, found.1)) None
-    by_names None e = refl
-    by_names (Some names) e = by_sign names.0 (sign_read is_semicolon names.1) e
-
 pub locals_more : (tokens : List Token) (done : List Locals) (rest others : List Token) (kind : LocalKind) (l : Locals) → LocalsSo tokens done rest
     → local_kind (next rest) ≡ Some kind → locals_one kind rest ≡ Some (l, others) → LocalsSo tokens (done ++ l ∷ []) others
 locals_more tokens done rest others kind l so k e = by_steps so.steps so.enough so.is
@@ -222,15 +175,6 @@ locals_more tokens done rest others kind l so k e = by_steps so.steps so.enough 
       is = is ∙ ap (behind_all done) (ap (λ k. locals_by k (locals_read (suc steps)) rest) k ∙ locals_step kind (locals_read (suc steps)) rest others l e)
           ∙ behind_both done (l ∷ []) (locals_read (suc steps) others);
     }
-
-pub locals_not_more : (tokens : List Token) (done : List Locals) (rest : List Token) (kind : LocalKind) → LocalsSo tokens done rest
-    → local_kind (next rest) ≡ Some kind → locals_one kind rest ≡ None → locals_read (suc (length tokens)) tokens ≡ None
-locals_not_more tokens done rest kind so k e =
-    so.is ∙ ap (behind_all done) (ap (λ k. locals_by k (locals_read so.steps) rest) k ∙ locals_not_step kind (locals_read so.steps) rest e)
-
-pub locals_end : (tokens : List Token) (done : List Locals) (rest : List Token) → LocalsSo tokens done rest → local_kind (next rest) ≡ None
-    → locals_read (suc (length tokens)) tokens ≡ Some (done, rest)
-locals_end tokens done rest so k = so.is ∙ ap (behind_all done) (ap (λ k. locals_by k (locals_read so.steps) rest) k) ∙ behind_end done rest
 
 pub locals_begun : (tokens : List Token) → LocalsSo tokens [] tokens
 locals_begun tokens = record { steps = length tokens; enough = omega arith; is = nothing_behind (locals_read (suc (length tokens)) tokens) }

@@ -4,10 +4,9 @@ use Rattle.std.specs.Str.{bytes_eq}
 use Rattle.std.specs.Cmp.Lexicographic.{bytes_decides}
 use Rattle.std.proofs.lemmas.Bool.{false≢true}
 use Rattle.std.proofs.lemmas.Option.{none-some}
-use Rattle.icn_prep.specs.declared.literal.LiteralState.{LiteralState}
 use Rattle.icn_prep.specs.declared.literal.LiteralState.TheVariants.{Outside}
 use Rattle.icn_prep.specs.Laws.{IsMade, none, defined, undefined_in, CountNeverBinds}
-use Rattle.icn_prep.specs.Replacement.{ReplacedText, read_from, as_it_stands, word_read, replace_words}
+use Rattle.icn_prep.specs.Replacement.{read_from, as_it_stands, word_read, replace_words}
 use Rattle.icn_prep.specs.Texts.{TextOf, Texts, without, undefined_by}
 
 abbrev is_among : List ℕ → List (List ℕ) → Bool

@@ -11,9 +11,6 @@ use Rattle.icn_tree.specs.Characters.{is_digit}
 pub has_room : (n i : ℕ) → n < 10 ^ i → i ≤ 8 → n < 100000000
 has_room n i h few = let power : 10 ^ i ≤ 10 ^ 8 = pow-le-pow_right (omega arith) few in omega arith
 
-pub has_fit : (n i : ℕ) → n < 10 ^ i → i ≤ 9 → n < 1000000000
-has_fit n i h few = let power : 10 ^ i ≤ 10 ^ 9 = pow-le-pow_right (omega arith) few in omega arith
-
 pub one_more : (n d i : ℕ) → n < 10 ^ i → d ≤ 9 → n * 10 + d < 10 ^ (i + 1)
 one_more n d i h small = let power : 10 ^ (i + 1) ≡ 10 ^ i * 10 = rw add-one (pow-suc 10 i) in omega arith
 

@@ -37,9 +37,6 @@ pending n texts (o ∷ outer) state rest =
 behind_behind : (a b : List ℕ) (read : ReplacedText) → behind (a ++ b) read ≡ behind a (behind b read)
 behind_behind a b read = ap (λ bytes. let r : ReplacedText = record { bytes = bytes; state = read.state } in r) (append_assoc a b read.bytes)
 
-behind_none : (read : ReplacedText) → behind [] read ≡ read
-behind_none read = refl
-
 -- what comes first of a text comes first of all
 pub pending_by : (n : ℕ) (texts : TextOf) (outer : List Outer) (state onward : LiteralState) (rest left front : List ℕ)
     → replace_words n (texts_left texts outer) state rest ≡ behind front (replace_words n (texts_left texts outer) onward left)
@@ -151,12 +148,6 @@ pub record ReadSo (count : ℕ) (texts : TextOf) (literal : LiteralState) (line 
   pub within : length given ≤ most
   pub depth : length entries ≤ count
 
--- nothing was read yet
-pub so_begins : (count : ℕ) (texts : TextOf) (literal : LiteralState) (line : List ℕ) (most : ℕ) → ReadSo count texts literal line most [] [] literal line
-so_begins count texts literal line most = record {
-  whole = ap (λ n. replace_words n texts literal line) (omega arith);
-  within = omega arith;
-  depth = omega arith;
 }
 
 read_none : (n : ℕ) (texts : TextOf) (state : LiteralState) → replace_words n texts state [] ≡ (let r : ReplacedText = record { bytes = []; state = state } in
@@ -355,18 +346,6 @@ fewer a b before after w now next = omega arith
 
 less_by : (before after x y : ℕ) → before ≡ x → after ≡ y → y < x → after < before
 less_by before after x y now next l = omega arith
-
-pub less_texts : (count : ℕ) (entries others : List Outer) (o : Outer) (rest : List ℕ) → length entries ≤ count → entries ≡ others ++ o ∷ [] → rest ≡ []
-    → work_left count others o.1.now < work_left count entries rest
-less_texts count entries others o rest deep is end =
-    let len : length entries ≡ length others + 1 = ap length is ∙ length-append others (o ∷ []) in
-    let level : count - length others ≡ suc (count - length entries) = omega arith in
-    let n = count - length entries in
-    let now : work_left count entries rest ≡ 0 * weight n + (1 + length o.1.now * weight (suc n) + work_behind (suc n) (reverse others)) =
-    ap (λ r. work_left count entries r) end ∙ ap (λ es. 0 * weight n + work_behind n es) (reversed entries others o is) in
-    let next : work_left count others o.1.now ≡ length o.1.now * weight (suc n) + work_behind (suc n) (reverse others) =
-    ap (λ m. length o.1.now * weight m + work_behind m (reverse others)) level in
-    fewer (length o.1.now * weight (suc n)) (work_behind (suc n) (reverse others)) _ _ (weight n) now next
 
 paid : (a b t w x k u : ℕ) → k ≡ 2 + u → (a + 1) * k ≤ b * k → t * w ≤ u → t * w + (1 + a * k + x) < b * k + x
 paid a b t w x k u is more less = omega arith

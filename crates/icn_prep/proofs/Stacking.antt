@@ -14,41 +14,17 @@ use Rattle.icn_prep.specs.FileLines.{lines_of}
 use Rattle.icn_prep.specs.Outcomes.{◌>>=◌}
 use Rattle.icn_prep.specs.Cursors.{Cursor, next_line, start_of}
 use Rattle.icn_prep.specs.CursorViews.{cursor_of}
-use Rattle.icn_prep.specs.Refusals.{Refuses, rest_of_line, rest_of_lines}
-use Rattle.icn_prep.specs.SourceLines.{State, Outcome, Step, IncludeStep, line_read, lines_read, first_state, left_empty, file_read, include_file, include_found, named_file, source_of}
+use Rattle.icn_prep.specs.Refusals.{Refuses, rest_of_lines}
+use Rattle.icn_prep.specs.SourceLines.{State, Outcome, Step, IncludeStep, line_read, lines_read, left_empty, file_read, include_file, include_found, source_of}
 
 then_then : {A B C : Type 0} (a : Result A PrepFault) (f : A → Result B PrepFault) (g : B → Result C PrepFault) → ((a >>= f) >>= g) ≡ (a >>= λ x. f x >>= g)
 then_then (Ok a) f g = refl
 then_then (Err e) f g = refl
 
--- so far reading the lines of a file gives what reading all of them gives
-pub record LinesSo (includes : IncludeStep) (s : State) (cursor : Cursor) (lines : List (List ℕ)) (s' : State) (cursor' : Cursor)
-    (rest : List (List ℕ)) : Type 0 where
-  pub same : lines_read includes s cursor lines ≡ lines_read includes s' cursor' rest
-
 -- the next line
 step_of : (includes : IncludeStep) (s : State) (cursor : Cursor) (line : List ℕ) (rest : List (List ℕ)) (step : Step) → line_read includes s cursor line ≡ step
     → lines_read includes s cursor (line ∷ rest) ≡ (step >>= λ after. lines_read includes after.0 after.1 rest)
 step_of includes s cursor line rest step is = ap (λ o. o >>= λ after. lines_read includes after.0 after.1 rest) is
-
-pub passes_line : (includes : IncludeStep) (s s' : State) (cursor cursor' : Cursor) (line : List ℕ) (lines rest : List (List ℕ)) → lines ≡ line ∷ rest
-    → line_read includes s cursor line ≡ Ok (s', cursor')
-    → lines_read includes s cursor lines ≡ lines_read includes s' cursor' rest
-passes_line includes s s' cursor cursor' line lines rest cut is = ap (lines_read includes s cursor) cut ∙ step_of includes s cursor line rest (Ok (s', cursor')) is
-
-pub stops_line : (includes : IncludeStep) (s s' : State) (cursor cursor' : Cursor) (line name : List ℕ) (lines rest : List (List ℕ)) → lines ≡ line ∷ rest
-    → line_read includes s cursor line ≡ rest_of_line includes (Some name) s' cursor'
-    → lines_read includes s cursor lines ≡ (includes name s' cursor' >>= λ t. lines_read includes t (next_line cursor') rest)
-stops_line includes s s' cursor cursor' line name lines rest cut is =
-    ap (lines_read includes s cursor) cut
-    ∙ (step_of includes s cursor line rest (rest_of_line includes (Some name) s' cursor') is
-    ∙ then_then (includes name s' cursor') (λ t. Ok (t, next_line cursor')) (λ after. lines_read includes after.0 after.1 rest))
-
-pub refuses_line : (includes : IncludeStep) (s : State) (cursor : Cursor) (line : List ℕ) (lines rest : List (List ℕ)) (fault : PrepFault) → lines ≡ line ∷ rest
-    → Refuses (line_read includes s cursor line) fault
-    → Refuses (lines_read includes s cursor lines) fault
-refuses_line includes s cursor line lines rest fault cut (inl e) = inl e
-refuses_line includes s cursor line lines rest fault cut (inr e) = inr (ap (lines_read includes s cursor) cut ∙ step_of includes s cursor line rest (Err fault) e)
 
 -- the lines of the files on a stack, the innermost first
 abbrev pub stack_read : FileMap → List OpenFile → State → Outcome
@@ -59,10 +35,6 @@ stack_read files (f ∷ outer) s =
 -- so far reading files gives what reading them all gives
 abbrev pub StackSo : FileMap → Outcome → List OpenFile → State → Type 0
 StackSo files whole stack s = whole ≡ stack_read files (reverse stack) s
-
-then_ok : {A : Type 0} (a : Result A PrepFault) → (a >>= λ x. Ok x) ≡ a
-then_ok (Ok a) = refl
-then_ok (Err e) = refl
 
 top_of : (stack others : List OpenFile) (f : OpenFile) → stack ≡ others ++ f ∷ [] → reverse stack ≡ f ∷ reverse others
 top_of stack others f is = ap reverse is ∙ reverse-append others (f ∷ [])
@@ -174,22 +146,6 @@ pub answered_err : (whole : Outcome) (fault : PrepFault) → IsAnswer whole faul
 answered_err whole fault (inl (inl e)) = inl (inl (ap Err e))
 answered_err whole fault (inl (inr e)) = inl (inr (ap Err e))
 answered_err whole fault (inr e) = inr (sym (ap source_of e))
-
-pub answered_ok : (files : FileMap) (whole : Outcome) (stack : List OpenFile) (s : State) → StackSo files whole stack s → stack ≡ []
-    → source_of whole ≡ Ok (record { names = s.names; lines = s.lines })
-answered_ok files whole stack s so none = ap source_of (so ∙ ap (λ fs. stack_read files (reverse fs) s) none)
-
-pub first_file : (files : FileMap) (name bytes : List ℕ) (s : State) (f : OpenFile) → files name ≡ Some bytes → length bytes ≤ 16777216
-    → s ≡ record first_state { names = name ∷ [] }
-    → cursor_of f.cursor ≡ start_of 0 → drop f.at f.content.items ≡ bytes → StackSo files (named_file files name (files name)) (f ∷ []) s
-first_file files name bytes s f there short is starts all =
-    let within : nat_lt 16777216 (length bytes) ≡ false = grind (arith, nat_tests) in
-    ap (named_file files name) there
-    ∙ (cond-false (nat_lt 16777216 (length bytes)) _ _ within
-    ∙ (ap (λ v. lines_read (include_file files 32) v (start_of 0) (lines_of bytes)) (sym is)
-    ∙ (ap (λ p. lines_read (include_file files 32) s p (lines_of bytes)) (sym starts)
-    ∙ (ap (λ b. lines_read (include_file files 32) s (cursor_of f.cursor) (lines_of b)) (sym all)
-    ∙ sym (then_ok (lines_read (include_file files 32) s (cursor_of f.cursor) (lines_of (drop f.at f.content.items))))))))
 
 -- what the exit of a `?` returns
 pub answered : (whole : Outcome) (result : Result Lines PrepFault) (fault given : PrepFault) → result ≡ Err given → given ≡ fault → IsAnswer whole fault

@@ -1,7 +1,6 @@
 -- How the line of an answer stands on the error output.
 use Rattle.std.proofs.Common.{◌≡◌, ◌⊎◌, inl, inr, ℕ, List, Option, IfSome, Err, take, refl, sym, subst}
 use Rattle.icn_host.specs.Sinks.{Gains, SinkState}
-use Rattle.icn_host.proofs.SinkSteps.{gains_nothing}
 use Rattle.icn_host.specs.declared.fault.Fault.TheVariants.{Failed, NoMemory as Wants}
 use Rattle.icn_host.proofs.Putting.{leads_of, puts_nothing}
 use Rattle.icn_host.specs.Puts.{Puts, all}
@@ -70,10 +69,6 @@ reports_of {answer = answer} ran (want n between leads puts) = put_own refl answ
 pub ran_reports : {usage name : List ℕ} {left : Option (List ℕ)} {before after : SinkState} (ending : Ending) → ReportStands left ending before after
     → Reports usage name left before after (Ran ending)
 ran_reports ending stands = put_whole (ran_no_fault ending) stands
-
--- an image was written, and nothing was put
-pub wrote_reports : (usage name : List ℕ) (left : Option (List ℕ)) (sunk : SinkState) → Reports usage name left sunk sunk Wrote
-wrote_reports usage name left sunk = put_whole wrote_no_fault (gains_nothing sunk.held)
 
 -- a fault's own line alone
 pub own_reports : {usage name : List ℕ} {left : Option (List ℕ)} {before after : SinkState} (fault : Answer) → IsFault fault → PutsOwn fault before after

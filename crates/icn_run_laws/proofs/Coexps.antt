@@ -1,5 +1,5 @@
 -- Machines whose calls agree go on in lock step.
-use Rattle.std.proofs.Common.{◌≡◌, ◌≢◌, ℕ, zero, suc, List, [], ◌∷◌, ◌++◌, length, refl, ap, arith}
+use Rattle.std.proofs.Common.{◌≡◌, ◌≢◌, ℕ, zero, suc, List, [], ◌∷◌, ◌++◌, refl, arith}
 use Rattle.std.specs.Prelude.{slice_get, slice_set, slice_index_or}
 use Rattle.icn_run.specs.Step.{Status, Fresh, Active, Waiting, Exhausted, Coexp}
 use Rattle.icn_run_laws.specs.Laws.{Both}
@@ -36,12 +36,6 @@ rest_map A B f [] [] h = tt
 rest_map A B f [] (c ∷ ks) h = h
 rest_map A B f (c' ∷ ks') [] h = h
 rest_map A B f (c' ∷ ks') (c ∷ ks) h = (coexp_map (A 0) (B 0) (f 0) c' c h.0, rest_map (λ i. A (suc i)) (λ i. B (suc i)) (λ i. f (suc i)) ks' ks h.1)
-
-pub rest_length : {K' K : Type 0} (A : ℕ → K' → K → Type 0) (ks' : List (Coexp K')) (ks : List (Coexp K)) → Rests A ks' ks → length ks' ≡ length ks
-rest_length A [] [] h = refl
-rest_length A [] (c ∷ ks) h = absurd h
-rest_length A (c' ∷ ks') [] h = absurd h
-rest_length A (c' ∷ ks') (c ∷ ks) h = ap suc (rest_length (λ i. A (suc i)) ks' ks h.1)
 
 pub rest_get : {K' K : Type 0} (A : ℕ → K' → K → Type 0) (ks' : List (Coexp K')) (ks : List (Coexp K)) (n : ℕ) → Rests A ks' ks
     → Both ⊥ (λ c' c. SameCoexp (A n) c' c) (slice_get ks' n) (slice_get ks n)

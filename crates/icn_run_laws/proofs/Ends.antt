@@ -8,7 +8,7 @@ use Rattle.icn_run.specs.Rows.{Value, Outcome, Fails, Gives, Suspends, Error, En
 use Rattle.icn_code.specs.Codes.{Proc as Procedure}
 use Rattle.icn_run.specs.Calls.{Calls}
 use Rattle.icn_run_laws.specs.SameStates.{IsMade}
-use Rattle.icn_run.specs.Step.{Program, Launch, Store, State, running, failing, hopping, over, stuck, with_found, passed_failure, activator_of, instruction, instruction_at, instrs_of, step, start, start_of, first_store, main_of, with_made, here, with_at, begun_if, collect_rest, fill_nulls}
+use Rattle.icn_run.specs.Step.{Program, Launch, Store, State, running, failing, hopping, over, stuck, with_found, passed_failure, activator_of, instruction, instruction_at, step, start, start_of, first_store, main_of, with_made, here, with_at, begun_if, collect_rest, fill_nulls}
 use Rattle.icn_run_laws.specs.Measure.{worth, Weighs, Fits, FitsStore, IsForward, Forward, Falls, Later, Sound, EndsFrom}
 use Rattle.icn_run_laws.proofs.RowsKeep.{rows_keep}
 use Rattle.icn_run_laws.proofs.Falls.{IsForward', worth_next, when_found, Allows, there, turned, TurnOf, l_instruction, f_fails, a_to_activator}

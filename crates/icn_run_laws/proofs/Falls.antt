@@ -44,12 +44,6 @@ pub there : {A : Type 0} (o : Option A) → IfThere o (λ x. Unit {0})
 there None = tt
 there (Some x) = tt
 
-pub fit_get : {K : Type 0} (F : K → Type 0) (coexps : List (Coexp K)) (n : ℕ) → FitAll F coexps
-    → IfThere (slice_get coexps n) (λ coexp. FitsStatus F coexp.status)
-fit_get F [] n h = tt
-fit_get F (c ∷ cs) zero h = h.0
-fit_get F (c ∷ cs) (suc n) h = fit_get F cs n h.1
-
 fit_set : {K : Type 0} (F : K → Type 0) (coexps : List (Coexp K)) (n : ℕ) (coexp : Coexp K) → FitsStatus F coexp.status → FitAll F coexps
     → FitAll F (slice_set coexps n coexp)
 fit_set F [] n coexp s h = tt

@@ -4,7 +4,7 @@ use Rattle.icn_run.specs.Rows.{Item}
 use Rattle.icn_run.specs.Stacks as S
 use Rattle.icn_run.specs.Stacks.{Registers, Cell, Frames}
 use Rattle.icn_run.specs.Chains as L
-use Rattle.icn_run.specs.Chains.{Label, fixed, flagged, Reason, because, scanning, Chain, chain, Suspensions, none, Outer, LinkedStack, WaitingChain, Frame, at_base, in_call, frame_of, outer_of}
+use Rattle.icn_run.specs.Chains.{Label, fixed, flagged, Reason, because, scanning, Chain, chain, Outer, Frame, at_base, in_call, frame_of, outer_of}
 use Rattle.icn_run_laws.specs.Rendered.{Content, Flag, Changed, Count, Saved, Locals, Memory, content_of, flag_name, NCell, n_base, n_call, n_local, n_mark, n_limit, n_suspension, n_operand, World, shown_label, shown_cell, render, AllOk, locs, Bare, FlatScans, f_no_scan, f_scan, IsFlat, f_chain, f_susp, FlatOuter, f_base, f_call, f_mark, f_limit}
 use Rattle.icn_run_laws.proofs.Lists.{r_cut, r_get}
 

@@ -6,7 +6,7 @@ use Rattle.icn_run.specs.Rows.{Item}
 use Rattle.icn_run.specs.Stacks as S
 use Rattle.icn_run.specs.Stacks.{Registers, Cell, Frames}
 use Rattle.icn_run.specs.Chains as L
-use Rattle.icn_run.specs.Chains.{Label, fixed, flagged, Reason, because, scanning, Chain, chain, Suspensions, none, Outer, LinkedStack, WaitingChain, Frame, at_base, in_call, frame_of, outer_of}
+use Rattle.icn_run.specs.Chains.{Label, fixed, flagged, Chain, chain, Suspensions, none, Outer, LinkedStack, frame_of, outer_of}
 use Rattle.icn_run_laws.specs.Rendered.{Flag, memory_of, linked_with, NCell, n_base, n_call, n_mark, n_limit, n_operand, World, shown_label, count_of, shown_cell, render, AllOk, locs, Bare, FlatScans, LabelOk, IsFlat, f_chain, FlatSusps, f_none, FlatOuter, f_base, f_call, f_mark, f_limit, Now, now, Next}
 use Rattle.icn_run_laws.specs.Laws.{Both, Then, With}
 use Rattle.icn_run_laws.proofs.Lists.{length_map}

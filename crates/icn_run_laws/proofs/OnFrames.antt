@@ -7,7 +7,7 @@ use Rattle.icn_run.specs.Calls.{Pair, Why, Alt, Op, Scan, Escan, Proc}
 use Rattle.icn_run.specs.Stacks as S
 use Rattle.icn_run.specs.Stacks.{Registers, Cell, Frames}
 use Rattle.icn_run.specs.Chains as L
-use Rattle.icn_run.specs.Chains.{Label, fixed, flagged, Reason, because, scanning, Chain, chain, Suspensions, none, Outer, LinkedStack, WaitingChain, Frame, at_base, in_call, frame_of, outer_of}
+use Rattle.icn_run.specs.Chains.{fixed, flagged, Reason, because, scanning, Chain, chain, Suspensions, none, Outer, LinkedStack, Frame, frame_of}
 use Rattle.icn_run_laws.specs.Rendered.{Name, activation_name, flag_name, limit_name, saved_name, Content, Count, Saved, Locals, Memory, content_of, values_of, NCell, n_base, n_call, n_local, n_mark, n_limit, n_suspension, n_operand, World, IsOwned, saved_in, shown_cell, render, Ok, AllOk, locs, FlatScans, f_no_scan, f_scan, IsFlat, f_chain, FlatSusps, f_none, f_susp, f_call, now, Next}
 use Rattle.icn_run_laws.specs.Laws.{Both, With}
 use Rattle.icn_run_laws.proofs.Lists.{length_map, r_cut, r_get}

@@ -3,9 +3,9 @@ use Rattle.std.proofs.Common.{◌≡◌, ◌≢◌, ℕ, List, [], ◌∷◌, le
 use Rattle.icn_run.specs.Rows.{Value}
 use Rattle.icn_run.specs.Calls.{Pair, Why}
 use Rattle.icn_run.specs.Stacks as S
-use Rattle.icn_run.specs.Stacks.{Registers, Cell, Frames}
+use Rattle.icn_run.specs.Stacks.{Frames}
 use Rattle.icn_run.specs.Chains as L
-use Rattle.icn_run.specs.Chains.{Label, fixed, flagged, Reason, because, scanning, Chain, chain, Suspensions, none, Outer, LinkedStack, WaitingChain, Frame, at_base, in_call, frame_of, outer_of}
+use Rattle.icn_run.specs.Chains.{chain, none, LinkedStack, WaitingChain}
 use Rattle.icn_run_laws.specs.Rendered.{Name, Content, Memory, memory_of, linked_with, n_base, n_operand, World, IsOwned, locs, f_no_scan, IsFlat, f_chain, f_none, f_base, now, Away, away, Next}
 use Rattle.icn_run_laws.specs.Laws.{Both, With}
 use Rattle.icn_run_laws.proofs.Worlds.{Moves, made_next, made_locals, locals_made, all_moves, render_moves, use_all}

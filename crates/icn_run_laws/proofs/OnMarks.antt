@@ -6,7 +6,7 @@ use Rattle.icn_run.specs.Calls.{Pair, MarkDrop, NoMark, Outside}
 use Rattle.icn_run.specs.Stacks as S
 use Rattle.icn_run.specs.Stacks.{Registers, Cell, Frames}
 use Rattle.icn_run.specs.Chains as L
-use Rattle.icn_run.specs.Chains.{Label, fixed, flagged, Reason, because, scanning, Chain, chain, Suspensions, none, Outer, LinkedStack, WaitingChain, Frame, at_base, in_call, frame_of, outer_of}
+use Rattle.icn_run.specs.Chains.{fixed, flagged, Chain, chain, none, Outer, LinkedStack, frame_of, outer_of}
 use Rattle.icn_run_laws.specs.Rendered.{Name, flag_name, limit_name, Content, Flag, Changed, Count, Saved, Locals, flag_kept, NCell, n_base, n_call, n_mark, n_limit, n_operand, World, IsOwned, shown_label, count_of, shown_cell, render, IsFlag, Ok, AllOk, FlatScans, IsFlat, f_chain, f_none, f_mark, now, Next}
 use Rattle.icn_run_laws.specs.Laws.{Both, With, SameDropped}
 use Rattle.icn_run_laws.specs.SecondLaw.{LacksCell}
@@ -14,7 +14,7 @@ use Rattle.icn_run_laws.proofs.Lists.{some_inj, get_set_same, length_map, r_cut,
 use Rattle.icn_run_laws.proofs.Worlds.{IsLocals, Change, change_next, put_shown, put_ok, FlagAt, is_up, is_down, is_labelled, flag_at, flag_there, index_got, got_count, put_count, count_put, put_flag, flag_put, label_up, own_up, label_set, own_set}
 use Rattle.icn_run_laws.proofs.Flattening.{as_mark, under, raise_scans, found, same_proc}
 use Rattle.icn_run_laws.proofs.OnScans.{first_at, ok_sub, oldest_at, same_pair}
-use Rattle.icn_run_laws.proofs.OnCalls.{on_proc, Li, Fr, idle, N, T, now_as, View, v_base, v_call, v_mark, v_limit, view, scans_all}
+use Rattle.icn_run_laws.proofs.OnCalls.{Li, Fr, idle, N, T, now_as, View, v_base, v_call, v_mark, v_limit, view, scans_all}
 
 -- a cell that stands in the midst changes in place
 pub changed_at : {w w' : World} {n : Name} {old k : Content} (s h : ℕ) (c : NCell) (x : Cell) (above below cells : List NCell) → cells ≡ above ++ c ∷ below
@@ -27,10 +27,6 @@ changed_at {w} {w'} s h c x above below cells e g d owned nl shows ok o = (
 
 abbrev pub changed_to : Bool → ℕ → Content
 changed_to t label = if t then Flag true else Changed label
-
-changed_flag : (t : Bool) (label : ℕ) → IsFlag (changed_to t label)
-changed_flag true label = tt
-changed_flag false label = tt
 
 changed_shows : (t : Bool) (label q : ℕ) (l : Option ℕ) (r : Registers) → (label == q) ≡ t
     → shown_label (Some (changed_to t label)) l q r ≡ S.mark (Some label) true r

@@ -4,9 +4,9 @@ use Rattle.std.specs.Prelude.{slice_get, slice_index_or, ◌==◌}
 use Rattle.std.proofs.lemmas.Bool.{eqb-true, eqb-false}
 use Rattle.icn_run.specs.Calls.{Pair}
 use Rattle.icn_run.specs.Stacks as S
-use Rattle.icn_run.specs.Stacks.{Registers, Cell, Frames}
+use Rattle.icn_run.specs.Stacks.{Registers, Cell}
 use Rattle.icn_run.specs.Chains as L
-use Rattle.icn_run.specs.Chains.{Reason, scanning, Chain, LinkedStack, WaitingChain}
+use Rattle.icn_run.specs.Chains.{scanning, LinkedStack}
 use Rattle.icn_run_laws.specs.Rendered.{Saved, Memory, saved_name, memory_of, NCell, n_suspension, World, IsOwned, saved_in, shown_cell, render, AllOk, FlatScans, f_no_scan, f_scan}
 use Rattle.icn_run_laws.proofs.Lists.{get_seam, above_all, length_map, r_get}
 use Rattle.icn_run_laws.proofs.Worlds.{ok_part, one_height, got_pair, index_got}

@@ -1,17 +1,17 @@
 -- An instruction that is no transfer leaves the other co-expressions as they were.
-use Rattle.std.proofs.Common.{◌≡◌, ℕ, zero, suc, inl, inr, List, [], ◌∷◌, ◌++◌, length, map, Option, Some, None, refl, sym, ap, ◌∙◌, subst, Bool, true, false, if◌then◌else◌}
+use Rattle.std.proofs.Common.{◌≡◌, ℕ, zero, suc, inl, inr, List, [], ◌∷◌, ◌++◌, length, map, Option, Some, None, refl, sym, ap, ◌∙◌, Bool, true, false, if◌then◌else◌}
 use Rattle.std.specs.Prelude.{◌-◌, ℤ, pos, negsuc, nat_lt, nat_le, slice_get, slice_index_or, drop}
 use Rattle.icn_text.specs.declared.op.Op.{Op}
 use Rattle.icn_text.specs.declared.op.Op.TheVariants as Ops
 use Rattle.icn_defs.specs.Arities.{arity}
-use Rattle.icn_value.specs.Values.{Std, ASet, ATable, Element, Key, Keyword, Global, Static}
+use Rattle.icn_value.specs.Values.{Std, ASet, ATable, Global, Static}
 use Rattle.icn_code.specs.declared.instr.Instr.{Instr}
 use Rattle.icn_code.specs.declared.instr.Instr.TheVariants as I
-use Rattle.icn_code.specs.Codes.{Proc as Procedure, RecordType}
+use Rattle.icn_code.specs.Codes.{Proc as Procedure}
 use Rattle.icn_run.specs.Rows.{Value, Null, Integer, Text, Chars, Procedure as ProcedureValue, ARecord, AList, ACoexp, Local, Field, Whole, Part, Item, Val, Var, Outcome, Fails, Gives, Suspends, Error, Ends, Operation, Function, apply, again, value_row, list_row, record_row, text_row, coexpression_row, integer_of, number_of, keyword_item, list_at, record_at}
 use Rattle.icn_run.specs.Calls.{Pair, Why, Alt, Op as Operating, Scan, Escan, Proc, MarkDrop, NoMark, Goes, Repeats, Outside as WithoutLabel, Calls}
-use Rattle.icn_run.specs.Step.{Program, Fresh, Coexp, Store, State, running, failing, hopping, over, stuck, with_found, on_pair, turn_if, turn, here, with_at, with_given, with_made, with_value, with_values, push_item, outcome, list_made, pair_now, with_pair, scans_left, with_exchange, maybe_exchanged, swapped_back, all_left, is_main, is_create_body, with_new, coexp_made, refreshed_from, refresh, fill_nulls, enter_procedure, collect_rest, with_parameters, called_if, call_procedure, construct_record, pushed_or_fails, integer_called, choose_item, Callee, IsProc, IsRecord, IsFunc, IsNothing, callee_of, callee_called, invoke_value, invoked_with, plain, elements_called, applied_to_elements, field_index, field_taken, field_of, field_applied, with_result, finish_run, return_to, proc_fails, without_mark, mark_dropped, resume_by, resumed_or_dropped, fails, members_of, standing_of, with_popped, with_taken, unmark_then, limit_results, limited_result, scan_opened, initial_if, operate, statics_before, instruction, instruction_at, step}
-use Rattle.icn_run_laws.specs.OthersStay.{is_transfer, IsNew, IsMadeAgain, Adds, AddsNone, Stay, StayIn, is_no_mark, EndsBody, OthersStay}
+use Rattle.icn_run.specs.Step.{Program, Fresh, Coexp, Store, State, running, failing, with_found, on_pair, turn_if, turn, here, with_at, with_given, with_made, with_value, with_values, push_item, outcome, list_made, pair_now, with_pair, scans_left, with_exchange, maybe_exchanged, swapped_back, all_left, is_main, is_create_body, with_new, coexp_made, refreshed_from, refresh, fill_nulls, enter_procedure, collect_rest, called_if, call_procedure, construct_record, pushed_or_fails, integer_called, choose_item, Callee, IsProc, IsRecord, IsFunc, IsNothing, callee_of, callee_called, invoke_value, invoked_with, plain, elements_called, applied_to_elements, field_index, field_taken, field_of, field_applied, with_result, return_to, proc_fails, without_mark, mark_dropped, resume_by, resumed_or_dropped, standing_of, unmark_then, limit_results, limited_result, scan_opened, initial_if, operate, instruction}
+use Rattle.icn_run_laws.specs.OthersStay.{is_transfer, IsNew, IsMadeAgain, Adds, AddsNone, Stay, StayIn, is_no_mark, OthersStay}
 
 module _ {K M : Type 0} (C : Calls K M) (P : Program) (IsAdded : Coexp K → Type 0) (before : Store K) where
   abbrev Q : State K M → Type 0

@@ -1,12 +1,11 @@
 -- The second law: the run of a code on linked marks and its run on flat stacks agree in both directions.
-use Rattle.std.proofs.Common.{◌≡◌, ℕ, zero, suc, ◌⊎◌, inl, inr, List, [], ◌∷◌, length, arith, Bool, true, false, refl, sym, ap, ◌∙◌, subst}
+use Rattle.std.proofs.Common.{◌≡◌, ℕ, ◌⊎◌, inl, inr, List, [], ◌∷◌, length, arith, Bool, true, false, refl, sym, ap, ◌∙◌, subst}
 use Rattle.icn_code.specs.Codes.{Tables}
 use Rattle.icn_run.specs.Stacks.{Frames, flat, empty, locals as flat_locals, set_locals as flat_set_locals}
 use Rattle.icn_run.specs.Chains.{fixed, flagged, Outer, base, call, mark, limit, outer_of, WaitingChain, LinkedStack, linked_calls, locals, set_locals, empty as no_chain}
 use Rattle.icn_run.specs.Rows.{Value}
-use Rattle.icn_run.specs.Calls.{Calls}
-use Rattle.icn_run.specs.Step.{Program, Launch, Observation, observation, State, running, failing, hopping, over, stuck, step, steps}
-use Rattle.icn_run.proofs.Observing.{over_seen, flat_once}
+use Rattle.icn_run.specs.Step.{Program, Launch, Observation, observation, State, running, failing, hopping, over, stuck, steps}
+use Rattle.icn_run.proofs.Observing.{over_seen}
 use Rattle.icn_run.specs.FlatStep as F
 use Rattle.icn_run.specs.LinkedStep as L
 use Rattle.icn_run.specs.LinkedStep.{repeats_anywhere}
@@ -158,17 +157,4 @@ covered repeats tables launch = runs_agree rows_keep repeats tables launch
 pub told : (repeats : ℕ → ℕ → Bool) (tables : Tables) (launch : Launch) → RunsAgreeAt repeats tables launch
 told repeats tables launch = runs_agree_at rows_keep repeats tables launch
 
--- what a run on linked marks is seen as is all that the run on flat stacks is seen as
-pub told_once : (repeats : ℕ → ℕ → Bool) (tables : Tables) (launch : Launch) (seen other : Observation) → L.Runs repeats tables launch seen
-    → F.Runs tables launch other → seen ≡ other
-told_once repeats tables launch seen other run flat_run = flat_once tables launch seen other (to_flat rows_keep repeats tables launch seen run) flat_run
-
--- where each end that is meant is the end of the run on linked marks, and one is meant, the run on flat stacks ends as is meant
-pub as_meant : (repeats : ℕ → ℕ → Bool) (tables : Tables) (launch : Launch) (Means : Observation → Type 0)
-    → ((seen : Observation) → Means seen → L.Runs repeats tables launch seen)
-    → (one : Observation) → Means one → ((seen : Observation) → Means seen → F.Runs tables launch seen) × ((seen : Observation) → F.Runs tables launch seen
-    → Means seen)
-as_meant repeats tables launch Means law one means = (
-  (λ seen m. to_flat rows_keep repeats tables launch seen (law seen m)),
-  (λ seen run. subst Means (told_once repeats tables launch one seen (law one means) run) means),
 )

@@ -1,12 +1,12 @@
 -- What suspending, resuming and dropping a mark do to a flat stack.
-use Rattle.std.proofs.Common.{◌≡◌, ℕ, zero, suc, ◌+◌, ◌-◌, ◌<◌, ◌≤◌, List, [], ◌∷◌, ◌++◌, length, map, Option, Some, None, Bool, refl, sym, ap, ◌∙◌, subst, arith, length-append}
+use Rattle.std.proofs.Common.{◌≡◌, ℕ, zero, suc, ◌+◌, ◌-◌, ◌≤◌, List, [], ◌∷◌, ◌++◌, length, map, Option, Some, None, refl, sym, ap, ◌∙◌, subst, arith, length-append}
 use Rattle.std.specs.Prelude.{slice_get, drop}
 use Rattle.std.specs.Option.{option_and_then}
 use Rattle.icn_run.specs.Rows.{Item}
 use Rattle.icn_run.specs.Calls.{Pair, Why, Alt, Proc}
-use Rattle.icn_run.specs.Stacks.{Cell, base, call, local, mark, limit, suspension, operand, Registers, Frames, cut, cell_at, copy_up, pair_at, oldest, scan_after, push, suspend, mark_suspended, suspend_mark, proc_suspended, suspend_proc, resume_from, resume, unmark_in, unmark}
-use Rattle.icn_run_laws.specs.StackLaws.{IsBare, AreOnTop, SameUpTo, IsCallFrom, SuspendsTo, registers_within, Suspends, ResumesTo, Resumes, IsMarkOn, UnmarksTo, EndsLimit, Unmarks}
-use Rattle.icn_run.specs.Step.{Store, on_pair, with_found, running, scans_left}
+use Rattle.icn_run.specs.Stacks.{Cell, base, call, local, mark, limit, suspension, operand, Registers, Frames, cut, cell_at, copy_up, pair_at, oldest, push, suspend, mark_suspended, proc_suspended, resume_from, unmark_in, unmark}
+use Rattle.icn_run_laws.specs.StackLaws.{IsBare, AreOnTop, SameUpTo, IsCallFrom, SuspendsTo, registers_within, Suspends, ResumesTo, Resumes, IsMarkOn, UnmarksTo, Unmarks}
+use Rattle.icn_run.specs.Step.{on_pair, with_found, running, scans_left}
 use Rattle.icn_run_laws.proofs.Lists.{no_some, some_inj, get_seam}
 
 -- what is copied are the operands on top

@@ -1,5 +1,5 @@
 -- What suspending, resuming and dropping a mark do to a flat stack, in the words of goal-directed evaluation.
-use Rattle.std.specs.Prelude.{◌≡◌, ℕ, suc, ◌<◌, ◌≤◌, List, [], ◌∷◌, ◌++◌, length, map, Option, Some}
+use Rattle.std.specs.Prelude.{◌≡◌, ℕ, suc, ◌<◌, ◌≤◌, List, ◌∷◌, ◌++◌, length, map, Option, Some}
 use Rattle.icn_run.specs.Rows.{Item}
 use Rattle.icn_run.specs.Calls.{Pair, Why, Alt, Proc}
 use Rattle.icn_run.specs.Stacks.{Cell, call, mark, limit, suspension, operand, Registers, Frames, cut, cell_at, pair_at, oldest, scan_after, push, suspend, suspend_mark, suspend_proc, resume, unmark, flat}

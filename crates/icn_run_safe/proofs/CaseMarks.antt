@@ -1,9 +1,8 @@
 -- Where a case compares, a mark is open in the procedure that runs.
-use Rattle.std.proofs.Common.{◌≡◌, inl, inr, ℕ, zero, suc, Bool, true, false, ◌&&◌, not, List, [], ◌∷◌, slice_get, Option, Some, None, IsSome, refl, sym, ap, ◌∙◌, subst}
+use Rattle.std.proofs.Common.{◌≡◌, inl, inr, ℕ, suc, Bool, true, false, ◌&&◌, not, List, [], ◌∷◌, slice_get, Option, Some, None, IsSome, refl, sym, ap, ◌∙◌, subst}
 use Rattle.std.specs.Prelude.{is_some}
 use Rattle.std.specs.Option.{option_map_or}
 use Rattle.std.proofs.lemmas.Option.{same_Some}
-use Rattle.icn_value.specs.Store.{Outside}
 use Rattle.icn_code.specs.declared.instr.Instr.{Instr}
 use Rattle.icn_code.specs.declared.instr.Instr.TheVariants as Instrs
 use Rattle.icn_code.specs.Codes.{Tables}
@@ -15,7 +14,7 @@ use Rattle.icn_verify.specs.Shapes.{PlainShape, outside}
 use Rattle.icn_run.specs.Chains.{Chain, chain, Outer, base, call, mark, limit, WaitingChain, LinkedStack, outer_of, unmark_from}
 use Rattle.icn_run.specs.Stacks as flats
 use Rattle.icn_run.specs.Stacks.{Frames, flat}
-use Rattle.icn_run.specs.Step.{Launch, State, Store, running, failing, hopping, over, stuck, instruction_at, instrs_of, step, steps}
+use Rattle.icn_run.specs.Step.{Launch, State, Store, running, failing, hopping, over, stuck, instruction_at, instrs_of}
 use Rattle.icn_run.specs.FlatStep as Flat
 use Rattle.icn_run.specs.LinkedStep as Marks
 use Rattle.icn_run.specs.LinkedStep.{repeats_anywhere}
@@ -24,12 +23,12 @@ use Rattle.icn_run_laws.specs.SameStates.{Opens, lift, mark_of, same_running, sa
 use Rattle.icn_run_laws.proofs.RowsKeep.{rows_keep}
 use Rattle.icn_run_laws.proofs.OnLinked.{linked_agrees}
 use Rattle.icn_run_laws.proofs.SecondLaw.{starts_so}
-use Rattle.icn_run.specs.AnyOutside.{over_outside, run_over}
+use Rattle.icn_run.specs.AnyOutside.{run_over}
 use Rattle.icn_run_safe.specs.Facts.{marks, shapes_of}
 use Rattle.icn_run_safe.specs.NoStuck.{TablesOk}
 use Rattle.icn_run_safe.specs.Shaped.{ChainOk, Knowledge, OuterOk, Safe}
 use Rattle.icn_run_safe.specs.Within.{RowsStayWithin}
-use Rattle.icn_run_safe.proofs.AnyOutside.{follows_run, over_own, over_twice, own_outside}
+use Rattle.icn_run_safe.proofs.AnyOutside.{follows_run}
 use Rattle.icn_run_safe.proofs.Facts.{Follows, IsDue, Sames, given}
 use Rattle.icn_run_safe.proofs.Keeping.{here_proc}
 use Rattle.icn_run_safe.proofs.NoStuck.{start_safe}
@@ -121,32 +120,6 @@ module _ (tables : Tables) (have : HaveShapes tables) (ok : TablesOk tables) (ke
       })))
 
 -- What follows from it
-
-case_over : (tables : Tables) (outside : Outside) (s : State Frames Frames) → CaseStands tables s → CaseStands tables (over_outside outside s)
-case_over tables outside (running m st) h = h
-case_over tables outside (failing m st) h = tt
-case_over tables outside (hopping m st) h = tt
-case_over tables outside (over ending left) h = tt
-case_over tables outside stuck h = tt
-
-pub case_now : (tables : Tables) (s : State Frames Frames) → CasesStandOver tables s → CaseStands tables s
-case_now tables s h = h []
-
-pub cases_behind : (tables : Tables) (outside : Outside) (s : State Frames Frames) → CasesStandOver tables s
-    → CasesStandOver tables (step flat tables (over_outside outside s))
-cases_behind tables outside s h = λ outsides. h (outside ∷ outsides)
-
-pub cases_next : (tables : Tables) (s : State Frames Frames) → CasesStandOver tables s → CasesStandOver tables (step flat tables s)
-cases_next tables s h = subst (λ (x : State Frames Frames). CasesStandOver tables (step flat tables x)) (over_own s) (cases_behind tables (own_outside s) s h)
-
-pub cases_after : (tables : Tables) (n : ℕ) (s : State Frames Frames) → CasesStandOver tables s → CasesStandOver tables (steps flat tables n s)
-cases_after tables zero s h = h
-cases_after tables (suc n) s h = cases_after tables n (step flat tables s) (cases_next tables s h)
-
-pub cases_elsewhere : (tables : Tables) (outside : Outside) (s : State Frames Frames) → CasesStandOver tables s → CasesStandOver tables (over_outside outside s)
-cases_elsewhere tables outside s h [] = case_over tables outside s (h [])
-cases_elsewhere tables outside s h (now ∷ later) =
-    subst (λ (x : State Frames Frames). CaseStands tables (run_over tables later (step flat tables x))) (sym (over_twice outside now s)) (h (now ∷ later))
 
 -- What the instruction asks for, at the place behind it
 

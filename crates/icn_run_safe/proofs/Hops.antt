@@ -6,7 +6,7 @@ use Rattle.icn_verify.specs.Shapes.{PlainShape, start_shape, with_more}
 use Rattle.icn_run.specs.Rows.{Value, Null, Integer, Text, Chars, Procedure as ProcedureValue, ARecord, AList, ACoexp, Val, Var, Outcome, Fails, Gives, Suspends, Error, Ends, again, coexpression_row}
 use Rattle.icn_run.specs.Calls.{Pair, Why, Alt, Op as Operation, Scan, Escan, Proc, MarkDrop, NoMark, Goes, Repeats, Outside as WithoutLabel}
 use Rattle.icn_run.specs.Chains as C
-use Rattle.icn_run.specs.Chains.{Chain, LinkedStack, WaitingChain}
+use Rattle.icn_run.specs.Chains.{LinkedStack, WaitingChain}
 use Rattle.icn_run.specs.Step.{Program, Status, Fresh, Active, Waiting, Exhausted, Coexp, Store, running, failing, hopping, here, with_at, with_made, outcome, push_item, pair_now, with_pair, with_exchange, maybe_exchanged, swapped_back, all_left, coexp_at, status_of, activator_of, with_coexp, with_status, with_activator, make_active, fail_by, passed_failure, give_by, passed_value, hop, exhaust_active, counted_result, result_given, is_main, is_create_body, with_new, coexp_made, refreshed_from, refresh, entered_by, entered_if, activation, return_to, proc_fails, without_mark, mark_dropped, resume_by, resumed_or_dropped, fails}
 use Rattle.icn_run_laws.proofs.RowsKeep.{rows_keep}
 use Rattle.icn_run_safe.specs.Within.{ValueWithin, CreatedWithin, RowsStayWithin}

@@ -18,7 +18,7 @@ use Rattle.icn_run.specs.Rows.{Value, Null, Integer, Text, Chars, Procedure as P
 use Rattle.icn_run.specs.Calls as Cs
 use Rattle.icn_run.specs.Calls.{Pair}
 use Rattle.icn_run.specs.Chains as C
-use Rattle.icn_run.specs.Chains.{Chain, LinkedStack, WaitingChain, with_chain}
+use Rattle.icn_run.specs.Chains.{LinkedStack, WaitingChain, with_chain}
 use Rattle.icn_run.specs.Step.{Program, Store, running, on_pair, with_found, turn, here, with_value, with_values, push_item, list_made, with_made, pair_now, with_pair, with_exchange, maybe_exchanged, return_to, all_left, coexp_made, refresh, field_applied, field_of, invoked_with, applied_to_elements, activation_of, activation, with_result, standing_of, pushed_or_fails, activator_of, unmark_then, limit_results, limited_result, scan_opened, result_given, is_create_body, members_of, operate, initial_if, instruction, statics_before}
 use Rattle.icn_run_laws.proofs.RowsKeep.{rows_keep}
 use Rattle.icn_run_safe.specs.Within.{Each, ItemWithin, RowsStayWithin}

@@ -7,7 +7,7 @@ use Rattle.icn_verify.specs.declared.shape.LevelKind.TheVariants as Levels
 use Rattle.icn_verify.specs.Shapes.{PlainShape, with_more, with_fewer, with_mark}
 use Rattle.icn_run.specs.Rows.{Value, Item}
 use Rattle.icn_run.specs.Chains as C
-use Rattle.icn_run.specs.Chains.{Label, fixed, flagged, Chain, chain, Suspensions, none, suspension, Outer, base, call, mark, limit, Frame, at_base, in_call, frame_of, LinkedStack, outer_of, scans_of, proc_of, activation_of, is_base_frame, frame, locals, with_chain}
+use Rattle.icn_run.specs.Chains.{Chain, chain, Frame, at_base, in_call, LinkedStack, outer_of, scans_of, proc_of, activation_of, is_base_frame, frame, locals, with_chain}
 use Rattle.icn_run.specs.LinkedStep.{repeats_anywhere}
 use Rattle.icn_run.specs.Step.{is_main}
 use Rattle.icn_run_laws.proofs.Lists.{some_inj, get_more, get_seam, get_set_same, get_set_other}

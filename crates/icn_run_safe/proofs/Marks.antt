@@ -12,7 +12,7 @@ use Rattle.icn_verify.specs.Rows.{has_operand}
 use Rattle.icn_run.specs.Rows.{Value, Item, Residual}
 use Rattle.icn_run.specs.Calls.{Pair, Why, Alt, Op, Scan, Escan, Proc, MarkDrop, NoMark, Goes, Repeats, Outside as WithoutLabel}
 use Rattle.icn_run.specs.Chains as C
-use Rattle.icn_run.specs.Chains.{Label, fixed, flagged, Reason, because, scanning, Chain, chain, Suspensions, none, suspension, Outer, base, call, mark, limit, Frame, at_base, in_call, LinkedStack, outer_of, scans_of, frame, with_chain}
+use Rattle.icn_run.specs.Chains.{fixed, flagged, Reason, because, scanning, Chain, chain, Suspensions, none, suspension, Outer, base, call, mark, limit, Frame, at_base, in_call, LinkedStack, outer_of, scans_of, frame, with_chain}
 use Rattle.icn_run.specs.Step.{is_main}
 use Rattle.icn_run_laws.proofs.Lists.{some_inj}
 use Rattle.icn_run_safe.specs.Within.{Each, ItemWithin, ResidualWithin}

@@ -11,11 +11,11 @@ use Rattle.icn_defs.specs.Keeping.{KeepsIn, Keeps}
 use Rattle.icn_code.specs.Codes.{Tables, Proc as Procedure, RecordType}
 use Rattle.icn_verify.specs.Shapes.{PlainShape, start_shape, with_more, with_fewer, before_mark}
 use Rattle.icn_run.specs.Rows as R
-use Rattle.icn_run.specs.Rows.{Value, Null, Integer, Text, Chars, Procedure as ProcedureValue, ARecord, AList, ACoexp, Item, Val, Var, Whole, Part, World, Setting, Names, list_at, record_at, Outcome, Fails, Gives, Suspends, Error, Ends, Operation, Function, apply, again, value_row, list_row, record_row, place_of, number_of}
-use Rattle.icn_run.specs.Calls.{Pair, Why, Calls}
+use Rattle.icn_run.specs.Rows.{Value, Null, Integer, Text, Chars, Procedure as ProcedureValue, ARecord, AList, ACoexp, Item, Val, Var, Whole, World, Setting, list_at, record_at, Outcome, Fails, Gives, Suspends, Error, Ends, Operation, Function, apply, value_row, list_row, record_row, place_of, number_of}
+use Rattle.icn_run.specs.Calls.{Pair, Calls}
 use Rattle.icn_run.specs.Calls as Cs
 use Rattle.icn_run.specs.Chains as C
-use Rattle.icn_run.specs.Chains.{Chain, LinkedStack, WaitingChain, linked_calls, with_chain, outer_of}
+use Rattle.icn_run.specs.Chains.{Chain, LinkedStack, WaitingChain, linked_calls, with_chain}
 use Rattle.icn_run.specs.LinkedStep.{repeats_anywhere}
 use Rattle.icn_run.specs.Step.{Program, Store, State, running, failing, with_found, on_pair, turn_if, turn, here, with_world, with_at, with_given, with_made, with_value, with_values, push_item, outcome, list_made, with_pair, scans_left, with_popped, with_taken, unmark_then, fill_nulls, collect_rest, with_parameters, enter_procedure, called_if, call_procedure, construct_record, argument_at, choose_item, pushed_or_fails, integer_called, Callee, IsProc, IsRecord, IsFunc, IsNothing, func_callee, record_among, callee_among, callee_of, callee_called, invoke_value, invoked_with, plain, elements_called, applied_to_elements, field_index, field_taken, field_of}
 use Rattle.icn_defs.specs.Numbers.{func_of}

@@ -1,5 +1,5 @@
 -- How the first three arguments of `bal` are found.
-use Rattle.std.proofs.Common.{◌≡◌, ◌∙◌, sym, ap, subst, ℕ, true, List, Result, codes}
+use Rattle.std.proofs.Common.{◌≡◌, ◌∙◌, sym, ap, ℕ, true, List, Result, codes}
 use Rattle.std.specs.Prelude.{IsErrAnd}
 use Rattle.icn_value.specs.Values.{Value, Chars}
 use Rattle.icn_value.specs.Store.{Setting}

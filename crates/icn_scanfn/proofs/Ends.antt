@@ -1,5 +1,5 @@
 -- What rows come to once both places are known.
-use Rattle.std.proofs.Common.{◌≡◌, ◌∙◌, refl, sym, ap, ℕ, pos, zero, suc, ◌+◌, ◌-◌, ◌^◌, ◌<◌, ◌≤◌, ◌&&◌, nat_lt, Bool, true, false, List, length, Option, Some, None, arith}
+use Rattle.std.proofs.Common.{◌≡◌, ◌∙◌, refl, sym, ap, ℕ, pos, ◌+◌, ◌-◌, ◌^◌, ◌<◌, ◌≤◌, ◌&&◌, nat_lt, Bool, true, false, List, length, Option, Some, None, arith}
 use Rattle.std.specs.List.{find, prefix_len, range_with_len}
 use mir.Val.{to_z}
 use Rattle.std.specs.Int.{w64}

@@ -1,5 +1,5 @@
 -- How a text and two positions are found among arguments.
-use Rattle.std.proofs.Common.{◌≡◌, ◌∙◌, refl, sym, ap, subst, ℕ, ℤ, pos, ◌+◌, List, [], ◌∷◌, Result, if◌then◌else◌, FitsSigned}
+use Rattle.std.proofs.Common.{◌≡◌, ◌∙◌, refl, sym, ap, ℕ, ℤ, pos, ◌+◌, List, [], ◌∷◌, Result, if◌then◌else◌, FitsSigned}
 use mir.Val.{of_z, to_z}
 use Rattle.std.specs.Int.{w64}
 use Rattle.std.proofs.lemmas.Int.{to_z-of_z}

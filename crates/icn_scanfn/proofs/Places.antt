@@ -28,11 +28,6 @@ pub found_later : (test : ℕ → Bool) (at last : ℕ) → at < last → test a
     → find test (range_with_len at (last - at)) ≡ find test (range_with_len (at + 1) (last - (at + 1)))
 found_later test at last less is = found_or_later test at last less ∙ ap (λ b. cond b (Some at) (find test (range_with_len (at + 1) (last - (at + 1))))) is
 
-pub found_nowhere : (test : ℕ → Bool) (at last : ℕ) → last ≤ at → find test (range_with_len at (last - at)) ≡ None
-found_nowhere test at last less =
-    let none : last - at ≡ 0 = omega arith in
-    ap (λ n. find test (range_with_len at n)) none
-
 -- The bytes between two places are the one behind the first, and those between the next place and the last.
 drop_here : (text : List ℕ) (k : ℕ) → k < length text → drop k text ≡ get_or text k 0 ∷ drop (suc k) text
 drop_here [] k less = absurd (omega arith)
@@ -122,11 +117,6 @@ module _ (wanted opening closing text : List ℕ) (at last count : ℕ) (low : 1
       → balanced_place wanted opening closing (between text at last) at count ≡ None
   unfolding byte later
   balanced_over absent is = balanced_by ∙ (ap (λ b. cond b (Some at) (later (count_behind opening closing byte count))) absent ∙ ap later is)
-
-pub balanced_nowhere : (wanted opening closing text : List ℕ) (at last count : ℕ) → last ≤ at
-    → balanced_place wanted opening closing (between text at last) at count ≡ None
-balanced_nowhere wanted opening closing text at last count less =
-    ap (λ bytes. balanced_place wanted opening closing bytes at count) (between_none text at last less)
 
 -- where the count is 0, a byte is balanced where it is of the cset
 pub balanced_at_zero : (wanted : Cset) (byte count : ℕ) (result : Bool) → byte < 256 → count ≡ 0 → result ≡ has wanted byte

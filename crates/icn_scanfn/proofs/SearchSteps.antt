@@ -1,7 +1,7 @@
 -- How the arguments of a search are found.
 use Rattle.std.proofs.Common.{◌≡◌, ◌∙◌, sym, ap, subst, List, ℕ, [], ◌∷◌, Result}
 use Rattle.std.specs.Prelude.{IsErrAnd}
-use Rattle.icn_value.specs.Values.{Value, Chars}
+use Rattle.icn_value.specs.Values.{Value}
 use Rattle.icn_value.specs.Store.{Setting}
 use Rattle.icn_defs.specs.Arguments.{arg, cset, string}
 use Rattle.icn_defs.specs.Calls.{GoesOn, Passes}

@@ -6,7 +6,7 @@ use Rattle.icn_code.specs.declared.instr.Instr.TheVariants as I
 use Rattle.icn_tree.specs.Trees.{Tree, Trees, MaybeTree, Clauses}
 use Rattle.icn_value.specs.Values.{Value, Item, Val}
 use Rattle.icn_meaning.specs.Contexts as M
-use Rattle.icn_meaning.specs.Contexts.{Works, Nothing, ◌and_then◌, Choices, NoChoice, ◌or_else◌, Action, Surroundings, InCall, InScan, InLoop, Pair}
+use Rattle.icn_meaning.specs.Contexts.{Works, Choices, Action, Surroundings}
 use Rattle.icn_meaning.specs.Scanning as MS
 use Rattle.icn_meaning.specs.Actions as MA
 use Rattle.icn_run.specs.Chains.{Label, Chain, chain, Suspensions, Outer, mark, limit, WaitingChain, frame_of, oldest as oldest_until, first_scan, leave_frame, saved_at}

@@ -10,13 +10,13 @@ use Rattle.icn_code.specs.declared.instr.Instr.TheVariants as I
 use Rattle.icn_code.specs.Codes.{Proc as Procedure}
 use Rattle.icn_tree.specs.Trees.{Tree, Trees, NoTrees, Initial}
 use Rattle.icn_value.specs.Values as V
-use Rattle.icn_value.specs.Values.{Value, Null, Item, Val, Var}
+use Rattle.icn_value.specs.Values.{Value, Null, Item, Val}
 use Rattle.icn_value.specs.Store.{list_at, record_at}
 use Rattle.icn_defs.specs.Conversions.{place_of}
 use Rattle.icn_defs.specs.StepRows.{coexpression_row, list_row, record_row, apply, Operation, Function}
 use Rattle.icn_meaning.specs.Program as MP
 use Rattle.icn_meaning.specs.Contexts as M
-use Rattle.icn_meaning.specs.Contexts.{Form, Operating, Calling, Spreading, Collecting, Taking, Activating, Works, Nothing, ◌and_then◌, Choices, NoChoice, ◌or_else◌, Surroundings, InCall}
+use Rattle.icn_meaning.specs.Contexts.{Form, Operating, Calling, Spreading, Collecting, Taking, Activating, Works, Choices, Surroundings, InCall}
 use Rattle.icn_meaning.specs.Turns as MT
 use Rattle.icn_meaning.specs.Coexpressions as MX
 use Rattle.icn_meaning.specs.Calls as MC

@@ -5,14 +5,14 @@ use Rattle.std.specs.Prelude.{nat_lt, if◌then◌else◌}
 use Rattle.icn_code.specs.declared.instr.Instr.{Instr}
 use Rattle.icn_code.specs.declared.instr.Instr.TheVariants as I
 use Rattle.icn_tree.specs.Trees as T
-use Rattle.icn_tree.specs.Trees.{Tree, Trees, MaybeTree, Clauses, Absent, Present, NoTrees, More}
+use Rattle.icn_tree.specs.Trees.{Tree, Trees, NoTrees, More}
 use Rattle.icn_value.specs.Values.{Value, Integer, Text, Chars, Item, Val, Var, Whole, Static}
 use Rattle.icn_value.specs.Store.{Setting}
 use Rattle.icn_defs.specs.Errors.{error_report}
 use Rattle.icn_defs.specs.Rows.{Outcome, Fails, Gives, Suspends, Error, Ends}
 use Rattle.icn_defs.specs.StepRows.{value_row}
 use Rattle.icn_meaning.specs.Contexts as M
-use Rattle.icn_meaning.specs.Contexts.{Works, Nothing, ◌and_then◌, Choices, NoChoice, ◌or_else◌, Surroundings}
+use Rattle.icn_meaning.specs.Contexts.{Works, ◌and_then◌, Choices}
 use Rattle.icn_meaning.specs.Turns as MT
 use Rattle.icn_run.specs.Chains.{outer_of, proc_of, frame_of, fixed, flagged, Chain, chain, Suspensions, none, Outer, mark, WaitingChain, LinkedStack, push_mark}
 use Rattle.icn_run.specs.Step as S

@@ -1,5 +1,5 @@
 -- What the rules say of each procedure of the files of a program.
-use Rattle.std.proofs.Common.{◌≡◌, ℕ, Bool, true, false, List, [], ◌∷◌, ◌++◌, length, Option, Some, None, refl, sym, ap, ◌∙◌, suc, subst, arith}
+use Rattle.std.proofs.Common.{◌≡◌, Bool, true, false, List, [], ◌∷◌, ◌++◌, length, Option, Some, None, refl, ap, suc, arith}
 use Rattle.std.specs.Prelude.{All}
 use Rattle.std.specs.Option.{option_map}
 use Rattle.std.proofs.Math.Bool.{Bool-set}
@@ -9,15 +9,14 @@ use Rattle.icn_tree.specs.declared.rule.Rule.TheVariants.{C1, C8}
 use Rattle.icn_tree.specs.declared.tree.Name.{Name}
 use Rattle.icn_tree.specs.declared.tree.Item.{Item}
 use Rattle.icn_tree.specs.declared.tree.Item.TheVariants as Items
-use Rattle.icn_tree.specs.declared.tree.LocalKind.{LocalKind}
 use Rattle.icn_tree.specs.declared.tree.Place.{Place}
 use Rattle.icn_tree.specs.Phrases.{Phrase}
-use Rattle.icn_tree.specs.Declarations.{MoreWithCommas, WithCommas, SpellsNames, SpellsMaybeNames, SpellsItem, SpellsParameters, SpellsLocals, SpellsInitial, SpellsBody, SpellsDeclaration, SpellsFile, IsTreeOf}
+use Rattle.icn_tree.specs.Declarations.{MoreWithCommas, WithCommas, SpellsMaybeNames, SpellsItem, SpellsParameters, SpellsLocals, SpellsInitial, SpellsBody, SpellsDeclaration, SpellsFile, IsTreeOf}
 use Rattle.icn_tree.specs.Grammar.{identifier}
 use Rattle.icn_tree.specs.Trees.{Trees, NoTrees, More, Locals, Initial, NoInitial, Initially, Procedure, Declaration, Global, Link, Invocable, Record, ProcedureOf}
 use Rattle.icn_parse.specs.Outcomes.{first_unknown, initial_keywords, all_keywords, declaration_fault, first_fault, fault_or, Fault, UnknownKeyword, IsTree, IsOutcome, is_tree}
-use Rattle.icn_decls.specs.Contexts.{outermost, Fault as ContextFault}
-use Rattle.icn_decls.specs.Faults.{initial_faults, all_faults, all_repeated, fault_if_met, too_many, declared_names, procedure_faults, declaration_faults, declarations_faults, names_after, context_faults}
+use Rattle.icn_decls.specs.Contexts.{outermost}
+use Rattle.icn_decls.specs.Faults.{initial_faults, all_faults, all_repeated, fault_if_met, too_many, declared_names, procedure_faults, declaration_faults, declarations_faults, names_after}
 use Rattle.icn_tree.specs.NameSets.{NameTest, none_met}
 use Rattle.icn_meaning.specs.Program.{joined_declarations, procedures_of}
 use Rattle.icn_decls.specs.Spelled.{IsSpelled}

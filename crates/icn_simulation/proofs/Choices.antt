@@ -5,7 +5,7 @@ use Rattle.icn_code.specs.declared.instr.Instr.TheVariants as I
 use Rattle.icn_tree.specs.Trees.{Tree, MaybeTree}
 use Rattle.icn_value.specs.Values.{Item}
 use Rattle.icn_meaning.specs.Contexts as M
-use Rattle.icn_meaning.specs.Contexts.{Operating, Activating, Works, Nothing, ◌and_then◌, Choices, NoChoice, ◌or_else◌, Action, Surroundings, InCall, InScan, InLoop}
+use Rattle.icn_meaning.specs.Contexts.{Works, Choices, Surroundings}
 use Rattle.icn_meaning.specs.Turns as MT
 use Rattle.icn_meaning.specs.Scanning as MS
 use Rattle.icn_meaning.specs.Coexpressions as MX

@@ -4,7 +4,6 @@ use Rattle.std.specs.Prelude.{slice_get, slice_index_or, slice_set}
 use Rattle.icn_tree.specs.Trees.{Tree, Empty}
 use Rattle.icn_value.specs.Values.{Value}
 use Rattle.icn_meaning.specs.Contexts as M
-use Rattle.icn_meaning.specs.Contexts.{Works, Nothing, ◌and_then◌, Choices, NoChoice, ◌or_else◌, Surroundings, InCall}
 use Rattle.icn_meaning.specs.Coexpressions as MX
 use Rattle.icn_run.specs.Chains.{Chain, chain, none, base, WaitingChain}
 use Rattle.icn_run.specs.Step as S

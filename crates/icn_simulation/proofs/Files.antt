@@ -1,11 +1,10 @@
 -- The first law for the files of a program, and both laws together.
-use Rattle.std.proofs.Common.{◌≡◌, ◌<◌, ℕ, List, sym, subst}
+use Rattle.std.proofs.Common.{ℕ, List, sym, subst}
 use Rattle.icn_tree.specs.Trees.{Declaration}
 use Rattle.icn_code.specs.Codes.{Tables}
 use Rattle.icn_defs.specs.Running.{Launch, Observation, Ending}
 use Rattle.icn_defs.specs.Interruptions.{Streams}
 use Rattle.icn_meaning.specs.Program.{program_of, joined_declarations, procedures_of}
-use Rattle.icn_meaning.specs.Meaning.{Means}
 use Rattle.icn_run.specs.LinkedStep as Linked
 use Rattle.icn_run.specs.LinkedStep.{repeats_of}
 use Rattle.icn_run_laws.specs.SecondLaw.{MissingCell}

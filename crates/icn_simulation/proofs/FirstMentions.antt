@@ -1,6 +1,6 @@
 -- Tables in which each thing that is mentioned stands once: it stands at its place, and no other thing does.
-use Rattle.std.proofs.Common.{◌≡◌, ℕ, zero, suc, ◌+◌, ◌==◌, ◌<◌, ◌||◌, Bool, true, false, not, filter, List, [], ◌∷◌, ◌++◌, length, map, Option, Some, None, find, cond, refl, sym, ap, ◌∙◌, subst, arith}
-use Rattle.std.specs.Prelude.{slice_get, slice_index_or, position, if◌then◌else◌}
+use Rattle.std.proofs.Common.{◌≡◌, ℕ, zero, ◌+◌, ◌==◌, ◌||◌, Bool, true, false, not, filter, List, [], ◌∷◌, ◌++◌, map, Option, Some, None, find, cond, refl, sym, ap, ◌∙◌, arith}
+use Rattle.std.specs.Prelude.{slice_get, slice_index_or, position}
 use Rattle.std.specs.Bool.{Decides}
 use Rattle.std.specs.List.{list_any, position_or_len, position_from}
 use Rattle.std.specs.Option.{option_map}

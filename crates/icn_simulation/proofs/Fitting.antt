@@ -1,5 +1,5 @@
 -- A tree that breaks no rule fits where it stands, if what it mentions stands in the tables: one line a form.
-use Rattle.std.proofs.Common.{◌≡◌, ◌||◌, ℕ, Bool, true, false, List, [], ◌∷◌, ◌++◌, Option, Some, None, refl, sym, ap, ◌∙◌, subst, inl, inr}
+use Rattle.std.proofs.Common.{◌≡◌, ◌||◌, ℕ, Bool, true, false, List, [], ◌∷◌, ◌++◌, Some, None, refl, sym, ap, ◌∙◌, subst, inl, inr}
 use Rattle.std.specs.Prelude.{◌⊎◌, slice_get, unwrap_or, codes, if◌then◌else◌}
 use Rattle.std.specs.List.{list_any}
 use Rattle.std.specs.Str.{bytes_eq}
@@ -21,11 +21,11 @@ use Rattle.icn_tree.specs.declared.tree.LoopKind.{LoopKind}
 use Rattle.icn_tree.specs.declared.tree.LoopKind.TheVariants.{While, Until, Every}
 use Rattle.icn_tree.specs.TokenBounds.{is_augmented}
 use Rattle.icn_tree.specs.Trees.{Tree, Trees, MaybeTree, Clauses, Initial, NoInitial, Initially, Empty, Constant, Identifier, Keyword, Parentheses, Listing, Compound, Call, CoCall, Subscript, Section, Field, Prefix, Not, Binary, To, If, Case, Loop, Repeat, Create, Next, Fail, Break, Return, Suspend, Absent, Present, NoTrees, More, Default, Guarded, NoClauses, MoreClauses, elements_of}
-use Rattle.icn_parse.specs.Outcomes.{keywords, keywords_if, all_keywords, clauses_keywords, initial_keywords, known_keywords, is_known, first_unknown}
+use Rattle.icn_parse.specs.Outcomes.{keywords, keywords_if, all_keywords, clauses_keywords, initial_keywords, is_known, first_unknown}
 use Rattle.icn_decls.specs.Contexts.{Fault, Context, outermost, create_context, enter_loop, leave_loop, result_faults, break_faults, next_faults}
-use Rattle.icn_decls.specs.Faults.{faults, maybe_faults, all_faults, clauses_faults, initial_faults, is_default, next_in_control}
+use Rattle.icn_decls.specs.Faults.{faults, maybe_faults, all_faults, clauses_faults, initial_faults, next_in_control}
 use Rattle.icn_value.specs.declared.cset.Cset.{Cset}
-use Rattle.icn_value.specs.Values.{Value, Chars, Val, Var, Whole}
+use Rattle.icn_value.specs.Values.{Chars, Val, Var, Whole}
 use Rattle.icn_meaning.specs.Program.{meaning_of, index_of}
 use Rattle.icn_meaning.specs.Calls.{fields_in}
 use Rattle.icn_meaning.specs.Evaluate.{literal, keyword_among, step_of}
@@ -35,7 +35,7 @@ use Rattle.icn_simulation.specs.Translation.{Names, literal_code}
 use Rattle.icn_simulation.specs.Linkage.{Linkage, Loads, l_integer, l_string, l_cset}
 use Rattle.icn_simulation.specs.Mentions.{Mention, AnInteger, AText, ASet, AField, literal_mention, mentions, all_mentions, maybe_mentions, step_mentions, guarded_mentions, default_mentions, initial_mentions}
 use Rattle.icn_simulation.specs.Standing.{Nest, top, in_create, in_mark, in_scan, in_loop, in_control, in_each, Proper, w_top, w_mark, w_scan, w_loop, w_control, w_each, is_empty}
-use Rattle.icn_simulation.specs.Translatable.{outside, HasLoop, h_mark, h_scan, h_loop, h_control, h_each, HasNext, x_mark, x_scan, x_loop, x_each, is_prefix_sign, is_infix_sign, Fits, fits_empty, fits_constant, fits_identifier, fits_keyword, fits_fail_keyword, fits_last, fits_before, fits_final, fits_passed, fits_bounded, fits_listing, fits_call, fits_cocall, fits_subscript, fits_section, fits_field, fits_prefix, fits_activate, fits_repeated, fits_not, fits_both, fits_scan, fits_or, fits_limit, fits_infix, fits_at, fits_bang, fits_update_both, fits_update_scan, fits_update_at, fits_update, fits_to, fits_if, fits_if_else, fits_case, fits_while, fits_until, fits_every, fits_repeat, fits_create, fits_next, fits_fail, fits_break, fits_return, fits_suspend, FitsAll, fits_nil, fits_cons, FitsBodies, fits_no_body, fits_body, FitsMaybe, fits_absent, fits_present, FitsDefault, fits_no_default, fits_default, FitsCases, fits_no_case, fits_other, fits_guard, FitsRest, fits_end, fits_skipped, fits_more, FitsRoutine, fits_plain, fits_blank, fits_initial}
+use Rattle.icn_simulation.specs.Translatable.{outside, HasLoop, h_mark, h_scan, h_loop, h_control, h_each, HasNext, x_mark, x_scan, x_loop, x_each, Fits, fits_empty, fits_constant, fits_identifier, fits_keyword, fits_fail_keyword, fits_last, fits_before, fits_final, fits_passed, fits_bounded, fits_listing, fits_call, fits_cocall, fits_subscript, fits_section, fits_field, fits_prefix, fits_activate, fits_repeated, fits_not, fits_both, fits_scan, fits_or, fits_limit, fits_infix, fits_at, fits_bang, fits_update_both, fits_update_scan, fits_update_at, fits_update, fits_to, fits_if, fits_if_else, fits_case, fits_while, fits_until, fits_every, fits_repeat, fits_create, fits_next, fits_fail, fits_break, fits_return, fits_suspend, FitsAll, fits_nil, fits_cons, FitsBodies, fits_no_body, fits_body, FitsMaybe, fits_absent, fits_present, FitsDefault, fits_no_default, fits_default, FitsCases, fits_no_case, fits_other, fits_guard, FitsRest, fits_end, fits_skipped, fits_more, FitsRoutine, fits_plain, fits_blank, fits_initial}
 use Rattle.icn_simulation.proofs.FirstMentions.{test_by}
 use Rattle.icn_simulation.proofs.TreeForms.{is_before, is_between, IsInfix, FormedInitial, Formed, FormedMaybe, FormedSome, FormedAll, FormedClauses}
 

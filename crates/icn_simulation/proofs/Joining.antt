@@ -14,28 +14,26 @@ use Rattle.std.proofs.lemmas.List.Sums.{sum_by-cons}
 use Rattle.std.proofs.lemmas.Option.{slice_get-map}
 use Rattle.std.proofs.lemmas.Slice.Eq.{bytes_eq-Decides}
 use Rattle.icn_text.specs.declared.func.Func.{Func}
-use Rattle.icn_tree.specs.declared.tree.Name.{Name}
-use Rattle.icn_tree.specs.Trees.{Trees, Initial, Procedure as ProcedureTree, Declaration, Global, Link, Invocable, Record, ProcedureOf}
+use Rattle.icn_tree.specs.Trees.{Procedure as ProcedureTree, Declaration, Global, Link, Invocable, Record, ProcedureOf}
 use Rattle.icn_value.specs.declared.cset.Cset.{Cset}
-use Rattle.icn_value.specs.Values.{Value, Procedure, Item, Var, Whole}
+use Rattle.icn_value.specs.Values.{Procedure, Var, Whole}
 use Rattle.icn_code.specs.declared.code.Global.{Global as GlobalEntry}
-use Rattle.icn_code.specs.declared.code.Start.{Start}
 use Rattle.icn_code.specs.declared.code.Start.TheVariants as Starts
 use Rattle.icn_code.specs.Codes.{RecordType, Proc, Tables}
 use Rattle.icn_code.specs.Rules.{name_of}
 use Rattle.icn_meaning.specs.Program as M
-use Rattle.icn_meaning.specs.Program.{Routine, Kind, program_of, joined_declarations, index_of, later, has_name, with_more_names, with_name, function_named, globals_of, global_names, procedures_of, kinds_of, kind_names, routine_names, routines_of, routine_of, statics_among, statics_in, start_of, starts_of, meant_by, meaning_in, texts}
+use Rattle.icn_meaning.specs.Program.{Routine, Kind, program_of, index_of, later, has_name, with_more_names, with_name, function_named, globals_of, global_names, procedures_of, kinds_of, kind_names, routine_names, routines_of, routine_of, statics_among, statics_in, starts_of, meant_by, meaning_in, texts}
 use Rattle.icn_meaning.specs.Calls.{fields_in}
 use Rattle.icn_run.specs.Step as S
 use Rattle.icn_run.specs.Step.{members_of}
 use Rattle.icn_simulation.specs.Translation.{Names, procedure}
 use Rattle.icn_simulation.specs.Linkage.{Linkage, Loads, l_local, l_static, l_global}
-use Rattle.icn_simulation.specs.Mentions.{Mention, AnInteger, AText, ASet, AField, all_mentions, initial_mentions, integers_among, texts_among, sets_among, fields_among, firsts}
-use Rattle.icn_simulation.specs.Joined.{routines, routine_mentions, code_mentions, record_fields, fields_of, string_mentions, strings_of, integers_of, sets_of, text_index, variable_by, names_in, record_entry, start_by, start, global_entry, procedure_entry, code_with}
+use Rattle.icn_simulation.specs.Mentions.{Mention, AnInteger, AText, ASet, AField, integers_among, texts_among, sets_among, fields_among}
+use Rattle.icn_simulation.specs.Joined.{routines, routine_mentions, code_mentions, record_fields, fields_of, string_mentions, strings_of, sets_of, text_index, variable_by, names_in, record_entry, start_by, start, global_entry, procedure_entry, code_with}
 use Rattle.icn_simulation.specs.Translated.{linkage, TranslatedRoutine, Routines, u_none, u_more, Kinds, d_none, d_more, IsTranslated}
 use Rattle.icn_simulation.specs.Begins.{OfMain, no_main, a_main, Begins}
 use Rattle.icn_simulation.proofs.FirstMentions.{test_by, or_other, any_left, any_right, itself, at_first, among_firsts, text_at, AreAmong, among_head, among_tail, same_position}
-use Rattle.icn_simulation.proofs.Fitting.{AllKept, kept_before, kept_behind, IsKept, AreNamed, Clean, fit_routine}
+use Rattle.icn_simulation.proofs.Fitting.{AllKept, kept_before, kept_behind, IsKept, AreNamed, fit_routine}
 use Rattle.icn_simulation.proofs.Checked.{IsSound, IsSoundProcedure, Each}
 use Rattle.icn_simulation.proofs.Routines.{routine_callee}
 

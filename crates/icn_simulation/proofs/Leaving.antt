@@ -3,10 +3,10 @@
 use Rattle.std.proofs.Common.{◌≡◌, ℕ, ◌&&◌, not, Bool, true, false, List, [], ◌∷◌, ◌++◌, Option, Some, None, option_map, refl, sym, ap, ◌∙◌, subst}
 use Rattle.std.specs.Prelude.{if◌then◌else◌}
 use Rattle.icn_tree.specs.Trees as T
-use Rattle.icn_tree.specs.Trees.{Tree, Trees, MaybeTree, Clauses, Absent, Present, NoTrees, More}
+use Rattle.icn_tree.specs.Trees.{Tree, Trees, MaybeTree, More}
 use Rattle.icn_value.specs.Values.{Item}
 use Rattle.icn_meaning.specs.Contexts as M
-use Rattle.icn_meaning.specs.Contexts.{Works, Nothing, ◌and_then◌, Choices, NoChoice, ◌or_else◌, Action, Surroundings, InCall, InScan, InLoop, Pair}
+use Rattle.icn_meaning.specs.Contexts.{Nothing, ◌and_then◌, Choices, ◌or_else◌, Surroundings}
 use Rattle.icn_meaning.specs.Scanning as MS
 use Rattle.icn_meaning.specs.Actions as MA
 use Rattle.icn_meaning.specs.Calls as MC
@@ -41,10 +41,6 @@ oldest scans = oldest_until None scans
 
 abbrev pub away : List ℕ → M.Store → M.Store
 away scans st = away_by (oldest scans) st
-
-oldest_or : ℕ → List ℕ → ℕ
-oldest_or i [] = i
-oldest_or i (j ∷ z) = oldest_or j z
 
 old : (i : ℕ) (z : List ℕ) → (n : ℕ) × (oldest (i ∷ z) ≡ Some n)
 old i [] = (i, refl)

@@ -4,13 +4,13 @@ use Rattle.icn_tree.specs.declared.token.Operator.{Operator}
 use Rattle.icn_tree.specs.declared.token.Operator.TheVariants as Signs
 use Rattle.icn_tree.specs.declared.tree.Place.{Place}
 use Rattle.icn_tree.specs.Trees as T
-use Rattle.icn_tree.specs.Trees.{Tree, Trees, MaybeTree, Clauses, Absent, Present, NoTrees, More, elements_of}
+use Rattle.icn_tree.specs.Trees.{Tree, Trees, NoTrees, More, elements_of}
 use Rattle.icn_value.specs.Values as V
-use Rattle.icn_value.specs.Values.{Value, Item, Val, Var}
+use Rattle.icn_value.specs.Values.{Item, Var}
 use Rattle.icn_defs.specs.Keywords.{Standing, keyword_item}
 use Rattle.icn_meaning.specs.Program.{meaning_of}
 use Rattle.icn_meaning.specs.Contexts as M
-use Rattle.icn_meaning.specs.Contexts.{Form, Operating, Works, Nothing, ◌and_then◌, Choices, NoChoice, ◌or_else◌, Action, Surroundings, InLoop}
+use Rattle.icn_meaning.specs.Contexts.{Form, Operating, Works, Nothing, ◌and_then◌, Choices, ◌or_else◌, Surroundings}
 use Rattle.icn_meaning.specs.Operators.{prefix_op, infix_op}
 use Rattle.icn_meaning.specs.Turns as MT
 use Rattle.icn_meaning.specs.Coexpressions as MX

@@ -1,9 +1,8 @@
 -- What the grammar says of the trees of a text: operators stand where they may, and some lists are not empty.
-use Rattle.std.proofs.Common.{◌≡◌, ℕ, suc, ◌<◌, ◌≤◌, Bool, true, false, List, [], ◌∷◌, length, Option, Some, None, refl, sym, ap, ◌∙◌, subst, arith, inl, inr}
-use Rattle.std.specs.Prelude.{All, ◌⊎◌}
+use Rattle.std.proofs.Common.{◌≡◌, ℕ, suc, ◌≤◌, Bool, true, false, List, [], ◌∷◌, Option, Some, None, refl, sym, ap, ◌∙◌, subst, arith, inl, inr}
+use Rattle.std.specs.Prelude.{All}
 use Rattle.std.proofs.Math.Bool.{Bool-set}
 use Rattle.icn_tree.specs.declared.token.Kind.{Kind}
-use Rattle.icn_tree.specs.declared.token.Kind.TheVariants.{Operator as OperatorKind}
 use Rattle.icn_tree.specs.declared.token.Token.{Token}
 use Rattle.icn_tree.specs.declared.token.Operator.{Operator}
 use Rattle.icn_tree.specs.declared.token.Operator.TheVariants as Signs
@@ -12,9 +11,9 @@ use Rattle.icn_tree.specs.declared.tree.Name.{Name}
 use Rattle.icn_tree.specs.declared.tree.Infix.{Infix}
 use Rattle.icn_tree.specs.declared.tree.Infix.TheVariants.{Plain, Augmented}
 use Rattle.icn_tree.specs.TokenBounds.{IsFormed, is_augmented}
-use Rattle.icn_tree.specs.Levels.{operator_level, infix_level, prefix_of}
-use Rattle.icn_tree.specs.Phrases.{Phrase, token_at, nothing, sign_at, sign, ◌⨾◌, starts_at}
-use Rattle.icn_tree.specs.Grammar.{Part, Spells, SpellsList, SpellsMore, SpellsClause, SpellsClauses, SpellsMoreClauses, IsPrefix, Separator, ByComma, BySemicolon, literal_kind, keyword, identifier, infix_sign, before}
+use Rattle.icn_tree.specs.Levels.{operator_level, prefix_of}
+use Rattle.icn_tree.specs.Phrases.{Phrase, nothing, sign_at, sign, ◌⨾◌, starts_at}
+use Rattle.icn_tree.specs.Grammar.{Part, Spells, SpellsList, SpellsMore, SpellsClause, SpellsClauses, SpellsMoreClauses, IsPrefix, Separator, ByComma, BySemicolon, literal_kind, keyword, infix_sign, before}
 use Rattle.icn_tree.specs.Trees.{Initial, NoInitial, Initially, Tree, Trees, MaybeTree, Clause, Clauses, Empty, Constant, Identifier, Keyword, Parentheses, Listing, Compound, Call, CoCall, Subscript, Section, Field, Prefix, Not, Binary, To, If, Case, Loop, Repeat, Create, Next, Fail, Break, Return, Suspend, Absent, Present, NoTrees, More, Default, Guarded, NoClauses, MoreClauses}
 
 -- the operators that stand before an operand, and between two

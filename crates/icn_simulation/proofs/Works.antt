@@ -11,7 +11,7 @@ use Rattle.icn_value.specs.Values.{Value, Item, Val, Var}
 use Rattle.icn_defs.specs.Conversions.{integer_of}
 use Rattle.icn_defs.specs.StepRows.{text_row}
 use Rattle.icn_meaning.specs.Contexts as M
-use Rattle.icn_meaning.specs.Contexts.{Operating, Activating, Works, Nothing, ◌and_then◌, Choices, NoChoice, ◌or_else◌, Action, Surroundings, InCall, InScan, InLoop}
+use Rattle.icn_meaning.specs.Contexts.{Operating, Works, ◌and_then◌, Choices, Surroundings}
 use Rattle.icn_meaning.specs.Operators.{infix_op}
 use Rattle.icn_meaning.specs.Turns as MT
 use Rattle.icn_meaning.specs.Scanning as MS
@@ -21,7 +21,7 @@ use Rattle.icn_meaning.specs.Succeed as MW
 use Rattle.icn_run.specs.Chains.{Label, flagged, Chain, chain, Suspensions, Outer, base, mark, limit, WaitingChain, LinkedStack, frame_of, oldest as oldest_until, first_scan, swap_at, relabelled_if, leave_frame, saved_at}
 use Rattle.icn_run.specs.Step as S
 use Rattle.icn_simulation.specs.Linkage.{Here, f_operation}
-use Rattle.icn_simulation.specs.Standing.{Nest, in_mark, in_scan, Stands, StandsAll, s_nil, s_cons, StandsMaybe, s_absent, s_present, Updating, d_activate, d_operate, is_update, tree_count}
+use Rattle.icn_simulation.specs.Standing.{Nest, in_mark, in_scan, Stands, s_nil, s_cons, StandsMaybe, s_absent, s_present, d_activate, d_operate, is_update}
 use Rattle.icn_simulation.specs.Relation.{At, proc_in, activation_in, OfWorks, k_goto, k_esusp, k_raise, k_args, k_then, k_cut, k_limit, k_count, k_scan, k_leave, k_update_both, k_update_scan, k_update, k_each, k_select, k_return, k_suspend, k_result, OfSurroundings, v_scan, v_mark, v_limit, m_plain, m_each, a_fail, OfChoices, r_alt, r_limit, r_efail, r_restore, r_reenter, r_back, t_after, linked_of, store_of, at_eval, at_succeed, at_fail}
 use Rattle.icn_simulation.specs.Ground.{Ground, code_of, machine}
 use Rattle.icn_simulation.proofs.Basics.{LState, To, stepped, Reach, Goes, Live, run, ran, weigh, weight, stay, silent, goes, then_reach, at_step, opens, on_turn, on_value, on_made, errored, sets_none}

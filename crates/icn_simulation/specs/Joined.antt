@@ -2,7 +2,7 @@
 -- instruction, a record or a procedure
 -- mentions stands in the tables once, in the order of first mention as the tables are written: fields,
 -- records, globals, procedures, instructions.
-use Rattle.std.specs.Prelude.{◌≡◌, ℕ, ◌+◌, ◌-◌, ℤ, Bool, true, false, List, [], ◌∷◌, ◌++◌, length, map, Option, Some, None, unwrap_or}
+use Rattle.std.specs.Prelude.{◌≡◌, ℕ, ◌+◌, ◌-◌, ℤ, Bool, true, false, List, ◌++◌, length, map, Option, Some, None, unwrap_or}
 use Rattle.std.specs.List.{flat_map, position_or_len}
 use Rattle.std.specs.Ordering.{int_eq}
 use Rattle.std.specs.Str.{bytes_eq}

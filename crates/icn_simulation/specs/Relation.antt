@@ -9,7 +9,7 @@ use Rattle.icn_code.specs.declared.instr.Instr.TheVariants as I
 use Rattle.icn_value.specs.Values.{Value, Item, Val}
 use Rattle.icn_defs.specs.Rows.{Residual}
 use Rattle.icn_meaning.specs.Contexts as M
-use Rattle.icn_meaning.specs.Contexts.{Form, Operating, Works, Nothing, Work, ◌and_then◌, Choices, NoChoice, Choice, ◌or_else◌, Action, Surroundings, InCall, InScan, InLoop}
+use Rattle.icn_meaning.specs.Contexts.{Form, Works, Nothing, ◌and_then◌, Choices, NoChoice, ◌or_else◌, Action, Surroundings, InCall, InScan, InLoop}
 use Rattle.icn_meaning.specs.Succeed.{default_of}
 use Rattle.icn_run.specs.Calls.{Alt, Op, Escan, Proc}
 use Rattle.icn_run.specs.Chains.{Label, fixed, flagged, because, scanning, Chain, chain, Suspensions, none, suspension, Outer, base, call, mark, limit, WaitingChain, LinkedStack, frame_of, proc_of, activation_of}

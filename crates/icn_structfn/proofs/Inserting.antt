@@ -73,14 +73,6 @@ takes_out_is (ASet id) key is setting = refl
 takes_out_is (ATable id) key is setting = refl
 takes_out_is (ACoexp id) key is setting = absurd (false≢true (sym is))
 
-pub takes_none_out : (kept key : Value) → false ≡ is_some (keeper_of kept) → (setting : Setting) → takes_out kept key setting ≡ Error 122 (Some kept) setting
-takes_none_out kept key is setting = by_keeper (keeper_of kept) is
-  where
-    by_keeper : (found : Option Keeper) → false ≡ is_some found
-        → present found 122 (Some kept) (λ found. changes_heap (without_key found key) (gives_value kept)) setting ≡ Error 122 (Some kept) setting
-    by_keeper None is = refl
-    by_keeper (Some found) is = absurd (false≢true is)
-
 -- Putting in
 
 refused_first : (charge : ChangedHeap) (change : Heap → Heap) (full : Full) → and_then charge (λ paid. let r : ChangedHeap = Ok (change paid) in r) ≡ Err full

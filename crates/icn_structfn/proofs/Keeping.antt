@@ -3,7 +3,7 @@ use Rattle.std.proofs.Common.{◌≡◌, refl, ℕ, ◌<◌, length, None}
 use Rattle.std.proofs.lemmas.List.{length-map}
 use Rattle.icn_value.specs.declared.val.Val.{Val}
 use Rattle.icn_value.specs.declared.val.Val.TheVariants.{Null as NullVal, Integer as IntegerVal, Text as TextVal, Chars as CharsVal, Std as StdVal, Proc as ProcVal, Rec as RecVal, List as ListVal, Set as SetVal, Table as TableVal, Coexp as CoexpVal}
-use Rattle.icn_defs.specs.Arguments.{list_of, table_of, keeper_of}
+use Rattle.icn_defs.specs.Arguments.{list_of, table_of}
 use Rattle.icn_heap.specs.declared.heap.Heap.{Heap as HeldHeap}
 use Rattle.icn_heap.specs.Extents.{Extent, IsLive, value_in}
 use Rattle.icn_heap.specs.Heaps.{extent_of, heap_of}
@@ -40,17 +40,3 @@ no_table all (ListVal id) none = refl
 no_table all (SetVal id) none = refl
 no_table all (TableVal id) none = absurd (none id refl)
 no_table all (CoexpVal id) none = refl
-
--- a value that is neither a set nor a table
-pub no_keeper : (all : Extent) (val : Val) → ((id : ℕ) → val ≡ SetVal id → ⊥) → ((id : ℕ) → val ≡ TableVal id → ⊥) → keeper_of (value_in all val) ≡ None
-no_keeper all NullVal none none' = refl
-no_keeper all (IntegerVal n) none none' = refl
-no_keeper all (TextVal span) none none' = refl
-no_keeper all (CharsVal cset) none none' = refl
-no_keeper all (StdVal file) none none' = refl
-no_keeper all (ProcVal number) none none' = refl
-no_keeper all (RecVal id) none none' = refl
-no_keeper all (ListVal id) none none' = refl
-no_keeper all (SetVal id) none none' = absurd (none id refl)
-no_keeper all (TableVal id) none none' = absurd (none' id refl)
-no_keeper all (CoexpVal id) none none' = refl

@@ -1,5 +1,5 @@
 -- Each function stands in the list of all at the place of its number; the rest is said of that list.
-use Rattle.std.proofs.Common.{◌≡◌, ◌≢◌, ◌≤◌, ◌<◌, ◌+◌, ◌-◌, ◌∙◌, zero, ℕ, Bool, true, false, cond, eqb, List as Items, [], ◌∷◌, length, Option, Some, refl, sym, ap, get_or, lit<, arith}
+use Rattle.std.proofs.Common.{◌≡◌, ◌≢◌, ◌≤◌, ◌<◌, ◌+◌, ◌-◌, ◌∙◌, zero, ℕ, Bool, true, false, cond, eqb, List as Items, [], ◌∷◌, length, Option, Some, refl, sym, ap, get_or, lit<}
 use Rattle.std.specs.Prelude.{nat_le, nat_lt, pred}
 use Rattle.std.specs.List.{list_all}
 use Rattle.std.specs.Option.{option_map_or}

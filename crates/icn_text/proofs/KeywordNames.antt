@@ -1,10 +1,10 @@
 -- Each keyword stands in the list of all at the place of its number; the rest is said of that list.
-use Rattle.std.proofs.Common.{◌≡◌, ◌≢◌, ◌≤◌, ◌<◌, ◌+◌, ◌-◌, ◌∙◌, zero, ℕ, Bool, true, false, cond, eqb, List as Items, [], ◌∷◌, length, Option, Some, refl, sym, ap, get_or, lit<, arith}
-use Rattle.std.specs.Prelude.{nat_le, nat_lt, pred}
+use Rattle.std.proofs.Common.{◌≡◌, ◌≢◌, ◌≤◌, ◌<◌, ◌+◌, ◌-◌, ◌∙◌, zero, ℕ, Bool, true, false, cond, eqb, List as Items, [], ◌∷◌, length, Option, Some, refl, sym, ap, get_or, lit<}
+use Rattle.std.specs.Prelude.{nat_le}
 use Rattle.std.specs.List.{list_all}
 use Rattle.std.specs.Option.{option_map_or}
 use Rattle.std.specs.Str.{bytes_eq}
-use Rattle.std.proofs.lemmas.Bool.{eqb-true, leb-true, ltb-true}
+use Rattle.std.proofs.lemmas.Bool.{eqb-true, leb-true}
 use Rattle.icn_text.specs.declared.keyword.Keyword.{Keyword}
 use Rattle.icn_text.specs.declared.keyword.Keyword.TheVariants.{Ascii, Cset, Current, Digits, Errout, Fail, Input, Lcase, Letters, Level, Main, Null, Output, Pos, Random, Source, Subject, Ucase}
 use Rattle.icn_text.specs.declared.keyword.TheConstants.Keyword.{ALL}
@@ -41,10 +41,6 @@ keyword_found = listed.found_again keyword_number ALL (lit< tt) keyword_at
 
 pub keyword_within : (any : Keyword) → keyword_number any ≤ length ALL
 keyword_within any = leb-true (keyword_number any) (length ALL) (every_keyword (λ x. nat_le (keyword_number x) (length ALL)) refl any)
-
--- the number from 0 on is below how many there are
-pub keyword_below : (any : Keyword) → pred (keyword_number any) < length ALL
-keyword_below any = ltb-true (pred (keyword_number any)) (length ALL) (every_keyword (λ x. nat_lt (pred (keyword_number x)) (length ALL)) refl any)
 
 -- one more is looked at, which has another name
 pub no_more : (index : ℕ) (default : Keyword) (name found : Items ℕ) → found ≡ keyword_name (get_or ALL index default) → bytes_eq found name ≡ false

@@ -1,5 +1,5 @@
 -- Each operation stands in the list of all at the place of its number; the rest is said of that list.
-use Rattle.std.proofs.Common.{◌≡◌, ◌-◌, ℕ, Bool, true, false, eqb, Option, Some, refl, get_or, lit<}
+use Rattle.std.proofs.Common.{◌≡◌, ◌-◌, Bool, true, false, eqb, Option, Some, refl, get_or, lit<}
 use Rattle.std.specs.List.{list_all}
 use Rattle.std.specs.Option.{option_map_or}
 use Rattle.icn_text.specs.declared.op.Op.{Op}

@@ -1,5 +1,5 @@
 -- Names in rows, and how a draft begins.
-use Rattle.std.proofs.Common.{◌≡◌, ℕ, zero, suc, ◌+◌, List, [], ◌∷◌, ◌++◌, ◌<◌, length, get_or, drop, map, append_assoc, refl, sym, ap, ◌∙◌}
+use Rattle.std.proofs.Common.{◌≡◌, ℕ, ◌+◌, List, [], ◌∷◌, ◌++◌, ◌<◌, length, get_or, drop, map, append_assoc, refl, sym, ap, ◌∙◌}
 use Rattle.std.specs.List.{flat_map}
 use Rattle.std.proofs.lemmas.List.{at_drop_more}
 use Rattle.icn_tree.specs.declared.tree.Locals.{Locals as LocalsItem}
@@ -14,11 +14,6 @@ use Rattle.icn_translate.specs.ProcCodes.{local_entries, local_texts, texts_of}
 pub names_then : (names xs ys : List (List ℕ)) → with_names names (xs ++ ys) ≡ with_names (with_names names xs) ys
 names_then names [] ys = refl
 names_then names (x ∷ xs) ys = names_then (with_name names x) xs ys
-
-pub drop_under : {A B : Type 0} (f : A → B) (n : ℕ) (xs : List A) → map f (drop n xs) ≡ drop n (map f xs)
-drop_under f zero xs = refl
-drop_under f (suc n) [] = refl
-drop_under f (suc n) (x ∷ xs) = drop_under f n xs
 
 -- one more row of locals
 pub names_step : (locals : List LocalsItem) (i : ℕ) (item : LocalsItem) (names later : List (List ℕ)) → i < length locals → item ≡ get_or locals i item

@@ -25,10 +25,6 @@ no_element_is Empty NoTrees = refl
 no_element_is Empty (More t ts) = refl
 no_element_is t ts = refl
 
-pub other_element : (first : Expr) (others exprs : List Expr) → exprs ≡ first ∷ others → is_empty (tree_of first) ≡ false → false ≡ is_no_element (all_of exprs)
-other_element first others exprs e h =
-    sym (ap (λ (x : List Expr). is_no_element (all_of x)) e ∙ no_element_is (tree_of first) (all_of others) ∙ ap (λ is. is && is_nothing (all_of others)) h)
-
 pub one_element : (first : Expr) (others exprs : List Expr) → exprs ≡ first ∷ others → is_empty (tree_of first) ≡ true
     → (length others == 0) ≡ is_no_element (all_of exprs)
 one_element first others exprs e h =

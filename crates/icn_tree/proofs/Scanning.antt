@@ -419,11 +419,6 @@ choose_cost : (counts test : Bool) (x y : Scan) (n : ℕ) → cost counts x ≤ 
 choose_cost counts true x y n h g = h
 choose_cost counts false x y n h g = g
 
-price_head : (counts : Bool) (pieces : List Piece) → price counts pieces ≤ price true pieces
-price_head true pieces = omega arith
-price_head false [] = omega arith
-price_head false (piece ∷ pieces) = omega arith
-
 before_cost : (counts : Bool) (piece : Piece) (later : Scan) → cost counts (before piece later) ≤ 1 + flag (counts && piece.is_first) + cost true later
 before_cost counts piece (Found pieces) = omega arith
 before_cost counts piece (Broken rule line file) = omega arith

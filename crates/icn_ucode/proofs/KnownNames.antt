@@ -85,12 +85,6 @@ places_known met instrs instr known = by_place (own_label instr) (more_placed in
   by_place None is = known ∙ ap has_label (sym (is ∙ append-nil (placed_labels instrs)))
   by_place (Some label) is = more_labels met (placed_labels instrs) _ label known is
 
--- a declaration that is no procedure and no record, and one that is
-pub still_owned : (met : List ℕ → Bool) (decls : List UnitDecl) (decl : UnitDecl) → met ≡ has_name (owned_names (map decl_seen decls))
-    → owned_name (decl_seen decl) ≡ [] → met ≡ has_name (owned_names (map decl_seen (decls ++ decl ∷ [])))
-still_owned met decls decl known none = known ∙ ap has_name
-    (sym (decls_owned decls decl ∙ (ap (λ names. owned_names (map decl_seen decls) ++ names) none ∙ append-nil (owned_names (map decl_seen decls)))))
-
 pub also_owned : (met : List ℕ → Bool) (decls : List UnitDecl) (decl : UnitDecl) (name : List ℕ) → met ≡ has_name (owned_names (map decl_seen decls))
     → owned_name (decl_seen decl) ≡ name ∷ []
     → with_name met name ≡ has_name (owned_names (map decl_seen (decls ++ decl ∷ [])))

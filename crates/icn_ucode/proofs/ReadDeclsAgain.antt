@@ -36,10 +36,6 @@ fields_in_line (field ∷ fields) h =
     let parts = both (is_name field) (list_all is_name fields) h in
     all_of_both is_in_line field (flat_map behind_blank fields) (clean_in_line field (name_clean field parts.0)) (fields_in_line fields parts.1)
 
--- a field behind some, and what stands behind it
-abbrev fields_more : List (List ℕ) → List (List ℕ) → Option (List (List ℕ))
-fields_more done fields = Some (done ++ fields)
-
 word_on : (done : List (List ℕ)) (front word text : List ℕ) → clean word ≡ true → fields_from done front (word ++ text) ≡ fields_from done (front ++ word) text
 word_on done front [] text h = ap (λ front. fields_from done front text) (sym (append-nil front))
 word_on done front (b ∷ word) text h =

@@ -1,6 +1,6 @@
 -- The limits of a run, as definitions and laws see them.
-use Rattle.std.specs.Prelude.{ℕ, ◌≤◌, ◌-◌, ◌^◌}
-use Rattle.icn_profile.specs.Numbers.{default_cells, default_levels, default_strings, most_cells, most_levels, most_strings}
+use Rattle.std.specs.Prelude.{ℕ, ◌-◌}
+use Rattle.icn_profile.specs.Numbers.{default_cells, default_levels, default_strings}
 use Rattle.icn_value.specs.declared.limits.Limits.{Limits}
 
 -- the limits of a run: its turns, the string bytes and the cells that it may be charged, and how deep procedures call
@@ -14,14 +14,6 @@ pub record Bounds : Type 0 where
 abbrev pub limits_of : Limits → Bounds
 limits_of limits =
     record { turns = limits.turns; strings = limits.strings; cells = limits.cells; levels = limits.levels }
-
--- the ranges of the limits
-pub record AreLimits (bounds : Bounds) : Type 0 where
-  pub turns : bounds.turns ≤ 2 ^ 64 - 1
-  pub strings : bounds.strings ≤ most_strings
-  pub cells : bounds.cells ≤ most_cells
-  pub some_levels : 1 ≤ bounds.levels
-  pub levels : bounds.levels ≤ most_levels
 
 -- the limits of a run for which the command sets none
 abbrev pub default_limits : Bounds

@@ -16,9 +16,9 @@ use Rattle.icn_vars.specs.declared.stop.Stop.{Stop}
 use Rattle.icn_vars.specs.declared.stop.Stop.TheVariants.{Error as StopError, NoMemory}
 use Rattle.icn_vars.specs.declared.assignment.Exchange.{Exchange}
 use Rattle.icn_vars.specs.declared.assignment.Exchange.TheVariants.{Done as ExchangeDone, OutOfRange as ExchangeOutOfRange}
-use Rattle.icn_vars.specs.Assignments.{ExchangesAs, HoldAlike, HoldsShort, IsBehind, IsLiveExchange, assigns_moved, assigns_right}
-use Rattle.icn_vars.specs.Stops.{IsLiveStop, StopsFinding, StopsPassing}
-use Rattle.icn_vars.specs.Worlds.{IsShort, Reach, root_in, variable_in}
+use Rattle.icn_vars.specs.Assignments.{ExchangesAs, HoldAlike, HoldsShort, IsBehind, assigns_moved, assigns_right}
+use Rattle.icn_vars.specs.Stops.{StopsFinding, StopsPassing}
+use Rattle.icn_vars.specs.Worlds.{IsShort, root_in, variable_in}
 
 -- Beyond a text, a part is as good as another
 
@@ -120,11 +120,6 @@ pub exchange_err : (all : Extent) (assigns : Row → Finds (Variable × Variable
 exchange_err all assigns s t stop (Ok done) same is = absurd same
 exchange_err all assigns s t stop (Err other) same is = λ refused. subst (StopsFinding all (assigns refused) s t) (sym same) (is refused)
 
-pub exchange_err_live : (reach : Reach) (stop : Stop) (result : Result Exchange Stop) → IsErrAnd result (λ other. other ≡ stop) → IsLiveStop reach.extent stop
-    → IsLiveExchange reach result
-exchange_err_live reach stop (Ok done) same is = absurd same
-exchange_err_live reach stop (Err other) same is = subst (IsLiveStop reach.extent) (sym same) is
-
 -- The left side
 
 module _ (all : Extent) (mover : Mover) (x y : Variable) (to_x to_y : Value) (s t : Setting) where
@@ -173,14 +168,6 @@ right_moved all x_now y y' to_y old new s t result same goes is =
     exchange_then all (λ refused. assigns_moved refused old x_now y to_y) (λ refused. assigns_right refused Left x_now y' to_y) s s t result
     (λ refused next. sym (ap (λ n. move_part old n y (λ y_moved. assigns_right refused Left x_now y_moved to_y next) s) same)
     ∙ goes (λ y_moved. assigns_right refused Left x_now y_moved to_y next)) is
-
--- it would begin before its text
-pub right_before : (x_now y : Variable) (to_y : Value) (old new : ℕ) (s : Setting) → new ≡ part_length x_now
-    → ComesTo (move_part old new y) s (Error 205 None s)
-    → (refused : Row) → ComesTo (assigns_moved refused old x_now y to_y) s (Error 205 None s)
-right_before x_now y to_y old new s same comes refused next =
-    sym (ap (λ n. move_part old n y (λ y_moved. assigns_right refused Left x_now y_moved to_y next) s) same)
-    ∙ comes (λ y_moved. assigns_right refused Left x_now y_moved to_y next)
 
 -- it begins behind every text
 pub right_behind : (all : Extent) (x_now : Variable) (root : Root) (place size : ℕ) (to_y : Value) (old new : ℕ) (s t : Setting) (result : Result Exchange Stop)

@@ -1,9 +1,9 @@
 -- Rows that make the changes of a heap.
-use Rattle.std.proofs.Common.{◌≡◌, ◌∙◌, refl, ap, ℕ, suc, ◌+◌, nat_le, Bool, true, false, length, None, Result, Ok, Err, arith}
+use Rattle.std.proofs.Common.{◌≡◌, ◌∙◌, refl, ap, ℕ, suc, ◌+◌, nat_le, Bool, true, false, None, Ok, Err, arith}
 use Rattle.std.specs.Prelude.{if◌then◌else◌, slice_index, slice_set}
 use Rattle.icn_value.specs.declared.full.Full.{Full}
 use Rattle.icn_value.specs.declared.full.Full.TheVariants.{Cells}
-use Rattle.icn_value.specs.Values.{Item, ACoexp, Val}
+use Rattle.icn_value.specs.Values.{Item, Val}
 use Rattle.icn_value.specs.Store.{Heap, Setting, having_heap}
 use Rattle.icn_value.specs.Changes.{ChangedHeap, and_then, charged_cells, having_coexp, made_coexp, next_coexp, with_result}
 use Rattle.icn_defs.specs.Rows.{Row, Gives, Error, check}

@@ -4,17 +4,16 @@ use Rattle.std.specs.Prelude.{IsErrAnd, ◌%◌, ◌^◌, ℤ, is_some}
 use Rattle.std.specs.Int.{cast_unsigned, w64}
 use Rattle.icn_value.specs.Values.{Value, Text, Root, Variable, Whole, Part, Random, Subject}
 use Rattle.icn_value.specs.Store.{Setting, having_random, having_subject}
-use Rattle.icn_defs.specs.Calls.{ComesTo, GoesOn, Passes}
+use Rattle.icn_defs.specs.Calls.{GoesOn, Passes}
 use Rattle.icn_defs.specs.Conversions.{integer_of, text_of}
 use Rattle.icn_defs.specs.Reading.{assigns_keyword, assigns_or, assigns_root, reads_text, with_part, undoes}
-use Rattle.icn_defs.specs.Rows.{Row, Finds, Error, changes, costs_bytes, costs_text, present, wrong}
+use Rattle.icn_defs.specs.Rows.{Row, Finds, changes, costs_bytes, costs_text, present, wrong}
 use Rattle.icn_heap.specs.Extents.{Extent}
 use Rattle.icn_vars.specs.declared.stop.Stop.{Stop}
 use Rattle.icn_vars.specs.declared.stop.Stop.TheVariants.{Error as StopError, NoMemory}
 use Rattle.icn_vars.specs.declared.assignment.Assignment.{Assignment}
-use Rattle.icn_vars.specs.Assignments.{AssignsAs, IsLiveAssignment, RootAssigned}
-use Rattle.icn_vars.specs.Stops.{IsLiveStop, StopsFinding, StopsPassing}
-use Rattle.icn_vars.specs.Worlds.{Reach}
+use Rattle.icn_vars.specs.Assignments.{AssignsAs, RootAssigned}
+use Rattle.icn_vars.specs.Stops.{StopsFinding, StopsPassing}
 
 pub none_is : {A : Type 0} (found : Option A) → is_some found ≡ false → found ≡ None
 none_is None is = refl
@@ -53,13 +52,6 @@ random_assigned value n state s has is refused next =
     ∙ sym (ap (λ state. next (having_random state s)) is)
 
 -- Parts
-
-pub part_no_text : (root : Root) (place size : ℕ) (value : Value) (s : Setting) → is_some (text_of value) ≡ false
-    → (refused : Row) → ComesTo (assigns_or refused (Part root place size) value) s (Error 103 (Some value) s)
-part_no_text root place size value s has refused next =
-    ap (λ found.
-    present found 103 (Some value) (λ (new : List ℕ). reads_text root place size (λ text. costs_text value (costs_bytes (length (with_part text place size new))
-    (assigns_root refused root (Text (with_part text place size new)) (next (Part root place (length new))))))) s) (none_is (text_of value) has)
 
 module _ (all : Extent) (root : Root) (place size : ℕ) (value : Value) (new : List ℕ) (has : text_of value ≡ Some new) where
   rest : Row → (Variable → Row) → List ℕ → Row
@@ -149,19 +141,6 @@ pub assign_err : (all : Extent) (assigns : Row → Finds Variable) (s t : Settin
     → ((refused : Row) → StopsFinding all (assigns refused) s t stop) → AssignsAs all assigns s t result
 assign_err all assigns s t stop (Ok done) same is = absurd same
 assign_err all assigns s t stop (Err other) same is = λ refused. subst (StopsFinding all (assigns refused) s t) (sym same) (is refused)
-
-pub assign_err_live : (reach : Reach) (stop : Stop) (result : Result Assignment Stop) → IsErrAnd result (λ other. other ≡ stop) → IsLiveStop reach.extent stop
-    → IsLiveAssignment reach result
-assign_err_live reach stop (Ok done) same is = absurd same
-assign_err_live reach stop (Err other) same is = subst (IsLiveStop reach.extent) (sym same) is
-
--- an answer by what it stands for
-pub assigns_as : (all : Extent) (variable variable' : Variable) (value value' : Value) (s t : Setting) (result : Result Assignment Stop) → variable' ≡ variable
-    → value' ≡ value
-    → AssignsAs all (λ refused. assigns_or refused variable' value') s t result → AssignsAs all (λ refused. assigns_or refused variable value) s t result
-assigns_as all variable variable' value value' s t result one two is =
-    subst (λ v. AssignsAs all (λ refused. assigns_or refused variable v) s t result) two
-    (subst (λ v. AssignsAs all (λ refused. assigns_or refused v value') s t result) one is)
 
 -- a root that was assigned, or refused
 pub root_true : (all : Extent) (assigns : Row → Row → Row) (s t : Setting) (done : Bool) → done ≡ true → RootAssigned all assigns s t (Ok done)

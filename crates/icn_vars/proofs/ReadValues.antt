@@ -1,5 +1,5 @@
 -- What is read of a world, as the definitions have it.
-use Rattle.std.proofs.Common.{◌≡◌, ◌∙◌, refl, sym, ap, ℕ, zero, suc, ◌+◌, ◌-◌, ◌<◌, ◌≤◌, nat_le, List, [], ◌∷◌, length, map, take, drop, get_or, arith, Some, None, Option, Result, Ok, Err, subst}
+use Rattle.std.proofs.Common.{◌≡◌, ◌∙◌, refl, sym, ap, ℕ, zero, suc, ◌+◌, ◌-◌, ◌<◌, List, [], ◌∷◌, length, map, take, drop, get_or, arith, Some, Option, Result, Ok, Err, subst}
 use Rattle.std.specs.List.{slice_get, slice_range}
 use Rattle.std.specs.List.{All}
 use Rattle.std.specs.Option.{option_map}
@@ -8,14 +8,11 @@ use Rattle.icn_structs.specs.Numbered.{NumberedList, item_at, item_numbered}
 use Rattle.icn_heap.specs.Parts.{list_in}
 use Rattle.icn_heap.proofs.ListChanges.{get_live}
 use Rattle.std.specs.Prelude.{ℤ, pos, negsuc, ◌-ℤ◌, IfSome, unwrap_or, slice_index, IsErrAnd, MatchResult}
-use Rattle.std.proofs.lemmas.Bool.{le-leb, lt-leb}
 use Rattle.icn_value.specs.declared.val.Val.{Val as HeldVal}
-use Rattle.icn_value.specs.Values.{Value, Text, Root, Global, Static, Local, Element, Field, Key, Keyword, Subject, Position, Random, Part}
-use Rattle.icn_value.specs.Store.{Outside, Record, Setting, value_at}
-use Rattle.icn_defs.specs.Calls.{ComesTo, GoesOn}
-use Rattle.icn_defs.specs.Conversions.{held_text}
-use Rattle.icn_defs.specs.Reading.{reads, reads_root, reads_text, root_value}
-use Rattle.icn_defs.specs.Rows.{Row, Error, check, present}
+use Rattle.icn_value.specs.Values.{Value, Text, Root, Part}
+use Rattle.icn_value.specs.Store.{Record, Setting, value_at}
+use Rattle.icn_defs.specs.Calls.{GoesOn}
+use Rattle.icn_defs.specs.Reading.{reads, reads_text}
 use Rattle.icn_heap.specs.Extents.{Extent, IsLive, value_in}
 use Rattle.icn_vars.specs.declared.stop.Stop.{Stop}
 use Rattle.icn_vars.specs.declared.stop.Stop.TheVariants.{Error as StopError, NoMemory}
@@ -41,59 +38,7 @@ field_there [] rec place within = absurd (omega arith)
 field_there (first ∷ records) zero place within = within
 field_there (first ∷ records) (suc rec) place within = field_there records rec place within
 
--- the outside is not looked at
-pub anywhere : (setting : Setting) (outside : Outside) (root : Root) → root_value (record setting { outside = outside }) root ≡ root_value setting root
-anywhere setting outside (Global place) = refl
-anywhere setting outside (Static place) = refl
-anywhere setting outside (Local place) = refl
-anywhere setting outside (Element list number) = refl
-anywhere setting outside (Field rec place) = refl
-anywhere setting outside (Key table key) = refl
-anywhere setting outside (Keyword Subject) = refl
-anywhere setting outside (Keyword Position) = refl
-anywhere setting outside (Keyword Random) = refl
-
 -- Reading
-
-pub whole_read : (setting : Setting) (root : Root) (value : Value) → root_value setting root ≡ Some value → GoesOn (reads_root root) setting value setting
-whole_read setting root value is next = ap (λ found. present found 205 None next setting) is
-
-pub whole_gone : (setting : Setting) (root : Root) → root_value setting root ≡ None → ComesTo (reads_root root) setting (Error 205 None setting)
-whole_gone setting root is next = ap (λ found. present found 205 None next setting) is
-
-after_text : ℕ → ℕ → (List ℕ → Row) → Value → Row
-after_text place size next value = present (held_text value) 103 (Some value) (λ text. check (nat_le (place - 1 + size) (length text)) 205 None (next text))
-
-text_by : (setting : Setting) (root : Root) (place size : ℕ) (value : Value) → root_value setting root ≡ Some value → (next : List ℕ → Row)
-    → reads_text root place size next setting ≡ after_text place size next value setting
-unfolding after_text
-text_by setting root place size value is next = ap (λ found. present found 205 None
-    (λ held. present (held_text held) 103 (Some held) (λ text. check (nat_le (place - 1 + size) (length text)) 205 None (next text))) setting) is
-
-pub text_read : (setting : Setting) (root : Root) (place size : ℕ) (text : List ℕ) → root_value setting root ≡ Some (Text text) → place - 1 + size ≤ length text
-    → GoesOn (reads_text root place size) setting text setting
-unfolding after_text
-text_read setting root place size text is fits next =
-    text_by setting root place size (Text text) is next ∙ ap (λ b. check b 205 None (next text) setting) (le-leb (place - 1 + size) (length text) fits)
-
-pub text_short : (setting : Setting) (root : Root) (place size : ℕ) (text : List ℕ) → root_value setting root ≡ Some (Text text)
-    → length text < place - 1 + size → ComesTo (reads_text root place size) setting (Error 205 None setting)
-unfolding after_text
-text_short setting root place size text is past next =
-    text_by setting root place size (Text text) is next ∙ ap (λ b. check b 205 None (next text) setting) (lt-leb (place - 1 + size) (length text) past)
-
-pub text_other : (setting : Setting) (root : Root) (place size : ℕ) (value : Value) → root_value setting root ≡ Some value → held_text value ≡ None
-    → ComesTo (reads_text root place size) setting (Error 103 (Some value) setting)
-unfolding after_text
-text_other setting root place size value is other next =
-    text_by setting root place size value is next
-    ∙ ap (λ found. present found 103 (Some value) (λ text. check (nat_le (place - 1 + size) (length text)) 205 None (next text)) setting) other
-
-pub text_gone : (setting : Setting) (root : Root) (place size : ℕ) → root_value setting root ≡ None
-    → ComesTo (reads_text root place size) setting (Error 205 None setting)
-text_gone setting root place size is next =
-    ap (λ found. present found 205 None
-    (λ held. present (held_text held) 103 (Some held) (λ text. check (nat_le (place - 1 + size) (length text)) 205 None (next text))) setting) is
 
 -- Parts
 

@@ -3,7 +3,6 @@ use Rattle.std.proofs.Common.{◌≡◌, ◌∙◌, refl, sym, ap, subst, ℕ, z
 use Rattle.std.specs.Prelude.{IsErrAnd, ℤ, pos, negsuc, ◌-ℤ◌, is_some, unwrap_or}
 use Rattle.std.specs.List.{All, slice_get}
 use Rattle.std.proofs.lemmas.List.{map-set}
-use Rattle.std.proofs.lemmas.List.Elements.{All-set}
 use Rattle.icn_structs.specs.Numbered.{NumberedList, item_at, item_numbered, items_with, with_numbered}
 use Rattle.icn_structs.specs.PairLists.{with_value_of}
 use Rattle.icn_value.specs.declared.full.Full.{Full}
@@ -28,28 +27,8 @@ use Rattle.icn_vars.proofs.Growing.{heap_changed, setting_over}
 
 -- Globals, statics and locals
 
-pub global_kept : (all : Extent) (pair : Pair) (random : ℕ) (globals statics : List Val) (place : ℕ) (val : Val) → IsLive all val
-    → IsSoundWorld all pair random globals statics
-    → IsSoundWorld all pair random (set globals place val) statics
-global_kept all pair random globals statics place val live sound = record {
-  live_globals = All-set (IsLive all) globals place val live sound.live_globals;
-  live_statics = sound.live_statics;
-  subject = sound.subject;
-  low = sound.low;
-  high = sound.high;
-  state = sound.state;
 }
 
-pub static_kept : (all : Extent) (pair : Pair) (random : ℕ) (globals statics : List Val) (place : ℕ) (val : Val) → IsLive all val
-    → IsSoundWorld all pair random globals statics
-    → IsSoundWorld all pair random globals (set statics place val)
-static_kept all pair random globals statics place val live sound = record {
-  live_globals = sound.live_globals;
-  live_statics = All-set (IsLive all) statics place val live sound.live_statics;
-  subject = sound.subject;
-  low = sound.low;
-  high = sound.high;
-  state = sound.state;
 }
 
 module _ (outside : Outside) (heap : HeldHeap) (pair : Pair) (random : ℕ) (globals statics locals : List Val) (place : ℕ) (val : Val) where

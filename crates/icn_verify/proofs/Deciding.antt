@@ -1,9 +1,8 @@
 -- Procedures break no rule, or there is a first that they break: the pass over each of them finds which.
-use Rattle.std.proofs.Common.{◌≡◌, ℕ, zero, suc, ◌<◌, ◌⊎◌, inl, inr, List, [], ◌∷◌, slice_get, Option, None, Some, MatchOption, true, refl, subst, arith}
+use Rattle.std.proofs.Common.{◌≡◌, ℕ, zero, suc, ◌<◌, inl, inr, List, [], ◌∷◌, slice_get, Option, None, Some, MatchOption, refl, subst, arith}
 use Rattle.std.proofs.lemmas.Option.{none-some}
 use Rattle.icn_tree.specs.declared.rule.Rule.{Rule}
-use Rattle.icn_code.specs.Codes.{Proc, Tables}
-use Rattle.icn_code.specs.Rules.{keeps_rules}
+use Rattle.icn_code.specs.Codes.{Proc}
 use Rattle.icn_verify.specs.Reaching.{AreWithin}
 use Rattle.icn_verify.specs.Faults.{IsSound, IsFirstOf, AreSound, IsFirstFault}
 use Rattle.icn_verify.specs.Passing.{fault_of}

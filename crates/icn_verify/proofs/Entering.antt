@@ -1,7 +1,7 @@
 -- The tests of equal entries and of equal shapes in a few words.
 use Rattle.std.proofs.Common.{◌≡◌, ℕ, zero, suc, Bool, true, false, ◌&&◌, ◌||◌, nat_eq, if◌then◌else◌, inl, inr, List, [], ◌∷◌, ◌++◌, slice_get, Option, None, Some, refl, sym, ap, ◌∙◌, true≢false}
 use Rattle.std.specs.List.{list_any}
-use Rattle.std.proofs.lemmas.Bool.{eqb-true, eq-eqb}
+use Rattle.std.proofs.lemmas.Bool.{eq-eqb}
 use denote.Enum.Bare.{sameb}
 use mathlib.Core.Bool.{beq}
 use Rattle.icn_verify.specs.contracts.shape.LevelKind.{the_type}
@@ -13,7 +13,7 @@ use Rattle.indexmap.specs.IndexSet.{insert_key}
 use Rattle.icn_verify.specs.Shapes.{same_kind, same_level}
 use Rattle.icn_verify.specs.Passing.{bool_eq}
 use Rattle.icn_verify.specs.Entries.{IsEntered}
-use Rattle.icn_verify.proofs.Same.{both, same_level_tells, level_itself}
+use Rattle.icn_verify.proofs.Same.{level_itself}
 
 none_some : {A : Type 0} (a : A) → let none : Option A = None in (none ≡ Some a) → ⊥
 none_some a h = cc
@@ -48,14 +48,6 @@ and_both : (a b : Bool) → a ≡ true → b ≡ true → (a && b) ≡ true
 and_both true b h k = k
 and_both false b h k = absurd (true≢false (sym h))
 
-pub entry_tells : (a b : Entry) → entry_eq a b ≡ true → a ≡ b
-entry_tells a b h =
-    let parts = both (sameb the_type a.level.kind b.level.kind && (nat_eq a.level.operands b.level.operands && nat_eq a.level.scans b.level.scans))
-    (nat_eq a.outer b.outer) h in
-    let level = same_level_tells a.level b.level (sym (level_tested a.level b.level) ∙ parts.0) in
-    let outer = eqb-true a.outer b.outer parts.1 in
-    λ i. record { level = level i; outer = outer i }
-
 entry_itself : (a : Entry) → entry_eq a a ≡ true
 entry_itself a = and_both _ _ (level_tested a.level a.level ∙ level_itself a.level) (eq-eqb a.outer a.outer refl)
 
@@ -79,10 +71,6 @@ entered_by old entry new h = by (list_any (entry_eq entry) old) refl
     by : (found : Bool) → list_any (entry_eq entry) old ≡ found → IsEntered old entry new
     by true is = record { is = inl (h ∙ ap (λ b. if b then old else old ++ entry ∷ []) is) }
     by false is = record { is = inr (h ∙ ap (λ b. if b then old else old ++ entry ∷ []) is, λ k there. true≢false (sym (any_at old k entry there) ∙ is)) }
-
-pub stored_is : (new : List Entry) (index : ℕ) (entry : Entry) → (k : Entry) × (slice_get new index ≡ Some k) × (entry_eq entry k ≡ true)
-    → slice_get new index ≡ Some entry
-stored_is new index entry stored = stored.1 ∙ ap Some (sym (entry_tells entry stored.0 stored.2))
 
 -- the test of two shapes in a few words
 pub flat_tested : (create create' : Bool) (a b : Level) (numbers stacks : Bool) → numbers ≡ stacks

@@ -217,14 +217,6 @@ mark_held entries entry outer index once held is h =
     let earlier = (once.built index entry (sym h)).0 in
     omega arith
 
-pub mark_shape : (entries : List Entry) (entry : Entry) (in_create : Bool) (outer index : ℕ) → IsOnce entries → index + 1 ≡ outer
-    → Some entry ≡ slice_get entries index
-    → Some (record { in_create = in_create; inner = entry.level; outer = stack_at (stacks_of entries) entry.outer })
-    ≡ shape_outside in_create (stack_at (stacks_of entries) outer)
-mark_shape entries entry in_create outer index once is h =
-    let built = (once.built index entry (sym h)).1 in
-    sym (ap (λ n. shape_outside in_create (stack_at (stacks_of entries) n)) (sym is) ∙ ap (shape_outside in_create) built)
-
 -- one stack more, or none
 pub more_entered : (old new : List Entry) (entry : Entry) → IsEntered old entry new → length (stacks_of new) ≤ length (stacks_of old) + 1
 more_entered old new entry entered = more_of entered.is where

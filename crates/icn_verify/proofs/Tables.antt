@@ -1,5 +1,5 @@
 -- Tables of what came to the places, as slots show them.
-use Rattle.std.proofs.Common.{◌≡◌, ℕ, zero, suc, ◌+◌, ◌≤◌, false, List, [], ◌∷◌, length, drop, replicate, slice_set, slice_index_or, Option, None, Some, refl, sym, ap, ◌∙◌, arith}
+use Rattle.std.proofs.Common.{◌≡◌, ℕ, zero, suc, ◌+◌, ◌≤◌, false, List, [], ◌∷◌, length, drop, replicate, slice_set, slice_index_or, Option, None, refl, sym, ap, ◌∙◌, arith}
 use Rattle.std.proofs.lemmas.List.{map-set, drop_all}
 use Rattle.icn_tree.specs.declared.rule.Rule.{Rule}
 use Rattle.icn_code.specs.declared.instr.Instr.{Instr}
@@ -88,9 +88,6 @@ sent_by old new grows slots next_slots last_slots kept flat left held row instr 
     forward_is : on ≡ forward instr (shape_in old flat)
     forward_is = on_is ∙ (λ i. forward_by (is i).way (kept_shape old new grows flat held i) (shape_is i))
 
-none_or_some : {A : Type 0} (a : A) → let none : Option A = None in (none ≡ Some a) → ⊥
-none_or_some a h = cc
-
 first_none : (place : ℕ) (found : Option Rule) (rest : Option (Rule × ℕ)) → found ≡ None → first_placed place found rest ≡ rest
 first_none place found rest h = ap (λ f. first_placed place f rest) h
 
@@ -103,14 +100,6 @@ judged_on table table' place all instr rest fault h is none sends =
     ap (λ t. first_fault t (place + 1) rest) sends
     ∙ sym (first_none place (rule_at table place instr (seen_at table place))
     (first_fault (pass_on table place instr (seen_at table place)) (place + 1) rest) none)
-    ∙ sym (ap (first_fault table place) is) ∙ h
-
--- a rule that is broken at an instruction
-pub judged_here : (table : List Arrival) (place : ℕ) (all : List Instr) (instr : Instr) (rest : List Instr) (fault : Option (Rule × ℕ)) (rule : Rule)
-    → first_fault table place all ≡ fault → all ≡ instr ∷ rest
-    → rule_at table place instr (seen_at table place) ≡ Some rule → Some (rule, place) ≡ fault
-judged_here table place all instr rest fault rule h is found =
-    sym (ap (λ f. first_placed place f (first_fault (pass_on table place instr (seen_at table place)) (place + 1) rest)) found)
     ∙ sym (ap (first_fault table place) is) ∙ h
 
 -- at the end

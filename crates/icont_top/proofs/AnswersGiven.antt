@@ -6,7 +6,7 @@ use Rattle.icn_host.specs.Counts.{Rose}
 use Rattle.icn_host.specs.FileMaps.{FileMap}
 use Rattle.icn_host.specs.Sinks.{SinkState}
 use Rattle.icn_answer.specs.declared.answer.Answer.{Answer}
-use Rattle.icn_answer.specs.declared.answer.Answer.TheVariants.{Wrote, Ran, Refused, Command, BadUcode, FileFault, ReadFault, WriteFault, NoMemory}
+use Rattle.icn_answer.specs.declared.answer.Answer.TheVariants.{Wrote, Ran, Command, FileFault, ReadFault, WriteFault, NoMemory}
 use Rattle.icn_answer.specs.Answers.{IsFault, IsRefusal, IsAbsence, IsCommand}
 use Rattle.icn_answer.specs.Refusing.{Refuses as PutsRefusal, put, own, write_fault, want}
 use Rattle.icn_defs.specs.declared.ending.Ending.{Ending}
@@ -17,7 +17,6 @@ use Rattle.icont_words.specs.Asking.{IsReading}
 use Rattle.icont_words.specs.Words.{Faulty, WordsReading, ComeTo, Asks, Task}
 use Rattle.icont_units.specs.Fetching.{IsOfLoading}
 use Rattle.icont_units.specs.Files.{File}
-use Rattle.icont_units.specs.Generating.{IsOfLines}
 use Rattle.icont_units.specs.Units.{Load, Member}
 use Rattle.icont_units.proofs.Matching.{same_Ok, ok-err}
 use Rattle.icont_units.proofs.OneLoading.{one_load}
@@ -25,7 +24,6 @@ use Rattle.icont_top.specs.declared.loading.Program.{Program}
 use Rattle.icont_top.specs.Answered.{IsCommanded}
 use Rattle.icont_top.specs.Asking.{IsProgramOf, IsTold, words_answer}
 use Rattle.icont_top.specs.Job.{first_base, wrong_words}
-use Rattle.icont_top.specs.Making.{IsOfLink}
 use Rattle.icont_top.specs.Outcomes.{HasWritten}
 use Rattle.icont_top.specs.Usage.{usage}
 use Rattle.icont_top.proofs.Topmost.{Asked, fault_given, given_none}
@@ -49,26 +47,6 @@ loading_no_read answer is e = rw e at is
 
 pub loading_no_write : (answer : Answer) → IsOfLoading answer → answer ≡ WriteFault → ⊥
 loading_no_write answer is e = rw e at is
-
-pub link_loading : (answer : Answer) → IsOfLink answer → IsOfLoading answer
-link_loading (Refused file line rule) is = tt
-link_loading (BadUcode name rule) is = tt
-link_loading NoMemory is = tt
-link_loading _ is = absurd is
-
-pub lines_loading : (answer : Answer) → IsOfLines answer → IsOfLoading answer
-lines_loading (Refused file line rule) is = tt
-lines_loading NoMemory is = tt
-lines_loading _ is = absurd is
-
-pub link_no_absence : (answer : Answer) → IsOfLink answer → IsAbsence answer → ⊥
-link_no_absence (Refused file line rule) is a = is a
-link_no_absence (BadUcode name rule) is a = a
-link_no_absence NoMemory is a = a
-link_no_absence _ is a = is
-
-pub link_no_file : (answer : Answer) → IsOfLink answer → answer ≡ FileFault → ⊥
-link_no_file answer is e = rw e at is
 
 -- what is given in place of an answer
 

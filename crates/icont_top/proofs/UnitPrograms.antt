@@ -1,17 +1,14 @@
 -- What is made of units.
 use Rattle.std.proofs.Common.{◌≡◌, ◌⊎◌, inl, inr, ℕ, List, Option, None, Some, Err, sym, ap, ◌∙◌, subst}
 use Rattle.std.specs.Option.{option_and_then}
-use Rattle.std.proofs.lemmas.Option.{none-some}
 use Rattle.icn_tree.specs.declared.rule.Rule.{Rule}
 use Rattle.icn_tree.specs.Trees.{Declaration}
 use Rattle.icn_code.specs.Codes.{Tables}
 use Rattle.icn_code.specs.Seen.{tables_of}
 use Rattle.icn_image.specs.Spelling.{image_of}
-use Rattle.icn_unit.specs.PlainUnits.{UnitRead}
 use Rattle.icn_unit.specs.declared.unit.Unit.{Unit as HeldUnit}
-use Rattle.icn_link.specs.declared.fault.LinkFault.{LinkFault}
 use Rattle.icn_link.specs.Joined.{joined_code}
-use Rattle.icn_link.specs.LinkFaults.{first_fault, IsFault as IsLinkFault}
+use Rattle.icn_link.specs.LinkFaults.{first_fault}
 use Rattle.icn_link.specs.Units.{units_seen}
 use Rattle.icn_verify.specs.declared.fault.VerifyFault.{VerifyFault}
 use Rattle.icn_verify.specs.declared.fault.VerifyFault.TheVariants.{V}
@@ -30,12 +27,6 @@ use Rattle.icont_top.specs.Programs.{Links, is_program, linked_code, not_linked,
 use Rattle.icont_top.proofs.SourceUnits.{AllJoin, all_files, first_named, sources_join}
 
 -- Linking
-
-pub refuses_link : (units : List UnitRead) (fault : LinkFault) (answer : Answer) → IsLinkFault (first_fault units) fault
-    → (answer ≡ NoMemory) ⊎ (link_answer units fault ≡ Some answer) → RefusesLink units answer
-refuses_link units fault answer is (inl e) = inl e
-refuses_link units fault answer (inl want) (inr e) = absurd (none-some answer (sym (ap (link_answer units) want) ∙ e))
-refuses_link units fault answer (inr first) (inr e) = inr (ap (option_and_then (link_answer units)) first ∙ e)
 
 abbrev pub AllVerified : Type 0
 AllVerified = (files : List (List Declaration)) (tables : Tables) → IsLinked files tables → IsVerified tables

@@ -1,5 +1,5 @@
 -- The ucode texts of units, and what writing them one after the other leaves.
-use Rattle.std.proofs.Common.{◌≡◌, ℕ, zero, suc, ◌<◌, Bool, true, false, cond, List, [], ◌∷◌, ◌++◌, map, length, drop, Option, None, Some, refl, sym, ap, ◌∙◌, subst, arith, append_assoc, append-nil}
+use Rattle.std.proofs.Common.{◌≡◌, ℕ, zero, suc, ◌<◌, Bool, true, false, cond, List, [], ◌∷◌, ◌++◌, map, length, drop, Option, None, Some, refl, sym, ap, ◌∙◌, subst, arith, append_assoc}
 use Rattle.std.specs.Prelude.{All, slice_index_or, string_bytes}
 use Rattle.std.specs.List.{flat_map}
 use Rattle.std.specs.Map.{update}
@@ -152,10 +152,6 @@ wrote_more {before = before} {now} {after} {all} next rest some sets = record {
             (ap (λ (m : FileMap). m q) same ∙ f.2 q) ∙ ap (λ (m : FileMap). m q) (sym (over_more old some.done next))),
       )
 
-pub wrote_all : {before now : Option FileMap} {all : List WrittenFile} → WritesSome before now all [] → WritesAll before now all
-wrote_all {before = before} {now} {all} some = record {
-  follows = subst (λ texts. Follows before now (λ old new. (q : List ℕ) → new q ≡ written_over old texts q))
-      (sym (some.are ∙ append-nil some.done)) some.follows;
 }
 
 pub wrote_part : {before now after : Option FileMap} {all : List WrittenFile} (next : WrittenFile) (rest : List WrittenFile)

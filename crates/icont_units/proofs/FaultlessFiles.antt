@@ -16,7 +16,6 @@ use Rattle.icont_units.specs.Sources.{Scan, source_read, lines_read, tokens_read
 use Rattle.icont_units.specs.Translating.{TokensGive, not_parsed, out_of_context, is_file}
 use Rattle.icont_units.proofs.GivenLines.{lines_within}
 use Rattle.icont_units.proofs.Matching.{same_Ok, ok-err}
-use Rattle.icont_units.proofs.Sourcing.{are_scanned}
 use Rattle.icont_units.proofs.Verdicts.{Verdict}
 
 -- Trees
@@ -65,10 +64,3 @@ of_lines files name (Err fault) is scan e = absurd (ok-err scan _ (sym e))
 
 pub source_of : (files : FileMap) (name : List ℕ) (scan : Scan) → source_read files name ≡ Ok scan → OfSource files name scan
 source_of files name scan e = of_lines files name (source_lines files name) refl scan e
-
--- the tokens of a named file become one that breaks no rule
-pub faultless_source : (files : FileMap) (name : List ℕ) (scan : Scan) (file : List Declaration) → source_read files name ≡ Ok scan
-    → TokensGive scan.tokens (Ok file) → IsFaultless file
-faultless_source files name scan file e x =
-    let source = source_of files name scan e in
-    faultless_tokens scan.tokens file (are_scanned source.source.lines scan.tokens source.within source.tokens) x

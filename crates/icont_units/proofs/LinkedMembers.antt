@@ -20,7 +20,7 @@ use Rattle.icn_answer.specs.declared.answer.Answer.TheVariants.{NoMemory}
 use Rattle.icn_answer.specs.Answers.{IsFault}
 use Rattle.icont_units.specs.declared.members.Members.{Members}
 use Rattle.icont_units.specs.Fetching.{HeldAre}
-use Rattle.icont_units.specs.Loading.{Adds, AreSought, Grows, IsGathered, IsMissed, IsSought, IsSound, Knows, Refuses, Stands, kept_of, links_at, texts_in, with_ucode, with_units}
+use Rattle.icont_units.specs.Loading.{Adds, AreSought, Grows, IsGathered, IsMissed, IsSought, Knows, Refuses, Stands, kept_of, links_at, texts_in, with_ucode, with_units}
 use Rattle.icont_units.specs.Units.{AreJudged, FromUcode, Gather, all as gather_all, known as gather_known, absent as gather_absent, refused as gather_refused, read as gather_read, IsAbsent, Member, is_there, link_in, links_in, links_of}
 use Rattle.icont_units.proofs.KnownBases.{first_linked, is_known, knows_lost, knows_unit, knows_units, knows_weaker, missed_later, rose_now, texts_behind, with_both, with_known, with_new}
 use Rattle.icont_units.proofs.NamedMembers.{ucode_added}
@@ -46,13 +46,6 @@ one_linked unit = append-nil (links_of unit)
 
 -- Nothing was looked for
 
-pub adds_none : (files : FileMap) (held : Members) → Adds files held held []
-adds_none files held = record {
-  added = [];
-  units = sym (append-nil (units_in held));
-  stands = λ before s. subst (λ members. Stands held members) (sym (append-nil before)) s;
-  gathers = λ before rest result s h. moved (with_units before []) before (rest ++ flat_map links_of []) rest
-      (append-nil before) (append-nil rest) h;
 }
 
 pub grows_none : (now : ℕ) (held : Members) (bases : List (List ℕ)) → Grows now now held held bases bases []
@@ -271,16 +264,6 @@ met_sought files held base old new t e k = (
       (sym (e ∙ with_known old base t)) k,
 )
 
-pub met_grows : (now : ℕ) (held : Members) (base : List ℕ) (old new : List (List ℕ))
-    → list_any (bytes_eq base) old ≡ true → new ≡ with_text old base
-    → Grows now now held held old new (base ∷ [])
-met_grows now held base old new t e = record {
-  later = le_refl now;
-  added = [];
-  units = sym (append-nil (units_in held));
-  stands = λ before s. subst (λ members. Stands held members) (sym (append-nil before)) s;
-  known = e;
-  missed = λ start l k. subst (λ bases. Knows (IsMissed start now) (units_in held) bases) (sym (e ∙ with_known old base t)) k;
 }
 
 -- The bases of one unit after the other
@@ -433,11 +416,6 @@ are_sought before now old new k l place end first x = record { missed = missed }
   missed unit name e =
       let found = first_linked (units_in new) unit name e in
       of_met name found.absent (knows.met name (is_known k (flat_map links_of (units_in new)) l name all_known found.linked))
-
-pub sound_of : (before now : ℕ) (old new : Members) (k l bases : List (List ℕ)) → Grows before now old new k l bases
-    → IsSound old → IsSound new
-sound_of before now old new k l bases x sound = record
-    { members = with_units sound.members x.added; stands = x.stands sound.members sound.stands }
 
 -- Refusals that are passed on
 

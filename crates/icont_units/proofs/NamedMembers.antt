@@ -13,10 +13,10 @@ use Rattle.icn_translate.specs.FileUnits.{translated_unit}
 use Rattle.icn_link.specs.Units.{units_seen}
 use Rattle.icn_simulation.specs.Faultless.{IsFaultless}
 use Rattle.icn_answer.specs.declared.answer.Answer.{Answer}
-use Rattle.icn_answer.specs.declared.answer.Answer.TheVariants.{Refused, Missing, BadUcode, FileFault, NoMemory}
+use Rattle.icn_answer.specs.declared.answer.Answer.TheVariants.{Refused, Missing, FileFault, NoMemory}
 use Rattle.icn_answer.specs.Answers.{IsFault}
 use Rattle.icont_units.specs.declared.members.Members.{Members}
-use Rattle.icont_units.specs.Fetching.{file_seen, files_seen, IsOfLinked, IsOfLoading, IsOfNamed}
+use Rattle.icont_units.specs.Fetching.{file_seen, files_seen, IsOfLoading}
 use Rattle.icont_units.specs.declared.files.File.{File as HeldFile}
 use Rattle.icont_units.specs.Files.{File, source, ucode}
 use Rattle.icont_units.specs.Loading.{ComesBehind, IsCome, IsLoaded, IsFaultlessMember, IsRead, IsSound, Stands, kept_of, ucode_index, with_source, with_ucode}
@@ -139,12 +139,6 @@ pub record CameSo (files : FileMap) (named rest : List File) (held : Members) : 
   pub stands : Stands held members
   pub comes : (more : Result (List Member) Answer) → Come files rest more → Come files named (behind members more)
 
-pub came_none : (files : FileMap) (named : List File) (held : Members) → Stands held [] → CameSo files named named held
-came_none files named held stands = record { members = []; stands = stands; comes = all } where
-  all : (more : Result (List Member) Answer) → Come files named more → Come files named (behind [] more)
-  all (Ok more) come = come
-  all (Err answer) come = come
-
 pub came_more : (files : FileMap) (named left rest : List File) (file : File) (old new : Members)
     (so : CameSo files named left old) → left ≡ file ∷ rest
     → ComesBehind files file so.members new → CameSo files named rest new
@@ -219,16 +213,3 @@ of_read (Missing name) h = tt
 of_read FileFault h = tt
 of_read NoMemory h = tt
 of_read _ h = absurd h
-
-pub of_named : (answer : Answer) → IsOfNamed answer → IsOfLoading answer
-of_named (Missing name) h = tt
-of_named (BadUcode name rule) h = tt
-of_named FileFault h = tt
-of_named NoMemory h = tt
-of_named _ h = absurd h
-
-pub of_linked : (answer : Answer) → IsOfLinked answer → IsOfLoading answer
-of_linked (BadUcode name rule) h = tt
-of_linked FileFault h = tt
-of_linked NoMemory h = tt
-of_linked _ h = absurd h

@@ -44,9 +44,6 @@ of_texts {base} {first} {second} _ (AreJudged.second_too_long s l) =
 of_texts {base} {first} {second} _ (AreJudged.read s l) =
     sym (ap (λ test. judged_by base first second test (is_too_long second)) (when_short first s) ∙ ap (judged_by base first second false) (when_short second l))
 
-pub one_judged : (base first second : List ℕ) (a b : Result UnitRead Answer) → AreJudged base first second a → AreJudged base first second b → a ≡ b
-one_judged base first second a b x y = of_texts a x ∙ sym (of_texts b y)
-
 -- Files that are named
 
 abbrev by_verdict : List ℕ → Scan → Verdict → Result Member Answer

@@ -60,10 +60,6 @@ not_true : (b : Bool) → not b ≡ false → b ≡ true
 not_true true h = refl
 not_true false h = absurd (false≢true (sym h))
 
-or_of : (a b : Bool) → (a ≡ true → b ≡ true) → (a || b) ≡ b
-or_of true b h = sym (h refl)
-or_of false b h = refl
-
 or_assoc : (a b c : Bool) → ((a || b) || c) ≡ (a || (b || c))
 or_assoc true b c = refl
 or_assoc false b c = refl

@@ -130,13 +130,6 @@ filter_none from (suc count) = filter_none (from + 1) count
 neither : (a b : Bool) → a ≡ false → b ≡ false → (a || b) ≡ false
 neither a b h g = ap (λ t. t || b) h ∙ g
 
-not_in : (n b : ℕ) (bytes : List ℕ) → n < b → ascends (b ∷ bytes) ≡ true → contains (b ∷ bytes) n ≡ false
-not_in n b [] less up = neither (b == n) false (not_same b n (λ e. absurd (omega (arith, e, less)))) refl
-not_in n b (c ∷ bytes) less up =
-    let next = below b c (first_of (nat_lt b c) (ascends (c ∷ bytes)) up) in
-    neither (b == n) (contains (c ∷ bytes) n) (not_same b n (λ e. absurd (omega (arith, e, less))))
-    (not_in n c bytes (omega arith) (second_of (nat_lt b c) (ascends (c ∷ bytes)) up))
-
 -- all of these are below a number
 abbrev AreBelow : ℕ → List ℕ → Type 0
 AreBelow top [] = Unit {0}

@@ -1,5 +1,4 @@
 use Rattle.std.proofs.Common.{◌+◌, ℕ, List, [], Ok, Err, length, sym, ap, ◌∙◌, subst}
-use Rattle.std.specs.List.{All}
 use Rattle.std.proofs.lemmas.List.Elements.{All-cons, All-nil, All-same}
 use Rattle.icn_value.specs.declared.val.Val.{Val}
 use Rattle.icn_heap.specs.Extents.{IsLive}

@@ -1,5 +1,4 @@
 use Rattle.std.proofs.Common.{◌∙◌, map}
-use Rattle.icn_value.specs.Values.{Value}
 use Rattle.icn_defs.specs.Scanning.{Region, bal_row}
 use Rattle.icn_heap.specs.Extents.{value_in}
 use Rattle.icn_heap.specs.Heaps.{extent_of}

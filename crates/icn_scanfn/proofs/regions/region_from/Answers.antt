@@ -1,5 +1,5 @@
-use Rattle.std.proofs.Common.{◌≡◌, ◌∙◌, refl, ap, map, pos, ◌+◌, if◌then◌else◌, rules, FitsSigned, w64}
-use Rattle.icn_value.specs.Values.{Value, Integer, Text}
+use Rattle.std.proofs.Common.{◌∙◌, refl, map, pos, ◌+◌, if◌then◌else◌, rules, FitsSigned, w64}
+use Rattle.icn_value.specs.Values.{Value, Integer}
 use Rattle.icn_defs.specs.Arguments.{arg, arg_or}
 use Rattle.icn_defs.specs.Conversions.{is_null}
 use Rattle.icn_defs.specs.Scanning.{region_from}
