@@ -14,6 +14,7 @@ use Rattle.icn_running.specs.Runs.{EndsAtFirst as RunEnds, LeavesBy}
 use Rattle.icn_answer.specs.declared.answer.Answer.{Answer}
 use Rattle.icn_answer.specs.declared.answer.Answer.TheVariants.{Wrote, Ran, Refused, Command, Missing, BadUcode, BadImage, FileFault, ReadFault, WriteFault, NoMemory}
 use Rattle.icn_answer.specs.Answers.{IsFault}
+use Rattle.icn_answer.proofs.NoFaults.{ran_no_fault, wrote_no_fault}
 use Rattle.icn_run_answer.specs.Faulting.{of_run}
 use Rattle.icn_answer.specs.Lines.{fault_line, line_of}
 use Rattle.icn_answer.specs.Refusing.{PutsOwn, Refuses, put, own, write_fault, want}

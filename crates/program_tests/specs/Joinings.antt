@@ -14,6 +14,7 @@ pub record Joining : Type 0 where
   pub files : List (List Declaration)
   pub code : Tables
 
+-- the code is the joined code of the files
 abbrev pub HasItsCode : Joining → Type 0
 HasItsCode joining = IsJoined joining.files joining.code
 
@@ -28,7 +29,8 @@ one_file = record {
     fields = [];
     records = [];
     globals =
-        record { name = 0; start = Starts.Procedure 0 } ∷ record { name = 1; start = Starts.Function Write } ∷ [];
+        record { name = 0; start = Starts.Procedure 0 } ∷ record { name = 1; start = Starts.Function Write }
+        ∷ [];
     procs = record {
       name = 0;
       parameters = 0;
@@ -84,5 +86,6 @@ two_files = record {
   };
 }
 
+-- the cases
 abbrev pub joinings : List Joining
 joinings = one_file ∷ two_files ∷ []
