@@ -2,10 +2,11 @@
 use icn_convert::{Names, ProcKind};
 use icn_text::Func;
 
+/// Its names.
 pub struct OneRecord;
 
 impl Names for OneRecord {
-    ghost use Rattle.structfn_tests.specs.OneRecord.{one_record};
+    ghost use Rattle.test_values.specs.OneRecord.{one_record};
 
     ghost known = { λ names. one_record };
 

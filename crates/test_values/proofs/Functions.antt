@@ -5,7 +5,7 @@ use Rattle.std.proofs.lemmas.Option.{unwrap_or-slice_get}
 use Rattle.icn_text.specs.declared.func.Func.{Func}
 use Rattle.icn_text.specs.Funcs.{func_name}
 use Rattle.icn_defs.specs.Images.{functions, procedure_name}
-use Rattle.strfn_tests.specs.OneRecord.{one_record}
+use Rattle.test_values.specs.OneRecord.{one_record}
 
 pub function_by : (number place : ℕ) (other : Func) (name : List ℕ) → number ≡ suc place → place < 51 → name ≡ func_name (get_or functions place other)
     → name ≡ procedure_name one_record number

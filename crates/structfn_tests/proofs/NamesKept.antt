@@ -24,7 +24,8 @@ use Rattle.icn_vars.specs.declared.outcome.Halt.{Halt}
 use Rattle.icn_vars.specs.Outcomes.{ComesToAnswer, outcome_in}
 use Rattle.icn_vars.specs.Worlds.{setting_of}
 use Rattle.icn_vars.specs.declared.world.World.{World}
-use Rattle.structfn_tests.specs.OneRecord.{AllNamed, ComesNamed, one_record}
+use Rattle.structfn_tests.specs.Naming.{AllNamed, ComesNamed}
+use Rattle.test_values.specs.OneRecord.{one_record}
 
 -- what was answered, where all that the row comes to has a name
 pub comes_named : (names : Names) (row : Row) (all : Extent) (before after : Setting) (result : Result Outcome Halt) → OutcomeNamed names (row before)

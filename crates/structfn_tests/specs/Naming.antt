@@ -1,7 +1,7 @@
--- The names of a program that has one record and no procedure, and when all in its world has a name.
-use Rattle.std.specs.Prelude.{List, [], ◌∷◌, codes}
+-- When all in the world of a program that has one record and no procedure has a name.
+use Rattle.std.specs.Prelude.{List, []}
 use Rattle.icn_value.specs.declared.val.Val.{Val}
-use Rattle.icn_value.specs.Store.{Names, outside_of}
+use Rattle.icn_value.specs.Store.{outside_of}
 use Rattle.icn_heap.specs.Heaps.{extent_of}
 use Rattle.icn_named.specs.Keeping.{OutcomeNamed}
 use Rattle.icn_named.specs.Named.{SettingNamed}
@@ -9,10 +9,7 @@ use Rattle.icn_vars.specs.declared.outcome.Outcome.{Outcome}
 use Rattle.icn_vars.specs.declared.world.World.{World}
 use Rattle.icn_vars.specs.Outcomes.{outcome_in}
 use Rattle.icn_vars.specs.Worlds.{setting_of}
-
--- the record `p`, and no procedure
-abbrev pub one_record : Names
-one_record = record { procedures = []; records = codes "p" ∷ [] }
+use Rattle.test_values.specs.OneRecord.{one_record}
 
 -- all that a world and locals hold has a name
 abbrev pub AllNamed : World → List Val → Type 0

@@ -1,15 +1,16 @@
-// The locals of a case.
-ghost use Rattle.std.specs.Prelude.{IfOk};
+// The locals that cases have.
+ghost use Rattle.std.specs.Prelude.{◌≡◌, []};
 ghost use Rattle.std.specs.List.{All};
 ghost use Rattle.icn_heap.specs.Extents.{Extent, IsLive};
 
 use icn_value::Val;
 use icn_vars::Locals;
-use std::alloc::{AllocError, Global};
+use std::alloc::Global;
 
-// Locals that are a vector.
+/// Locals that are a vector.
 #[derive(Drop)]
 pub struct Slots {
+    /// Their values.
     pub vals: Vec<Val>,
 }
 
@@ -25,10 +26,12 @@ impl Locals for Slots {
     }
 }
 
-// Two locals that are null.
-pub fn two_locals(alloc: Global) -> Result<Slots, AllocError>
-    ensures { (all : Extent) → IfOk result (λ slots. All (IsLive all) slots.vals.items) }
+/// The locals of a procedure that has none.
+pub fn no_locals(alloc: Global) -> Slots
+    ensures none { result.vals.items ≡ [] }
+    ensures live { (all : Extent) → All (IsLive all) result.vals.items }
 {
-    let vals = vec![in alloc; Val::Null; 2]?;
-    Ok(Slots { vals })
+    Slots {
+        vals: Vec::new(alloc),
+    }
 }
