@@ -1,11 +1,10 @@
 -- Worlds that may be called with, as their globals, their statics and their texts become more.
-use Rattle.std.proofs.Common.{◌≡◌, refl, ℤ, Result, Ok, Err, subst, sym, arith, ℕ, zero, suc, ◌<◌, ◌≤◌, Bool, true, false, List, [], ◌∷◌, ◌++◌, length, map}
-use Rattle.std.specs.Prelude.{if◌then◌else◌, slice_index_or}
+use Rattle.std.proofs.Common.{◌≡◌, refl, ℤ, Result, Ok, Err, subst, sym, arith, ℕ, zero, suc, ◌<◌, ◌≤◌, List, [], ◌∷◌, ◌++◌, length, map}
+use Rattle.std.specs.Prelude.{slice_index_or}
 use Rattle.std.specs.List.{All}
 use Rattle.std.proofs.lemmas.List.{map-append}
-use Rattle.std.proofs.lemmas.List.Elements.{All-nil, All-cons, All-push, All-head, All-tail}
+use Rattle.std.proofs.lemmas.List.Elements.{All-nil, All-cons, All-push}
 use Rattle.icn_value.specs.Limited.{Bounds}
-use Rattle.icn_value.specs.declared.item.Pair.{Pair}
 use Rattle.icn_value.specs.declared.val.Val.{Val as HeldVal}
 use Rattle.icn_value.specs.declared.val.Val.TheVariants.{Null as NullVal, Integer as IntegerVal}
 use Rattle.icn_value.specs.Store.{Names, Record, outside_of}
@@ -19,8 +18,7 @@ use Rattle.icn_defs.specs.Rows.{gives_value}
 use Rattle.icn_defs.specs.Structures.{new_record_of}
 use Rattle.icn_named.specs.Keeping.{OutcomeNamed}
 use Rattle.icn_named.proofs.RowsNamed.{rows_keep_names}
-use Rattle.icn_named.specs.Named.{HeapNamed, ItemNamed, ListNamed, RecordNamed, ResidualNamed, SetNamed, SettingNamed, TableNamed, ValueNamed}
-use Rattle.icn_vars.specs.Facts.{IsSoundWorld}
+use Rattle.icn_named.specs.Named.{HeapNamed, ItemNamed, ResidualNamed, SettingNamed, ValueNamed}
 use Rattle.icn_value.specs.declared.item.Item.{Item as HeldItem}
 use Rattle.icn_value.specs.declared.residual.Residual.{Residual as HeldResidual}
 use Rattle.icn_vars.specs.declared.outcome.Outcome.{Outcome as HeldOutcome}
@@ -31,53 +29,10 @@ use Rattle.icn_vars.specs.Worlds.{IsLiveItem, Reach, item_in, reach_of, setting_
 use Rattle.icn_vars.proofs.Growing.{setting_over}
 use Rattle.icn_vars.specs.declared.world.World.{World}
 use Rattle.icn_apply.specs.NamesAfter.{AnswerNamed}
+use Rattle.test_values.proofs.NamedValues.{empty_named, values_more}
 use Rattle.apply_tests.specs.Ready.{ComesNamed, IsReady, IsReadyAnswer}
 
--- What each world keeps
-
-pub static_added : (all : Extent) (pair : Pair) (random : ℕ) (globals statics items : List HeldVal) (val : HeldVal) (pushed : Bool)
-    → IsSoundWorld all pair random globals statics → IsLive all val
-    → items ≡ (if pushed then statics ++ val ∷ [] else statics) → IsSoundWorld all pair random globals items
-static_added all pair random globals statics items val true sound live is = rw is (record {
-  live_globals = sound.live_globals;
-  live_statics = All-push (IsLive all) statics val sound.live_statics live;
-  subject = sound.subject;
-  low = sound.low;
-  high = sound.high;
-  state = sound.state;
-})
-static_added all pair random globals statics items val false sound live is = rw is sound
-
-pub global_added : (all : Extent) (pair : Pair) (random : ℕ) (globals statics items : List HeldVal) (val : HeldVal) (pushed : Bool)
-    → IsSoundWorld all pair random globals statics → IsLive all val
-    → items ≡ (if pushed then globals ++ val ∷ [] else globals) → IsSoundWorld all pair random items statics
-global_added all pair random globals statics items val true sound live is = rw is (record {
-  live_globals = All-push (IsLive all) globals val sound.live_globals live;
-  live_statics = sound.live_statics;
-  subject = sound.subject;
-  low = sound.low;
-  high = sound.high;
-  state = sound.state;
-})
-global_added all pair random globals statics items val false sound live is = rw is sound
-
-pub statics_cleared : (all : Extent) (pair : Pair) (random : ℕ) (globals statics items : List HeldVal) → IsSoundWorld all pair random globals statics
-    → items ≡ []
-    → IsSoundWorld all pair random globals items
-statics_cleared all pair random globals statics items sound is = rw is (record {
-  live_globals = sound.live_globals;
-  live_statics = All-nil (IsLive all);
-  subject = sound.subject;
-  low = sound.low;
-  high = sound.high;
-  state = sound.state;
-})
-
 -- That all has a name
-
-empty_named : (names : Names) (bounds : Bounds) → HeapNamed names (empty_heap bounds)
-empty_named names bounds =
-    record { lists = All-nil (ListNamed names); sets = All-nil (SetNamed names); tables = All-nil (TableNamed names); records = All-nil (RecordNamed names) }
 
 pub new_ready : (names : Names) (world : World) (bounds : Bounds) (locals : List HeldVal) → heap_of world.heap ≡ empty_heap bounds → world.globals.items ≡ []
     → world.statics.items ≡ [] → locals ≡ NullVal ∷ []
@@ -95,12 +50,6 @@ new_ready names world bounds locals heap globals statics is = record {
 }
 
 module _ (names : Names) where
-  more : (all : Extent) (vals items : List HeldVal) (val : HeldVal) → All (ValueNamed names) (map (value_in all) vals) → ValueNamed names (value_in all val)
-      → items ≡ vals ++ val ∷ []
-      → All (ValueNamed names) (map (value_in all) items)
-  more all vals items val are is same =
-      rw same (rw (map-append (value_in all) vals (val ∷ [])) (All-push (ValueNamed names) (map (value_in all) vals) (value_in all val) are is))
-
   module _ (old new : World) (locals : List HeldVal) (heap : new.heap ≡ old.heap) (ready : IsReady names old locals) where
     pub static_ready : (val : HeldVal) → new.globals.items ≡ old.globals.items → new.statics.items ≡ old.statics.items ++ val ∷ []
         → ValueNamed names (value_in (extent_of old.heap) val) → IsReady names new locals
@@ -109,7 +58,7 @@ module _ (names : Names) where
         world = record {
           heap = rw heap ready.named.world.heap;
           globals = rw (heap, globals) ready.named.world.globals;
-          statics = rw heap (more (extent_of old.heap) old.statics.items new.statics.items val ready.named.world.statics is statics);
+          statics = rw heap (values_more names (extent_of old.heap) old.statics.items new.statics.items val ready.named.world.statics is statics);
         };
         locals = rw heap ready.named.locals;
       };
@@ -122,7 +71,7 @@ module _ (names : Names) where
       named = record {
         world = record {
           heap = rw heap ready.named.world.heap;
-          globals = rw heap (more (extent_of old.heap) old.globals.items new.globals.items val ready.named.world.globals is globals);
+          globals = rw heap (values_more names (extent_of old.heap) old.globals.items new.globals.items val ready.named.world.globals is globals);
           statics = rw (heap, statics) ready.named.world.statics;
         };
         locals = rw heap ready.named.locals;
@@ -168,26 +117,6 @@ held_ready names old heap locals ready keeps same = record {
 }
 
 -- A value by its place
-
-live_at : (all : Extent) (vals : List HeldVal) (k : ℕ) → All (IsLive all) vals → IsLive all (slice_index_or vals k NullVal)
-live_at all [] k are = record { live = tt }
-live_at all (val ∷ vals) zero are = All-head (IsLive all) val vals are
-live_at all (val ∷ vals) (suc k) are = live_at all vals k (All-tail (IsLive all) val vals are)
-
-named_at : (names : Names) (all : Extent) (vals : List HeldVal) (k : ℕ) → All (ValueNamed names) (map (value_in all) vals)
-    → ValueNamed names (value_in all (slice_index_or vals k NullVal))
-named_at names all [] k are = tt
-named_at names all (val ∷ vals) zero are = All-head (ValueNamed names) (value_in all val) (map (value_in all) vals) are
-named_at names all (val ∷ vals) (suc k) are = named_at names all vals k (All-tail (ValueNamed names) (value_in all val) (map (value_in all) vals) are)
-
-pub got_live : (all : Extent) (vals slice : List HeldVal) (k : ℕ) (val : HeldVal) → slice ≡ vals → val ≡ slice_index_or slice k NullVal → All (IsLive all) vals
-    → IsLive all val
-got_live all vals slice k val same is are = rw is (rw same (live_at all vals k are))
-
-pub got_named : (names : Names) (all : Extent) (vals slice : List HeldVal) (k : ℕ) (val : HeldVal) → slice ≡ vals → val ≡ slice_index_or slice k NullVal
-    → All (ValueNamed names) (map (value_in all) vals)
-    → ValueNamed names (value_in all val)
-got_named names all vals slice k val same is are = rw is (rw same (named_at names all vals k are))
 
 pub past : (vals : List HeldVal) (k : ℕ) → length vals ≤ k → slice_index_or vals k NullVal ≡ NullVal
 past [] k low = refl

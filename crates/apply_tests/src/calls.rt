@@ -1,5 +1,5 @@
 // Calls of a row, and of what it leaves until it fails.
-ghost use Rattle.std.specs.Prelude.{◌≡◌, ◌≢◌, [], length, map, IfOk, IfSome, IsTrue, OnOk};
+ghost use Rattle.std.specs.Prelude.{◌≡◌, ◌≢◌, length, map, IfOk, IfSome, IsTrue, OnOk};
 ghost use Rattle.std.specs.List.{All};
 ghost use Rattle.icn_text.specs.declared.op.Op.TheVariants.{Refresh};
 ghost use Rattle.icn_defs.specs.Arities.{arity};
@@ -12,7 +12,6 @@ ghost use Rattle.icn_apply.specs.Applicable.{IsApplicable};
 ghost use Rattle.apply_tests.specs.Ready.{ComesNamed, IsReady, IsReadyAnswer};
 
 use crate::showing::{push_halt, push_item};
-use crate::slots::Slots;
 use crate::streams::Streams;
 use crate::worlds::keep;
 use icn_apply::{Applied, again, apply};
@@ -22,6 +21,7 @@ use icn_text::{Op, func_named};
 use icn_value::{Item, Residual, Val};
 use icn_vars::{Halt, Outcome, World};
 use std::alloc::AllocError;
+use test_values::Slots;
 
 // What a word names that may be applied to so many items: a function by its name, an operation by its number.
 pub fn named(word: &str, count: usize) -> Option<Applied>

@@ -1,17 +1,17 @@
 // A case: what fails, and calls.
-ghost use Rattle.std.specs.Prelude.{◌≡◌, ◌∷◌, ◌<◌, [], length, IfOk, IsTrue};
+ghost use Rattle.std.specs.Prelude.{◌<◌, length, IfOk, IsTrue};
 ghost use Rattle.apply_tests.specs.Ready.{IsReady};
 
 use crate::calls::{named, push_applied};
 use crate::items::items_of;
 use crate::showing::push_quoted;
-use crate::slots::{Slots, one_local};
 use crate::streams::{Streams, new_streams};
 use crate::words::take_words;
-use crate::worlds::start;
+use crate::worlds::{one_local, start};
 use icn_convert::Names;
 use icn_vars::World;
 use std::alloc::{AllocError, Global};
+use test_values::Slots;
 
 // What the calls of a line come to, what is left of the input, and what was put on both outputs.
 pub fn outcome<N: Names>(alloc: Global, names: &N, line: &str) -> Result<String, AllocError>

@@ -8,13 +8,13 @@ ghost use Rattle.icn_named.specs.Named.{ItemNamed, ValueNamed, VariableNamed};
 ghost use Rattle.icn_vars.specs.Worlds.{IsLiveItem, IsLiveVariable, Reach, item_in, reach_of, variable_in};
 ghost use Rattle.apply_tests.specs.Ready.{IsReady};
 
-use crate::slots::Slots;
 use crate::worlds::value_at;
 use icn_convert::Names;
 use icn_text::read_integer;
 use icn_value::{Item, KeywordVariable, Root, Val, VarRef};
 use icn_vars::World;
 use std::alloc::{AllocError, Global};
+use test_values::Slots;
 
 // The items of a call's words, whose values are the statics.
 pub fn items_of<N: Names>(

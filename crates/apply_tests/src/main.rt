@@ -7,7 +7,6 @@ mod case;
 mod code;
 mod items;
 mod showing;
-mod slots;
 mod streams;
 mod words;
 mod worlds;

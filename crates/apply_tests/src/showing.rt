@@ -6,11 +6,11 @@ ghost use Rattle.icn_heap.specs.Heaps.{extent_of};
 ghost use Rattle.icn_vars.specs.Outcomes.{IsLiveHalt};
 ghost use Rattle.icn_vars.specs.Worlds.{IsLiveItem, reach_of};
 
-use crate::slots::Slots;
 use icn_heap::Heap;
-use icn_value::{Cset, File, Item, Val};
+use icn_value::{File, Item, Val};
 use icn_vars::{Halt, Stop, World, deref};
 use std::alloc::AllocError;
+use test_values::{Slots, push_printable};
 
 // A value; or a variable, with a mark, and what it holds.
 pub fn push_item(out: &mut String, w: &World, l: &Slots, item: Item) -> Result<(), AllocError>
@@ -63,7 +63,10 @@ fn push_value(out: &mut String, heap: &Heap, val: Val) -> Result<(), AllocError>
 {
     match val {
         Val::Text(span) => push_quoted(out, heap.bytes(span)),
-        Val::Chars(cset) => push_cset(out, &cset),
+        Val::Chars(cset) => {
+            push_printable(out, &cset)?;
+            out.push('\'')
+        }
         Val::Std(file) => push_file(out, file),
         _ => push_plain(out, val),
     }
@@ -108,14 +111,4 @@ fn push_byte(out: &mut String, byte: u8) -> Result<(), AllocError> {
         b'\n' => out.push('|'),
         _ => out.push(char::from(byte)),
     }
-}
-
-fn push_cset(out: &mut String, cset: &Cset) -> Result<(), AllocError> {
-    out.push('\'')?;
-    for byte in b'!'..=b'~' {
-        if cset.has(byte) {
-            out.push(char::from(byte))?;
-        }
-    }
-    out.push('\'')
 }

@@ -1,7 +1,7 @@
 // What calls read and write.
 use icn_host::{MemSink, MemSource};
-use icn_text::read_integer;
 use std::alloc::{AllocError, Global};
+use test_values::number;
 
 // A buffer, the input and both outputs.
 #[derive(Drop)]
@@ -27,9 +27,9 @@ pub fn new_streams(alloc: Global, word: &str) -> Result<Streams, AllocError> {
 // The calls at which the object of this mark fails.
 fn failing(alloc: Global, word: &str, mark: u8) -> Result<Vec<u64>, AllocError> {
     let mut calls = Vec::new(alloc);
-    if let Some((first, number)) = word.as_bytes().split_first() {
+    if let Some((first, digits)) = word.as_bytes().split_first() {
         if *first == mark {
-            calls.push(read_integer(number).unwrap_or(0).unsigned_abs())?;
+            calls.push(number(digits))?;
         }
     }
     Ok(calls)

@@ -6,13 +6,13 @@ ghost use Rattle.icn_value.specs.Store.{Names as NamesData};
 ghost use Rattle.icn_named.specs.Named.{ValueNamed};
 ghost use Rattle.apply_tests.specs.Ready.{IsReady};
 
-use crate::slots::Slots;
 use crate::worlds::{add_value, no_words, value_at};
 use icn_convert::Names;
 use icn_text::read_integer;
-use icn_value::{Cset, File, Val};
+use icn_value::Val;
 use icn_vars::World;
 use std::alloc::AllocError;
+use test_values::{Slots, number, plain};
 
 // Makes the values of a call's words the statics.
 pub fn take_words<N: Names>(
@@ -41,7 +41,7 @@ fn add_word<N: Names>(w: &mut World, l: &Slots, names: &N, word: &[u8]) -> Resul
             let val = earlier(w, l, names, rest);
             add_value(w, l, names, val)
         }
-        _ => add_value(w, l, names, plain(word)),
+        _ => add_value(w, l, names, constant(word)),
     }
 }
 
@@ -61,31 +61,17 @@ fn earlier<N: Names>(w: &World, _l: &Slots, _names: &N, digits: &[u8]) -> Val
     ensures live { IsLive (extent_of w.now.heap) result }
     ensures named { ValueNamed (N.known _names.now) (value_in (extent_of w.now.heap) result) }
 {
-    let place = read_integer(digits).unwrap_or(0).unsigned_abs();
-    value_at(&w.globals, place as usize)
+    value_at(&w.globals, number(digits) as usize)
 }
 
 // The value of a word that is neither a text nor an earlier value.
-fn plain(word: &[u8]) -> Val
+fn constant(word: &[u8]) -> Val
     ensures live { (all : Extent) → IsLive all result }
     ensures named { (names : NamesData) (all : Extent) → ValueNamed names (value_in all result) }
 {
-    if word == b"&input".as_slice() {
-        return Val::Std(File::Input);
-    }
-    if word == b"&output".as_slice() {
-        return Val::Std(File::Output);
-    }
-    if word == b"&errout".as_slice() {
-        return Val::Std(File::Errout);
-    }
     match word.split_first() {
-        Some((b'\'', rest)) => Val::Chars(members(rest)),
         Some((b'^', rest)) => procedure(rest),
-        _ => match read_integer(word) {
-            Ok(n) => Val::Integer(n),
-            Err(_) => Val::Null,
-        },
+        _ => plain(word),
     }
 }
 
@@ -104,12 +90,4 @@ fn procedure(digits: &[u8]) -> Val
         }
         Err(_) => Val::Null,
     }
-}
-
-fn members(bytes: &[u8]) -> Cset {
-    let mut cset = Cset::empty();
-    for byte in bytes {
-        cset = cset.with(*byte);
-    }
-    cset
 }

@@ -6,13 +6,22 @@ ghost use Rattle.icn_heap.specs.Heaps.{extent_of};
 ghost use Rattle.icn_named.specs.Named.{ValueNamed};
 ghost use Rattle.apply_tests.specs.Ready.{IsReady};
 
-use crate::slots::Slots;
 use icn_convert::Names;
 use icn_heap::Heap;
 use icn_structfn::new_record;
 use icn_value::{Limits, Val};
 use icn_vars::{Stop, World};
 use std::alloc::{AllocError, Global};
+use test_values::Slots;
+
+// A local that is null.
+pub fn one_local(alloc: Global) -> Result<Slots, AllocError>
+    ensures { IfOk result (λ slots. slots.vals.items ≡ Null ∷ []) }
+{
+    let mut vals = Vec::new(alloc);
+    vals.push(Val::Null)?;
+    Ok(Slots { vals })
+}
 
 // A world that has a record, of 7 and 8, as its one global.
 pub fn start<N: Names>(alloc: Global, names: &N, l: &Slots) -> Result<World, Stop>
@@ -43,7 +52,7 @@ fn empty<N: Names>(alloc: Global, _names: &N, l: &Slots) -> Result<World, AllocE
 }
 
 // Keeps a value by the next number.
-#[tactic(auto, using(crate::proofs::Named::global_added, crate::proofs::Named::global_ready))]
+#[tactic(auto, using(test_values::proofs::Adding::global_added, crate::proofs::Named::global_ready))]
 pub fn keep<N: Names>(w: &mut World, l: &Slots, _names: &N, val: Val) -> Result<(), AllocError>
     requires live { IsLive (extent_of w.old.heap) val }
     requires named { ValueNamed (N.known _names.now) (value_in (extent_of w.old.heap) val) }
@@ -55,7 +64,7 @@ pub fn keep<N: Names>(w: &mut World, l: &Slots, _names: &N, val: Val) -> Result<
 }
 
 // Takes the values of all words away.
-#[tactic(auto, using(crate::proofs::Named::statics_cleared, crate::proofs::Named::cleared_ready))]
+#[tactic(auto, using(test_values::proofs::Adding::statics_cleared, crate::proofs::Named::cleared_ready))]
 pub fn no_words<N: Names>(w: &mut World, l: &Slots, _names: &N)
     requires { IsReady (N.known _names.now) w.old l.now.vals.items }
     ensures { IsReady (N.known _names.now) w.new l.now.vals.items }
@@ -64,7 +73,7 @@ pub fn no_words<N: Names>(w: &mut World, l: &Slots, _names: &N)
 }
 
 // Adds the value of a word.
-#[tactic(auto, using(crate::proofs::Named::static_added, crate::proofs::Named::static_ready))]
+#[tactic(auto, using(test_values::proofs::Adding::static_added, crate::proofs::Named::static_ready))]
 pub fn add_value<N: Names>(w: &mut World, l: &Slots, _names: &N, val: Val) -> Result<(), AllocError>
     requires live { IsLive (extent_of w.old.heap) val }
     requires named { ValueNamed (N.known _names.now) (value_in (extent_of w.old.heap) val) }

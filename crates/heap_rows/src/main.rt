@@ -8,9 +8,10 @@ mod showing;
 mod structures;
 mod tables;
 
-use arguments::{arguments, limit_of, new_world};
+use arguments::arguments;
 use calls::called;
 use std::io;
+use test_values::{new_world, number};
 
 fn main(rt: HostRuntime) -> io::Result<()> {
     let alloc = rt.alloc();
@@ -22,7 +23,7 @@ fn main(rt: HostRuntime) -> io::Result<()> {
             println!(rt; "{line}")?;
         } else if word == "new" {
             let (strings, cells) = rest.split_once(" ").unwrap_or((rest, ""));
-            w = new_world(alloc, limit_of(strings), limit_of(cells))?;
+            w = new_world(alloc, number(strings.as_bytes()), number(cells.as_bytes()))?;
             println!(rt; "{line}")?;
         } else {
             let args = arguments(alloc, &mut w, rest)?;

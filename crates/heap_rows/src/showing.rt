@@ -4,9 +4,10 @@ ghost use Rattle.icn_heap.specs.Extents.{IsLive};
 ghost use Rattle.icn_heap.specs.Heaps.{extent_of};
 
 use icn_heap::{Full, Heap};
-use icn_value::{Cset, Val};
+use icn_value::Val;
 use icn_vars::World;
 use std::alloc::AllocError;
+use test_values::{add_global, push_bytes, push_printable};
 
 // A value that was made, which later calls have by its place, or why it was refused.
 pub fn push_made(out: &mut String, w: &mut World, made: Result<Val, Full>) -> Result<(), AllocError>
@@ -21,14 +22,6 @@ pub fn push_made(out: &mut String, w: &mut World, made: Result<Val, Full>) -> Re
         }
         Err(full) => push_full(out, full),
     }
-}
-
-#[tactic(auto, using(crate::proofs::Adding::global_added))]
-fn add_global(w: &mut World, val: Val) -> Result<(), AllocError>
-    requires { IsLive (extent_of w.old.heap) val }
-{
-    w.globals.push(val)?;
-    Ok(())
 }
 
 // That it is done, or why it was refused.
@@ -72,17 +65,12 @@ pub fn push_val(out: &mut String, heap: &Heap, val: Val) -> Result<(), AllocErro
     requires { IsLive (extent_of heap.now) val }
 {
     match val {
-        Val::Text(span) => push_text(out, heap.bytes(span)),
+        Val::Text(span) => {
+            out.push('"')?;
+            push_bytes(out, heap.bytes(span))
+        }
         _ => push_plain(out, val),
     }
-}
-
-pub fn push_text(out: &mut String, bytes: &[u8]) -> Result<(), AllocError> {
-    out.push('"')?;
-    for byte in bytes {
-        out.push(char::from(*byte))?;
-    }
-    Ok(())
 }
 
 // A value, and of a text no bytes.
@@ -91,7 +79,7 @@ pub fn push_plain(out: &mut String, val: Val) -> Result<(), AllocError> {
         Val::Null => out.push_str("&null"),
         Val::Integer(n) => write!(out, "{n}"),
         Val::Text(_) => out.push_str("a text"),
-        Val::Chars(cset) => push_cset(out, &cset),
+        Val::Chars(cset) => push_printable(out, &cset),
         Val::Std(_) => out.push_str("a file"),
         Val::Proc(number) => write!(out, "procedure {number}"),
         Val::Coexp(id) => write!(out, "co-expression {id}"),
@@ -100,16 +88,6 @@ pub fn push_plain(out: &mut String, val: Val) -> Result<(), AllocError> {
         Val::Table(id) => write!(out, "table {id}"),
         Val::Rec(id) => write!(out, "record {id}"),
     }
-}
-
-fn push_cset(out: &mut String, cset: &Cset) -> Result<(), AllocError> {
-    out.push('\'')?;
-    for byte in b'!'..=b'~' {
-        if cset.has(byte) {
-            out.push(char::from(byte))?;
-        }
-    }
-    Ok(())
 }
 
 // Values in a row, and of texts no bytes.

@@ -9,35 +9,15 @@ ghost use Rattle.icn_iofn.specs.OfFiles.{is_of_files};
 
 #[cfg(test)]
 mod tests {
-    use icn_heap::Heap;
     use icn_host::{MemSink, MemSource};
     use icn_iofn::first;
     use icn_text::Func;
-    use icn_value::{File, Item, Limits, Val};
-    use icn_vars::{Halt, Locals, Outcome, World};
+    use icn_value::{File, Item, Val};
+    use icn_vars::{Halt, Outcome, World};
     use std::alloc::{AllocError, Global};
     use std::process::Abort;
     use std::test::Fail;
-
-    // Locals that are a vector.
-    #[derive(Drop)]
-    struct Slots {
-        vals: Vec<Val>,
-    }
-
-    impl Locals for Slots {
-        ghost use Rattle.icn_value.specs.declared.val.Val.{Val as ValData};
-
-        ghost items = { λ slots. slots.vals.items };
-
-        fn get(&self, place: u64) -> Val {
-            self.vals[place as usize]
-        }
-
-        fn set(&mut self, place: u64, val: Val) {
-            self.vals[place as usize] = val;
-        }
-    }
+    use test_values::{Slots, new_world, no_locals};
 
     // What a call is tried on: the input, whether but one string byte may be charged, and whether each object fails at once.
     #[derive(Clone, Copy)]
@@ -69,17 +49,6 @@ mod tests {
         }
     }
 
-    fn world(alloc: Global, one_byte: bool) -> Result<World, AllocError> {
-        let limits = Limits {
-            turns: 0,
-            strings: if one_byte { 1 } else { 1000 },
-            cells: 1000,
-            levels: 1,
-        };
-        let heap = Heap::new(alloc, limits)?;
-        Ok(World::new(heap, Vec::new(alloc), Vec::new(alloc)))
-    }
-
     // The first call of an object, where it fails.
     fn failing(alloc: Global, fails: bool) -> Result<Vec<u64>, AllocError> {
         let mut calls = Vec::new(alloc);
@@ -104,10 +73,9 @@ mod tests {
         requires first { (all : Extent) → IsLive all x }
         requires second { (all : Extent) → IsLive all y }
     {
-        let mut w = world(alloc, on.one_byte)?;
-        let locals = Slots {
-            vals: Vec::new(alloc),
-        };
+        let strings = if on.one_byte { 1 } else { 1000 };
+        let mut w = new_world(alloc, strings, 1000)?;
+        let locals = no_locals(alloc);
         let mut buffer = Vec::new(alloc);
         let mut input = MemSource::new(
             Vec::from_slice(alloc, on.input.as_bytes())?,

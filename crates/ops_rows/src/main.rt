@@ -5,7 +5,6 @@
 mod operands;
 mod outcome;
 mod showing;
-mod slots;
 
 use outcome::outcome;
 use std::io;

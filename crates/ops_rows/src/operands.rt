@@ -6,10 +6,10 @@ ghost use Rattle.icn_heap.specs.Heaps.{extent_of};
 ghost use Rattle.icn_vars.specs.Worlds.{IsLiveItem, IsLiveVariable, Reach, reach_of};
 
 use icn_heap::{Full, Heap};
-use icn_text::read_integer;
-use icn_value::{Cset, File, Item, Root, Val, VarRef};
+use icn_value::{Item, Root, Val, VarRef};
 use icn_vars::World;
 use std::alloc::{AllocError, Global};
+use test_values::{add, members, plain, text_value};
 
 // A record has at most so many fields.
 const MOST_FIELDS: usize = 1 << 16;
@@ -24,14 +24,6 @@ pub fn operands(alloc: Global, w: &mut World, line: &str) -> Result<Vec<Val>, Fu
         add(&mut vals, val)?;
     }
     Ok(vals)
-}
-
-// Adds a value.
-pub fn add(vals: &mut Vec<Val>, val: Val) -> Result<(), AllocError>
-    ensures { IfOk result (λ done. vals.new.items ≡ vals.old.items ++ val ∷ []) }
-{
-    vals.push(val)?;
-    Ok(())
 }
 
 // A field without the mark of a variable.
@@ -58,8 +50,8 @@ fn operand(alloc: Global, w: &mut World, field: &[u8]) -> Result<Val, Full>
     ensures kept { Keeps (extent_of w.old.heap) (extent_of w.new.heap) }
 {
     match field.split_first() {
-        Some((b'"', rest)) => Ok(Val::Text(w.heap.hold(front(rest))?)),
-        Some((b'\'', rest)) => Ok(Val::Chars(cset_of(front(rest)))),
+        Some((b'"', rest)) => Ok(text_value(w, front(rest))?),
+        Some((b'\'', rest)) => Ok(Val::Chars(members(front(rest)))),
         Some((b'[', rest)) => {
             let items = integers(alloc, front(rest))?;
             w.heap.list_from(&items)
@@ -96,37 +88,12 @@ fn table_of(heap: &mut Heap, key: Val) -> Result<Val, Full>
     Ok(table)
 }
 
-// An integer, a file, or null.
-fn plain(field: &[u8]) -> Val
-    ensures { (all : Extent) → IsLive all result }
-{
-    if field == b"&input".as_slice() {
-        return Val::Std(File::Input);
-    }
-    if field == b"&output".as_slice() {
-        return Val::Std(File::Output);
-    }
-    match read_integer(field) {
-        Ok(n) => Val::Integer(n),
-        Err(_) => Val::Null,
-    }
-}
-
 // A text without its last byte, which closes it.
 fn front(text: &[u8]) -> &[u8] {
     match text.split_last() {
         Some((_, front)) => front,
         None => text,
     }
-}
-
-// The bytes of a text as a cset.
-fn cset_of(text: &[u8]) -> Cset {
-    let mut cset = Cset::empty();
-    for byte in text {
-        cset = cset.with(*byte);
-    }
-    cset
 }
 
 // The integers that a text writes, with a comma between each two.

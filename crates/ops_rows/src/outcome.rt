@@ -10,19 +10,18 @@ ghost use Rattle.icn_vars.specs.Worlds.{Reach, reach_of};
 
 use crate::operands::{items_of, operands};
 use crate::showing::{show, show_locals};
-use crate::slots::Slots;
 use icn_defs::{arity, op_numbered};
-use icn_heap::Heap;
 use icn_host::MemSource;
 use icn_ops::{again, first, is_of_operations};
 use icn_text::Op;
-use icn_value::{Limits, Residual};
+use icn_value::Residual;
 use icn_vars::{Halt, Outcome, World};
 use std::alloc::{AllocError, Global};
+use test_values::{Slots, new_world};
 
 // What comes of a case. Each has a world of its own, of 20 string bytes and 10 cells.
 pub fn outcome(alloc: Global, line: &str) -> Result<String, AllocError> {
-    let mut w = world(alloc)?;
+    let mut w = new_world(alloc, 20, 10)?;
     match operands(alloc, &mut w, line) {
         Ok(vals) => {
             let mut slots = Slots { vals };
@@ -30,18 +29,6 @@ pub fn outcome(alloc: Global, line: &str) -> Result<String, AllocError> {
         }
         Err(_) => String::from_str(alloc, "too large"),
     }
-}
-
-// A world in which nothing is made yet.
-fn world(alloc: Global) -> Result<World, AllocError> {
-    let limits = Limits {
-        turns: 0,
-        strings: 20,
-        cells: 10,
-        levels: 1,
-    };
-    let heap = Heap::new(alloc, limits)?;
-    Ok(World::new(heap, Vec::new(alloc), Vec::new(alloc)))
 }
 
 // Applies the operation of a line's first field.

@@ -6,11 +6,11 @@ ghost use Rattle.icn_heap.specs.Heaps.{extent_of};
 ghost use Rattle.icn_vars.specs.Outcomes.{IsLiveAnswer, IsLiveOutcome};
 ghost use Rattle.icn_vars.specs.Worlds.{IsLiveItem, reach_of};
 
-use crate::slots::Slots;
 use icn_heap::Heap;
 use icn_value::{Cset, File, Item, Val};
 use icn_vars::{Halt, Outcome, Stop, World, deref};
 use std::alloc::AllocError;
+use test_values::{Slots, push_bytes};
 
 // What an operation gives, or the error that it is.
 pub fn show(
@@ -100,7 +100,11 @@ fn push_value(out: &mut String, heap: &Heap, val: Val) -> Result<(), AllocError>
     match val {
         Val::Null => out.push_str("&null"),
         Val::Integer(n) => write!(out, "{n}"),
-        Val::Text(text) => push_text(out, heap.bytes(text)),
+        Val::Text(text) => {
+            out.push('"')?;
+            push_bytes(out, heap.bytes(text))?;
+            out.push('"')
+        }
         Val::Chars(cset) => push_cset(out, &cset),
         Val::List(id) => push_list(out, heap, id),
         Val::Set(id) => push_set(out, heap, id),
@@ -109,14 +113,6 @@ fn push_value(out: &mut String, heap: &Heap, val: Val) -> Result<(), AllocError>
         Val::Std(File::Output) => out.push_str("&output"),
         _ => out.push_str("&input"),
     }
-}
-
-fn push_text(out: &mut String, text: &[u8]) -> Result<(), AllocError> {
-    out.push('"')?;
-    for byte in text {
-        out.push(char::from(*byte))?;
-    }
-    out.push('"')
 }
 
 // How many members there are, and which of these are small letters.

@@ -3,15 +3,15 @@ ghost use Rattle.std.specs.List.{All};
 ghost use Rattle.icn_heap.specs.Extents.{IsLive};
 ghost use Rattle.icn_heap.specs.Heaps.{extent_of};
 
-use crate::arguments::{add_word, set_keyword, world};
+use crate::keywords::set_keyword;
 use crate::kinds::is_scanning_function;
 use crate::results::push_results;
-use crate::slots::{Slots, no_locals};
 use icn_scanfn::first;
-use icn_text::{Func, func_named, read_integer};
+use icn_text::{Func, func_named};
 use icn_value::KeywordVariable;
 use icn_vars::World;
 use std::alloc::{AllocError, Global};
+use test_values::{Slots, add_argument, new_world, no_locals, number, split_word};
 
 // What the case of a line comes to, behind an arrow. An empty line and a remark have none.
 pub fn outcome(alloc: Global, line: &[u8]) -> Result<String, AllocError> {
@@ -24,29 +24,14 @@ pub fn outcome(alloc: Global, line: &[u8]) -> Result<String, AllocError> {
     let (subject, behind) = split_word(behind);
     let (position, behind) = split_word(behind);
     let (name, args) = split_word(behind);
-    let mut w = world(alloc, number(limit))?;
+    let mut w = new_world(alloc, number(limit), 0)?;
     for word in args.split(|byte| *byte == b' ') {
-        add_word(alloc, &mut w, word)?;
+        add_argument(alloc, &mut w, word)?;
     }
     let mut slots = no_locals(alloc);
     set_keyword(alloc, &mut w, &mut slots, KeywordVariable::Subject, subject)?;
     push_case(&mut out, &mut w, position, name)?;
     Ok(out)
-}
-
-// What stands in front of the first blank, and what stands behind it.
-fn split_word(text: &[u8]) -> (&[u8], &[u8]) {
-    match text.iter().position(|byte| *byte == b' ') {
-        Some(place) => (&text[..place], &text[place + 1..]),
-        None => (text, b""),
-    }
-}
-
-fn number(word: &[u8]) -> u64 {
-    match read_integer(word) {
-        Ok(n) => n.unsigned_abs(),
-        Err(_) => 0,
-    }
 }
 
 // Appends what a function comes to at a position. A name behind `-` says that the subject is emptied before each resumption.

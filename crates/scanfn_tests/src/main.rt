@@ -2,12 +2,10 @@
 //! comes of it. The head of `stdin` says how a case is written.
 #![tactic(auto)]
 
-mod arguments;
 mod case;
+mod keywords;
 mod kinds;
-mod outcomes;
 mod results;
-mod slots;
 
 use case::outcome;
 use std::io;

@@ -1,21 +1,20 @@
 // All that a case gives.
-ghost use Rattle.std.specs.Prelude.{◌≡◌, true, IfSome};
+ghost use Rattle.std.specs.Prelude.{◌≡◌, true};
 ghost use Rattle.std.specs.List.{All};
 ghost use Rattle.icn_heap.specs.Extents.{IsLive};
 ghost use Rattle.icn_heap.specs.Heaps.{extent_of};
 ghost use Rattle.icn_vars.specs.Outcomes.{IsLiveAnswer, IsLiveResidual};
-ghost use Rattle.icn_vars.specs.Worlds.{IsLiveItem, reach_of};
+ghost use Rattle.icn_vars.specs.Worlds.{reach_of};
 ghost use Rattle.icn_scanfn.specs.Functions.{is_of_scanning};
 
-use crate::arguments::assign_keyword;
+use crate::keywords::assign_keyword;
 use crate::kinds::{is_move, is_of_scanning};
-use crate::outcomes::push_value;
-use crate::slots::Slots;
 use icn_heap::{empty_text, short_text};
 use icn_scanfn::again;
-use icn_value::{Item, KeywordVariable, Residual, Span, Val};
+use icn_value::{KeywordVariable, Residual, Span, Val};
 use icn_vars::{Halt, Outcome, World};
 use std::alloc::AllocError;
+use test_values::{Slots, push_error, push_integer, push_item};
 
 // Appends a result and those that come after it, up to a number.
 pub fn push_results(
@@ -94,33 +93,5 @@ fn push_position(out: &mut String, w: &World, rest: Residual) -> Result<(), Allo
 
 fn push_place(out: &mut String, w: &World) -> Result<(), AllocError> {
     short_text(&w.heap, w.pair.subject);
-    push_value(out, &w.heap, Val::Integer(w.pair.position as i64))
-}
-
-fn push_error(
-    out: &mut String,
-    w: &World,
-    number: u16,
-    offending: Option<Val>,
-) -> Result<(), AllocError>
-    requires { IfSome offending (IsLive (extent_of w.now.heap)) }
-{
-    out.push_str("error ")?;
-    push_value(out, &w.heap, Val::Integer(i64::from(number)))?;
-    match offending {
-        Some(val) => {
-            out.push(' ')?;
-            push_value(out, &w.heap, val)
-        }
-        None => Ok(()),
-    }
-}
-
-fn push_item(out: &mut String, w: &World, _slots: &Slots, item: Item) -> Result<(), AllocError>
-    requires { IsLiveItem (reach_of w.now _slots.now.vals.items) item }
-{
-    match item {
-        Item::Val(val) => push_value(out, &w.heap, val),
-        Item::Var(_) => out.push_str("a variable"),
-    }
+    push_integer(out, w.pair.position as i64)
 }

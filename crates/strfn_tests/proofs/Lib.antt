@@ -1,3 +1,1 @@
-mod Adding
-mod Functions
 mod Unnamed

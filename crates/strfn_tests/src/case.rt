@@ -1,23 +1,21 @@
 // A case: a limit, the name of a function and its arguments.
-ghost use Rattle.std.specs.Prelude.{◌≡◌, [], IfSome, IsTrue};
+ghost use Rattle.std.specs.Prelude.{◌≡◌, [], IsTrue};
 ghost use Rattle.std.specs.List.{All};
 ghost use Rattle.icn_convert.specs.Naming.{IsNamed};
-ghost use Rattle.icn_heap.specs.Extents.{IsLive};
-ghost use Rattle.icn_heap.specs.Heaps.{extent_of, heap_of};
+ghost use Rattle.icn_heap.specs.Heaps.{heap_of};
 ghost use Rattle.icn_vars.specs.Outcomes.{IsLiveAnswer};
-ghost use Rattle.icn_vars.specs.Worlds.{IsLiveItem, reach_of};
+ghost use Rattle.icn_vars.specs.Worlds.{reach_of};
 ghost use Rattle.icn_strfn.specs.Functions.{is_string_function};
-ghost use Rattle.strfn_tests.specs.OneRecord.{one_record};
+ghost use Rattle.test_values.specs.OneRecord.{one_record};
 
-use crate::arguments::{add_word, world};
-use crate::names::OneRecord;
-use crate::outcomes::push_value;
-use crate::slots::{Slots, no_locals};
 use icn_strfn::{again, first};
-use icn_text::{Func, func_named, read_integer};
-use icn_value::{Item, Residual, Val};
+use icn_text::{Func, func_named};
+use icn_value::{Residual, Val};
 use icn_vars::{Halt, Outcome, World};
 use std::alloc::{AllocError, Global};
+use test_values::{
+    OneRecord, Slots, add_argument, new_world, no_locals, number, push_error, push_item, split_word,
+};
 
 // What the case of a line comes to, behind an arrow. An empty line and a remark have none.
 pub fn outcome(alloc: Global, line: &[u8]) -> Result<String, AllocError> {
@@ -28,30 +26,15 @@ pub fn outcome(alloc: Global, line: &[u8]) -> Result<String, AllocError> {
     out.push_str(" -> ")?;
     let (limit, behind) = split_word(line);
     let (name, args) = split_word(behind);
-    let mut w = world(alloc, number(limit))?;
+    let mut w = new_world(alloc, number(limit), 0)?;
     for word in args.split(|byte| *byte == b' ') {
-        add_word(alloc, &mut w, word)?;
+        add_argument(alloc, &mut w, word)?;
     }
     match func_named(name) {
         Some(func) => push_applied(&mut out, &mut w, func)?,
         None => out.push_str("no function")?,
     }
     Ok(out)
-}
-
-// What stands in front of the first blank, and what stands behind it.
-fn split_word(text: &[u8]) -> (&[u8], &[u8]) {
-    match text.iter().position(|byte| *byte == b' ') {
-        Some(place) => (&text[..place], &text[place + 1..]),
-        None => (text, b""),
-    }
-}
-
-fn number(word: &[u8]) -> u64 {
-    match read_integer(word) {
-        Ok(n) => n.unsigned_abs(),
-        Err(_) => 0,
-    }
 }
 
 // Whether it is a function over integers, texts and csets.
@@ -157,7 +140,7 @@ fn push_applied(out: &mut String, w: &mut World, func: Func) -> Result<(), Alloc
     let args = w.globals.as_slice().to_vec(*w.globals.allocator())?;
     if is_string_function(func) {
         if are_named(&args) {
-            let slots = no_locals(w);
+            let slots = no_locals(*w.globals.allocator());
             let answer = first(&OneRecord, func, &args, w, &slots);
             push_answer(out, w, &slots, answer)
         } else {
@@ -206,33 +189,5 @@ fn push_resumed(
             }
         }
         _ => out.push_str(", then another"),
-    }
-}
-
-fn push_error(
-    out: &mut String,
-    w: &World,
-    number: u16,
-    offending: Option<Val>,
-) -> Result<(), AllocError>
-    requires { IfSome offending (IsLive (extent_of w.now.heap)) }
-{
-    out.push_str("error ")?;
-    push_value(out, &w.heap, Val::Integer(i64::from(number)))?;
-    match offending {
-        Some(val) => {
-            out.push(' ')?;
-            push_value(out, &w.heap, val)
-        }
-        None => Ok(()),
-    }
-}
-
-fn push_item(out: &mut String, w: &World, _slots: &Slots, item: Item) -> Result<(), AllocError>
-    requires { IsLiveItem (reach_of w.now _slots.now.vals.items) item }
-{
-    match item {
-        Item::Val(val) => push_value(out, &w.heap, val),
-        Item::Var(_) => out.push_str("a variable"),
     }
 }

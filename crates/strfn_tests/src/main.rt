@@ -2,11 +2,7 @@
 //! it. The head of `stdin` says how a case is written.
 #![tactic(auto)]
 
-mod arguments;
 mod case;
-mod names;
-mod outcomes;
-mod slots;
 
 use case::outcome;
 use std::io;

@@ -1,3 +1,2 @@
-mod Functions
-mod Naming
+mod NamesKept
 mod Worlds

@@ -1,17 +1,18 @@
 // The arguments of a call, which are the statics of a world.
 ghost use Rattle.std.specs.Prelude.{◌≡◌, ◌<◌, [], length, slice_index_or, IfOk, OnOk};
 ghost use Rattle.icn_value.specs.declared.val.Val.TheVariants.{Null};
-ghost use Rattle.icn_heap.specs.Extents.{Extent, IsLive, value_in};
+ghost use Rattle.icn_heap.specs.Extents.{IsLive, value_in};
 ghost use Rattle.icn_heap.specs.Heaps.{extent_of};
 ghost use Rattle.icn_named.specs.Named.{ValueNamed};
-ghost use Rattle.structfn_tests.specs.OneRecord.{AllNamed, one_record};
+ghost use Rattle.structfn_tests.specs.Naming.{AllNamed};
+ghost use Rattle.test_values.specs.OneRecord.{one_record};
 
-use crate::slots::Slots;
 use icn_heap::Heap;
 use icn_text::read_integer;
-use icn_value::{Cset, File, Limits, Val};
+use icn_value::{Limits, Val};
 use icn_vars::World;
 use std::alloc::{AllocError, Global};
+use test_values::{Slots, plain};
 
 // A world in which nothing is made, where so many cells may be charged.
 #[tactic(auto, using(crate::proofs::Worlds::new_named))]
@@ -29,7 +30,7 @@ pub fn world(alloc: Global, cells: u64) -> Result<World, AllocError>
 }
 
 // Takes the arguments away.
-#[tactic(auto, using(crate::proofs::Worlds::statics_cleared))]
+#[tactic(auto, using(test_values::proofs::Adding::statics_cleared, crate::proofs::Worlds::cleared_named))]
 pub fn no_arguments(w: &mut World, l: &Slots)
     requires { AllNamed w.old l.now.vals.items }
     ensures { AllNamed w.new l.now.vals.items }
@@ -80,31 +81,6 @@ fn value_at(vals: &[Val], place: usize) -> Val
     vals[place]
 }
 
-// The value of a word that is neither a text nor an earlier value.
-fn plain(word: &[u8]) -> Val
-    ensures live { (all : Extent) → IsLive all result }
-    ensures named { (all : Extent) → ValueNamed one_record (value_in all result) }
-{
-    if word == b"&input".as_slice() {
-        return Val::Std(File::Input);
-    }
-    match word.split_first() {
-        Some((b'\'', rest)) => Val::Chars(members(rest)),
-        _ => match read_integer(word) {
-            Ok(n) => Val::Integer(n),
-            Err(_) => Val::Null,
-        },
-    }
-}
-
-fn members(bytes: &[u8]) -> Cset {
-    let mut cset = Cset::empty();
-    for byte in bytes {
-        cset = cset.with(*byte);
-    }
-    cset
-}
-
 // Adds the text of these bytes.
 #[tactic(auto, using(icn_vars::proofs::Growing::grows))]
 fn add_text(w: &mut World, l: &Slots, bytes: &[u8]) -> Result<(), AllocError>
@@ -117,7 +93,7 @@ fn add_text(w: &mut World, l: &Slots, bytes: &[u8]) -> Result<(), AllocError>
 }
 
 // Adds an argument.
-#[tactic(auto, using(crate::proofs::Worlds::static_added))]
+#[tactic(auto, using(test_values::proofs::Adding::static_added, crate::proofs::Worlds::static_named))]
 pub fn add_value(w: &mut World, l: &Slots, val: Val) -> Result<(), AllocError>
     requires live { IsLive (extent_of w.old.heap) val }
     requires named { ValueNamed one_record (value_in (extent_of w.old.heap) val) }

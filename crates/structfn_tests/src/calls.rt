@@ -7,15 +7,15 @@ ghost use Rattle.icn_named.specs.Named.{ValueNamed};
 ghost use Rattle.icn_vars.specs.Outcomes.{IsLiveAnswer};
 ghost use Rattle.icn_vars.specs.Worlds.{reach_of};
 ghost use Rattle.icn_structfn.specs.Functions.{is_of_structures};
-ghost use Rattle.structfn_tests.specs.OneRecord.{AllNamed, ComesNamed, one_record};
+ghost use Rattle.structfn_tests.specs.Naming.{AllNamed, ComesNamed};
+ghost use Rattle.test_values.specs.OneRecord.{one_record};
 
-use crate::names::OneRecord;
-use crate::slots::Slots;
 use icn_structfn::{first, key_again};
 use icn_text::{Func, func_named};
 use icn_value::Val;
 use icn_vars::{Halt, Outcome, World};
 use std::alloc::AllocError;
+use test_values::{OneRecord, Slots};
 
 // Calls what a name says with the arguments: a function over structures, or else `next`.
 pub fn called(w: &mut World, l: &Slots, name: &[u8]) -> Result<Outcome, Halt>
@@ -61,7 +61,7 @@ fn values(w: &World, _l: &Slots) -> Result<Vec<Val>, AllocError>
 }
 
 // Applies it to these values.
-#[tactic(auto, using(crate::proofs::Naming::function_comes))]
+#[tactic(auto, using(crate::proofs::NamesKept::function_comes))]
 fn applied_to(w: &mut World, l: &Slots, func: Func, args: &[Val]) -> Result<Outcome, Halt>
     requires func { is_of_structures func ≡ true }
     requires locals { l.now.vals.items ≡ [] }
@@ -75,7 +75,7 @@ fn applied_to(w: &mut World, l: &Slots, func: Func, args: &[Val]) -> Result<Outc
 }
 
 // The key of a table, the first argument, at a place, the second.
-#[tactic(auto, using(crate::proofs::Naming::key_comes))]
+#[tactic(auto, using(crate::proofs::NamesKept::key_comes))]
 fn next(w: &World, l: &Slots) -> Result<Outcome, Halt>
     requires named { AllNamed w.now l.now.vals.items }
     ensures live { IsLiveAnswer (reach_of w.now l.now.vals.items) result }

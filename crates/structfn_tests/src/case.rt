@@ -5,16 +5,16 @@ ghost use Rattle.icn_heap.specs.Heaps.{extent_of};
 ghost use Rattle.icn_named.specs.Named.{ItemNamed, ValueNamed};
 ghost use Rattle.icn_vars.specs.Outcomes.{IsLiveAnswer, IsLiveHalt, IsLiveOutcome};
 ghost use Rattle.icn_vars.specs.Worlds.{IsLiveItem, item_in, reach_of};
-ghost use Rattle.structfn_tests.specs.OneRecord.{AllNamed, ComesNamed, one_record};
+ghost use Rattle.structfn_tests.specs.Naming.{AllNamed, ComesNamed};
+ghost use Rattle.test_values.specs.OneRecord.{one_record};
 
 use crate::arguments::{add_word, no_arguments, world};
 use crate::calls::{argument, called};
 use crate::outcomes::{push_shown, push_value};
-use crate::slots::{Slots, no_locals};
-use icn_text::read_integer;
 use icn_value::{Item, Val};
 use icn_vars::{Halt, Outcome, World};
 use std::alloc::{AllocError, Global};
+use test_values::{Slots, no_locals, number, split};
 
 // What the calls of a line come to, behind an arrow. An empty line and a remark have none, and an error is the last.
 #[tactic(auto, using(crate::proofs::Worlds::without_locals))]
@@ -35,21 +35,6 @@ pub fn outcome(alloc: Global, line: &[u8]) -> Result<String, AllocError> {
         return Ok(out);
     }
     Ok(out)
-}
-
-// What stands in front of the first of these bytes, and what stands behind it.
-fn split(text: &[u8], at: u8) -> (&[u8], &[u8]) {
-    match text.iter().position(|byte| *byte == at) {
-        Some(place) => (&text[..place], &text[place + 1..]),
-        None => (text, b""),
-    }
-}
-
-fn number(word: &[u8]) -> u64 {
-    match read_integer(word) {
-        Ok(n) => n.unsigned_abs(),
-        Err(_) => 0,
-    }
 }
 
 // Makes a call, and appends what it comes to. Whether the case goes on.
@@ -133,7 +118,7 @@ fn push_item(out: &mut String, w: &mut World, l: &Slots, item: Item) -> Result<(
 }
 
 // Keeps a value by the next number.
-#[tactic(auto, using(crate::proofs::Worlds::global_added))]
+#[tactic(auto, using(test_values::proofs::Adding::global_added, crate::proofs::Worlds::global_named))]
 fn keep(w: &mut World, l: &Slots, val: Val) -> Result<(), AllocError>
     requires live { IsLive (extent_of w.old.heap) val }
     requires named { ValueNamed one_record (value_in (extent_of w.old.heap) val) }

@@ -5,9 +5,7 @@
 mod arguments;
 mod calls;
 mod case;
-mod names;
 mod outcomes;
-mod slots;
 
 use case::outcome;
 use std::io;

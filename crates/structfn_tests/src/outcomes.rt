@@ -4,9 +4,9 @@ ghost use Rattle.icn_heap.specs.Extents.{AreLive, IsLive};
 ghost use Rattle.icn_heap.specs.Heaps.{extent_of};
 
 use icn_heap::Heap;
-use icn_text::decimal;
-use icn_value::{Cset, Val};
+use icn_value::Val;
 use std::alloc::AllocError;
+use test_values::{push_escaped, push_escaped_cset, push_integer};
 
 // Appends a value: an integer, a text or a cset as a case writes it, and a structure by its type and its number.
 pub fn push_value(out: &mut String, heap: &Heap, val: Val) -> Result<(), AllocError>
@@ -15,8 +15,8 @@ pub fn push_value(out: &mut String, heap: &Heap, val: Val) -> Result<(), AllocEr
     match val {
         Val::Null => out.push_str("&null"),
         Val::Integer(n) => push_integer(out, n),
-        Val::Text(span) => push_quoted(out, '"', heap.bytes(span)),
-        Val::Chars(cset) => push_cset(out, &cset),
+        Val::Text(span) => push_escaped(out, heap.bytes(span)),
+        Val::Chars(cset) => push_escaped_cset(out, &cset),
         Val::Std(_) => out.push_str("&input"),
         Val::List(id) => push_numbered(out, "list_", id),
         Val::Set(id) => push_numbered(out, "set_", id),
@@ -86,36 +86,4 @@ fn push_pairs(out: &mut String, heap: &Heap, pairs: &[(Val, Val)]) -> Result<(),
 fn push_numbered(out: &mut String, kind: &str, id: u32) -> Result<(), AllocError> {
     out.push_str(kind)?;
     push_integer(out, i64::from(id))
-}
-
-fn push_integer(out: &mut String, n: i64) -> Result<(), AllocError> {
-    for digit in decimal(n).as_bytes() {
-        out.push(char::from(*digit))?;
-    }
-    Ok(())
-}
-
-fn push_quoted(out: &mut String, quote: char, bytes: &[u8]) -> Result<(), AllocError> {
-    out.push(quote)?;
-    for byte in bytes {
-        push_byte(out, *byte)?;
-    }
-    Ok(())
-}
-
-fn push_cset(out: &mut String, cset: &Cset) -> Result<(), AllocError> {
-    out.push('\'')?;
-    for byte in 0..256u16 {
-        if cset.has(byte as u8) {
-            push_byte(out, byte as u8)?;
-        }
-    }
-    Ok(())
-}
-
-fn push_byte(out: &mut String, byte: u8) -> Result<(), AllocError> {
-    match byte {
-        33..=126 => out.push(char::from(byte)),
-        _ => out.push('_'),
-    }
 }

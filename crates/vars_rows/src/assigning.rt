@@ -7,10 +7,10 @@ ghost use Rattle.icn_vars.specs.Stops.{IsLiveStop};
 ghost use Rattle.icn_vars.specs.Worlds.{IsLiveVariable, reach_of};
 
 use crate::showing::{push_mover, push_stop, push_value, push_variable};
-use crate::slots::Slots;
 use icn_value::{Item, Val, VarRef};
 use icn_vars::{Assignment, Exchange, Stop, World, assign, deref, exchange, mover_of};
 use std::alloc::AllocError;
+use test_values::Slots;
 
 // Reads a variable.
 pub fn push_read(out: &mut String, w: &World, l: &Slots, variable: VarRef) -> Result<(), AllocError>

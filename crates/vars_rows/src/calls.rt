@@ -6,7 +6,6 @@ ghost use Rattle.icn_heap.specs.Heaps.{extent_of};
 
 use crate::assigning::{push_assigned, push_exchanged, push_moved, push_read};
 use crate::showing::push_value;
-use crate::slots::Slots;
 use crate::undoing::{Exchanged, push_exchange_undone, push_undone};
 use crate::values::{value_at, values};
 use crate::variables::variable;
@@ -14,6 +13,7 @@ use crate::worlds::static_at;
 use icn_value::{Mover, Val};
 use icn_vars::World;
 use std::alloc::{AllocError, Global};
+use test_values::Slots;
 
 // Makes a call, and appends what it comes to.
 pub fn push_call(

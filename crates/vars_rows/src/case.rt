@@ -1,26 +1,21 @@
 // A case: limits, and calls.
 
 use crate::calls::push_call;
-use crate::slots::two_locals;
-use crate::worlds::world;
-use icn_text::read_integer;
+use crate::worlds::{two_locals, world};
 use icn_vars::World;
 use std::alloc::{AllocError, Global};
+use test_values::number;
 
 // What the calls of a line come to.
 pub fn outcome(alloc: Global, line: &str) -> Result<String, AllocError> {
     let mut out = String::new(alloc);
     let (limits, calls) = line.split_once(";").unwrap_or((line, ""));
     let (strings, cells) = limits.split_once(" ").unwrap_or((limits, ""));
-    match world(alloc, limit(strings), limit(cells)) {
+    match world(alloc, number(strings.as_bytes()), number(cells.as_bytes())) {
         Ok(mut w) => push_calls(alloc, &mut out, &mut w, calls)?,
         Err(_) => out.push_str("no world")?,
     }
     Ok(out)
-}
-
-fn limit(digits: &str) -> u64 {
-    read_integer(digits.as_bytes()).unwrap_or(0).unsigned_abs()
 }
 
 fn push_calls(

@@ -7,7 +7,6 @@ mod calls;
 mod case;
 mod holding;
 mod showing;
-mod slots;
 mod undoing;
 mod values;
 mod variables;

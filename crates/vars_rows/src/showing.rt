@@ -5,9 +5,10 @@ ghost use Rattle.icn_heap.specs.Heaps.{extent_of};
 ghost use Rattle.icn_vars.specs.Stops.{IsLiveStop};
 
 use icn_heap::Heap;
-use icn_value::{Cset, KeywordVariable, Mover, Root, Val, VarRef};
+use icn_value::{KeywordVariable, Mover, Root, Val, VarRef};
 use icn_vars::{Stop, World};
 use std::alloc::AllocError;
+use test_values::{push_bytes, push_printable};
 
 // Why a variable was not read or assigned.
 pub fn push_stop(out: &mut String, w: &World, stop: Stop) -> Result<(), AllocError>
@@ -41,8 +42,15 @@ pub fn push_value(out: &mut String, heap: &Heap, val: Val) -> Result<(), AllocEr
     requires { IsLive (extent_of heap.now) val }
 {
     match val {
-        Val::Text(span) => push_text(out, heap.bytes(span)),
-        Val::Chars(cset) => push_cset(out, &cset),
+        Val::Text(span) => {
+            out.push('"')?;
+            push_bytes(out, heap.bytes(span))?;
+            out.push('"')
+        }
+        Val::Chars(cset) => {
+            push_printable(out, &cset)?;
+            out.push('\'')
+        }
         _ => push_plain(out, val),
     }
 }
@@ -57,24 +65,6 @@ fn push_plain(out: &mut String, val: Val) -> Result<(), AllocError> {
         Val::Std(_) => out.push_str("file"),
         _ => out.push_str("another"),
     }
-}
-
-fn push_text(out: &mut String, bytes: &[u8]) -> Result<(), AllocError> {
-    out.push('"')?;
-    for byte in bytes {
-        out.push(char::from(*byte))?;
-    }
-    out.push('"')
-}
-
-fn push_cset(out: &mut String, cset: &Cset) -> Result<(), AllocError> {
-    out.push('\'')?;
-    for byte in b'!'..=b'~' {
-        if cset.has(byte) {
-            out.push(char::from(byte))?;
-        }
-    }
-    out.push('\'')
 }
 
 // A variable as a case writes it, but for the key of a table.

@@ -8,10 +8,10 @@ ghost use Rattle.icn_vars.specs.Worlds.{IsLiveVariable, reach_of};
 
 use crate::holding::can_hold;
 use crate::showing::push_stop;
-use crate::slots::Slots;
 use icn_value::{Mover, Val, VarRef};
 use icn_vars::{Stop, World, undo, undo_exchange};
 use std::alloc::AllocError;
+use test_values::Slots;
 
 // Gives a variable an old value back.
 pub fn push_undone(

@@ -6,13 +6,12 @@ ghost use Rattle.icn_heap.specs.Extents.{IsLive};
 ghost use Rattle.icn_heap.specs.Heaps.{extent_of, heap_of};
 ghost use Rattle.icn_vars.specs.Worlds.{IsLiveRoot, IsLiveVariable, reach_of};
 
-use crate::slots::Slots;
-use crate::values::split;
 use crate::worlds::static_at;
 use icn_heap::Heap;
 use icn_text::read_integer;
 use icn_value::{KeywordVariable, Root, Val, VarRef};
 use icn_vars::World;
+use test_values::{Slots, number, split};
 
 // The variable that a word names, if it does: what it is rooted in, and where it is a part its place and its length. A value of the table
 // has this key.
@@ -119,10 +118,6 @@ fn keyword(name: &[u8]) -> Option<KeywordVariable> {
     } else {
         None
     }
-}
-
-fn number(digits: &[u8]) -> u64 {
-    read_integer(digits).unwrap_or(0).unsigned_abs()
 }
 
 // The number that digits write, if it is below a count.

@@ -1,5 +1,5 @@
 use Rattle.icn_heap.specs.Heaps.{extent_of}
-use Rattle.apply_tests.proofs.Named.{got_live, got_named}
+use Rattle.test_values.proofs.NamedValues.{got_live, got_named}
 use Rattle.apply_tests.proofs.items.word_value.Goals as goal
 
 pub returns-clause-live : goal.returns-clause-live

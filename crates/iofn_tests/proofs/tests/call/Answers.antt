@@ -8,7 +8,7 @@ use Rattle.iofn_tests.proofs.tests.call.Goals as goal
 
 pub first-outcome-requires-clause-args : goal.first-outcome-requires-clause-args
 first-outcome-requires-clause-args c =
-    all_two (IsLiveItem (reach_of c.in_ok-w.w c.new.result.items)) (Val c.args.x) (Val c.args.y)
+    all_two (IsLiveItem (reach_of c.in_ok-w.w c.no_locals-locals.result.vals.items)) (Val c.args.x) (Val c.args.y)
     (record { live = c.requires.first (extent_of c.in_ok-w.w.heap) }) (record { live = c.requires.second (extent_of c.in_ok-w.w.heap) })
 
 pub text-requires : goal.text-requires

@@ -4,4 +4,4 @@ use Rattle.ops_rows.proofs.operands.integers.Goals as goal
 
 pub loop-part-preserved : goal.loop-part-preserved
 loop-part-preserved c = λ all.
-    All-same (IsLive all) _ _ c.in_ok-add.ensures (All-push (IsLive all) _ _ (c.loop-part.invariant all) (c.plain.ensures all))
+    All-same (IsLive all) _ _ c.in_ok-add.ensures (All-push (IsLive all) _ _ (c.loop-part.invariant all) (c.plain.ensures.live all))

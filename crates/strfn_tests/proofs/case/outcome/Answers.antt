@@ -3,4 +3,4 @@ use Rattle.icn_value.specs.Store.{Heap}
 use Rattle.strfn_tests.proofs.case.outcome.Goals as goal
 
 pub loop-word-preserved : goal.loop-word-preserved
-loop-word-preserved c = ap (λ (heap : Heap). heap.records) c.add_word.ensures ∙ c.loop-word.invariant
+loop-word-preserved c = ap (λ (heap : Heap). heap.records) c.add_argument.ensures ∙ c.loop-word.invariant

@@ -4,4 +4,4 @@ pub add_value-requires-in_default-clause-live : goal.add_value-requires-in_defau
 add_value-requires-in_default-clause-live c = c.plain.ensures.live _
 
 pub add_value-requires-in_default-clause-named : goal.add_value-requires-in_default-clause-named
-add_value-requires-in_default-clause-named c = c.plain.ensures.named _
+add_value-requires-in_default-clause-named c = c.plain.ensures.named _ _

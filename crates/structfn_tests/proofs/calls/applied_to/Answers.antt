@@ -5,7 +5,7 @@ use Rattle.icn_value.specs.declared.val.Val.{Val}
 use Rattle.icn_value.specs.Store.{outside_of}
 use Rattle.icn_heap.specs.Extents.{IsLive}
 use Rattle.icn_heap.specs.Heaps.{extent_of}
-use Rattle.structfn_tests.proofs.Naming.{function_comes}
+use Rattle.structfn_tests.proofs.NamesKept.{function_comes}
 use Rattle.structfn_tests.proofs.calls.applied_to.Goals as goal
 
 pub first-requires-clause-locals : goal.first-requires-clause-locals

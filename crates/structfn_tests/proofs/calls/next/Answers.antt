@@ -1,6 +1,6 @@
 use Rattle.std.proofs.Common.{[]}
 use Rattle.icn_value.specs.Store.{outside_of}
-use Rattle.structfn_tests.proofs.Naming.{key_comes}
+use Rattle.structfn_tests.proofs.NamesKept.{key_comes}
 use Rattle.structfn_tests.proofs.calls.next.Goals as goal
 
 pub returns-in-Table-clause-named : goal.returns-in-Table-clause-named

@@ -1,4 +1,4 @@
-use Rattle.structfn_tests.specs.OneRecord.{AllNamed}
+use Rattle.structfn_tests.specs.Naming.{AllNamed}
 use Rattle.structfn_tests.proofs.case.outcome.Given as goal
 
 abbrev pub invariant-loop-call : goal.invariant-loop-call

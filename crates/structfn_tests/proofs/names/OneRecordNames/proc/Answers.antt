@@ -1,6 +1,0 @@
-use Rattle.std.proofs.Common.{◌-◌, arith}
-use Rattle.structfn_tests.proofs.Functions.{function_by}
-use Rattle.structfn_tests.proofs.names.OneRecordNames.proc.Goals as goal
-
-pub returns : goal.returns
-returns c = function_by c.args.number (c.args.number - 1) _ c.name.result.now (omega (arith, c.if-number-eq0.false)) (omega (arith, c.requires)) c.name.ensures

@@ -1,0 +1,468 @@
+// Stacks of cells and of frames: tables of calls, which any stack can be run on.
+ghost use Rattle.std.specs.Bool.{OnTrue};
+ghost use Rattle.icn_frames.specs.Stacks.{GoesOn};
+
+use icn_frames::{Cell, Frames, Stack, VecStack, Why};
+use icn_value::{Item, Pair, Residual, Span, Val};
+use std::alloc::{AllocError, Global};
+use std::process::Abort;
+use std::test::Fail;
+
+// A call of a stack of cells.
+#[derive(Clone, Copy, Debug)]
+enum Change {
+    Push(u64),
+    Pop,
+    Set(u64, u64),
+    Cut(u64),
+    CopyUp(u64, u64),
+}
+
+// Makes the call, if its conditions hold, and gives what it took.
+fn make_change<K: Stack<u64>>(cells: &mut K, call: Change) -> Result<Option<u64>, AllocError> {
+    let len = cells.len();
+    match call {
+        Change::Push(v) => {
+            cells.reserve(1)?;
+            cells.push(v);
+        }
+        Change::Pop => {
+            if len > 0 {
+                return Ok(Some(cells.pop()));
+            }
+        }
+        Change::Set(i, v) => {
+            if i < len {
+                cells.set(i, v);
+            }
+        }
+        Change::Cut(to) => {
+            if to <= len {
+                cells.cut(to);
+            }
+        }
+        Change::CopyUp(from, to) => {
+            if from <= to && to <= len {
+                cells.reserve(to - from)?;
+                cells.copy_up(from, to);
+            }
+        }
+    }
+    Ok(None)
+}
+
+fn check_cells<K: Stack<u64> + Drop>(rt: &impl Abort, cells: &mut K) -> Result<(), AllocError> {
+    for (call, taken, want) in [
+        (Change::Push(1), None, [1].as_slice()),
+        (Change::Push(2), None, &[1, 2]),
+        (Change::Push(3), None, &[1, 2, 3]),
+        (Change::CopyUp(1, 3), None, &[1, 2, 3, 2, 3]),
+        (Change::CopyUp(5, 5), None, &[1, 2, 3, 2, 3]),
+        (Change::Set(0, 7), None, &[7, 2, 3, 2, 3]),
+        (Change::Set(4, 8), None, &[7, 2, 3, 2, 8]),
+        (Change::Pop, Some(8), &[7, 2, 3, 2]),
+        (Change::Cut(2), None, &[7, 2]),
+        (Change::CopyUp(0, 1), None, &[7, 2, 7]),
+        (Change::Cut(0), None, &[]),
+        (Change::Pop, None, &[]),
+    ] {
+        assert_eq!(rt; make_change(cells, call)?, taken, "{call:?}");
+        assert_eq!(rt; cells.len(), want.len() as u64, "{call:?}");
+        for (i, v) in (0u64..).zip(want) {
+            if i < cells.len() {
+                assert_eq!(rt; cells.get(i), *v, "{call:?} at {i}");
+            }
+        }
+    }
+    Ok(())
+}
+
+// A stack that has room for some cells takes these without an error.
+#[test]
+fn changes_cells(rt: HostRuntime) -> Result<(), Fail> {
+    let mut cells: VecStack<u64> = VecStack::new(rt.alloc());
+    check_cells(&rt, &mut cells)?;
+    let mut others: VecStack<u64> = Stack::empty(rt.alloc());
+    check_cells(&rt, &mut others)?;
+    Ok(())
+}
+
+// A call of frames, with integers as what is kept.
+#[derive(Clone, Copy, Debug)]
+enum Call {
+    Proc,
+    Level,
+    AtBase,
+    Local(u64),
+    SetLocal(u64, i64),
+    Address,
+    Go(u32),
+    Push(i64),
+    Pop,
+    Mark(Option<u32>, Option<u64>),
+    Label,
+    Relabel(u32),
+    Relabelled,
+    CountDown,
+    Below,
+    Unmark,
+    Suspend(Why, Option<i64>),
+    Resume,
+    Scanning,
+    Swap(bool, u64),
+    Enter(u32),
+    Leave,
+}
+
+// What a call answers; `Not` where it may not be made.
+#[derive(Clone, Copy, Debug, PartialEq)]
+enum Answer {
+    Done,
+    Not,
+    Is(bool),
+    Number(u64),
+    Value(i64),
+    Label(Option<u32>),
+    Why(Option<Why>),
+    Scan(Option<u64>),
+}
+
+fn item(n: i64) -> Item {
+    Item::Val(Val::Integer(n))
+}
+
+fn value_of(v: Val) -> Answer {
+    match v {
+        Val::Integer(n) => Answer::Value(n),
+        _ => Answer::Not,
+    }
+}
+
+fn item_of(x: Item) -> Answer {
+    match x {
+        Item::Val(v) => value_of(v),
+        _ => Answer::Not,
+    }
+}
+
+// The pair of a scan of the empty text, known by its position.
+fn pair(position: u64) -> Pair {
+    Pair {
+        subject: Span { start: 0, len: 0 },
+        position,
+    }
+}
+
+fn read<K: Stack<Cell> + Drop>(frames: &Frames<K>, call: Call) -> Answer {
+    match call {
+        Call::Proc => Answer::Number(u64::from(frames.proc())),
+        Call::Level => Answer::Number(frames.level()),
+        Call::AtBase => Answer::Is(frames.at_base()),
+        Call::Local(index) => {
+            if index < frames.local_count() {
+                value_of(frames.local(index))
+            } else {
+                Answer::Not
+            }
+        }
+        Call::Address => Answer::Number(u64::from(frames.address())),
+        Call::Label => Answer::Label(frames.label()),
+        Call::Relabelled => Answer::Is(frames.relabelled()),
+        Call::Below => {
+            if frames.has_below() {
+                item_of(frames.below())
+            } else {
+                Answer::Not
+            }
+        }
+        Call::Scanning => Answer::Is(frames.scanning()),
+        _ => Answer::Not,
+    }
+}
+
+fn drop_or_set<K: Stack<Cell> + Drop>(frames: &mut Frames<K>, call: Call) -> Answer {
+    match call {
+        Call::SetLocal(index, n) if index < frames.local_count() => {
+            frames.set_local(index, Val::Integer(n));
+            Answer::Done
+        }
+        Call::Go(address) => {
+            frames.go(address);
+            Answer::Done
+        }
+        Call::Pop if frames.has_operand() => item_of(frames.pop()),
+        Call::Relabel(label) if frames.is_plain() => {
+            frames.relabel(label);
+            Answer::Done
+        }
+        Call::CountDown if frames.has_count() => Answer::Number(frames.count_down()),
+        Call::Unmark if !frames.at_base() => {
+            Answer::Scan(frames.unmark().map(|pair| pair.position))
+        }
+        Call::Resume => Answer::Why(frames.resume()),
+        Call::Swap(oldest, position) if frames.scanning() => {
+            Answer::Scan(Some(frames.swap_pair(oldest, pair(position)).position))
+        }
+        Call::Leave if !frames.is_base() => {
+            frames.leave();
+            Answer::Done
+        }
+        other => read(frames, other),
+    }
+}
+
+// Whether the mark that goes on after a suspension is there.
+fn goes_on<K: Stack<Cell> + Drop>(frames: &Frames<K>, why: Why) -> bool
+    ensures { OnTrue result (GoesOn why frames.now.flat) }
+{
+    match why {
+        Why::Alt => !frames.at_base(),
+        Why::Proc => !frames.is_base(),
+        _ => true,
+    }
+}
+
+// Makes the call, if it may be made.
+fn answer_of<K: Stack<Cell> + Drop>(
+    frames: &mut Frames<K>,
+    call: Call,
+) -> Result<Answer, AllocError> {
+    match call {
+        Call::Push(n) => frames.push(item(n))?,
+        Call::Mark(label, count) => frames.mark(label, count)?,
+        Call::Suspend(why, given) if goes_on(frames, why) => {
+            frames.suspend(why, given.map(item))?
+        }
+        Call::Enter(proc) if frames.level() < u64::MAX => {
+            let locals = [Val::Integer(1), Val::Integer(2), Val::Integer(3)];
+            frames.enter(proc, &locals, 0)?
+        }
+        other => return Ok(drop_or_set(frames, other)),
+    }
+    Ok(Answer::Done)
+}
+
+fn check_calls<K: Stack<Cell> + Drop>(
+    rt: &impl Abort,
+    frames: &mut Frames<K>,
+    calls: &[(Call, Answer)],
+) -> Result<(), AllocError> {
+    for (place, (call, want)) in (0u64..).zip(calls) {
+        let answer = answer_of(frames, *call)?;
+        assert_eq!(rt; answer, *want, "call {place}: {call:?}");
+    }
+    Ok(())
+}
+
+fn new_frames(alloc: Global) -> Result<Frames<VecStack<Cell>>, AllocError> {
+    Frames::new(alloc, 7, &[Val::Integer(10), Val::Integer(20)], 100)
+}
+
+const PAIR_1: Pair = Pair {
+    subject: Span { start: 0, len: 0 },
+    position: 1,
+};
+
+const PAIR_2: Pair = Pair {
+    subject: Span { start: 0, len: 0 },
+    position: 2,
+};
+
+const PAIR_3: Pair = Pair {
+    subject: Span { start: 0, len: 0 },
+    position: 3,
+};
+
+const PAIR_6: Pair = Pair {
+    subject: Span { start: 0, len: 0 },
+    position: 6,
+};
+
+const COUNTING: Residual = Residual::Counting {
+    given: 2,
+    last: 3,
+    step: 1,
+};
+
+// Marks and limits, with operands below them and in them.
+const MARKS: [(Call, Answer); 34] = [
+    (Call::Proc, Answer::Number(7)),
+    (Call::Level, Answer::Number(1)),
+    (Call::AtBase, Answer::Is(true)),
+    (Call::Local(0), Answer::Value(10)),
+    (Call::Local(1), Answer::Value(20)),
+    (Call::Local(2), Answer::Not),
+    (Call::SetLocal(2, 5), Answer::Not),
+    (Call::Address, Answer::Number(100)),
+    (Call::Pop, Answer::Not),
+    (Call::Below, Answer::Not),
+    (Call::Unmark, Answer::Not),
+    (Call::Leave, Answer::Not),
+    (Call::Push(1), Answer::Done),
+    (Call::Mark(Some(5), None), Answer::Done),
+    (Call::AtBase, Answer::Is(false)),
+    (Call::Label, Answer::Label(Some(5))),
+    (Call::Relabelled, Answer::Is(false)),
+    (Call::Below, Answer::Value(1)),
+    (Call::Pop, Answer::Not),
+    (Call::Push(2), Answer::Done),
+    (Call::Relabel(9), Answer::Done),
+    (Call::Label, Answer::Label(Some(9))),
+    (Call::Relabelled, Answer::Is(true)),
+    (Call::CountDown, Answer::Not),
+    (Call::Unmark, Answer::Scan(None)),
+    (Call::Mark(None, Some(2)), Answer::Done),
+    (Call::Label, Answer::Label(None)),
+    (Call::Relabel(3), Answer::Not),
+    (Call::CountDown, Answer::Number(1)),
+    (Call::CountDown, Answer::Number(0)),
+    (Call::CountDown, Answer::Not),
+    (Call::Unmark, Answer::Scan(None)),
+    (Call::Pop, Answer::Value(1)),
+    (Call::Pop, Answer::Not),
+];
+
+// Suspensions, and what comes back: operands and place as they were, locals as they are.
+const SUSPENSIONS: [(Call, Answer); 34] = [
+    (Call::Push(1), Answer::Done),
+    (Call::Mark(Some(5), None), Answer::Done),
+    (Call::Push(2), Answer::Done),
+    (Call::Push(3), Answer::Done),
+    (Call::Go(50), Answer::Done),
+    (Call::Suspend(Why::Op(COUNTING), Some(4)), Answer::Done),
+    (Call::Pop, Answer::Value(4)),
+    (Call::Pop, Answer::Value(3)),
+    (
+        Call::Suspend(Why::Op(Residual::InputLines), None),
+        Answer::Done,
+    ),
+    (Call::Pop, Answer::Value(2)),
+    (Call::Pop, Answer::Not),
+    (Call::Go(60), Answer::Done),
+    (Call::SetLocal(0, 11), Answer::Done),
+    (
+        Call::Resume,
+        Answer::Why(Some(Why::Op(Residual::InputLines))),
+    ),
+    (Call::Address, Answer::Number(50)),
+    (Call::Pop, Answer::Value(2)),
+    (Call::Pop, Answer::Not),
+    (Call::Resume, Answer::Why(Some(Why::Op(COUNTING)))),
+    (Call::Pop, Answer::Value(3)),
+    (Call::Local(0), Answer::Value(11)),
+    (Call::Resume, Answer::Why(None)),
+    (Call::Suspend(Why::Alt, Some(7)), Answer::Done),
+    (Call::AtBase, Answer::Is(true)),
+    (Call::Suspend(Why::Alt, None), Answer::Not),
+    (Call::Pop, Answer::Value(7)),
+    (Call::Pop, Answer::Value(1)),
+    (Call::Pop, Answer::Not),
+    (Call::Resume, Answer::Why(Some(Why::Alt))),
+    (Call::AtBase, Answer::Is(false)),
+    (Call::Pop, Answer::Value(2)),
+    (Call::Pop, Answer::Not),
+    (Call::Unmark, Answer::Scan(None)),
+    (Call::Pop, Answer::Value(1)),
+    (Call::Resume, Answer::Why(None)),
+];
+
+// Scans, of which the marks are left with some open.
+const SCANS: [(Call, Answer); 20] = [
+    (Call::Scanning, Answer::Is(false)),
+    (Call::Swap(false, 9), Answer::Not),
+    (Call::Suspend(Why::Scan(PAIR_1), None), Answer::Done),
+    (Call::Scanning, Answer::Is(true)),
+    (Call::Mark(None, None), Answer::Done),
+    (Call::Suspend(Why::Scan(PAIR_2), None), Answer::Done),
+    (Call::Suspend(Why::Scan(PAIR_3), None), Answer::Done),
+    (Call::Swap(false, 4), Answer::Scan(Some(3))),
+    (Call::Swap(true, 5), Answer::Scan(Some(1))),
+    (Call::Unmark, Answer::Scan(Some(2))),
+    (Call::Scanning, Answer::Is(true)),
+    (Call::Swap(true, 6), Answer::Scan(Some(5))),
+    (Call::Suspend(Why::Escan, None), Answer::Done),
+    (Call::Scanning, Answer::Is(false)),
+    (Call::Swap(true, 9), Answer::Not),
+    (Call::Resume, Answer::Why(Some(Why::Escan))),
+    (Call::Scanning, Answer::Is(true)),
+    (Call::Resume, Answer::Why(Some(Why::Scan(PAIR_6)))),
+    (Call::Scanning, Answer::Is(false)),
+    (Call::Resume, Answer::Why(None)),
+];
+
+// A procedure that is called in a mark, suspends, is resumed and left.
+const CALLS: [(Call, Answer); 28] = [
+    (Call::Mark(Some(8), None), Answer::Done),
+    (Call::Push(1), Answer::Done),
+    (Call::Suspend(Why::Scan(PAIR_1), None), Answer::Done),
+    (Call::Suspend(Why::Proc, None), Answer::Not),
+    (Call::Enter(3), Answer::Done),
+    (Call::Proc, Answer::Number(3)),
+    (Call::Level, Answer::Number(2)),
+    (Call::Address, Answer::Number(0)),
+    (Call::AtBase, Answer::Is(true)),
+    (Call::Scanning, Answer::Is(false)),
+    (Call::Local(2), Answer::Value(3)),
+    (Call::SetLocal(2, 30), Answer::Done),
+    (Call::Pop, Answer::Not),
+    (Call::Mark(Some(2), None), Answer::Done),
+    (Call::Go(4), Answer::Done),
+    (Call::Suspend(Why::Proc, Some(6)), Answer::Done),
+    (Call::Level, Answer::Number(1)),
+    (Call::Address, Answer::Number(100)),
+    (Call::Label, Answer::Label(Some(8))),
+    (Call::Pop, Answer::Value(6)),
+    (Call::Pop, Answer::Value(1)),
+    (Call::Resume, Answer::Why(Some(Why::Proc))),
+    (Call::Level, Answer::Number(2)),
+    (Call::Address, Answer::Number(4)),
+    (Call::Local(2), Answer::Value(30)),
+    (Call::Leave, Answer::Done),
+    (Call::Pop, Answer::Value(1)),
+    (Call::Leave, Answer::Not),
+];
+
+#[test]
+fn calls_on_one_block(rt: HostRuntime) -> Result<(), Fail> {
+    for calls in [
+        MARKS.as_slice(),
+        SUSPENSIONS.as_slice(),
+        SCANS.as_slice(),
+        CALLS.as_slice(),
+    ] {
+        let mut frames = new_frames(rt.alloc())?;
+        check_calls(&rt, &mut frames, calls)?;
+    }
+    Ok(())
+}
+
+const DEEP: u32 = 100000;
+
+// As deep as this: marks with an operand and a suspension each, then procedures, and back.
+#[test]
+fn nests_deep(rt: HostRuntime) -> Result<(), Fail> {
+    let mut frames = new_frames(rt.alloc())?;
+    for label in 0..DEEP {
+        frames.push(item(i64::from(label)))?;
+        frames.mark(Some(label), None)?;
+    }
+    assert_eq!(rt; frames.label(), Some(DEEP - 1));
+    for label in 0..DEEP {
+        frames.suspend(Why::Op(Residual::InputLines), None)?;
+        assert_eq!(rt; answer_of(&mut frames, Call::Enter(label))?, Answer::Done);
+    }
+    assert_eq!(rt; frames.level(), u64::from(DEEP) + 1);
+    for label in 0..DEEP {
+        assert_eq!(rt; frames.proc(), DEEP - 1 - label);
+        assert_eq!(rt; answer_of(&mut frames, Call::Leave)?, Answer::Done);
+    }
+    for label in 0..DEEP {
+        assert_eq!(rt; answer_of(&mut frames, Call::Unmark)?, Answer::Scan(None));
+        assert_eq!(rt;
+            answer_of(&mut frames, Call::Pop)?,
+            Answer::Value(i64::from(DEEP - 1 - label))
+        );
+    }
+    assert_eq!(rt; frames.at_base(), true);
+    Ok(())
+}

@@ -1,0 +1,3 @@
+pub mod Adding
+mod Functions
+pub mod NamedValues
