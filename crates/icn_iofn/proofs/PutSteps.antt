@@ -214,8 +214,6 @@ stops_idle file text more a fault is = record {
   cause = subst (BrokenBy a a) (sym is) (uncounted (both_all a));
 }
 
-}
-
 -- what is no file is put as its text
 pub text_piece : (all : Extent) (val : Val) → ((file : HeldFile) → val ≡ Vals.Std file → ⊥) → piece_in (value_in all val) ≡ Puts (the_text (value_in all val))
 text_piece all Vals.Null other = refl

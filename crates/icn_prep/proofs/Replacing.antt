@@ -148,8 +148,6 @@ pub record ReadSo (count : ℕ) (texts : TextOf) (literal : LiteralState) (line 
   pub within : length given ≤ most
   pub depth : length entries ≤ count
 
-}
-
 read_none : (n : ℕ) (texts : TextOf) (state : LiteralState) → replace_words n texts state [] ≡ (let r : ReplacedText = record { bytes = []; state = state } in
     r)
 read_none zero texts state = refl

@@ -156,5 +156,3 @@ covered repeats tables launch = runs_agree rows_keep repeats tables launch
 
 pub told : (repeats : ℕ → ℕ → Bool) (tables : Tables) (launch : Launch) → RunsAgreeAt repeats tables launch
 told repeats tables launch = runs_agree_at rows_keep repeats tables launch
-
-)

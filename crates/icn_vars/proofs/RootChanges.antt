@@ -27,10 +27,6 @@ use Rattle.icn_vars.proofs.Growing.{heap_changed, setting_over}
 
 -- Globals, statics and locals
 
-}
-
-}
-
 module _ (outside : Outside) (heap : HeldHeap) (pair : Pair) (random : ℕ) (globals statics locals : List Val) (place : ℕ) (val : Val) where
   pub global_assigned : (refused next : Row)
       → assigns_root refused (Global place) (value_in (extent_of heap) val) next (setting_over outside heap pair random globals statics locals)

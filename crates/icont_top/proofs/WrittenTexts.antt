@@ -152,8 +152,6 @@ wrote_more {before = before} {now} {after} {all} next rest some sets = record {
             (ap (λ (m : FileMap). m q) same ∙ f.2 q) ∙ ap (λ (m : FileMap). m q) (sym (over_more old some.done next))),
       )
 
-}
-
 pub wrote_part : {before now after : Option FileMap} {all : List WrittenFile} (next : WrittenFile) (rest : List WrittenFile)
     → WritesSome before now all (next ∷ rest)
     → SetsPart now after next.name next.bytes → WritesPart before after all

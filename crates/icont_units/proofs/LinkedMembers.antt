@@ -46,8 +46,6 @@ one_linked unit = append-nil (links_of unit)
 
 -- Nothing was looked for
 
-}
-
 pub grows_none : (now : ℕ) (held : Members) (bases : List (List ℕ)) → Grows now now held held bases bases []
 grows_none now held bases = record {
   later = le_refl now;
@@ -263,8 +261,6 @@ met_sought files held base old new t e k = (
   subst (λ bases. Knows (IsAbsent files) (units_in held) bases)
       (sym (e ∙ with_known old base t)) k,
 )
-
-}
 
 -- The bases of one unit after the other
 
