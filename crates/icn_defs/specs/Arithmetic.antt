@@ -5,7 +5,7 @@ use Rattle.std.specs.Ordering.{int_cmp, int_eq, is_lt, is_le, is_eq, is_ge, is_g
 use Rattle.icn_text.specs.declared.arithmetic.Arith.{Arith}
 use Rattle.icn_text.specs.IntegerArithmetic.{fitting, within_64_bits, sum, difference, product, quotient, remainder, power}
 use Rattle.icn_value.specs.Values.{Integer, Item, Val}
-use Rattle.icn_defs.specs.Rows.{Row, Counting, fails, gives_value, suspends, check, number_or_error, passing}
+use Rattle.icn_defs.specs.Rows.{◌>>=◌, ◌>>◌, Row, Counting, fails, gives_value, suspends, check, number_or_error, passing}
 use Rattle.icn_defs.specs.Reading.{the_value}
 use Rattle.icn_defs.specs.Arguments.{number, integer}
 

@@ -5,7 +5,7 @@ use Rattle.icn_structs.specs.Numbered.{NumberedList}
 use Rattle.icn_value.specs.Values.{Value, Integer, Text, Element, Field, Key, Variable, Whole, Part, Item, Val, Var}
 use Rattle.icn_value.specs.Store.{list_at, set_at, table_at, record_at, having_random, value_at}
 use Rattle.icn_defs.specs.Conversions.{Group, Textual, Listed, Collected, Tabled, Recorded, Filed, Activated, Single, group_of, held_integer, held_text}
-use Rattle.icn_defs.specs.Rows.{Row, Finds, TextBytes, VariableBytes, ListItems, SetMembers, TableValues, RecordFields, gives, gives_value, suspends, wrong, check, present, passing, thing_or_failure, here, changes, costs_text}
+use Rattle.icn_defs.specs.Rows.{◌>>=◌, ◌>>◌, Row, Finds, TextBytes, VariableBytes, ListItems, SetMembers, TableValues, RecordFields, gives, gives_value, suspends, wrong, check, present, passing, thing_or_failure, here, changes, costs_text}
 use Rattle.icn_defs.specs.Reading.{the_value, reads}
 use Rattle.icn_defs.specs.Lines.{lines_row}
 

@@ -4,7 +4,7 @@ use Rattle.std.specs.Int.{int_rem_euclid}
 use Rattle.icn_value.specs.Values.{Value, Integer, Text, Std, File, Input, Output, Errout}
 use Rattle.icn_value.specs.Store.{Outside, value_at}
 use Rattle.icn_defs.specs.Conversions.{text_of, is_null}
-use Rattle.icn_defs.specs.Rows.{Row, Finds, gives_value, ends, check, present, natural, here, changes}
+use Rattle.icn_defs.specs.Rows.{◌>>=◌, ◌>>◌, Row, Finds, gives_value, ends, check, present, natural, here, changes}
 use Rattle.icn_defs.specs.Arguments.{arg, arg_or, integer, file_of, file}
 use Rattle.icn_defs.specs.Lines.{is_input, next_line, next_bytes}
 

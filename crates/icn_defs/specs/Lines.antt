@@ -2,7 +2,7 @@
 use Rattle.std.specs.Prelude.{◌==◌, ◌+◌, ℕ, Bool, true, false, not, List, length, drop, take, take_while, nat_lt, Some}
 use Rattle.icn_value.specs.Values.{Text, Std, File, Input, Output, Errout, Val}
 use Rattle.icn_value.specs.Store.{Request, ALine, SomeBytes, with_reading, having_left}
-use Rattle.icn_defs.specs.Rows.{Row, Finds, InputLines, suspends, check, passing, here, changes, costs_bytes}
+use Rattle.icn_defs.specs.Rows.{◌>>=◌, ◌>>◌, Row, Finds, InputLines, suspends, check, passing, here, changes, costs_bytes}
 
 -- whether a file is `&input`
 abbrev pub is_input : File → Bool

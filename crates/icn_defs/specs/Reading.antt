@@ -6,7 +6,7 @@ use Rattle.icn_structs.specs.PairLists.{value_of, with_value_of}
 use Rattle.icn_value.specs.Values.{Value, Null, Integer, Text, Root, Global, Static, Local, Element, Field, Key, Keyword, KeywordVariable, Subject, Position, Random, Variable, Whole, Part, Item, Val, Var}
 use Rattle.icn_value.specs.Store.{Setting, Table, list_at, table_at, record_at, value_at, with_list, with_table, with_record, having_globals, having_statics, having_subject, having_position, having_random}
 use Rattle.icn_defs.specs.Conversions.{same, text_of, integer_of, held_text, place_of}
-use Rattle.icn_defs.specs.Rows.{Row, Finds, Mover, Neither, Left, Right, fails, wrong, check, present, here, changes, changes_heap, costs_bytes, costs_cells, costs_text}
+use Rattle.icn_defs.specs.Rows.{◌>>=◌, ◌>>◌, Row, Finds, Mover, Neither, Left, Right, fails, wrong, check, present, here, changes, changes_heap, costs_bytes, costs_cells, costs_text}
 
 -- Reading
 

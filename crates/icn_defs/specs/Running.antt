@@ -5,7 +5,7 @@ use Rattle.icn_value.specs.Limited.{Bounds}
 use Rattle.icn_value.specs.Values.{Value, Null, Integer, Text}
 use Rattle.icn_value.specs.Store.{Heap, World, Outside, outside_of}
 use Rattle.icn_defs.specs.Conversions.{integer_of}
-use Rattle.icn_defs.specs.Rows.{Row, costs_bytes}
+use Rattle.icn_defs.specs.Rows.{◌>>◌, Row, costs_bytes}
 use Rattle.icn_defs.specs.StepRows.{list_row}
 
 -- a scanning pair, as an open scan saves the one around it

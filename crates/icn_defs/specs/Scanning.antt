@@ -5,7 +5,7 @@ use Rattle.std.specs.Str.{bytes_eq}
 use Rattle.icn_value.specs.Values.{Value, Integer, Text, Chars, Item, Val}
 use Rattle.icn_value.specs.Store.{having_position}
 use Rattle.icn_defs.specs.Conversions.{contains, members, place_of, is_null}
-use Rattle.icn_defs.specs.Rows.{Row, Finds, UndoPosition, Balanced, Found, Among, fails, gives_value, suspends, check, passing, thing_or_failure, here, changes, costs_text, costs_texts}
+use Rattle.icn_defs.specs.Rows.{◌>>=◌, ◌>>◌, Row, Finds, UndoPosition, Balanced, Found, Among, fails, gives_value, suspends, check, passing, thing_or_failure, here, changes, costs_text, costs_texts}
 use Rattle.icn_defs.specs.Reading.{the_value}
 use Rattle.icn_defs.specs.Arguments.{arg, arg_or, integer, string, cset}
 use Rattle.icn_defs.specs.Variables.{places}

@@ -5,7 +5,7 @@ use Rattle.icn_text.specs.declared.op.Op.{Op}
 use Rattle.icn_text.specs.declared.func.Func.{Func}
 use Rattle.icn_value.specs.Values.{Value, Text, ACoexp, Item}
 use Rattle.icn_value.specs.Store.{Names}
-use Rattle.icn_defs.specs.Rows.{Row, here, changes_heap, costs_cells, costs_text, gives_value}
+use Rattle.icn_defs.specs.Rows.{◌>>=◌, ◌>>◌, Row, here, changes_heap, costs_cells, costs_text, gives_value}
 pub use Rattle.icn_defs.specs.Rows.{gives_list as list_row}
 use Rattle.icn_defs.specs.Arguments.{string}
 pub use Rattle.icn_defs.specs.Operations.{dereference_row as value_row}

@@ -7,7 +7,7 @@ use Rattle.icn_text.specs.IntegerArithmetic.{sum, within_64_bits}
 use Rattle.icn_value.specs.Values.{Value, Integer, Text, Chars, Val}
 use Rattle.icn_value.specs.Store.{Names}
 use Rattle.icn_defs.specs.Conversions.{contains, integer_of, text_of, cset_of}
-use Rattle.icn_defs.specs.Rows.{Row, Sequence, gives_value, suspends, check, number_or_error, thing_or_failure, natural, here, costs_text, costs_texts, builds}
+use Rattle.icn_defs.specs.Rows.{◌>>=◌, ◌>>◌, Row, Sequence, gives_value, suspends, check, number_or_error, thing_or_failure, natural, here, costs_text, costs_texts, builds}
 use Rattle.icn_defs.specs.Arguments.{arg, arg_or, number, integer, string, cset}
 use Rattle.icn_defs.specs.Images.{image, type_name, ucase, lcase}
 

@@ -7,7 +7,7 @@ use Rattle.icn_structs.specs.PairLists.{value_of, without}
 use Rattle.icn_value.specs.Values.{Value, Null, Integer, AList, ATable, ARecord, Val}
 use Rattle.icn_value.specs.Store.{Heap, Table, Record, Names, list_at, set_at, table_at, record_at, with_list, with_set, with_table}
 use Rattle.icn_defs.specs.Conversions.{Group, Textual, Listed, Collected, Tabled, Recorded, Filed, Activated, Single, group_of, same, has_value, with_member, sort_list, is_null}
-use Rattle.icn_defs.specs.Rows.{Row, Finds, TableKeys, gives_value, suspends, wrong, check, passing, thing_or_failure, natural, here, changes_heap, costs_cells, new_list_of, gives_list}
+use Rattle.icn_defs.specs.Rows.{◌>>=◌, ◌>>◌, Row, Finds, TableKeys, gives_value, suspends, wrong, check, passing, thing_or_failure, natural, here, changes_heap, costs_cells, new_list_of, gives_list}
 use Rattle.icn_defs.specs.Reading.{costs_unless, stores}
 use Rattle.icn_defs.specs.Operations.{new_set_of}
 use Rattle.icn_defs.specs.Arguments.{arg, arg_or, integer, list, list_of, table, Keeper, SetKeeper, TableKeeper, keeper}

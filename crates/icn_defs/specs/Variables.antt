@@ -5,7 +5,7 @@ use Rattle.icn_text.specs.IntegerArithmetic.{sum, difference}
 use Rattle.icn_value.specs.Values.{Value, Variable, Item, Var}
 use Rattle.icn_value.specs.Store.{list_at, record_at}
 use Rattle.icn_defs.specs.Conversions.{Group, Textual, Listed, Collected, Tabled, Recorded, Filed, Activated, Single, group_of, place_of}
-use Rattle.icn_defs.specs.Rows.{Row, Finds, Mover, UndoAssign, UndoExchange, fails, gives, suspends, wrong, number_or_error, passing, thing_or_failure, here, costs_text, gives_list}
+use Rattle.icn_defs.specs.Rows.{◌>>=◌, ◌>>◌, Row, Finds, Mover, UndoAssign, UndoExchange, fails, gives, suspends, wrong, number_or_error, passing, thing_or_failure, here, costs_text, gives_list}
 use Rattle.icn_defs.specs.Reading.{the_value, the_variable, assigns, undoes, exchanges, undoes_exchange, mover_of}
 use Rattle.icn_defs.specs.Arguments.{integer}
 use Rattle.icn_defs.specs.Elements.{part_item, text_variable, element_item, field_item, key_item}

@@ -2,7 +2,7 @@
 use Rattle.std.specs.Prelude.{Some}
 use Rattle.icn_value.specs.Values.{Value}
 use Rattle.icn_defs.specs.InputOutput.{Piece, piece_of, takes_output}
-use Rattle.icn_defs.specs.Rows.{Finds, check, present}
+use Rattle.icn_defs.specs.Rows.{◌>>=◌, ◌>>◌, Finds, check, present}
 
 -- one argument is checked as `pieces` checks it
 abbrev pub one_piece : Value → Finds Piece

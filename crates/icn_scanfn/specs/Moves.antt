@@ -1,7 +1,7 @@
 -- What the functions that move do with their integer.
 use Rattle.std.specs.Prelude.{◌==◌, ℤ, pos, ◌+ℤ◌, length}
 use Rattle.icn_defs.specs.Conversions.{place_of}
-use Rattle.icn_defs.specs.Rows.{Row, thing_or_failure, here, passing}
+use Rattle.icn_defs.specs.Rows.{◌>>=◌, ◌>>◌, Row, thing_or_failure, here, passing}
 use Rattle.icn_defs.specs.Scanning.{gives_place, plain_place, tabs_to}
 
 -- to a position of the subject

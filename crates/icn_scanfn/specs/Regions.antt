@@ -2,7 +2,7 @@
 use Rattle.std.specs.Prelude.{ℕ, List}
 use Rattle.icn_value.specs.Values.{Value}
 use Rattle.icn_defs.specs.Arguments.{arg}
-use Rattle.icn_defs.specs.Rows.{Finds, costs_text}
+use Rattle.icn_defs.specs.Rows.{◌>>=◌, ◌>>◌, Finds, costs_text}
 use Rattle.icn_defs.specs.Scanning.{Region, region_from}
 use Rattle.icn_heap.specs.Extents.{Extent, text_in, value_in}
 use Rattle.icn_args.specs.Words.{the_text}

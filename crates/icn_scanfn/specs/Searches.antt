@@ -5,7 +5,7 @@ use Rattle.icn_value.specs.Values.{Value, Chars}
 use Rattle.icn_value.specs.Members.{members_of}
 use Rattle.icn_defs.specs.Arguments.{arg, arg_or, cset, string}
 use Rattle.icn_defs.specs.Conversions.{contains, members}
-use Rattle.icn_defs.specs.Rows.{Row, Finds, costs_texts, passing}
+use Rattle.icn_defs.specs.Rows.{◌>>=◌, ◌>>◌, Row, Finds, costs_texts, passing}
 use Rattle.icn_defs.specs.Scanning.{Region, among_from, balanced_from, between, byte_behind, ends_of, found_from, gives_place, region_from, stands}
 use Rattle.icn_scanfn.specs.Regions.{charged_region}
 use Rattle.icn_scanfn.specs.declared.balancing.Sets.{Sets as HeldSets}

@@ -3,7 +3,7 @@ use Rattle.std.specs.Prelude.{ℕ, ◌+◌, List, length, fold}
 use Rattle.icn_structs.specs.Numbered.{NumberedList}
 use Rattle.icn_value.specs.Values.{Value}
 use Rattle.icn_value.specs.Store.{Heap, list_at, with_list}
-use Rattle.icn_defs.specs.Rows.{Row, here, changes_heap, costs_cells}
+use Rattle.icn_defs.specs.Rows.{◌>>=◌, ◌>>◌, Row, here, changes_heap, costs_cells}
 use Rattle.icn_heap.specs.Heaps.{with_cells}
 
 -- the list has grown by these values, one after the other

@@ -4,7 +4,7 @@ use Rattle.icn_value.specs.Values.{Value, Null, Integer, Text, Chars, Std, Proce
 use Rattle.icn_value.specs.Store.{list_at, set_at, table_at, record_at}
 use Rattle.icn_value.specs.Sameness.{with_member}
 use Rattle.icn_defs.specs.Conversions.{is_null}
-use Rattle.icn_defs.specs.Rows.{Finds, check, here, new_list_of}
+use Rattle.icn_defs.specs.Rows.{◌>>=◌, ◌>>◌, Finds, check, here, new_list_of}
 use Rattle.icn_defs.specs.Arguments.{list_of}
 use Rattle.icn_defs.specs.Operations.{new_set_of}
 use Rattle.icn_defs.specs.Structures.{new_table_of, new_record_of}

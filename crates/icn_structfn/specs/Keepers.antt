@@ -1,6 +1,6 @@
 -- Parts of the rows over sets and tables.
 use Rattle.icn_value.specs.Values.{Value}
-use Rattle.icn_defs.specs.Rows.{Row}
+use Rattle.icn_defs.specs.Rows.{◌>>=◌, Row}
 use Rattle.icn_defs.specs.Arguments.{keeper}
 use Rattle.icn_defs.specs.Structures.{inserts}
 

@@ -4,7 +4,7 @@ use Rattle.icn_value.specs.Values.{Value, Null, Integer, Text, Chars, Std, Proce
 use Rattle.icn_value.specs.Store.{Heap, Names, list_at, set_at, table_at, record_at}
 use Rattle.icn_defs.specs.Conversions.{sort_list}
 use Rattle.icn_defs.specs.Images.{value_cmp}
-use Rattle.icn_defs.specs.Rows.{Finds, here, new_list_of, wrong}
+use Rattle.icn_defs.specs.Rows.{◌>>=◌, Finds, here, new_list_of, wrong}
 use Rattle.icn_defs.specs.Structures.{entry_cmp, key_cmp, pair_lists}
 use Rattle.icn_structfn.specs.declared.sorting.TableOrder.{TableOrder}
 use Rattle.icn_structfn.specs.declared.sorting.TableOrder.TheVariants.{ListsByKey, ListsByValue, TurnByKey, TurnByValue, Unknown}
