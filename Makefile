@@ -18,7 +18,7 @@ bin/%: crates.txt examples/hello.icn $(SOURCES)
 
 # The rows run their own copies of the examples, since a crate reads no file outside its folder.
 test:
-	@for example in examples/*.icn; do cmp $$example crates/program_rows/data/$${example##*/} || exit 1; done
+	@for example in examples/*.icn; do cmp $$example crates/test_program/data/$${example##*/} || exit 1; done
 	.ci/run
 
 install: all

@@ -1,7 +1,7 @@
 #!/usr/bin/env python3
 """Times the functions over texts and those of scanning on texts of 100,000 to 1,000,000 bytes.
 
-It runs the programs strfn_tests and scanfn_tests, which `rt run` builds in their folders, on cases of one function and one long text, and
+It runs the programs test_strings and test_scan, which `rt run` builds in their folders, on cases of one function and one long text, and
 prints for each the time a case takes at each size. A case is read, applied and printed with its result, so what a case costs that
 searches nothing is printed first. It needs Python 3 and nothing else, and stands outside the gate.
 """
@@ -16,11 +16,11 @@ LIMIT = b"1099511627776 "
 
 
 def over_texts(case):
-    return "strfn_tests", lambda size: LIMIT + case(size)
+    return "test_strings", lambda size: LIMIT + case(size)
 
 
 def of_scanning(case):
-    return "scanfn_tests", lambda size: LIMIT + b'"x 1 ' + case(size)
+    return "test_scan", lambda size: LIMIT + b'"x 1 ' + case(size)
 
 
 CASES = [

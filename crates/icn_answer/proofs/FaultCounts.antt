@@ -5,6 +5,7 @@ use Rattle.icn_answer.specs.declared.answer.Answer.{Answer}
 
 -- Counts in the same state
 
+-- a count stays where its matter did not occur
 pub unmoved : {count : ℕ} {matter : Type 0} → (matter → ⊥) → CountsOnce count count matter
 unmoved n = record { later = omega arith; rose = λ m. absurd (n m); stayed = λ _. refl }
 

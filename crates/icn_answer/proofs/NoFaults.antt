@@ -5,6 +5,7 @@ use Rattle.icn_answer.specs.declared.answer.Answer.{Answer}
 use Rattle.icn_answer.specs.declared.answer.Answer.TheVariants.{Wrote, Ran}
 use Rattle.icn_answer.specs.Answers.{IsFault, is_fault}
 
+-- an answer that is tested to be no fault is none
 pub no_fault : (answer : Answer) → is_fault answer ≡ false → IsFault answer → ⊥
 no_fault answer e f = let both : true ≡ false = sym f ∙ e in cc
 

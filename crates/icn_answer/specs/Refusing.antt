@@ -2,7 +2,7 @@
 use Rattle.std.specs.Prelude.{◌≡◌, ℕ, List}
 use Rattle.icn_host.specs.declared.fault.Fault.TheVariants as Faults
 use Rattle.icn_host.specs.Sinks.{SinkState}
-use Rattle.icn_host.specs.Puts.{BreaksOff, LeadsBy, Puts, PutsAll}
+use Rattle.icn_host.specs.Puts.{FailsPutting, LeadsBy, Puts, PutsAll}
 use Rattle.icn_answer.specs.declared.answer.Answer.{Answer}
 use Rattle.icn_answer.specs.declared.answer.Answer.TheVariants.{Wrote, Ran, Refused, Command, Missing, BadUcode, BadImage, FileFault, ReadFault, WriteFault, NoMemory}
 use Rattle.icn_answer.specs.Answers.{IsFault}
@@ -23,12 +23,13 @@ PutsOwn (BadUcode other rule) before after = after ≡ before
 PutsOwn (BadImage rule) before after = after ≡ before
 
 -- the line was put, and the answer stands; or a fault was answered before; or the line made it one
-pub data Refuses (usage name : List ℕ) (answer : Answer) (before after : SinkState) : Answer → Type 0 where
+pub data PutsItsLine (usage name : List ℕ) (answer : Answer) (before after : SinkState) : Answer
+    → Type 0 where
   put : (IsFault answer → ⊥) → PutsAll before after (line_of usage name answer)
-      → Refuses usage name answer before after answer
-  own : IsFault answer → PutsOwn answer before after → Refuses usage name answer before after answer
-  write_fault : (IsFault answer → ⊥) → BreaksOff before after (line_of usage name answer)
-      → Refuses usage name answer before after WriteFault
+      → PutsItsLine usage name answer before after answer
+  own : IsFault answer → PutsOwn answer before after → PutsItsLine usage name answer before after answer
+  write_fault : (IsFault answer → ⊥) → FailsPutting before after (line_of usage name answer)
+      → PutsItsLine usage name answer before after WriteFault
   want : (IsFault answer → ⊥) → (between : SinkState)
       → LeadsBy Faults.NoMemory before between (line_of usage name answer) → PutsOwn NoMemory between after
-      → Refuses usage name answer before after NoMemory
+      → PutsItsLine usage name answer before after NoMemory

@@ -3,7 +3,7 @@ ghost use Rattle.std.specs.Prelude.{◌≡◌, ◌≤◌, OnOk, IfErr};
 ghost use Rattle.icn_host.specs.Puts.{LeadsBy, PutsAll};
 ghost use Rattle.icn_answer.specs.Answers.{IsFault};
 ghost use Rattle.icn_answer.specs.Lines.{line_of};
-ghost use Rattle.icn_answer.specs.Refusing.{PutsOwn, Refuses};
+ghost use Rattle.icn_answer.specs.Refusing.{PutsOwn, PutsItsLine};
 
 use crate::answer::Answer;
 use crate::lines::{FILE_FAULT, NO_MEMORY, READ_FAULT, line_of};
@@ -19,7 +19,7 @@ pub fn refuse<E: Sink>(
     answer: Answer,
     err: &mut E,
 ) -> Answer
-    ensures line { Refuses usage.now name.now answer (E.state err.old) (E.state err.new) result }
+    ensures line { PutsItsLine usage.now name.now answer (E.state err.old) (E.state err.new) result }
     ensures faults { (E.state err.old).faults ≤ (E.state err.new).faults }
     ensures wants { (E.state err.old).wants ≤ (E.state err.new).wants }
 {

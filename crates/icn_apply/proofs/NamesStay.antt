@@ -13,16 +13,16 @@ use Rattle.icn_value.specs.Values.{Value, Item}
 use Rattle.icn_value.specs.Store.{Names, Record, Outside, Setting, outside_of}
 use Rattle.icn_defs.specs.Applying.{function_of, function_row}
 use Rattle.icn_defs.specs.Arguments.{arg}
-use Rattle.icn_defs.specs.Reading.{the_values}
+use Rattle.icn_defs.specs.ReadAndAssign.{the_values}
 use Rattle.icn_defs.specs.Rows.{Row, Fails, Error, Ends, fails}
 use Rattle.icn_heap.specs.Extents.{Extent, IsLive, value_in}
 use Rattle.icn_heap.specs.Heaps.{extent_of, heap_of}
-use Rattle.icn_heap.specs.Parts.{record_in}
+use Rattle.icn_heap.specs.HeapParts.{record_in}
 use Rattle.icn_heap.specs.declared.heap.Heap.{Heap as HeldHeap}
-use Rattle.icn_convert.specs.Naming.{AreRecordsNamed, IsNamed}
-use Rattle.icn_named.specs.Keeping.{IsThere, OutcomeNamed}
-use Rattle.icn_named.specs.Named.{ItemNamed, RecordNamed, SettingNamed, ValueNamed}
-use Rattle.icn_named.proofs.RowsNamed.{rows_keep_names}
+use Rattle.icn_convert.specs.ProgramNames.{AreRecordsNamed, IsNamed}
+use Rattle.law_names.specs.RowsNamed.{IsThere, OutcomeNamed}
+use Rattle.law_names.specs.NamedSettings.{ItemNamed, RecordNamed, SettingNamed, ValueNamed}
+use Rattle.law_names.proofs.RowsNamed.{rows_keep_names}
 use Rattle.icn_vars.specs.Outcomes.{ComesToAnswer, outcome_in}
 use Rattle.icn_vars.specs.Stops.{StopsFinding, halt_of}
 use Rattle.icn_vars.specs.Worlds.{setting_of}

@@ -9,8 +9,8 @@ use Rattle.icn_defs.specs.Applying.{function_of, function_row}
 use Rattle.icn_defs.specs.Rows.{Row, Outcome}
 use Rattle.icn_heap.specs.Extents.{IsLive, value_in}
 use Rattle.icn_heap.specs.Heaps.{extent_of, heap_of}
-use Rattle.icn_named.specs.Sizes.{KeepSizes, heap_after}
-use Rattle.icn_named.proofs.RowSizes.{rows_keep_sizes}
+use Rattle.law_names.specs.RowSizes.{KeepSizes, heap_after}
+use Rattle.law_names.proofs.RowSizes.{rows_keep_sizes}
 use Rattle.icn_vars.specs.Outcomes.{ComesToAnswer, outcome_in}
 use Rattle.icn_vars.specs.Worlds.{setting_of}
 use Rattle.icn_vars.specs.declared.outcome.Outcome.{Outcome as HeldOutcome}

@@ -1,6 +1,6 @@
 pub mod CodeNaming
 pub mod Applicable
-pub mod Kinds
+pub mod FunctionGroups
 pub mod NamesAfter
 pub mod SizesAfter
 pub mod Undoing

@@ -5,8 +5,8 @@ use Rattle.icn_value.specs.declared.val.Val.{Val}
 use Rattle.icn_value.specs.Store.{Names, outside_of}
 use Rattle.icn_heap.specs.Extents.{value_in}
 use Rattle.icn_heap.specs.Heaps.{extent_of}
-use Rattle.icn_named.specs.Keeping.{OutcomeNamed}
-use Rattle.icn_named.specs.Named.{OptionNamed, SettingNamed}
+use Rattle.law_names.specs.RowsNamed.{OutcomeNamed}
+use Rattle.law_names.specs.NamedSettings.{OptionNamed, SettingNamed}
 use Rattle.icn_vars.specs.Outcomes.{outcome_in}
 use Rattle.icn_vars.specs.Worlds.{setting_of}
 use Rattle.icn_vars.specs.declared.outcome.Outcome.{Outcome}

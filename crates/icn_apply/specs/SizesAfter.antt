@@ -1,7 +1,7 @@
 -- What was answered leaves each record of its kind, and as long as its kind where each was.
 use Rattle.std.specs.Prelude.{ℕ, Result, Ok, Err, ⊤}
 use Rattle.icn_heap.specs.Heaps.{heap_of}
-use Rattle.icn_named.specs.Sizes.{KeepSizes}
+use Rattle.law_names.specs.RowSizes.{KeepSizes}
 use Rattle.icn_vars.specs.declared.outcome.Outcome.{Outcome}
 use Rattle.icn_vars.specs.declared.outcome.Halt.{Halt}
 use Rattle.icn_vars.specs.declared.outcome.Halt.TheVariants.{Error, Ends, ReadFault, WriteFault, NoMemory}

@@ -6,7 +6,7 @@ ghost use Rattle.icn_defs.specs.Applying as rows;
 ghost use Rattle.icn_defs.specs.StepRows as step_rows;
 ghost use Rattle.icn_heap.specs.Extents.{IsLive};
 ghost use Rattle.icn_heap.specs.Heaps.{extent_of};
-ghost use Rattle.icn_named.specs.Named.{ItemNamed, ResidualNamed, SettingNamed};
+ghost use Rattle.law_names.specs.NamedSettings.{ItemNamed, ResidualNamed, SettingNamed};
 ghost use Rattle.icn_vars.specs.Outcomes.{IsLiveResidual, residual_in};
 ghost use Rattle.icn_vars.specs.Worlds.{IsLiveItem, item_in, reach_of, setting_of};
 ghost use Rattle.icn_vars.specs.declared.outcome.Halt.TheVariants.{NoMemory};

@@ -11,7 +11,7 @@ pub struct CodeNames<'a> {
 
 impl<'a> CodeNames<'a> {
     ghost use Rattle.std.specs.Prelude.{◌≡◌};
-    ghost use Rattle.icn_code.specs.Seen.{tables_of};
+    ghost use Rattle.icn_code.specs.CodeTables.{tables_of};
     ghost use Rattle.icn_apply.specs.CodeNaming.{names_of};
 
     /// The names of this code.
@@ -23,7 +23,7 @@ impl<'a> CodeNames<'a> {
 }
 
 impl Names for CodeNames<'_> {
-    ghost use Rattle.icn_code.specs.Seen.{tables_of};
+    ghost use Rattle.icn_code.specs.CodeTables.{tables_of};
     ghost use Rattle.icn_apply.specs.CodeNaming.{names_of};
 
     ghost known = { λ names. names_of (tables_of names.code.now) };

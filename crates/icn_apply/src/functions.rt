@@ -5,7 +5,7 @@ ghost use Rattle.icn_value.specs.Store.{outside_of};
 ghost use Rattle.icn_defs.specs.Applying.{function_row};
 ghost use Rattle.icn_heap.specs.Extents.{IsLive};
 ghost use Rattle.icn_heap.specs.Heaps.{extent_of};
-ghost use Rattle.icn_named.specs.Named.{ItemNamed, SettingNamed};
+ghost use Rattle.law_names.specs.NamedSettings.{ItemNamed, SettingNamed};
 ghost use Rattle.icn_vars.specs.Worlds.{IsLiveItem, item_in, reach_of, setting_of};
 ghost use Rattle.icn_streams.specs.Answers.{call_state};
 ghost use Rattle.icn_streams.specs.Applies.{Applies};
@@ -16,7 +16,7 @@ ghost use Rattle.icn_structfn.specs.Functions.{is_of_structures};
 ghost use Rattle.icn_apply.specs.NamesAfter.{AnswerNamed};
 ghost use Rattle.icn_apply.specs.SizesAfter.{AnswerKeepsSizes};
 
-use crate::kinds::{Kind, kind_of};
+use crate::function_groups::{FunctionGroup, kind_of};
 use icn_args::values_of;
 use icn_convert::Names;
 use icn_host::{Sink, Source};
@@ -51,10 +51,10 @@ pub fn apply_function<L: Locals, N: Names, I: Source, O: Sink, E: Sink>(
     ensures sized { AnswerKeepsSizes w.old w.new result }
 {
     match kind_of(func) {
-        Kind::Files => icn_iofn::first(func, args, w, l, buffer, input, out, err),
-        Kind::Scanning => apply_scanning(func, args, w, l, names),
-        Kind::Strings => apply_to_strings(func, args, w, l, names),
-        Kind::Structures => apply_to_structures(func, args, w, l, names),
+        FunctionGroup::Files => icn_iofn::first(func, args, w, l, buffer, input, out, err),
+        FunctionGroup::Scanning => apply_scanning(func, args, w, l, names),
+        FunctionGroup::Strings => apply_to_strings(func, args, w, l, names),
+        FunctionGroup::Structures => apply_to_structures(func, args, w, l, names),
     }
 }
 

@@ -4,8 +4,8 @@
 mod applied;
 mod applying;
 mod code_names;
+mod function_groups;
 mod functions;
-mod kinds;
 mod names;
 
 pub use applied::Applied;

@@ -2,7 +2,7 @@
 ghost use Rattle.std.specs.Prelude.{◌≡◌, ◌<◌, length, slice_get, slice_index_or, map, Some, []};
 ghost use Rattle.icn_text.specs.Funcs.{func_name};
 ghost use Rattle.icn_defs.specs.Images.{functions};
-ghost use Rattle.icn_code.specs.Seen.{tables_of};
+ghost use Rattle.icn_code.specs.CodeTables.{tables_of};
 ghost use Rattle.icn_apply.specs.CodeNaming.{names_of};
 
 use icn_code::Code;

@@ -1,4 +1,4 @@
-pub mod Answering
-pub mod Charging
-mod Gathering
-pub mod Making
+pub mod RowAnswers
+pub mod WorldCharges
+mod ItemValues
+pub mod NewLists

@@ -1,3 +1,3 @@
-pub mod Words
-pub mod Kinds
-pub mod Gathering
+pub mod RowWords
+pub mod KeyedStructures
+pub mod ItemsLeft

@@ -4,12 +4,12 @@ ghost use Rattle.std.specs.List.{All};
 ghost use Rattle.icn_value.specs.Store.{Outside};
 ghost use Rattle.icn_defs.specs.Arguments.{arg, value_or};
 ghost use Rattle.icn_defs.specs.Conversions.{is_null};
-ghost use Rattle.icn_defs.specs.Reading.{the_values};
+ghost use Rattle.icn_defs.specs.ReadAndAssign.{the_values};
 ghost use Rattle.icn_heap.specs.Extents.{Extent, IsLive, value_in};
 ghost use Rattle.icn_heap.specs.Heaps.{extent_of};
 ghost use Rattle.icn_vars.specs.Stops.{IsLiveStop};
 ghost use Rattle.icn_vars.specs.Worlds.{IsLiveItem, item_in, reach_of, setting_of};
-ghost use Rattle.icn_args.specs.Words.{IsFound};
+ghost use Rattle.icn_args.specs.RowWords.{IsFound};
 
 use icn_value::{Item, Val};
 use icn_vars::{Locals, Stop, World, deref};

@@ -7,14 +7,14 @@ ghost use Rattle.icn_heap.specs.Extents.{IsLive, IsText, text_in, value_in};
 ghost use Rattle.icn_heap.specs.Heaps.{extent_of};
 ghost use Rattle.icn_vars.specs.Stops.{IsLiveStop};
 ghost use Rattle.icn_vars.specs.Worlds.{KeepsItems, reach_of, setting_of};
-ghost use Rattle.icn_args.specs.Words.{HasText, IsPassed, the_text};
+ghost use Rattle.icn_args.specs.RowWords.{HasText, IsPassed, the_text};
 
 use icn_convert::to_text;
 use icn_value::{Span, Val};
 use icn_vars::{Locals, Stop, World};
 
 /// The text of a value that has one, as `check_text` finds. A text that is made is charged. The errors are 306 and want of memory.
-#[tactic(auto, using(icn_vars::proofs::Growing::grows))]
+#[tactic(auto, using(icn_vars::proofs::GrowingWorlds::grows))]
 pub fn text_of<L: Locals>(w: &mut World, l: &L, val: Val) -> Result<Span, Stop>
     requires locals { All (IsLive (extent_of w.old.heap)) (L.items l.now) }
     requires live { IsLive (extent_of w.old.heap) val }
@@ -62,7 +62,7 @@ pub fn texts_of<L: Locals>(w: &mut World, l: &L, a: Val, b: Val) -> Result<(Span
 }
 
 /// A new text of these bytes, which is charged. The errors are 306 and want of memory.
-#[tactic(auto, using(icn_vars::proofs::Growing::grows))]
+#[tactic(auto, using(icn_vars::proofs::GrowingWorlds::grows))]
 pub fn build<L: Locals>(w: &mut World, l: &L, bytes: &[u8]) -> Result<Span, Stop>
     requires locals { All (IsLive (extent_of w.old.heap)) (L.items l.now) }
     ensures live { IfOk result (IsText (extent_of w.new.heap)) }
@@ -77,7 +77,7 @@ pub fn build<L: Locals>(w: &mut World, l: &L, bytes: &[u8]) -> Result<Span, Stop
 }
 
 /// The text of the bytes of one and then of another, which is charged whole. The errors are 306 and want of memory.
-#[tactic(auto, using(icn_vars::proofs::Growing::grows))]
+#[tactic(auto, using(icn_vars::proofs::GrowingWorlds::grows))]
 pub fn join<L: Locals>(w: &mut World, l: &L, a: Span, b: Span) -> Result<Span, Stop>
     requires locals { All (IsLive (extent_of w.old.heap)) (L.items l.now) }
     requires first { IsText (extent_of w.old.heap) a }

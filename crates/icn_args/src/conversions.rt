@@ -7,7 +7,7 @@ ghost use Rattle.icn_defs.specs.Arguments.{cset, integer, number, string};
 ghost use Rattle.icn_defs.specs.Rows.{number_or_error, natural};
 ghost use Rattle.icn_heap.specs.Extents.{Extent, IsLive, value_in};
 ghost use Rattle.icn_heap.specs.Heaps.{extent_of};
-ghost use Rattle.icn_args.specs.Words.{IsFound, HasText, the_text};
+ghost use Rattle.icn_args.specs.RowWords.{IsFound, HasText, the_text};
 ghost use Rattle.icn_vars.specs.Stops.{IsLiveStop};
 
 use icn_convert::{to_cset, to_integer};
@@ -71,7 +71,7 @@ pub fn natural_of(n: i64, val: Val) -> Result<u64, Stop>
 }
 
 /// What an operation on integers gives, or 201, 202 or 203 where it gives nothing.
-pub fn computed(given: Result<i64, Arith>) -> Result<i64, Stop>
+pub fn arith_result(given: Result<i64, Arith>) -> Result<i64, Stop>
     ensures found { (all : Extent) (setting : Setting)
         → IsFound all (number_or_error given) setting setting (λ (n : ℤ). n) result }
     ensures stops { (all : Extent) → IfErr result (IsLiveStop all) }

@@ -4,9 +4,9 @@ ghost use Rattle.std.specs.Prelude.{ℕ, IfErr, IfOk};
 ghost use Rattle.icn_defs.specs.Arguments.{file, keeper, list, table};
 ghost use Rattle.icn_heap.specs.Extents.{Extent, IsLive, value_in};
 ghost use Rattle.icn_heap.specs.Keys.{file_of};
-ghost use Rattle.icn_args.specs.Kinds.{IsLiveKeeper, keeper_in};
+ghost use Rattle.icn_args.specs.KeyedStructures.{IsLiveKeeper, keeper_in};
 ghost use Rattle.icn_value.specs.declared.val.Val.TheVariants.{List, Table};
-ghost use Rattle.icn_args.specs.Words.{IsFound};
+ghost use Rattle.icn_args.specs.RowWords.{IsFound};
 ghost use Rattle.icn_vars.specs.Stops.{IsLiveStop};
 
 use icn_value::{File, Val};

@@ -7,13 +7,13 @@ ghost use Rattle.icn_heap.specs.Extents.{IsLive, value_in};
 ghost use Rattle.icn_heap.specs.Heaps.{extent_of};
 ghost use Rattle.icn_vars.specs.Stops.{IsLiveStop};
 ghost use Rattle.icn_vars.specs.Worlds.{KeepsItems, reach_of, setting_of};
-ghost use Rattle.icn_args.specs.Words.{IsFound};
+ghost use Rattle.icn_args.specs.RowWords.{IsFound};
 
 use icn_value::Val;
 use icn_vars::{Locals, Stop, World};
 
 /// A new list of these items, which is charged. The errors are 307 and want of memory.
-#[tactic(auto, using(icn_vars::proofs::Growing::grows))]
+#[tactic(auto, using(icn_vars::proofs::GrowingWorlds::grows))]
 pub fn new_list<L: Locals>(w: &mut World, l: &L, items: &[Val]) -> Result<Val, Stop>
     requires locals { All (IsLive (extent_of w.old.heap)) (L.items l.now) }
     requires items { All (IsLive (extent_of w.old.heap)) items.now }

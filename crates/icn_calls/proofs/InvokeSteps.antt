@@ -19,11 +19,11 @@ use Rattle.icn_run.specs.Rows as rows
 use Rattle.icn_run.specs.Stacks.{Frames, flat}
 use Rattle.icn_run.specs.Step as code
 use Rattle.icn_run.specs.Step.{State, Store, callee_called, callee_of, choose_item, errs, failing, integer_called, invoke_value, pushed_or_fails, with_world}
-use Rattle.icn_control.specs.Parts.{FailsWith, HaltsWith, RunsWith, StandsWith}
-use Rattle.icn_control.specs.declared.machine.Stage.{Stage}
-use Rattle.icn_control.specs.Standing.{stack_in}
-use Rattle.icn_control.specs.Taking.{KeepsCounts, with_values_in}
-use Rattle.icn_control.proofs.PartSteps.{same_world}
+use Rattle.icn_control.specs.StackAndWorld.{FailsWith, HaltsWith, RunsWith, StandsWith}
+use Rattle.icn_control.specs.declared.machine.RunState.{RunState}
+use Rattle.icn_control.specs.StackViews.{stack_in}
+use Rattle.icn_control.specs.TakenOperands.{KeepsCounts, with_values_in}
+use Rattle.icn_control.proofs.StackAndWorldSteps.{same_world}
 use Rattle.icn_calls.specs.Calling.{function_callee, function_in}
 
 -- What is no function
@@ -48,7 +48,7 @@ nothing_called w tables val n items m st e f same =
     called_by_number tables (extent_of w.heap) val n code.IsNothing items m st e f ∙ ap (errs 106 (Some (rows.Procedure n))) (same_world w st same)
 
 -- the world is the same, whatever came of it
-pub nothing_counted : (result : Result Stage Halt) (w : World) → OnOk result (KeepsCounts w w)
+pub nothing_counted : (result : Result RunState Halt) (w : World) → OnOk result (KeepsCounts w w)
 nothing_counted (Ok stage) w = record { bounds = refl; coexps = refl }
 nothing_counted (Err halt) w = tt
 
@@ -112,6 +112,6 @@ values_halt w v m k items vals halt next e f h st same =
     subst (λ (s : State Frames Frames). HaltsWith s st v halt) (sym (values_then w m k items vals next e f st same)) (h st same)
 
 -- what an answer is of, once what is called is known
-pub stands_as : (result : Result Stage Halt) (v : World) (n : FlatStack) (st : Store Frames) (a b : State Frames Frames) → a ≡ b
+pub stands_as : (result : Result RunState Halt) (v : World) (n : FlatStack) (st : Store Frames) (a b : State Frames Frames) → a ≡ b
     → MatchResult result (StandsWith b st v n) (HaltsWith b st v) → MatchResult result (StandsWith a st v n) (HaltsWith a st v)
 stands_as result v n st a b e h = subst (λ (s : State Frames Frames). MatchResult result (StandsWith s st v n) (HaltsWith s st v)) (sym e) h

@@ -7,7 +7,7 @@ use Rattle.icn_value.specs.declared.val.Val.{Val}
 use Rattle.icn_value.specs.declared.val.Val.TheVariants.{Null}
 use Rattle.icn_value.specs.Values.{Value, Null as NullValue}
 use Rattle.icn_defs.specs.StepRows.{list_row}
-use Rattle.icn_heap.specs.Extents.{Extent, IsLive, Keeps, value_in}
+use Rattle.icn_heap.specs.Extents.{Extent, IsLive, KeepsValues, value_in}
 use Rattle.icn_heap.specs.Heaps.{extent_of, heap_of}
 use Rattle.icn_vars.specs.declared.world.World.{World}
 use Rattle.icn_vars.specs.declared.stop.Stop.{Stop}
@@ -17,16 +17,16 @@ use Rattle.icn_frames.specs.Stacks as held
 use Rattle.icn_frames.specs.Stacks.{FlatStack}
 use Rattle.icn_code.specs.Codes.{Proc}
 use Rattle.icn_run.specs.Stacks.{Frames, flat}
-use Rattle.icn_frames_laws.proofs.CallsRead.{level_read}
-use Rattle.icn_frames_laws.proofs.ScansRead.{enter_read}
+use Rattle.law_frames.proofs.CallsRead.{level_read}
+use Rattle.law_frames.proofs.ScansRead.{enter_read}
 use Rattle.icn_value.specs.Store.{World as StoreWorld}
-use Rattle.icn_control.specs.Standing.{reading_of}
+use Rattle.icn_control.specs.StackViews.{reading_of}
 use Rattle.icn_run.specs.Step.{State, Store, call_procedure, called_if, enter_procedure, fill_nulls, list_made, running, with_world}
-use Rattle.icn_control.specs.Parts.{HaltsWith}
-use Rattle.icn_control.specs.Standing.{stack_in}
-use Rattle.icn_control.specs.Taking.{MakesValue}
+use Rattle.icn_control.specs.StackAndWorld.{HaltsWith}
+use Rattle.icn_control.specs.StackViews.{stack_in}
+use Rattle.icn_control.specs.TakenOperands.{MakesValue}
 use Rattle.icn_control.proofs.GrowthSteps.{values_same}
-use Rattle.icn_control.proofs.PartSteps.{same_world}
+use Rattle.icn_control.proofs.StackAndWorldSteps.{same_world}
 use Rattle.icn_calls.specs.Calling.{values_for, with_parameters_in}
 
 -- Values for places
@@ -86,7 +86,7 @@ plain w m count vals parameters e st next same =
 
 pub collects : (w v : World) (m : FlatStack) (count : ℕ) (vals cut parameters : List Val) (list : Val)
     → MakesValue (list_row (map (value_in (extent_of w.heap)) (drop (count - 1) vals))) w m v (Ok list) → cut ≡ values_for (count - 1) vals
-    → parameters ≡ cut ++ list ∷ [] → Keeps (extent_of w.heap) (extent_of v.heap) → All (IsLive (extent_of w.heap)) vals
+    → parameters ≡ cut ++ list ∷ [] → KeepsValues (extent_of w.heap) (extent_of v.heap) → All (IsLive (extent_of w.heap)) vals
     → (st : Store Frames) (next : List Value → Frames → Store Frames → State Frames Frames) → st.world ≡ world_of w
     → with_parameters_in true count w m vals st next
     ≡ next (map (value_in (extent_of v.heap)) parameters) (stack_in (extent_of v.heap) m) (with_world (world_of v) st)

@@ -20,24 +20,24 @@ use Rattle.icn_heap.specs.Heaps.{extent_of, heap_of}
 use Rattle.icn_vars.specs.declared.stop.Stop.{Stop}
 use Rattle.icn_vars.specs.declared.world.World.{World}
 use Rattle.icn_vars.specs.Stops.{halt_of}
-use Rattle.icn_args.specs.Words.{IsFound}
+use Rattle.icn_args.specs.RowWords.{IsFound}
 use Rattle.icn_defs.specs.Rows.{gives_value}
 use Rattle.icn_defs.specs.Structures.{new_record_of}
 use Rattle.icn_value.specs.Store.{Outside, outside_of}
 use Rattle.icn_vars.specs.Worlds.{IsLiveItem, item_in, field_counts, reach_of, setting_of, world_of}
-use Rattle.icn_named.specs.Sizes.{FitSizes}
-use Rattle.icn_heap.specs.Parts.{record_in}
-use Rattle.icn_control.specs.Living.{with_locals}
+use Rattle.law_names.specs.RowSizes.{FitSizes}
+use Rattle.icn_heap.specs.HeapParts.{record_in}
+use Rattle.icn_control.specs.LiveStacks.{with_locals}
 use Rattle.icn_frames.specs.Stacks as held
 use Rattle.icn_frames.specs.Stacks.{FlatStack}
 use Rattle.icn_code.specs.Codes.{RecordType, Tables}
 use Rattle.icn_run.specs.Rows as rows
 use Rattle.icn_run.specs.Stacks.{Frames, flat}
 use Rattle.icn_run.specs.Step.{State, Store, construct_record, errs, field_applied, field_of, field_index, field_taken, fill_nulls, here, push_item, running, with_world}
-use Rattle.icn_control.specs.Parts.{FindsValue, HaltsWith, RunsWith}
-use Rattle.icn_control.proofs.PartSteps.{same_world, value_goes, value_halts}
-use Rattle.icn_control.specs.Standing.{stack_in}
-use Rattle.icn_control.specs.Taking.{KeepsCounts, MakesValue, made_in}
+use Rattle.icn_control.specs.StackAndWorld.{FindsValue, HaltsWith, RunsWith}
+use Rattle.icn_control.proofs.StackAndWorldSteps.{same_world, value_goes, value_halts}
+use Rattle.icn_control.specs.StackViews.{stack_in}
+use Rattle.icn_control.specs.TakenOperands.{KeepsCounts, MakesValue, made_in}
 use Rattle.icn_control.proofs.GrowthSteps.{record_keeps}
 use Rattle.icn_calls.specs.Calling.{field_count, is_number, values_for}
 use Rattle.icn_calls.proofs.ParameterSteps.{map_values_for}

@@ -17,10 +17,10 @@ use Rattle.icn_code.specs.Codes.{Tables, Proc, RecordType}
 use Rattle.icn_run.specs.Stacks.{Frames, flat}
 use Rattle.icn_run.specs.Step as code
 use Rattle.icn_run.specs.Step.{State, Store, callee_of, collect_rest, with_world}
-use Rattle.icn_control.specs.Parts.{HaltsWith}
-use Rattle.icn_control.specs.declared.machine.Stage.{Stage}
-use Rattle.icn_control.specs.declared.machine.Stage.TheVariants as Stages
-use Rattle.icn_control.specs.Standing.{stack_in}
+use Rattle.icn_control.specs.StackAndWorld.{HaltsWith}
+use Rattle.icn_control.specs.declared.machine.RunState.{RunState}
+use Rattle.icn_control.specs.declared.machine.RunState.TheVariants as RunStates
+use Rattle.icn_control.specs.StackViews.{stack_in}
 use Rattle.icn_calls.specs.declared.callees.Callee.{Callee}
 use Rattle.icn_calls.specs.declared.callees.Callee.TheVariants as Callees
 
@@ -85,9 +85,9 @@ abbrev pub is_number : ℕ → ℕ → Bool
 is_number number other = other == number
 
 -- the run goes on: the next instruction is due, or the code fails
-abbrev pub IsGoing : Stage → Type 0
-IsGoing Stages.Runs = ⊤
-IsGoing Stages.Fails = ⊤
-IsGoing Stages.HopDue = ⊥
-IsGoing Stages.Over = ⊥
-IsGoing Stages.AtBound = ⊥
+abbrev pub IsGoing : RunState → Type 0
+IsGoing RunStates.Running = ⊤
+IsGoing RunStates.Failing = ⊤
+IsGoing RunStates.Hopping = ⊥
+IsGoing RunStates.Over = ⊥
+IsGoing RunStates.AtBound = ⊥

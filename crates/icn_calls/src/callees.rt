@@ -5,7 +5,7 @@ ghost use Rattle.icn_heap.specs.Extents.{Extent, value_in};
 ghost use Rattle.icn_run.specs.Rows.{Function, Item, apply};
 ghost use Rattle.icn_run.specs.Stacks.{Frames, flat as calls};
 ghost use Rattle.icn_run.specs.Step.{Store, here, invoke_value, outcome};
-ghost use Rattle.icn_code.specs.Seen.{tables_of};
+ghost use Rattle.icn_code.specs.CodeTables.{tables_of};
 ghost use Rattle.icn_calls.specs.Calling.{IsCallee, function_in};
 
 use icn_code::Code;

@@ -11,12 +11,12 @@ ghost use Rattle.icn_vars.specs.Outcomes.{IsLiveHalt};
 ghost use Rattle.icn_vars.specs.Worlds.{IsLiveItem, Reach, item_in, reach_of, world_of};
 ghost use Rattle.icn_run.specs.Stacks.{Frames as FramesRead, flat as calls};
 ghost use Rattle.icn_run.specs.Step.{Store, choose_item, integer_called};
-ghost use Rattle.icn_control.specs.Living.{IsLiveStack, with_locals};
-ghost use Rattle.icn_control.specs.Parts.{HaltsWith, StandsWith};
-ghost use Rattle.icn_control.specs.Standing.{stack_in};
+ghost use Rattle.icn_control.specs.LiveStacks.{IsLiveStack, with_locals};
+ghost use Rattle.icn_control.specs.StackAndWorld.{HaltsWith, StandsWith};
+ghost use Rattle.icn_control.specs.StackViews.{stack_in};
 ghost use Rattle.icn_calls.specs.Calling.{IsGoing};
 
-use icn_control::Stage;
+use icn_control::RunState;
 use icn_convert::to_integer;
 use icn_frames::{Cell, Frames, Stack};
 use icn_heap::Heap;
@@ -53,7 +53,7 @@ fn item_at(items: &[Item], place: usize) -> Option<Item>
 }
 
 /// The argument of a number, from the left from 1 on or from the right from -1 on, where it is there. It takes no memory.
-pub fn chosen(items: &[Item], n: i64) -> Option<Item>
+pub fn pick_argument(items: &[Item], n: i64) -> Option<Item>
     requires { length items.now < 2 ^ 63 }
     ensures item { (all : Extent)
         → option_map (item_in all) result ≡ choose_item n (map (item_in all) items.now) }
@@ -73,7 +73,7 @@ pub fn call_integer<K: Stack<Cell> + Drop>(
     world: &World,
     callee: Val,
     items: &[Item],
-) -> Result<Stage, Halt>
+) -> Result<RunState, Halt>
     requires few { length items.now < 2 ^ 63 }
     requires callee { IsLive (extent_of world.now.heap) callee }
     requires items { All (IsLiveItem (with_locals (flat.local_count frames.old.flat) (reach_of world.now [])))
@@ -93,11 +93,11 @@ pub fn call_integer<K: Stack<Cell> + Drop>(
     let Some(n) = number_of(&world.heap, callee) else {
         return Err(Halt::Error(106, Some(callee)));
     };
-    match chosen(items, n) {
+    match pick_argument(items, n) {
         Some(item) => match frames.push(item) {
-            Ok(()) => Ok(Stage::Runs),
+            Ok(()) => Ok(RunState::Running),
             Err(_) => Err(Halt::NoMemory),
         },
-        None => Ok(Stage::Fails),
+        None => Ok(RunState::Failing),
     }
 }

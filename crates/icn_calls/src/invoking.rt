@@ -4,16 +4,16 @@ ghost use Rattle.std.specs.List.{All};
 ghost use Rattle.icn_value.specs.Limited.{limits_of};
 ghost use Rattle.icn_frames.specs.Stacks as flat;
 ghost use Rattle.icn_code.specs.Codes.{Proc, RecordType, Tables};
-ghost use Rattle.icn_code.specs.Seen.{tables_of};
+ghost use Rattle.icn_code.specs.CodeTables.{tables_of};
 ghost use Rattle.icn_heap.specs.Extents.{IsLive, value_in};
 ghost use Rattle.icn_heap.specs.Heaps.{extent_of, heap_of};
 ghost use Rattle.icn_vars.specs.Worlds.{IsLiveItem, item_in, reach_of, world_of};
 ghost use Rattle.icn_run.specs.Stacks.{Frames as FramesRead, flat as calls};
 ghost use Rattle.icn_run.specs.Step.{Store, call_procedure, construct_record, invoke_value};
-ghost use Rattle.icn_control.specs.Living.{IsLiveStack, with_locals};
-ghost use Rattle.icn_control.specs.Parts.{HaltsWith, StandsWith};
-ghost use Rattle.icn_control.specs.Standing.{stack_in};
-ghost use Rattle.icn_control.specs.Taking.{with_values_in};
+ghost use Rattle.icn_control.specs.LiveStacks.{IsLiveStack, with_locals};
+ghost use Rattle.icn_control.specs.StackAndWorld.{HaltsWith, StandsWith};
+ghost use Rattle.icn_control.specs.StackViews.{stack_in};
+ghost use Rattle.icn_control.specs.TakenOperands.{with_values_in};
 ghost use Rattle.icn_calls.specs.Calling.{IsGoing, function_in};
 ghost use Rattle.icn_control.specs.Soundness.{LeavesWorld};
 
@@ -22,7 +22,7 @@ use crate::calling::call_procedure;
 use crate::constructors::construct;
 use crate::integers::call_integer;
 use icn_code::Code;
-use icn_control::{Stage, values_of};
+use icn_control::{RunState, values_of};
 use icn_frames::{Cell, Frames, Stack};
 use icn_value::{Item, Limits, Val};
 use icn_vars::{Halt, World};
@@ -37,7 +37,7 @@ fn call_with<K: Stack<Cell> + Drop>(
     number: u32,
     items: &[Item],
     vals: &mut Vec<Val>,
-) -> Result<Stage, Halt>
+) -> Result<RunState, Halt>
     requires there { number < length (tables_of code.now).procs }
     requires bounds { (heap_of world.old.heap).bounds ≡ limits_of limits.now }
     requires stack { (tables : Tables) × IsLiveStack tables (reach_of world.old []) frames.old.flat }
@@ -57,7 +57,7 @@ fn call_with<K: Stack<Cell> + Drop>(
 {
     values_of(frames, world, items, vals)?;
     match call_procedure(frames, world, code, limits, number, vals) {
-        Ok(()) => Ok(Stage::Runs),
+        Ok(()) => Ok(RunState::Running),
         Err(halt) => Err(halt),
     }
 }
@@ -71,7 +71,7 @@ fn construct_with<K: Stack<Cell> + Drop>(
     kind: u32,
     items: &[Item],
     vals: &mut Vec<Val>,
-) -> Result<Stage, Halt>
+) -> Result<RunState, Halt>
     requires there { kind < length (tables_of code.now).records }
     requires stack { (tables : Tables) × IsLiveStack tables (reach_of world.old []) frames.old.flat }
     requires items { All (IsLiveItem (with_locals (flat.local_count frames.old.flat) (reach_of world.old [])))
@@ -90,7 +90,7 @@ fn construct_with<K: Stack<Cell> + Drop>(
 {
     values_of(frames, world, items, vals)?;
     match construct(frames, world, code, kind, vals) {
-        Ok(()) => Ok(Stage::Runs),
+        Ok(()) => Ok(RunState::Running),
         Err(halt) => Err(halt),
     }
 }
@@ -108,7 +108,7 @@ pub fn invoke<K: Stack<Cell> + Drop>(
     callee: Val,
     items: &[Item],
     vals: &mut Vec<Val>,
-) -> Result<Stage, Halt>
+) -> Result<RunState, Halt>
     requires function { function_in (tables_of code.now) callee ≡ None }
     requires few { length items.now < 2 ^ 63 }
     requires bounds { (heap_of world.old.heap).bounds ≡ limits_of limits.now }

@@ -13,6 +13,6 @@ pub use arguments::{add_nulls, fit};
 pub use callees::{Callee, callee_of, function_of};
 pub use calling::{call_procedure, take_parameters};
 pub use constructors::{construct, record_of};
-pub use integers::{call_integer, chosen, number_of};
+pub use integers::{call_integer, number_of, pick_argument};
 pub use invoking::invoke;
 pub use record_fields::{field_index, push_field};

@@ -1,18 +1,18 @@
 // Fields of records, which are variables.
 ghost use Rattle.std.specs.Prelude.{◌≡◌, ◌∷◌, ◌<◌, ◌≤◌, [], Some, length, position, slice_get, IfErr, IfSome, OnOk, MatchResult};
 ghost use Rattle.icn_profile.specs.Numbers.{most_entries};
-ghost use Rattle.icn_named.specs.Sizes.{FitSizes};
+ghost use Rattle.law_names.specs.RowSizes.{FitSizes};
 ghost use Rattle.icn_frames.specs.Stacks as flat;
 ghost use Rattle.icn_code.specs.Codes.{RecordType, Tables};
-ghost use Rattle.icn_code.specs.Seen.{tables_of};
+ghost use Rattle.icn_code.specs.CodeTables.{tables_of};
 ghost use Rattle.icn_heap.specs.Heaps.{extent_of, heap_of};
 ghost use Rattle.icn_vars.specs.Outcomes.{IsLiveHalt};
 ghost use Rattle.icn_vars.specs.Worlds.{IsLiveItem, item_in, reach_of, world_of};
 ghost use Rattle.icn_run.specs.Stacks.{Frames as FramesRead, flat as calls};
 ghost use Rattle.icn_run.specs.Step.{Store, field_applied, field_index};
-ghost use Rattle.icn_control.specs.Living.{IsLiveStack, with_locals};
-ghost use Rattle.icn_control.specs.Parts.{HaltsWith, RunsWith};
-ghost use Rattle.icn_control.specs.Standing.{stack_in};
+ghost use Rattle.icn_control.specs.LiveStacks.{IsLiveStack, with_locals};
+ghost use Rattle.icn_control.specs.StackAndWorld.{HaltsWith, RunsWith};
+ghost use Rattle.icn_control.specs.StackViews.{stack_in};
 ghost use Rattle.icn_calls.specs.Calling.{field_count, is_number};
 
 use crate::callees::record_count;

@@ -3,8 +3,8 @@ use Rattle.std.specs.Prelude.{ℕ, ℤ, Bool, List, map}
 use Rattle.icn_value.specs.declared.cset.Cset.{Cset}
 use Rattle.icn_code.specs.declared.instr.Instr.{Instr}
 use Rattle.icn_code.specs.declared.code.Global.{Global}
-use Rattle.icn_code.specs.declared.code.Procedure.{Procedure}
-use Rattle.icn_code.specs.declared.code.Record.{Record}
+use Rattle.icn_code.specs.declared.code.LinkedProcedure.{LinkedProcedure}
+use Rattle.icn_code.specs.declared.code.LinkedRecord.{LinkedRecord}
 
 -- a record type: the place of its name among the strings, and those of its fields' names
 pub record RecordType : Type 0 where
@@ -31,10 +31,10 @@ pub record Tables : Type 0 where
   pub globals : List Global
   pub procs : List Proc
 
-abbrev pub record_of : Record → RecordType
+abbrev pub record_of : LinkedRecord → RecordType
 record_of kind = record { name = kind.name; fields = kind.fields.items }
 
-abbrev pub proc_of : Procedure → Proc
+abbrev pub proc_of : LinkedProcedure → Proc
 proc_of proc = record {
   name = proc.name;
   parameters = proc.parameters;
@@ -45,9 +45,9 @@ proc_of proc = record {
 }
 
 -- the record types, as plain lists
-abbrev pub records_of : List Record → List RecordType
+abbrev pub records_of : List LinkedRecord → List RecordType
 records_of records = map record_of records
 
 -- the procedures, as plain lists
-abbrev pub procs_of : List Procedure → List Proc
+abbrev pub procs_of : List LinkedProcedure → List Proc
 procs_of procs = map proc_of procs

@@ -1,3 +1,3 @@
 pub mod Codes
 pub mod Rules
-pub mod Seen
+pub mod CodeTables

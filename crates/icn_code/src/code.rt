@@ -10,7 +10,7 @@ use icn_value::Cset;
 
 /// A record type: the name of its constructor and its fields.
 #[derive(Debug, Drop)]
-pub struct Record {
+pub struct LinkedRecord {
     /// Its name, by the place among the strings.
     pub name: u32,
     /// Its fields in their order, by the places among the code's fields.
@@ -39,7 +39,7 @@ pub struct Global {
 
 /// A procedure.
 #[derive(Debug, Drop)]
-pub struct Procedure {
+pub struct LinkedProcedure {
     /// Its name, by the place among the strings.
     pub name: u32,
     /// How many parameters it has.
@@ -62,10 +62,10 @@ pub struct Code {
     pub integers: Vec<i64>,
     /// The names of fields, by their places among the strings.
     pub fields: Vec<u32>,
-    pub records: Vec<Record>,
+    pub records: Vec<LinkedRecord>,
     /// The global variables, whose names differ.
     pub globals: Vec<Global>,
-    pub procs: Vec<Procedure>,
+    pub procs: Vec<LinkedProcedure>,
     ghost rules: { IsTrue (keeps_rules (record {
       strings = strings.items;
       csets = csets.items;

@@ -4,5 +4,5 @@
 mod code;
 mod instr;
 
-pub use code::{Code, Global, Procedure, Record, Start};
+pub use code::{Code, Global, LinkedProcedure, LinkedRecord, Start};
 pub use instr::Instr;

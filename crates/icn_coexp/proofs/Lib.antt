@@ -1,4 +1,4 @@
-pub mod Puts
-pub mod Moves
-pub mod Additions
-pub mod Others
+pub mod ChangedEntries
+pub mod TransferredEntries
+pub mod AddedEntries
+pub mod OthersKept

@@ -1,2 +1,2 @@
 pub mod Transfers
-pub mod Keeping
+pub mod KeptEntries

@@ -3,8 +3,8 @@ ghost use Rattle.std.specs.Prelude.{◌≡◌, ◌<◌, ℕ, Option, IfSome, len
 ghost use Rattle.icn_value.specs.declared.item.Item.TheVariants as Items;
 ghost use Rattle.icn_frames.specs.Stacks as flat;
 ghost use Rattle.icn_coexp.specs.Transfers.{exhausted_of};
-ghost use Rattle.icn_coexp.specs.Keeping.{status_seen, status_at, status_put, activator_put, CanBeGiven, IsGiven, CanFail, Comes, IsOn, WaitsIn};
-ghost use Rattle.icn_coexp.specs.declared.entries.Running.TheVariants as Runnings;
+ghost use Rattle.icn_coexp.specs.KeptEntries.{status_seen, status_at, status_put, activator_put, CanBeGiven, IsGiven, CanFail, Comes, IsOn, WaitsIn};
+ghost use Rattle.icn_coexp.specs.declared.entries.RunningStack.TheVariants as Runnings;
 ghost use Rattle.icn_coexp.specs.declared.entries.Status.TheVariants as Statuses;
 
 use icn_frames::{Cell, Frames, Stack};
@@ -22,7 +22,7 @@ pub enum Status<K: Stack<Cell> + Drop> {
 
 /// A co-expression: what entered it last, and what it was made with.
 #[derive(Drop)]
-pub struct Entry<K: Stack<Cell> + Drop> {
+pub struct CoexpEntry<K: Stack<Cell> + Drop> {
     pub status: Status<K>,
     pub activator: u32,
     pub values: Vec<Val>,
@@ -32,16 +32,16 @@ pub struct Entry<K: Stack<Cell> + Drop> {
 
 /// The stack that runs, or that a hop is due.
 #[derive(Drop)]
-pub enum Running<K: Stack<Cell> + Drop> {
+pub enum RunningStack<K: Stack<Cell> + Drop> {
     On(Frames<K>),
-    HopDue,
+    Hopping,
 }
 
-impl<K: Stack<Cell> + Drop> Running<K> {
+impl<K: Stack<Cell> + Drop> RunningStack<K> {
     ghost use Rattle.std.specs.Borrow.{Lends, sem};
-    ghost use Rattle.icn_coexp.specs.contracts.entries.Running.{the_row};
+    ghost use Rattle.icn_coexp.specs.contracts.entries.RunningStack.{the_row};
     ghost use Rattle.icn_frames.specs.contracts.calls.Frames.{the_row as frames_row};
-    ghost use Rattle.icn_coexp.specs.declared.entries.Running.TheVariants.{On};
+    ghost use Rattle.icn_coexp.specs.declared.entries.RunningStack.TheVariants.{On};
 
     /// The stack that runs. No hop may be due.
     pub fn stack_mut(&mut self) -> &mut Frames<K>
@@ -51,15 +51,15 @@ impl<K: Stack<Cell> + Drop> Running<K> {
         ensures value { self.old ≡ On result.now }
     {
         match self {
-            Running::On(stack) => stack,
-            Running::HopDue => unreachable!(),
+            RunningStack::On(stack) => stack,
+            RunningStack::Hopping => unreachable!(),
         }
     }
 }
 
 // Puts another status in the place of an entry's, and gives that.
 pub fn replace_status<K: Stack<Cell> + Drop>(
-    entries: &mut Vec<Entry<K>>,
+    entries: &mut Vec<CoexpEntry<K>>,
     id: u32,
     status: Status<K>,
 ) -> Status<K>
@@ -72,7 +72,11 @@ pub fn replace_status<K: Stack<Cell> + Drop>(
 }
 
 // Sets what entered an entry last.
-pub fn set_activator<K: Stack<Cell> + Drop>(entries: &mut Vec<Entry<K>>, id: u32, activator: u32)
+pub fn set_activator<K: Stack<Cell> + Drop>(
+    entries: &mut Vec<CoexpEntry<K>>,
+    id: u32,
+    activator: u32,
+)
     requires { id < vec_len entries.old }
     ensures is { entries.new.items ≡ activator_put id activator entries.old.items }
     ensures length { vec_len entries.new ≡ vec_len entries.old }
@@ -81,7 +85,7 @@ pub fn set_activator<K: Stack<Cell> + Drop>(entries: &mut Vec<Entry<K>>, id: u32
 }
 
 // Whether a co-expression is exhausted.
-pub fn is_exhausted<K: Stack<Cell> + Drop>(entries: &Vec<Entry<K>>, id: u32) -> bool
+pub fn is_exhausted<K: Stack<Cell> + Drop>(entries: &Vec<CoexpEntry<K>>, id: u32) -> bool
     requires { id < vec_len entries.now }
     ensures { IfSome (status_at id entries.now.items) (λ status. result ≡ exhausted_of (status_seen status)) }
 {
@@ -101,7 +105,11 @@ pub fn with_value<K: Stack<Cell> + Drop>(stack: Frames<K>, v: Val) -> Frames<K>
 }
 
 // Takes out the stack of one that is given a value, and makes it the active one.
-pub fn give_to<K: Stack<Cell> + Drop>(entries: &mut Vec<Entry<K>>, id: u32, v: Val) -> Frames<K>
+pub fn give_to<K: Stack<Cell> + Drop>(
+    entries: &mut Vec<CoexpEntry<K>>,
+    id: u32,
+    v: Val,
+) -> Frames<K>
     requires live { id < vec_len entries.old }
     requires can { CanBeGiven (status_at id entries.old.items) }
     ensures stack { IsGiven v (status_at id entries.old.items) result.flat }
@@ -115,7 +123,7 @@ pub fn give_to<K: Stack<Cell> + Drop>(entries: &mut Vec<Entry<K>>, id: u32, v: V
 }
 
 // Takes out the stack of a waiting one, and makes it the active one.
-pub fn fail_to<K: Stack<Cell> + Drop>(entries: &mut Vec<Entry<K>>, id: u32) -> Frames<K>
+pub fn fail_to<K: Stack<Cell> + Drop>(entries: &mut Vec<CoexpEntry<K>>, id: u32) -> Frames<K>
     requires live { id < vec_len entries.old }
     requires can { CanFail (status_at id entries.old.items) }
     ensures stack { Comes (status_at id entries.old.items) result.flat }
@@ -129,20 +137,20 @@ pub fn fail_to<K: Stack<Cell> + Drop>(entries: &mut Vec<Entry<K>>, id: u32) -> F
 
 // Puts the stack that runs into the entry of the active one, which waits.
 pub fn wait<K: Stack<Cell> + Drop>(
-    entries: &mut Vec<Entry<K>>,
+    entries: &mut Vec<CoexpEntry<K>>,
     active: u32,
-    running: &mut Running<K>,
+    running: &mut RunningStack<K>,
 )
     requires live { active < vec_len entries.old }
     requires on { IsOn running.old }
     ensures is { WaitsIn active running.old entries.old.items entries.new.items }
-    ensures running { running.new ≡ Runnings.HopDue }
+    ensures running { running.new ≡ Runnings.Hopping }
     ensures length { vec_len entries.new ≡ vec_len entries.old }
 {
-    match mem::replace(running, Running::HopDue) {
-        Running::On(stack) => {
+    match mem::replace(running, RunningStack::Hopping) {
+        RunningStack::On(stack) => {
             replace_status(entries, active, Status::Waiting(stack));
         }
-        Running::HopDue => unreachable!(),
+        RunningStack::Hopping => unreachable!(),
     }
 }

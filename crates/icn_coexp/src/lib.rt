@@ -2,8 +2,8 @@
 #![tactic(auto)]
 
 mod entries;
-mod laws;
 mod table;
+mod transfer_laws;
 
-pub use laws::transfers_keep_others;
-pub use table::{Stacks, Went};
+pub use table::{AfterTransfer, Stacks};
+pub use transfer_laws::transfers_keep_others;

@@ -4,7 +4,8 @@ ghost use Rattle.icn_run.specs.Step.{Fresh, Exhausted};
 ghost use Rattle.icn_coexp.specs.Transfers.{first_table, source, status_of, values_of, with_stack, with_new, with_copy, give, exhaust, went_to, Activates, KeepsOthers, KeepsRoom, OneIsActive};
 
 use crate::entries::{
-    Entry, Running, Status, fail_to, give_to, is_exhausted, replace_status, set_activator, wait,
+    CoexpEntry, RunningStack, Status, fail_to, give_to, is_exhausted, replace_status,
+    set_activator, wait,
 };
 use icn_frames::{Cell, Frames, Stack};
 use icn_value::Val;
@@ -13,7 +14,7 @@ use std::marker::Model;
 
 /// What a transfer came to.
 #[derive(Clone, Copy, Debug, PartialEq, Eq)]
-pub enum Went {
+pub enum AfterTransfer {
     /// The active one was activated, with this value.
     Same(Val),
     /// Another one is active.
@@ -29,9 +30,9 @@ pub enum Went {
 /// `refresh` take memory.
 #[derive(Drop)]
 pub struct Stacks<K: Stack<Cell> + Drop> {
-    entries: Vec<Entry<K>>,
+    entries: Vec<CoexpEntry<K>>,
     active: u32,
-    running: Running<K>,
+    running: RunningStack<K>,
 }
 
 impl<K: Stack<Cell> + Drop> Model for Stacks<K> {
@@ -39,7 +40,7 @@ impl<K: Stack<Cell> + Drop> Model for Stacks<K> {
 
     ghost Value = { SeenStacks };
 
-    ghost use Rattle.icn_coexp.specs.Keeping.{table_seen, room_of, AreInOrder};
+    ghost use Rattle.icn_coexp.specs.KeptEntries.{table_seen, room_of, AreInOrder};
 
     ghost view = { λ s.
         record { table = table_seen s.entries.items s.active s.running; spare = room_of s.running } };
@@ -58,7 +59,7 @@ impl<K: Stack<Cell> + Drop> Stacks<K> {
         ensures spare { IfOk result (λ s. s.spare ≡ main.spare) }
     {
         let mut entries = Vec::new(alloc);
-        entries.push(Entry {
+        entries.push(CoexpEntry {
             status: Status::Active,
             activator: 0,
             values: Vec::new(alloc),
@@ -68,7 +69,7 @@ impl<K: Stack<Cell> + Drop> Stacks<K> {
         Ok(Stacks {
             entries,
             active: 0,
-            running: Running::On(main),
+            running: RunningStack::On(main),
         })
     }
 
@@ -107,11 +108,11 @@ impl<K: Stack<Cell> + Drop> Stacks<K> {
     pub fn runs(&self) -> bool
         ensures { result ≡ is_some self.now.table.running }
     {
-        matches!(self.running, Running::On(_))
+        matches!(self.running, RunningStack::On(_))
     }
 
     /// How many values a co-expression was made with.
-    pub fn held(&self, id: u32) -> u64
+    pub fn value_count(&self, id: u32) -> u64
         requires { id < length self.now.table.coexps }
         ensures { result ≡ length (values_of id self.now.table) }
     {
@@ -188,7 +189,7 @@ impl<K: Stack<Cell> + Drop> Stacks<K> {
     {
         let id = self.entries.len() as u32;
         let stack = Frames::new(alloc, proc, &values, address)?;
-        let entry = Entry {
+        let entry = CoexpEntry {
             status: Status::Fresh(stack),
             activator: 0,
             values,
@@ -203,7 +204,7 @@ impl<K: Stack<Cell> + Drop> Stacks<K> {
     /// where it is exhausted, or is the active one itself.
     ///
     /// No hop may be due, and the stack that runs must have room for an operand, as it has once one was popped.
-    pub fn activate(&mut self, id: u32, v: Val) -> Went
+    pub fn activate(&mut self, id: u32, v: Val) -> AfterTransfer
         requires live { id < length self.old.table.coexps }
         requires runs { IsSome self.old.table.running }
         requires room { 0 < self.old.spare }
@@ -212,24 +213,24 @@ impl<K: Stack<Cell> + Drop> Stacks<K> {
         ensures spare { KeepsRoom result self.old.spare self.new.spare }
     {
         if id == self.active {
-            return Went::Same(v);
+            return AfterTransfer::Same(v);
         }
         if is_exhausted(&self.entries, id) {
-            return Went::Exhausted;
+            return AfterTransfer::Exhausted;
         }
         wait(&mut self.entries, self.active, &mut self.running);
         set_activator(&mut self.entries, id, self.active);
         let stack = give_to(&mut self.entries, id, v);
-        self.running = Running::On(stack);
+        self.running = RunningStack::On(stack);
         self.active = id;
-        Went::Moved
+        AfterTransfer::Moved
     }
 
     /// Gives a value to what entered the active one last; the active one waits. Where that is exhausted a hop is due.
     ///
     /// The active one must not be `&main`, no hop may be due, and the stack that runs must have room for an operand, as it
     /// has once one was popped.
-    pub fn give(&mut self, v: Val) -> Went
+    pub fn give(&mut self, v: Val) -> AfterTransfer
         requires other { 0 < self.old.table.active }
         requires runs { IsSome self.old.table.running }
         requires room { 0 < self.old.spare }
@@ -242,18 +243,18 @@ impl<K: Stack<Cell> + Drop> Stacks<K> {
         wait(&mut self.entries, self.active, &mut self.running);
         self.active = to;
         if is_exhausted(&self.entries, to) {
-            return Went::Exhausted;
+            return AfterTransfer::Exhausted;
         }
         let stack = give_to(&mut self.entries, to, v);
-        self.running = Running::On(stack);
-        Went::Moved
+        self.running = RunningStack::On(stack);
+        AfterTransfer::Moved
     }
 
     /// The active one is exhausted, and what entered it last fails, or the exhausted one that was reached passes the
     /// failure on. Where that is exhausted a hop is due.
     ///
     /// The active one, or the one that was reached, must not be `&main`.
-    pub fn exhaust(&mut self) -> Went
+    pub fn exhaust(&mut self) -> AfterTransfer
         requires other { 0 < self.old.table.active }
         ensures table { exhaust self.old.table ≡ Some self.new.table }
         ensures others { KeepsOthers self.old.table.active
@@ -262,13 +263,13 @@ impl<K: Stack<Cell> + Drop> Stacks<K> {
     {
         let to = self.source();
         replace_status(&mut self.entries, self.active, Status::Exhausted);
-        self.running = Running::HopDue;
+        self.running = RunningStack::Hopping;
         self.active = to;
         if is_exhausted(&self.entries, to) {
-            return Went::Exhausted;
+            return AfterTransfer::Exhausted;
         }
         let stack = fail_to(&mut self.entries, to);
-        self.running = Running::On(stack);
-        Went::Moved
+        self.running = RunningStack::On(stack);
+        AfterTransfer::Moved
     }
 }

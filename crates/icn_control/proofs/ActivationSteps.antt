@@ -22,11 +22,11 @@ use Rattle.icn_vars.specs.Stops.{halt_of}
 use Rattle.icn_vars.specs.Worlds.{KeepsItems, item_in, reach_of, setting_of, world_of}
 use Rattle.icn_frames.specs.Stacks as held
 use Rattle.icn_frames.specs.Stacks.{FlatStack}
-use Rattle.icn_frames_laws.proofs.CallsRead.{is_base_read}
-use Rattle.icn_coexp.specs.declared.table.Went.{Went}
+use Rattle.law_frames.proofs.CallsRead.{is_base_read}
+use Rattle.icn_coexp.specs.declared.table.AfterTransfer.{AfterTransfer}
 use Rattle.icn_coexp.specs.Transfers as table
-use Rattle.icn_coexp.specs.Transfers.{Coexp, Table, enter_other, exhausted_of, give, values_of, went_by, with_copy}
-use Rattle.icn_coexp.proofs.Others.{entered_runs}
+use Rattle.icn_coexp.specs.Transfers.{Coexp, CoexpTable, enter_other, exhausted_of, give, values_of, went_by, with_copy}
+use Rattle.icn_coexp.proofs.OthersKept.{entered_runs}
 use Rattle.icn_code.specs.declared.instr.Instr.TheVariants as Instrs
 use Rattle.icn_code.specs.Codes.{Tables}
 use Rattle.icn_run.specs.Rows.{Val as ItemVal, ACoexp, coexpression_row}
@@ -34,11 +34,11 @@ use Rattle.icn_run.specs.Stacks.{Frames, flat}
 use Rattle.icn_run.specs.Step as code
 use Rattle.icn_run.specs.Step.{State, Store, Status, Fresh, Active, Waiting, Exhausted, errs, running, failing, hopping, instruction, turn_if, turn, activation, activation_of, operate, refresh, result_given, counted_result, passed_value, passed_failure, activator_of, entered_if, entered_by, exhaust_active, hop, with_popped, with_status, with_value, with_world, at_bound, is_main, stuck}
 use Rattle.icn_control.specs.Creations.{charged_and_made, copy_entry, copied_on}
-use Rattle.icn_control.specs.Landing.{Beside, is_moved, land, store_with}
-use Rattle.icn_control.specs.Living.{IsLiveStack}
+use Rattle.icn_control.specs.TransfersRead.{Beside, is_moved, land, store_with}
+use Rattle.icn_control.specs.LiveStacks.{IsLiveStack}
 use Rattle.icn_control.specs.Machines.{running_of, status_in, store_in}
 use Rattle.icn_control.specs.Operands.{having_result, with_top, with_two}
-use Rattle.icn_control.specs.Standing.{stack_in, reading_of}
+use Rattle.icn_control.specs.StackViews.{stack_in, reading_of}
 use Rattle.icn_control.proofs.CreateSteps.{beside_in, charged_errs, charged_runs}
 use Rattle.icn_control.proofs.CreationSteps.{creations_are}
 use Rattle.icn_control.proofs.ExhaustSteps.{turned}
@@ -48,11 +48,11 @@ use Rattle.icn_control.proofs.KeptTables.{store_same}
 use Rattle.icn_control.proofs.LiveTables.{AllLive}
 use Rattle.icn_control.proofs.OperandSteps.{one_popped, two_by_one}
 use Rattle.icn_control.proofs.StackSteps.{popped_runs}
-use Rattle.icn_control.proofs.TransferSteps.{are_read, status_at, status_put}
+use Rattle.icn_control.proofs.TransferSteps.{transfers_read, status_at, status_put}
 
 -- Where a transfer leads
 
-pub lands_runs : (beside : Beside) (m : Frames) (u : Table) (went : Went) → went ≡ went_by u.running → is_moved went ≡ true
+pub lands_runs : (beside : Beside) (m : Frames) (u : CoexpTable) (went : AfterTransfer) → went ≡ went_by u.running → is_moved went ≡ true
     → land beside running m u u.running ≡ running (stack_in beside.all (running_of u.running)) (store_with beside u)
 lands_runs beside m u went e w = by_running u.running (sym (ap is_moved e) ∙ w)
   where
@@ -61,7 +61,7 @@ lands_runs beside m u went e w = by_running u.running (sym (ap is_moved e) ∙ w
     by_running (Some n) q = refl
     by_running None q = cc
 
-pub lands_hops : (beside : Beside) (m : Frames) (u : Table) (went : Went) → went ≡ went_by u.running → is_moved went ≡ false
+pub lands_hops : (beside : Beside) (m : Frames) (u : CoexpTable) (went : AfterTransfer) → went ≡ went_by u.running → is_moved went ≡ false
     → land beside running m u u.running ≡ hopping m (store_with beside u)
 lands_hops beside m u went e w = by_running u.running (sym (ap is_moved e) ∙ w)
   where
@@ -69,7 +69,7 @@ lands_hops beside m u went e w = by_running u.running (sym (ap is_moved e) ∙ w
     by_running (Some n) q = cc
     by_running None q = refl
 
-lands_some : (beside : Beside) (m : Frames) (u : Table) → IsSome u.running
+lands_some : (beside : Beside) (m : Frames) (u : CoexpTable) → IsSome u.running
     → land beside running m u u.running ≡ running (stack_in beside.all (running_of u.running)) (store_with beside u)
 lands_some beside m u k = by_running u.running k
   where
@@ -89,7 +89,7 @@ other_number n m d = by_test (n == m) refl
     by_test true e = absurd (d (eqb-true n m e))
     by_test false e = e
 
-pub coact_goes : (tables : Tables) (names : Names) (outside : Outside) (w : World) (turns : ℕ) (begun : List Bool) (table : Table) (m : FlatStack)
+pub coact_goes : (tables : Tables) (names : Names) (outside : Outside) (w : World) (turns : ℕ) (begun : List Bool) (table : CoexpTable) (m : FlatStack)
     → table.running ≡ Some m → nat_lt turns (heap_of w.heap).bounds.turns ≡ true
     → instruction flat tables Instrs.Coact (stack_in (extent_of w.heap) (running_of table.running))
     (store_in names outside (world_of w) turns begun (extent_of w.heap) table)
@@ -111,7 +111,7 @@ abbrev if_base : Bool → State Frames Frames → State Frames Frames
 if_base x given = if x then given else stuck
 
 -- what gives a result of a create body
-pub create_body : (tables : Tables) (names : Names) (outside : Outside) (w : World) (turns : ℕ) (begun : List Bool) (table : Table) (m : FlatStack)
+pub create_body : (tables : Tables) (names : Names) (outside : Outside) (w : World) (turns : ℕ) (begun : List Bool) (table : CoexpTable) (m : FlatStack)
     → table.running ≡ Some m → held.is_base m ≡ true → 0 < table.active
     → instruction flat tables Instrs.Coret (stack_in (extent_of w.heap) (running_of table.running))
     (store_in names outside (world_of w) turns begun (extent_of w.heap) table)
@@ -128,10 +128,11 @@ create_body tables names outside w turns begun table m e base other =
 
 -- no turn more may be made
 
-pub not_under : (m n : ℕ) → n ≤ m → nat_lt m n ≡ false
-not_under m n p = grind (arith, nat_tests)
+-- the test of `<` fails where it does not hold
+pub nat_lt_false : (m n : ℕ) → n ≤ m → nat_lt m n ≡ false
+nat_lt_false m n p = grind (arith, nat_tests)
 
-pub coact_bound : (tables : Tables) (names : Names) (outside : Outside) (w : World) (turns : ℕ) (begun : List Bool) (table : Table) (m l k : FlatStack)
+pub coact_bound : (tables : Tables) (names : Names) (outside : Outside) (w : World) (turns : ℕ) (begun : List Bool) (table : CoexpTable) (m l k : FlatStack)
     (upper lower : Item) → table.running ≡ Some m
     → nat_lt turns (heap_of w.heap).bounds.turns ≡ false → held.pop m ≡ Some (upper, l) → held.pop l ≡ Some (lower, k)
     → instruction flat tables Instrs.Coact (stack_in (extent_of w.heap) (running_of table.running))
@@ -146,7 +147,7 @@ coact_bound tables names outside w turns begun table m l k upper lower e b p q =
     ∙ popped_runs l k lower q all (λ j y. turn tables st (activation_of flat (j ∷ item_in all upper ∷ []) y))
     ∙ ap (λ (x : Bool). turn_if x st (activation_of flat (item_in all lower ∷ item_in all upper ∷ []) (stack_in all k))) b
 
-pub refresh_bound : (tables : Tables) (names : Names) (outside : Outside) (w : World) (turns : ℕ) (begun : List Bool) (table : Table) (m k : FlatStack)
+pub refresh_bound : (tables : Tables) (names : Names) (outside : Outside) (w : World) (turns : ℕ) (begun : List Bool) (table : CoexpTable) (m k : FlatStack)
     (item : Item) → table.running ≡ Some m
     → nat_lt turns (heap_of w.heap).bounds.turns ≡ false → held.pop m ≡ Some (item, k)
     → instruction flat tables (Instrs.Op Ops.Refresh) (stack_in (extent_of w.heap) (running_of table.running))
@@ -160,7 +161,7 @@ refresh_bound tables names outside w turns begun table m k item e b p =
     ∙ popped_runs m k item p all (λ i n. turn tables st (operate flat Ops.Refresh (i ∷ []) n))
     ∙ ap (λ (x : Bool). turn_if x st (operate flat Ops.Refresh (item_in all item ∷ []) (stack_in all k))) b
 
-pub coret_bound : (tables : Tables) (names : Names) (outside : Outside) (w : World) (turns : ℕ) (begun : List Bool) (table : Table) (m k : FlatStack)
+pub coret_bound : (tables : Tables) (names : Names) (outside : Outside) (w : World) (turns : ℕ) (begun : List Bool) (table : CoexpTable) (m k : FlatStack)
     (item : Item) → table.running ≡ Some m
     → nat_lt turns (heap_of w.heap).bounds.turns ≡ false → held.pop m ≡ Some (item, k) → held.is_base m ≡ true → 0 < table.active
     → instruction flat tables Instrs.Coret (stack_in (extent_of w.heap) (running_of table.running))
@@ -185,7 +186,7 @@ entered_other all (Waiting k) n value m st e = refl
 entered_other all Exhausted n value m st e = cc
 
 -- the active one gives the value itself
-pub activates_same : (beside : Beside) (t u : Table) (m n : FlatStack) (id : ℕ) (v w : Val) → t.running ≡ Some m → table.status_of t.active t ≡ Active
+pub activates_same : (beside : Beside) (t u : CoexpTable) (m n : FlatStack) (id : ℕ) (v w : Val) → t.running ≡ Some m → table.status_of t.active t ≡ Active
     → id ≡ t.active → w ≡ v → u ≡ t → n ≡ held.push (HeldVal w) m
     → activation flat (value_in beside.all v) (ACoexp id) (stack_in beside.all (running_of t.running)) (store_with beside t)
     ≡ running (stack_in beside.all n) (store_with beside (record u { running = Some n }))
@@ -200,10 +201,10 @@ activates_same beside t u m n id v w e s i f p q =
     ∙ ap (λ (x : Status Frames). entered_if flat true x t.active value K st) (status_at all t.coexps t.active ∙ ap (status_in all) s)
     ∙ ap (λ (x : Val). running (stack_in all (held.push (HeldVal x) m)) st) (sym f)
     ∙ ap (λ (x : FlatStack). running (stack_in all x) st) (sym q)
-    ∙ ap (λ (x : Table). running (stack_in all n) (store_with beside x)) (sym p)
+    ∙ ap (λ (x : CoexpTable). running (stack_in all n) (store_with beside x)) (sym p)
 
 -- an exhausted one fails
-pub activates_exhausted : (beside : Beside) (t u : Table) (id : ℕ) (v : Val) → table.status_of id t ≡ Exhausted → u ≡ t
+pub activates_exhausted : (beside : Beside) (t u : CoexpTable) (id : ℕ) (v : Val) → table.status_of id t ≡ Exhausted → u ≡ t
     → activation flat (value_in beside.all v) (ACoexp id) (stack_in beside.all (running_of t.running)) (store_with beside t)
     ≡ failing (stack_in beside.all (running_of u.running)) (store_with beside u)
 activates_exhausted beside t u id v s p =
@@ -212,10 +213,10 @@ activates_exhausted beside t u id v s p =
     let K : Frames = stack_in all (running_of t.running) in
     ap (λ (x : Status Frames). entered_if flat (id == t.active) x id (value_in all v) K st) (status_at all t.coexps id ∙ ap (status_in all) s)
     ∙ entered_exhausted (id == t.active) id (value_in all v) K st
-    ∙ ap (λ (x : Table). failing (stack_in all (running_of x.running)) (store_with beside x)) (sym p)
+    ∙ ap (λ (x : CoexpTable). failing (stack_in all (running_of x.running)) (store_with beside x)) (sym p)
 
 -- another one is entered
-pub activates_other : (beside : Beside) (t u : Table) (m : FlatStack) (id : ℕ) (v : Val) → t.running ≡ Some m → id ≢ t.active
+pub activates_other : (beside : Beside) (t u : CoexpTable) (m : FlatStack) (id : ℕ) (v : Val) → t.running ≡ Some m → id ≢ t.active
     → exhausted_of (table.status_of id t) ≡ false → enter_other id v t ≡ Some u
     → activation flat (value_in beside.all v) (ACoexp id) (stack_in beside.all (running_of t.running)) (store_with beside t)
     ≡ running (stack_in beside.all (running_of u.running)) (store_with beside u)
@@ -228,12 +229,12 @@ activates_other beside t u m id v e d x g =
     ∙ ap (λ (b : Bool). entered_if flat b (code.status_of id st) id value K st) (other_number id t.active d)
     ∙ ap (λ (s : Status Frames). entered_if flat false s id value K st) (status_at all t.coexps id)
     ∙ entered_other all (table.status_of id t) id value K st x
-    ∙ (are_read beside t u K).enters id v m e g
+    ∙ (transfers_read beside t u K).enters id v m e g
     ∙ lands_some beside K u (entered_runs id v t u g d x)
 
 -- Results
 
-pub coret_goes : (tables : Tables) (names : Names) (outside : Outside) (w : World) (turns : ℕ) (begun : List Bool) (table : Table) (m : FlatStack)
+pub coret_goes : (tables : Tables) (names : Names) (outside : Outside) (w : World) (turns : ℕ) (begun : List Bool) (table : CoexpTable) (m : FlatStack)
     → table.running ≡ Some m → nat_lt turns (heap_of w.heap).bounds.turns ≡ true
     → held.is_base m ≡ true → 0 < table.active
     → instruction flat tables Instrs.Coret (stack_in (extent_of w.heap) (running_of table.running))
@@ -267,7 +268,8 @@ counted_world w v n st same c =
     (index_or (heap_of w.heap).coexps n) ∙ sym (add-one (slice_index (heap_of w.heap).coexps n)) in
     ap F same ∙ ap (λ (k : ℕ). with_world (G k) st) one ∙ ap (λ (x : StoreWorld). with_world x st) (sym c)
 
-pub result_passes : (t : Tables) (names : Names) (outside : Outside) (w v : World) (turns : ℕ) (begun : List Bool) (table u : Table) (k : FlatStack) (val : Val)
+pub result_passes : (t : Tables) (names : Names) (outside : Outside) (w v : World) (turns : ℕ) (begun : List Bool) (table u : CoexpTable) (k : FlatStack)
+    (val : Val)
     → table.running ≡ Some k → give val table ≡ Some u
     → KeepsItems (reach_of w []) (reach_of v []) → world_of v ≡ having_result table.active (world_of w) → IsLive (extent_of w.heap) val
     → IsLiveStack t (reach_of w []) k → AllLive t (reach_of w []) table.coexps
@@ -284,7 +286,7 @@ result_passes t names outside w v turns begun table u k val e g keeps c value li
     ∙ ap (λ (x : Value). result_given flat x K (store_in names outside (world_of w) turns begun (extent_of w.heap) table)) (sym (keeps.extent.value val value))
     ∙ ap (result_given flat V K) (sym (store_same names outside (world_of w) turns begun t (reach_of w []) (reach_of v []) table keeps all))
     ∙ ap (passed_value flat (activator_of table.active st) V K) (counted_world w v table.active (with_status table.active (Waiting K) st) refl c)
-    ∙ (are_read beside table u K).gives val k e g
+    ∙ (transfers_read beside table u K).gives val k e g
 
 -- Hops
 
@@ -309,7 +311,7 @@ same_turn true st f g e = e
 same_turn false st f g e = refl
 
 -- a hop is what is done where one is exhausted, as it is already
-pub hop_exhausts : (tables : Tables) (beside : Beside) (t : Table) (m : Frames) → table.status_of t.active t ≡ Exhausted
+pub hop_exhausts : (tables : Tables) (beside : Beside) (t : CoexpTable) (m : Frames) → table.status_of t.active t ≡ Exhausted
     → hop flat tables m (store_with beside t) ≡ exhaust_active flat tables m (store_with beside t)
 hop_exhausts tables beside t m s =
     let st : Store Frames = store_with (turned beside) t in
@@ -320,7 +322,7 @@ hop_exhausts tables beside t m s =
     (ap (passed_failure flat (activator_of t.active st) m) (sym same))
 
 -- the one that is reached is not `&main`
-pub reached_other : (t : Table) → table.status_of t.active t ≡ Exhausted → table.status_of 0 t ≢ Exhausted → 0 < t.active
+pub reached_other : (t : CoexpTable) → table.status_of t.active t ≡ Exhausted → table.status_of 0 t ≢ Exhausted → 0 < t.active
 reached_other t e d = by_number t.active e
   where
     by_number : (n : ℕ) → table.status_of n t ≡ Exhausted → 0 < n
@@ -329,7 +331,7 @@ reached_other t e d = by_number t.active e
 
 -- Refreshed ones
 
-pub refresh_goes : (tables : Tables) (names : Names) (outside : Outside) (w : World) (turns : ℕ) (begun : List Bool) (table : Table) (m : FlatStack)
+pub refresh_goes : (tables : Tables) (names : Names) (outside : Outside) (w : World) (turns : ℕ) (begun : List Bool) (table : CoexpTable) (m : FlatStack)
     → table.running ≡ Some m → nat_lt turns (heap_of w.heap).bounds.turns ≡ true
     → instruction flat tables (Instrs.Op Ops.Refresh) (stack_in (extent_of w.heap) (running_of table.running))
     (store_in names outside (world_of w) turns begun (extent_of w.heap) table)
@@ -342,7 +344,7 @@ refresh_goes tables names outside w turns begun table m e b =
     ∙ one_popped M (λ items n. turn tables st (operate flat Ops.Refresh items n))
     ∙ ap (λ (x : Bool). with_popped flat M (λ item n. turn_if x st (operate flat Ops.Refresh (item ∷ []) n))) b
 
-pub copy_goes : (t : Tables) (w v : World) (m : FlatStack) (id : ℕ) (names : Names) (outside : Outside) (turns : ℕ) (begun : List Bool) (table : Table)
+pub copy_goes : (t : Tables) (w v : World) (m : FlatStack) (id : ℕ) (names : Names) (outside : Outside) (turns : ℕ) (begun : List Bool) (table : CoexpTable)
     → table.running ≡ Some m → 0 < id → id < length table.coexps
     → KeepsItems (reach_of w []) (reach_of v []) → IsLiveStack t (reach_of w []) m → AllLive t (reach_of w []) table.coexps
     → refresh flat (ACoexp id) (stack_in (extent_of w.heap) (running_of table.running))
@@ -359,16 +361,16 @@ copy_goes t w v m (suc k) names outside turns begun table e p l keeps live all =
     ∙ (creations_are (beside_in names outside w turns begun v) table (stack_in (extent_of v.heap) m)).refreshes k l
 
 -- what is copied, by its number
-pub copied_is : (table u : Table) (m : FlatStack) (id number : ℕ) → table.running ≡ Some m → u ≡ copy_entry id table → number ≡ length table.coexps
+pub copied_is : (table u : CoexpTable) (m : FlatStack) (id number : ℕ) → table.running ≡ Some m → u ≡ copy_entry id table → number ≡ length table.coexps
     → record (with_copy table (slice_get table.coexps id)) { running = Some (held.push (HeldVal (HeldCoexp number)) m) } ≡ u
 copied_is table u m id number e c n =
-    let F : ℕ → Table = λ k. record (with_copy table (slice_get table.coexps id)) { running = Some (held.push (HeldVal (HeldCoexp k)) m) } in
+    let F : ℕ → CoexpTable = λ k. record (with_copy table (slice_get table.coexps id)) { running = Some (held.push (HeldVal (HeldCoexp k)) m) } in
     ap F n ∙ sym (ap (copied_on id table) e) ∙ sym c
 
 -- a copy as a whole: what it comes to where it is charged, and where it is not
 
 pub copy_runs : (t : Tables) (w v : World) (m : FlatStack) (id count number : ℕ) (names : Names) (outside : Outside) (turns : ℕ) (begun : List Bool)
-    (table u : Table) → table.running ≡ Some m → 0 < id → id < length table.coexps
+    (table u : CoexpTable) → table.running ≡ Some m → 0 < id → id < length table.coexps
     → KeepsItems (reach_of w []) (reach_of v []) → IsLiveStack t (reach_of w []) m → AllLive t (reach_of w []) table.coexps
     → held.set_locals (held.locals m) m ≡ m → count ≡ length (values_of id table)
     → coexpression_row count (setting_of outside w (held.locals m)) ≡ Gives (ItemVal (ACoexp number)) (setting_of outside v (held.locals m))
@@ -377,27 +379,27 @@ pub copy_runs : (t : Tables) (w v : World) (m : FlatStack) (id count number : �
     (store_in names outside (world_of w) turns begun (extent_of w.heap) table)
     ≡ running (stack_in (extent_of v.heap) (running_of u.running)) (store_in names outside (world_of v) turns begun (extent_of v.heap) u)
 copy_runs t w v m id count number names outside turns begun table u e p l keeps live all same c row n made =
-    let after : Table = with_copy table (slice_get table.coexps id) in
-    let F : Table → State Frames Frames = λ y. running (stack_in (extent_of v.heap) (running_of y.running))
+    let after : CoexpTable = with_copy table (slice_get table.coexps id) in
+    let F : CoexpTable → State Frames Frames = λ y. running (stack_in (extent_of v.heap) (running_of y.running))
     (store_in names outside (world_of v) turns begun (extent_of v.heap) y) in
     copy_goes t w v m id names outside turns begun table e p l keeps live all
     ∙ charged_runs t w v m (length (values_of id table)) number names outside turns begun table after keeps live same
     (copy_active table (slice_get table.coexps id))
     (subst (λ (x : ℕ). coexpression_row x (setting_of outside w (held.locals m)) ≡ Gives (ItemVal (ACoexp number)) (setting_of outside v (held.locals m))) c
     row)
-    ∙ ap (λ (y : Table). F (record y { running = Some (held.push (HeldVal (HeldCoexp number)) m) })) (copy_on table m (slice_get table.coexps id))
+    ∙ ap (λ (y : CoexpTable). F (record y { running = Some (held.push (HeldVal (HeldCoexp number)) m) })) (copy_on table m (slice_get table.coexps id))
     ∙ ap F (copied_is (record table { running = Some m }) u m id number refl made n)
   where
-    copy_active : (t : Table) (o : Option Coexp) → (with_copy t o).active ≡ t.active
+    copy_active : (t : CoexpTable) (o : Option Coexp) → (with_copy t o).active ≡ t.active
     copy_active t None = refl
     copy_active t (Some c) = refl
 
-    copy_on : (t : Table) (m : FlatStack) (o : Option Coexp) → record (with_copy t o) { running = Some m } ≡ with_copy (record t { running = Some m }) o
+    copy_on : (t : CoexpTable) (m : FlatStack) (o : Option Coexp) → record (with_copy t o) { running = Some m } ≡ with_copy (record t { running = Some m }) o
     copy_on t m None = refl
     copy_on t m (Some c) = refl
 
 pub copy_errs : (t : Tables) (w v : World) (m : FlatStack) (id count number : ℕ) (offending : Option Val) (stop : Stop) (names : Names) (outside : Outside)
-    (turns : ℕ) (begun : List Bool) (table other : Table) → table.running ≡ Some m → 0 < id
+    (turns : ℕ) (begun : List Bool) (table other : CoexpTable) → table.running ≡ Some m → 0 < id
     → id < length table.coexps → KeepsItems (reach_of w []) (reach_of v []) → IsLiveStack t (reach_of w []) m → AllLive t (reach_of w []) table.coexps
     → count ≡ length (values_of id table)
     → HaltsRow (extent_of v.heap) (coexpression_row count) (setting_of outside w (held.locals m)) (setting_of outside v (held.locals m)) (halt_of stop)
@@ -406,7 +408,7 @@ pub copy_errs : (t : Tables) (w v : World) (m : FlatStack) (id count number : �
     (store_in names outside (world_of w) turns begun (extent_of w.heap) table)
     ≡ errs number (option_map (value_in (extent_of v.heap)) offending) (store_in names outside (world_of v) turns begun (extent_of v.heap) other)
 copy_errs t w v m id count number offending stop names outside turns begun table other e p l keeps live all c row s =
-    let after : Table = with_copy table (slice_get table.coexps id) in
+    let after : CoexpTable = with_copy table (slice_get table.coexps id) in
     let halts : HaltsRow (extent_of v.heap) (coexpression_row (length (values_of id table))) (setting_of outside w (held.locals m))
     (setting_of outside v (held.locals m)) (halt_of stop)
     = subst (λ (x : ℕ). HaltsRow (extent_of v.heap) (coexpression_row x) (setting_of outside w (held.locals m)) (setting_of outside v (held.locals m))

@@ -11,15 +11,15 @@ use Rattle.icn_value.specs.Store.{Heap, Outside, Setting, having_heap}
 use Rattle.icn_value.specs.Changes.{ChangedHeap, Refuses, and_then, charged_cells, having_coexp, made_coexp}
 use Rattle.icn_defs.specs.Rows.{Row, Outcome, Gives, costs_cells}
 use Rattle.icn_heap.specs.declared.heap.Heap.{Heap as HeldHeap}
-use Rattle.icn_heap.specs.Extents.{Extent, IsLive, Keeps}
+use Rattle.icn_heap.specs.Extents.{Extent, IsLive, KeepsValues}
 use Rattle.icn_heap.specs.Heaps.{extent_of, heap_of}
-use Rattle.icn_vars.specs.Facts.{IsSoundWorld}
+use Rattle.icn_vars.specs.WorldFacts.{IsSoundWorld}
 use Rattle.icn_vars.specs.declared.stop.Stop.{Stop}
 use Rattle.icn_vars.specs.Outcomes.{HaltsRow}
 use Rattle.icn_vars.specs.Stops.{StopsPassing, halt_of, stop_of}
 use Rattle.icn_vars.specs.Worlds.{KeepsFields, field_counts}
-use Rattle.icn_vars.proofs.Growing.{heap_changed, setting_over}
-use Rattle.icn_vars.proofs.Changing.{cells_change, charged_then, fields_behind, stops}
+use Rattle.icn_vars.proofs.GrowingWorlds.{heap_changed, setting_over}
+use Rattle.icn_vars.proofs.HeapChanges.{cells_change, charged_then, fields_behind, change_stops}
 use Rattle.icn_run.specs.Rows.{Val as ItemVal, ACoexp, coexpression_row}
 
 -- what is paid leaves the co-expressions and the limits
@@ -85,7 +85,7 @@ abbrev rest : Row
 rest setting = let counts = setting.world.heap.coexps in
     Gives (ItemVal (ACoexp (length counts))) (having_heap (λ heap. record heap { coexps = counts ++ 0 ∷ [] }) setting)
 
-module _ (old new : HeldHeap) (pair : Pair) (random : ℕ) (globals statics : List Val) (keeps : Keeps (extent_of old) (extent_of new))
+module _ (old new : HeldHeap) (pair : Pair) (random : ℕ) (globals statics : List Val) (keeps : KeepsValues (extent_of old) (extent_of new))
     (sound : IsSoundWorld (extent_of old) pair random globals statics) where
   pub makes : (count : ℕ) → made_coexp (heap_of old) count ≡ Ok (heap_of new) → (outside : Outside) (locals : List Val) → All (IsLive (extent_of old)) locals
       → coexpression_row count (setting_over outside old pair random globals statics locals)
@@ -105,7 +105,8 @@ module _ (old new : HeldHeap) (pair : Pair) (random : ℕ) (globals statics : Li
   refuses count same full why outside locals live =
       row_stops (extent_of new) (costs_cells (1 + count)) rest (setting_over outside old pair random globals statics locals)
       (setting_over outside new pair random globals statics locals) full
-      (stops old new pair random globals statics locals keeps sound live (cells_change (1 + count)) same full (first_refuses (heap_of old) count full why)
+      (change_stops old new pair random globals statics locals keeps sound live (cells_change (1 + count)) same full
+      (first_refuses (heap_of old) count full why)
       (extent_of new) outside)
 
 -- an answer that stops

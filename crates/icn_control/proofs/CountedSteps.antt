@@ -8,9 +8,9 @@ use Rattle.icn_heap.specs.declared.heap.Heap.{Heap as HeldHeap}
 use Rattle.icn_heap.specs.Heaps.{heap_of}
 use Rattle.icn_frames.specs.Stacks.{FlatStack}
 use Rattle.icn_coexp.specs.Transfers as table
-use Rattle.icn_coexp.specs.Transfers.{Coexp, Table, activator_in, enter_other, exhaust, give, source, with_new, with_copy}
+use Rattle.icn_coexp.specs.Transfers.{Coexp, CoexpTable, activator_in, enter_other, exhaust, give, source, with_new, with_copy}
 use Rattle.icn_run.specs.Step.{Status, Fresh, Active, Waiting, Exhausted}
-use Rattle.icn_control.specs.Counting.{FitTurns, EnterOthers}
+use Rattle.icn_control.specs.ResultCounts.{FitTurns, EnterOthers}
 use Rattle.icn_control.specs.Creations.{copy_entry, copied_on}
 
 -- Activators
@@ -52,38 +52,41 @@ activator_set P (c ∷ cs) (suc n) a all one (suc i) =
 enter_others : (cs : List Coexp) (n a : ℕ) → a ≢ n → EnterOthers cs → EnterOthers (table.with_activator n a cs)
 enter_others cs n a d k = activator_set (λ i x. 0 < i → x ≢ i) cs n a k (λ p. d)
 
-begin_others : (tab : Table) (n : ℕ) (o : Option Coexp) → EnterOthers tab.coexps → EnterOthers (table.begin_by n tab o).coexps
+begin_others : (tab : CoexpTable) (n : ℕ) (o : Option Coexp) → EnterOthers tab.coexps → EnterOthers (table.begin_by n tab o).coexps
 begin_others tab n None k = k
 begin_others tab n (Some c) k = status_others tab.coexps n Active k
 
-give_by_others : (tab u : Table) (n : ℕ) (v : Val) (s : Status FlatStack) → table.give_by n v tab s ≡ Some u → EnterOthers tab.coexps → EnterOthers u.coexps
+give_by_others : (tab u : CoexpTable) (n : ℕ) (v : Val) (s : Status FlatStack) → table.give_by n v tab s ≡ Some u → EnterOthers tab.coexps
+    → EnterOthers u.coexps
 give_by_others tab u n v Fresh e k =
-    subst (λ (w : Table). EnterOthers w.coexps) (same_Some (table.begin_by n tab (slice_get tab.coexps n)) u e) (begin_others tab n (slice_get tab.coexps n) k)
+    subst (λ (w : CoexpTable). EnterOthers w.coexps) (same_Some (table.begin_by n tab (slice_get tab.coexps n)) u e)
+    (begin_others tab n (slice_get tab.coexps n) k)
 give_by_others tab u n v Active e k = cc
-give_by_others tab u n v (Waiting m) e k = subst (λ (w : Table). EnterOthers w.coexps) (same_Some _ _ e) (status_others tab.coexps n Active k)
-give_by_others tab u n v Exhausted e k = subst (λ (w : Table). EnterOthers w.coexps) (same_Some _ _ e) k
+give_by_others tab u n v (Waiting m) e k = subst (λ (w : CoexpTable). EnterOthers w.coexps) (same_Some _ _ e) (status_others tab.coexps n Active k)
+give_by_others tab u n v Exhausted e k = subst (λ (w : CoexpTable). EnterOthers w.coexps) (same_Some _ _ e) k
 
-fail_by_others : (tab u : Table) (n : ℕ) (s : Status FlatStack) → table.fail_by n tab s ≡ Some u → EnterOthers tab.coexps → EnterOthers u.coexps
+fail_by_others : (tab u : CoexpTable) (n : ℕ) (s : Status FlatStack) → table.fail_by n tab s ≡ Some u → EnterOthers tab.coexps → EnterOthers u.coexps
 fail_by_others tab u n Fresh e k = cc
 fail_by_others tab u n Active e k = cc
-fail_by_others tab u n (Waiting m) e k = subst (λ (w : Table). EnterOthers w.coexps) (same_Some _ _ e) (status_others tab.coexps n Active k)
-fail_by_others tab u n Exhausted e k = subst (λ (w : Table). EnterOthers w.coexps) (same_Some _ _ e) k
+fail_by_others tab u n (Waiting m) e k = subst (λ (w : CoexpTable). EnterOthers w.coexps) (same_Some _ _ e) (status_others tab.coexps n Active k)
+fail_by_others tab u n Exhausted e k = subst (λ (w : CoexpTable). EnterOthers w.coexps) (same_Some _ _ e) k
 
-waits_others : (tab : Table) (o : Option FlatStack) → EnterOthers tab.coexps → EnterOthers (table.wait_on tab o).coexps
+waits_others : (tab : CoexpTable) (o : Option FlatStack) → EnterOthers tab.coexps → EnterOthers (table.wait_on tab o).coexps
 waits_others tab None k = k
 waits_others tab (Some m) k = status_others tab.coexps tab.active (Waiting m) k
 
-pub give_others : (v : Val) (tab u : Table) → give v tab ≡ Some u → EnterOthers tab.coexps → EnterOthers u.coexps
+pub give_others : (v : Val) (tab u : CoexpTable) → give v tab ≡ Some u → EnterOthers tab.coexps → EnterOthers u.coexps
 give_others v tab u e k =
-    let left : Table = table.with_waiting tab in give_by_others left u (source tab) v (table.status_of (source tab) left) e (waits_others tab tab.running k)
+    let left : CoexpTable = table.with_waiting tab in
+    give_by_others left u (source tab) v (table.status_of (source tab) left) e (waits_others tab tab.running k)
 
-pub entered_others : (n : ℕ) (v : Val) (tab u : Table) → enter_other n v tab ≡ Some u → n ≢ tab.active → EnterOthers tab.coexps → EnterOthers u.coexps
+pub entered_others : (n : ℕ) (v : Val) (tab u : CoexpTable) → enter_other n v tab ≡ Some u → n ≢ tab.active → EnterOthers tab.coexps → EnterOthers u.coexps
 entered_others n v tab u e d k =
-    let left : Table = table.with_waiting tab in
-    let next : Table = record left { coexps = table.with_activator n tab.active left.coexps } in
+    let left : CoexpTable = table.with_waiting tab in
+    let next : CoexpTable = record left { coexps = table.with_activator n tab.active left.coexps } in
     give_by_others next u n v (table.status_of n next) e (enter_others left.coexps n tab.active (λ q. d (sym q)) (waits_others tab tab.running k))
 
-pub exhaust_others : (tab u : Table) → exhaust tab ≡ Some u → EnterOthers tab.coexps → EnterOthers u.coexps
+pub exhaust_others : (tab u : CoexpTable) → exhaust tab ≡ Some u → EnterOthers tab.coexps → EnterOthers u.coexps
 exhaust_others tab u e k =
     let cs : List Coexp = table.with_status tab.active Exhausted tab.coexps in
     fail_by_others (record tab { coexps = cs }) u (source tab) (table.status_in (slice_get cs (source tab))) e (status_others tab.coexps tab.active Exhausted k)
@@ -94,30 +97,30 @@ more_activator [] x (suc i) e = refl
 more_activator (y ∷ cs) x zero e = refl
 more_activator (y ∷ cs) x (suc i) e = more_activator cs x i e
 
-pub new_others : (tab : Table) (values : List Val) (proc place : ℕ) → EnterOthers tab.coexps → EnterOthers (with_new values proc place tab).coexps
+pub new_others : (tab : CoexpTable) (values : List Val) (proc place : ℕ) → EnterOthers tab.coexps → EnterOthers (with_new values proc place tab).coexps
 new_others tab values proc place k i p = λ e.
     let new : Coexp = record { status = Fresh; activator = 0; values = values; proc = proc; address = place } in
     k i p (sym (more_activator tab.coexps new i refl) ∙ e)
 
-pub copy_others : (tab : Table) (o : Option Coexp) → EnterOthers tab.coexps → EnterOthers (with_copy tab o).coexps
+pub copy_others : (tab : CoexpTable) (o : Option Coexp) → EnterOthers tab.coexps → EnterOthers (with_copy tab o).coexps
 copy_others tab None k = k
 copy_others tab (Some c) k = new_others tab c.values c.proc c.address k
 
 -- the active one after a transfer
 
-begin_active : (tab : Table) (n : ℕ) (o : Option Coexp) → table.status_in o ≡ Fresh → (table.begin_by n tab o).active ≡ n
+begin_active : (tab : CoexpTable) (n : ℕ) (o : Option Coexp) → table.status_in o ≡ Fresh → (table.begin_by n tab o).active ≡ n
 begin_active tab n None e = cc
 begin_active tab n (Some c) e = refl
 
-give_by_active : (tab u : Table) (n : ℕ) (v : Val) (s : Status FlatStack) → table.status_of n tab ≡ s → table.give_by n v tab s ≡ Some u → u.active ≡ n
+give_by_active : (tab u : CoexpTable) (n : ℕ) (v : Val) (s : Status FlatStack) → table.status_of n tab ≡ s → table.give_by n v tab s ≡ Some u → u.active ≡ n
 give_by_active tab u n v Fresh h e =
-    ap (λ (w : Table). w.active) (sym (same_Some (table.begin_by n tab (slice_get tab.coexps n)) u e)) ∙ begin_active tab n (slice_get tab.coexps n) h
+    ap (λ (w : CoexpTable). w.active) (sym (same_Some (table.begin_by n tab (slice_get tab.coexps n)) u e)) ∙ begin_active tab n (slice_get tab.coexps n) h
 give_by_active tab u n v Active h e = cc
-give_by_active tab u n v (Waiting m) h e = ap (λ (w : Table). w.active) (sym (same_Some _ _ e))
-give_by_active tab u n v Exhausted h e = ap (λ (w : Table). w.active) (sym (same_Some _ _ e))
+give_by_active tab u n v (Waiting m) h e = ap (λ (w : CoexpTable). w.active) (sym (same_Some _ _ e))
+give_by_active tab u n v Exhausted h e = ap (λ (w : CoexpTable). w.active) (sym (same_Some _ _ e))
 
-pub give_active : (v : Val) (tab u : Table) → give v tab ≡ Some u → u.active ≡ source tab
-give_active v tab u e = let left : Table = table.with_waiting tab in give_by_active left u (source tab) v (table.status_of (source tab) left) refl e
+pub give_active : (v : Val) (tab u : CoexpTable) → give v tab ≡ Some u → u.active ≡ source tab
+give_active v tab u e = let left : CoexpTable = table.with_waiting tab in give_by_active left u (source tab) v (table.status_of (source tab) left) refl e
 
 -- Results
 
@@ -175,6 +178,7 @@ same_counts turns a b cs ds same e k =
     let here : FitTurns turns a ds = record { all = λ n p. omega (arith, same n, k.all n p); entered = λ p. omega (arith, same a, k.entered p) } in
     subst (λ (x : ℕ). FitTurns turns x ds) (sym e) here
 
+-- equal counts fit the same turns
 pub list_counts : (turns active : ℕ) (old new : List ℕ) → new ≡ old → FitTurns turns active old → FitTurns turns active new
 list_counts turns active old new e k = subst (λ (cs : List ℕ). FitTurns turns active cs) (sym e) k
 
@@ -197,12 +201,13 @@ count_fits turns a limit cs p q r k = omega (arith, k.entered p, q, r)
 
 -- what is copied
 
-copy_active : (tab : Table) (o : Option Coexp) → (with_copy tab o).active ≡ tab.active
+copy_active : (tab : CoexpTable) (o : Option Coexp) → (with_copy tab o).active ≡ tab.active
 copy_active tab None = refl
 copy_active tab (Some c) = refl
 
-pub copied_active : (tab u : Table) (m : FlatStack) (id : ℕ) → tab.running ≡ Some m → u ≡ copy_entry id tab → u.active ≡ tab.active
-copied_active tab u m id e c = ap (λ (w : Table). w.active) (c ∙ ap (copied_on id tab) e) ∙ copy_active tab (slice_get tab.coexps id)
+pub copied_active : (tab u : CoexpTable) (m : FlatStack) (id : ℕ) → tab.running ≡ Some m → u ≡ copy_entry id tab → u.active ≡ tab.active
+copied_active tab u m id e c = ap (λ (w : CoexpTable). w.active) (c ∙ ap (copied_on id tab) e) ∙ copy_active tab (slice_get tab.coexps id)
 
-pub copied_others : (tab u : Table) (m : FlatStack) (id : ℕ) → tab.running ≡ Some m → u ≡ copy_entry id tab → EnterOthers tab.coexps → EnterOthers u.coexps
-copied_others tab u m id e c k = subst (λ (w : Table). EnterOthers w.coexps) (sym (c ∙ ap (copied_on id tab) e)) (copy_others tab (slice_get tab.coexps id) k)
+pub copied_others : (tab u : CoexpTable) (m : FlatStack) (id : ℕ) → tab.running ≡ Some m → u ≡ copy_entry id tab → EnterOthers tab.coexps → EnterOthers u.coexps
+copied_others tab u m id e c k =
+    subst (λ (w : CoexpTable). EnterOthers w.coexps) (sym (c ∙ ap (copied_on id tab) e)) (copy_others tab (slice_get tab.coexps id) k)

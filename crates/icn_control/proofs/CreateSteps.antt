@@ -9,7 +9,7 @@ use Rattle.icn_value.specs.Values.{Value}
 use Rattle.icn_defs.specs.Rows.{Outcome, Gives, Error}
 use Rattle.icn_heap.specs.Extents.{Extent, value_in}
 use Rattle.icn_heap.specs.Heaps.{extent_of, heap_of}
-use Rattle.icn_heap.proofs.Keeping.{values_kept}
+use Rattle.icn_heap.proofs.GrowingHeaps.{values_kept}
 use Rattle.icn_vars.specs.declared.stop.Stop.{Stop}
 use Rattle.icn_vars.specs.declared.stop.Stop.TheVariants.{Error as StopError}
 use Rattle.icn_vars.specs.declared.world.World.{World}
@@ -18,22 +18,22 @@ use Rattle.icn_vars.specs.Stops.{halt_of}
 use Rattle.icn_vars.specs.Worlds.{KeepsItems, reach_of, setting_of, world_of}
 use Rattle.icn_frames.specs.Stacks as held
 use Rattle.icn_frames.specs.Stacks.{FlatStack}
-use Rattle.icn_frames_laws.proofs.CallsRead.{locals_read, set_locals_read}
+use Rattle.law_frames.proofs.CallsRead.{locals_read, set_locals_read}
 use Rattle.std.proofs.lemmas.List.{take_more}
 use Rattle.std.proofs.lemmas.Option.{same_Some, get_or_from_slice_get, slice_get_within}
-use Rattle.icn_coexp.specs.Transfers.{Coexp, Table, with_copy, with_new}
+use Rattle.icn_coexp.specs.Transfers.{Coexp, CoexpTable, with_copy, with_new}
 use Rattle.icn_code.specs.declared.instr.Instr.TheVariants as Instrs
 use Rattle.icn_code.specs.Codes.{Tables}
 use Rattle.icn_run.specs.Rows.{Val as ItemVal, ACoexp, coexpression_row}
 use Rattle.icn_run.specs.Stacks.{Frames, flat}
 use Rattle.icn_run.specs.Step.{State, Store, running, errs, instruction, turn_if, coexp_made, here, with_made, push_item}
-use Rattle.icn_control.specs.Living.{IsLiveStack}
-use Rattle.icn_control.specs.Landing.{Beside, store_with}
+use Rattle.icn_control.specs.LiveStacks.{IsLiveStack}
+use Rattle.icn_control.specs.TransfersRead.{Beside, store_with}
 use Rattle.icn_control.specs.Machines.{store_in, running_of}
-use Rattle.icn_control.specs.Standing.{stack_in, reading_of}
+use Rattle.icn_control.specs.StackViews.{stack_in, reading_of}
 use Rattle.icn_control.specs.Creations.{with_coexps, charged_and_made, copy_entry, copied_on, create_entry, created_on}
 use Rattle.icn_control.proofs.CreationSteps.{creations_are}
-use Rattle.icn_control.proofs.Deref.{live_locals}
+use Rattle.icn_control.proofs.OperandValues.{live_locals}
 use Rattle.icn_control.proofs.Halts.{row_error}
 use Rattle.icn_control.proofs.KeptItems.{stack_same}
 use Rattle.icn_control.proofs.KeptTables.{store_same}
@@ -55,7 +55,7 @@ charged_here t w v n st same keeps live =
 
 -- what comes of a charge that is paid: the value is pushed
 pub charged_runs : (t : Tables) (w v : World) (n : FlatStack) (count number : ℕ) (names : Names) (outside : Outside) (turns : ℕ) (begun : List Bool)
-    (before after : Table)
+    (before after : CoexpTable)
     → KeepsItems (reach_of w []) (reach_of v []) → IsLiveStack t (reach_of w []) n → held.set_locals (held.locals n) n ≡ n → after.active ≡ before.active
     → coexpression_row count (setting_of outside w (held.locals n)) ≡ Gives (ItemVal (ACoexp number)) (setting_of outside v (held.locals n))
     → charged_and_made (beside_in names outside w turns begun v) count before after (stack_in (extent_of v.heap) n)
@@ -75,7 +75,7 @@ charged_runs t w v n count number names outside turns begun before after keeps l
 
 -- what comes of one that is not
 pub charged_errs : (t : Tables) (w v : World) (n : FlatStack) (count number : ℕ) (value : Option Value) (names : Names) (outside : Outside) (turns : ℕ)
-    (begun : List Bool) (before after other : Table) (all : Extent)
+    (begun : List Bool) (before after other : CoexpTable) (all : Extent)
     → KeepsItems (reach_of w []) (reach_of v []) → IsLiveStack t (reach_of w []) n
     → coexpression_row count (setting_of outside w (held.locals n)) ≡ Error number value (setting_of outside v (held.locals n))
     → charged_and_made (beside_in names outside w turns begun v) count before after (stack_in (extent_of v.heap) n)
@@ -90,7 +90,7 @@ charged_errs t w v n count number value names outside turns begun before after o
 
 -- create, up to its charge
 pub create_goes : (t tables : Tables) (w v : World) (m : FlatStack) (label : ℕ) (names : Names) (outside : Outside) (turns : ℕ) (begun : List Bool)
-    (table : Table) → table.running ≡ Some m
+    (table : CoexpTable) → table.running ≡ Some m
     → nat_lt turns (heap_of w.heap).bounds.turns ≡ true → KeepsItems (reach_of w []) (reach_of v []) → IsLiveStack t (reach_of w []) m
     → AllLive t (reach_of w []) table.coexps
     → instruction flat tables (Instrs.Create label) (stack_in (extent_of w.heap) (running_of table.running))
@@ -113,25 +113,27 @@ create_goes t tables w v m label names outside turns begun table e b keeps live 
     ∙ (creations_are beside table (stack_in (extent_of v.heap) (held.go label m))).creates m
 
 -- what is created, by its number
-pub created_is : (table u : Table) (m : FlatStack) (label number : ℕ) → table.running ≡ Some m → u ≡ create_entry label table → number ≡ length table.coexps
+pub created_is : (table u : CoexpTable) (m : FlatStack) (label number : ℕ) → table.running ≡ Some m → u ≡ create_entry label table
+    → number ≡ length table.coexps
     → record (with_new (held.locals m) (held.proc m) m.address table) { running = Some (held.push (HeldVal (HeldCoexp number)) (held.go label m)) } ≡ u
 created_is table u m label number e c n =
     let F : ℕ
-    → Table = λ k. record (with_new (held.locals m) (held.proc m) m.address table) { running = Some (held.push (HeldVal (HeldCoexp k)) (held.go label m)) } in
+    → CoexpTable = λ k.
+    record (with_new (held.locals m) (held.proc m) m.address table) { running = Some (held.push (HeldVal (HeldCoexp k)) (held.go label m)) } in
     ap F n ∙ sym (ap (created_on label table) e) ∙ sym c
 
 -- what the table comes to whose stack was read, then grew, and went on
-pub adds_here : (table t u : Table) (f e k n : FlatStack) (values : List Val) (proc place id label : ℕ) → table.running ≡ Some f → e ≡ f
+pub adds_here : (table t u : CoexpTable) (f e k n : FlatStack) (values : List Val) (proc place id label : ℕ) → table.running ≡ Some f → e ≡ f
     → values ≡ held.locals f → proc ≡ held.proc f → place ≡ f.address
     → t ≡ with_new values proc place (record table { running = Some e }) → id ≡ length table.coexps → t.running ≡ Some k
     → n ≡ held.push (HeldVal (HeldCoexp id)) (held.go label k) → u ≡ record t { running = Some n }
     → u ≡ create_entry label table
 adds_here table t u f e k n values proc place id label r same v p q made i g push there =
-    let back : k ≡ f = same_Some k f (sym g ∙ ap (λ (x : Table). x.running) made ∙ ap (λ (x : FlatStack). Some x) same) in
-    let F : Table → FlatStack → Table = λ x y. record x { running = Some y } in
-    let G : List Val → ℕ → ℕ → Table = λ a b c. record (with_new a b c table) { running = Some n } in
+    let back : k ≡ f = same_Some k f (sym g ∙ ap (λ (x : CoexpTable). x.running) made ∙ ap (λ (x : FlatStack). Some x) same) in
+    let F : CoexpTable → FlatStack → CoexpTable = λ x y. record x { running = Some y } in
+    let G : List Val → ℕ → ℕ → CoexpTable = λ a b c. record (with_new a b c table) { running = Some n } in
     there
-    ∙ ap (λ (x : Table). F x n) made
+    ∙ ap (λ (x : CoexpTable). F x n) made
     ∙ ap (λ (a : List Val). G a proc place) v
     ∙ ap (λ (b : ℕ). G (held.locals f) b place) p
     ∙ ap (G (held.locals f) (held.proc f)) q
@@ -139,19 +141,19 @@ adds_here table t u f e k n values proc place id label r same v p q made i g pus
     ∙ ap (λ (x : ℕ). held.push (HeldVal (HeldCoexp x)) (held.go label f)) i)
     ∙ sym (ap (created_on label table) r)
 
-pub copy_running : (t : Table) (o : Option Coexp) → (with_copy t o).running ≡ t.running
+pub copy_running : (t : CoexpTable) (o : Option Coexp) → (with_copy t o).running ≡ t.running
 copy_running t None = refl
 copy_running t (Some c) = refl
 
 -- the same of a copy
-pub adds_copy : (table t u : Table) (f k n : FlatStack) (id number : ℕ) → table.running ≡ Some f → t ≡ with_copy table (slice_get table.coexps id)
+pub adds_copy : (table t u : CoexpTable) (f k n : FlatStack) (id number : ℕ) → table.running ≡ Some f → t ≡ with_copy table (slice_get table.coexps id)
     → number ≡ length table.coexps → t.running ≡ Some k
     → n ≡ held.push (HeldVal (HeldCoexp number)) k → u ≡ record t { running = Some n } → u ≡ copy_entry id table
 adds_copy table t u f k n id number r made i g push there =
-    let back : k ≡ f = same_Some k f (sym g ∙ ap (λ (x : Table). x.running) made ∙ copy_running table (slice_get table.coexps id) ∙ r) in
-    let F : Table → FlatStack → Table = λ x y. record x { running = Some y } in
+    let back : k ≡ f = same_Some k f (sym g ∙ ap (λ (x : CoexpTable). x.running) made ∙ copy_running table (slice_get table.coexps id) ∙ r) in
+    let F : CoexpTable → FlatStack → CoexpTable = λ x y. record x { running = Some y } in
     there
-    ∙ ap (λ (x : Table). F x n) made
+    ∙ ap (λ (x : CoexpTable). F x n) made
     ∙ ap (F (with_copy table (slice_get table.coexps id)))
     (push ∙ ap (held.push (HeldVal (HeldCoexp number))) back ∙ ap (λ (x : ℕ). held.push (HeldVal (HeldCoexp x)) f) i)
     ∙ sym (ap (copied_on id table) r)
@@ -159,7 +161,7 @@ adds_copy table t u f k n id number r made i g push there =
 -- create as a whole: what it comes to where it is charged, and where it is not
 
 pub create_runs : (t tables : Tables) (w v : World) (m : FlatStack) (label count number : ℕ) (names : Names) (outside : Outside) (turns more : ℕ)
-    (begun : List Bool) (table u : Table) → table.running ≡ Some m
+    (begun : List Bool) (table u : CoexpTable) → table.running ≡ Some m
     → nat_lt turns (heap_of w.heap).bounds.turns ≡ true → KeepsItems (reach_of w []) (reach_of v []) → IsLiveStack t (reach_of w []) m
     → AllLive t (reach_of w []) table.coexps → held.set_locals (held.locals m) m ≡ m → count ≡ length (held.locals m)
     → coexpression_row count (setting_of outside w (held.locals m)) ≡ Gives (ItemVal (ACoexp number)) (setting_of outside v (held.locals m))
@@ -168,8 +170,8 @@ pub create_runs : (t tables : Tables) (w v : World) (m : FlatStack) (label count
     (store_in names outside (world_of w) turns begun (extent_of w.heap) table)
     ≡ running (stack_in (extent_of v.heap) (running_of u.running)) (store_in names outside (world_of v) more begun (extent_of v.heap) u)
 create_runs t tables w v m label count number names outside turns more begun table u e b keeps live all same c row n made k =
-    let after : Table = with_new (held.locals m) (held.proc m) m.address table in
-    let F : ℕ → Table → State Frames Frames = λ x y. running (stack_in (extent_of v.heap) (running_of y.running))
+    let after : CoexpTable = with_new (held.locals m) (held.proc m) m.address table in
+    let F : ℕ → CoexpTable → State Frames Frames = λ x y. running (stack_in (extent_of v.heap) (running_of y.running))
     (store_in names outside (world_of v) x begun (extent_of v.heap) y) in
     create_goes t tables w v m label names outside turns begun table e b keeps live all
     ∙ charged_runs t w v (held.go label m) (length (held.locals m)) number names outside (suc turns) begun table after keeps
@@ -180,7 +182,7 @@ create_runs t tables w v m label count number names outside turns more begun tab
     ∙ ap (λ (x : ℕ). F x u) (sym k)
 
 pub create_errs : (t tables : Tables) (w v : World) (m : FlatStack) (label count number : ℕ) (offending : Option Val) (stop : Stop) (names : Names)
-    (outside : Outside) (turns more : ℕ) (begun : List Bool) (table other : Table) → table.running ≡ Some m
+    (outside : Outside) (turns more : ℕ) (begun : List Bool) (table other : CoexpTable) → table.running ≡ Some m
     → nat_lt turns (heap_of w.heap).bounds.turns ≡ true → KeepsItems (reach_of w []) (reach_of v []) → IsLiveStack t (reach_of w []) m
     → AllLive t (reach_of w []) table.coexps → count ≡ length (held.locals m)
     → HaltsRow (extent_of v.heap) (coexpression_row count) (setting_of outside w (held.locals m)) (setting_of outside v (held.locals m)) (halt_of stop)
@@ -189,7 +191,7 @@ pub create_errs : (t tables : Tables) (w v : World) (m : FlatStack) (label count
     (store_in names outside (world_of w) turns begun (extent_of w.heap) table)
     ≡ errs number (option_map (value_in (extent_of v.heap)) offending) (store_in names outside (world_of v) more begun (extent_of v.heap) other)
 create_errs t tables w v m label count number offending stop names outside turns more begun table other e b keeps live all c row s =
-    let after : Table = with_new (held.locals m) (held.proc m) m.address table in
+    let after : CoexpTable = with_new (held.locals m) (held.proc m) m.address table in
     let halts : HaltsRow (extent_of v.heap) (coexpression_row (length (held.locals m))) (setting_of outside w (held.locals m))
     (setting_of outside v (held.locals m)) (halt_of stop)
     = subst (λ (x : ℕ). HaltsRow (extent_of v.heap) (coexpression_row x) (setting_of outside w (held.locals m)) (setting_of outside v (held.locals m))

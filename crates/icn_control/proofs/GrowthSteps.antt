@@ -9,13 +9,13 @@ use Rattle.icn_value.specs.Store.{Names, Outside, Setting}
 use Rattle.icn_defs.specs.Conversions.{form_of, text_made, text_of}
 use Rattle.icn_defs.specs.Rows.{Row, Outcome, Fails, Gives, Suspends, Error, Ends, check, present, costs_made, costs_text, gives_value, new_list_of}
 use Rattle.icn_defs.specs.StepRows.{list_row, text_row, record_row}
-use Rattle.icn_heap.specs.Extents.{Extent, IsLive, Keeps, value_in}
+use Rattle.icn_heap.specs.Extents.{Extent, IsLive, KeepsValues, value_in}
 use Rattle.icn_heap.specs.Heaps.{extent_of}
 use Rattle.icn_vars.specs.declared.world.World.{World}
 use Rattle.icn_vars.specs.Worlds.{Reach, KeepsItems, reach_of, setting_of, world_of}
-use Rattle.icn_vars.proofs.Growing.{locals_grow}
+use Rattle.icn_vars.proofs.GrowingWorlds.{locals_grow}
 use Rattle.icn_frames.specs.Stacks.{FlatStack}
-use Rattle.icn_coexp.specs.Transfers.{Coexp, Table}
+use Rattle.icn_coexp.specs.Transfers.{Coexp, CoexpTable}
 use Rattle.icn_code.specs.Codes.{Tables}
 use Rattle.icn_run.specs.Stacks.{Frames}
 use Rattle.icn_run.specs.Step as code
@@ -23,14 +23,15 @@ use Rattle.icn_run.specs.Step.{Store, Status, Fresh, Active, Waiting, Exhausted,
 use Rattle.icn_control.specs.Machines.{status_in, coexp_in, store_in, IsLiveStatus, AreLiveStacks, IsLiveRunning}
 use Rattle.std.specs.Prelude.{Result, Ok, Err, OnOk}
 use Rattle.icn_vars.specs.declared.stop.Stop.{Stop}
-use Rattle.icn_args.specs.Words.{IsFound}
+use Rattle.icn_args.specs.RowWords.{IsFound}
 use Rattle.icn_value.specs.Store.{outside_of}
-use Rattle.icn_control.specs.Taking.{KeepsCounts}
+use Rattle.icn_control.specs.TakenOperands.{KeepsCounts}
 use Rattle.icn_control.proofs.KeptItems.{stack_same, stack_stays}
 
 -- What co-expressions keep
 
-pub values_same : (old new : Extent) → Keeps old new → (values : List Val) → All (IsLive old) values → map (value_in new) values ≡ map (value_in old) values
+pub values_same : (old new : Extent) → KeepsValues old new → (values : List Val) → All (IsLive old) values
+    → map (value_in new) values ≡ map (value_in old) values
 values_same old new k [] a = refl
 values_same old new k (v ∷ values) a =
     ap (λ (x : Value). x ∷ map (value_in new) values) (k.value v (All-head (IsLive old) v values a))
@@ -67,17 +68,17 @@ coexps_same t old new (c ∷ cs) k s v =
     ∙ ap (λ (xs : List (code.Coexp Frames)). coexp_in old.extent c ∷ xs) (coexps_same t old new cs k (λ n x e. s (suc n) x e) (λ n x e. v (suc n) x e))
 
 -- the store in which the world has grown
-pub grown : (t : Tables) (names : Names) (outside : Outside) (w v : World) (turns : ℕ) (begun : List Bool) (table : Table) (o : Option FlatStack)
+pub grown_store : (t : Tables) (names : Names) (outside : Outside) (w v : World) (turns : ℕ) (begun : List Bool) (table : CoexpTable) (o : Option FlatStack)
     → KeepsItems (reach_of w []) (reach_of v []) → AreLiveStacks t (reach_of w []) table
     → with_world (world_of v) (store_in names outside (world_of w) turns begun (extent_of w.heap) table)
     ≡ store_in names outside (world_of v) turns begun (extent_of v.heap) (record table { running = o })
-grown t names outside w v turns begun table o k l =
+grown_store t names outside w v turns begun table o k l =
     let F : List (code.Coexp Frames)
     → Store Frames = λ cs. record { world = world_of v; outside = outside; turns = turns; begun = begun; coexps = cs; active = table.active; names = names } in
     ap F (sym (coexps_same t (reach_of w []) (reach_of v []) table.coexps k (λ n c e. (l.coexps n c e).status) (λ n c e. (l.coexps n c e).values)))
 
 -- all stacks stay of the world, and another one runs that is of it
-pub stacks_grow : (t : Tables) (w v : World) (table : Table) (n : FlatStack) → KeepsItems (reach_of w []) (reach_of v [])
+pub stacks_grow : (t : Tables) (w v : World) (table : CoexpTable) (n : FlatStack) → KeepsItems (reach_of w []) (reach_of v [])
     → IsLiveRunning t (reach_of v []) (Some n) → AreLiveStacks t (reach_of w []) table
     → AreLiveStacks t (reach_of v []) (record table { running = Some n })
 stacks_grow t w v table n k l a = record {

@@ -19,21 +19,22 @@ use Rattle.icn_run.specs.Stacks.{Frames}
 use Rattle.icn_run.specs.Step.{State, Store, errs, with_world}
 use Rattle.icn_vars.specs.Worlds.{Reach, world_of}
 use Rattle.icn_frames.specs.Stacks.{FlatStack}
-use Rattle.icn_coexp.specs.Transfers.{Table}
-use Rattle.icn_control.specs.Living.{IsLiveStack}
-use Rattle.icn_control.specs.Parts.{HaltsWith}
+use Rattle.icn_coexp.specs.Transfers.{CoexpTable}
+use Rattle.icn_control.specs.LiveStacks.{IsLiveStack}
+use Rattle.icn_control.specs.StackAndWorld.{HaltsWith}
 use Rattle.icn_control.specs.Machines.{AreLiveStacks, IsLiveRunning}
-use Rattle.icn_control.proofs.PartSteps.{at_halt}
+use Rattle.icn_control.proofs.StackAndWorldSteps.{match_halt}
 
-pub some_there : {A : Type 0} (o : Option A) → IsSome o → (x : A) × (o ≡ Some x)
-some_there (Some x) k = (x, refl)
-some_there None k = cc
+-- an option that is not empty has a value
+pub value_of_some : {A : Type 0} (o : Option A) → IsSome o → (x : A) × (o ≡ Some x)
+value_of_some (Some x) k = (x, refl)
+value_of_some None k = cc
 
 -- an answer that is a stop, whose error is what is due
-pub at_stopped : {A : Type 0} (result : Result A Halt) (stop : Stop) (P : A → Type 0) (Q : Halt → Type 0) → IsErrAnd result (λ h. h ≡ halt_of stop)
+pub match_stopped : {A : Type 0} (result : Result A Halt) (stop : Stop) (P : A → Type 0) (Q : Halt → Type 0) → IsErrAnd result (λ h. h ≡ halt_of stop)
     → Q Halts.NoMemory
     → ((number : ℕ) (offending : Option Val) → stop ≡ StopError number offending → Q (Halts.Error number offending)) → MatchResult result P Q
-at_stopped {A} result stop P Q e none h = at_halt result (halt_of stop) P Q e (by_stop stop h)
+match_stopped {A} result stop P Q e none h = match_halt result (halt_of stop) P Q e (by_stop stop h)
   where
     by_stop : (s : Stop) → ((number : ℕ) (offending : Option Val) → s ≡ StopError number offending → Q (Halts.Error number offending)) → Q (halt_of s)
     by_stop (StopError number offending) g = g number offending refl
@@ -52,5 +53,6 @@ pub value_error : (state : State Frames Frames) (st : Store Frames) (w : World) 
 value_error state st w stop number offending h e = subst (λ (s : Stop). HaltsWith state st w (halt_of s)) e h
 
 -- the stack that runs is of the world
-pub running_live : (t : Tables) (reach : Reach) (table : Table) (m : FlatStack) → table.running ≡ Some m → AreLiveStacks t reach table → IsLiveStack t reach m
+pub running_live : (t : Tables) (reach : Reach) (table : CoexpTable) (m : FlatStack) → table.running ≡ Some m → AreLiveStacks t reach table
+    → IsLiveStack t reach m
 running_live t reach table m e k = subst (λ (o : Option FlatStack). IsLiveRunning t reach o) e k.runs

@@ -14,7 +14,7 @@ use Rattle.icn_value.specs.declared.residual.Residual.{Residual as HeldResidual}
 use Rattle.icn_value.specs.declared.residual.Residual.TheVariants.{TextBytes as HeldTextBytes, VariableBytes as HeldVariableBytes, ListItems as HeldListItems, SetMembers as HeldSetMembers, TableValues as HeldTableValues, TableKeys as HeldTableKeys, RecordFields as HeldRecordFields, InputLines as HeldInputLines, UndoAssign as HeldUndoAssign, UndoExchange as HeldUndoExchange, UndoPosition as HeldUndoPosition, Counting as HeldCounting, Sequence as HeldSequence, Balanced as HeldBalanced, Found as HeldFound, Among as HeldAmong}
 use Rattle.icn_value.specs.Members.{members_of}
 use Rattle.icn_value.specs.Values.{Value, Root, Key, Variable, Whole, Part, Item, Val as ItemVal, Var as ItemVar}
-use Rattle.icn_defs.specs.Facts.{can_hold}
+use Rattle.icn_defs.specs.RowFacts.{can_hold}
 use Rattle.icn_defs.specs.Rows.{TextBytes, VariableBytes, UndoAssign, UndoExchange, Balanced, Found, Among}
 use Rattle.icn_heap.specs.Extents.{text_in, value_in}
 use Rattle.icn_vars.specs.Worlds.{Reach, IsLiveRoot, IsLiveVariable, IsLiveItem, KeepsItems, root_in, variable_in, item_in}
@@ -24,12 +24,12 @@ use Rattle.icn_frames.specs.declared.layout.Why.TheVariants.{Alt, Op, Scan, Esca
 use Rattle.icn_frames.specs.declared.layout.Cell.{Cell}
 use Rattle.icn_frames.specs.declared.layout.Cell.TheVariants.{Base, Call, Local, Mark, Limit, Suspension, Operand}
 use Rattle.icn_frames.specs.Stacks.{FlatStack}
-use Rattle.icn_frames_laws.specs.Readings.{cell_read, why_read, registers_read}
+use Rattle.law_frames.specs.ReadStacks.{cell_read, why_read, registers_read}
 use Rattle.icn_code.specs.Codes.{Tables}
 use Rattle.icn_run.specs.Calls as calls
 use Rattle.icn_run.specs.Stacks as code
-use Rattle.icn_control.specs.Living.{with_locals, IsLivePair, IsLiveWhy, locals_at, AreLive, IsLiveStack}
-use Rattle.icn_control.specs.Standing.{pair_in, reading_of, stack_in}
+use Rattle.icn_control.specs.LiveStacks.{with_locals, IsLivePair, IsLiveWhy, locals_at, AreLive, IsLiveStack}
+use Rattle.icn_control.specs.StackViews.{pair_in, reading_of, stack_in}
 
 -- Items
 
@@ -208,9 +208,11 @@ cells_same t old new n (Suspension why r place ∷ s) k l =
     ∙ ap (λ (w : List code.Cell). code.suspension (why_read (reading_of old.extent) why) (registers_read r) place ∷ w)
     (cells_same t old new (locals_at r s) s k l.1.1)
 
+-- a stack of the world before is one of the world after
 pub stack_stays : (t : Tables) (old new : Reach) (m : FlatStack) → KeepsItems old new → IsLiveStack t old m → IsLiveStack t new m
 stack_stays t old new m k l = record { root = l.root; cells = cells_stay t old new (locals_at m.registers m.cells) m.cells k l.cells }
 
+-- and it stands for the same stack
 pub stack_same : (t : Tables) (old new : Reach) (m : FlatStack) → KeepsItems old new → IsLiveStack t old m → stack_in new.extent m ≡ stack_in old.extent m
 stack_same t old new m k l =
     let F : List code.Cell → code.Frames = λ w. record { cells = w; registers = registers_read m.registers; address = m.address } in

@@ -3,10 +3,10 @@ use Rattle.std.proofs.Common.{◌≡◌, ℕ, suc, List, [], ◌∷◌, map, Opt
 use Rattle.icn_value.specs.Store.{Names, Outside, World as StoreWorld}
 use Rattle.icn_value.specs.Values.{Value}
 use Rattle.icn_heap.specs.Extents.{value_in}
-use Rattle.icn_heap.proofs.Keeping.{live_kept, values_kept}
+use Rattle.icn_heap.proofs.GrowingHeaps.{live_kept, values_kept}
 use Rattle.icn_vars.specs.Worlds.{Reach, KeepsItems}
 use Rattle.icn_frames.specs.Stacks.{FlatStack}
-use Rattle.icn_coexp.specs.Transfers.{Coexp, Table}
+use Rattle.icn_coexp.specs.Transfers.{Coexp, CoexpTable}
 use Rattle.icn_code.specs.Codes.{Tables}
 use Rattle.icn_run.specs.Stacks.{Frames}
 use Rattle.icn_run.specs.Step as code
@@ -41,7 +41,7 @@ coexps_same t old new (c ∷ cs) k l =
     ap (λ (w : code.Coexp Frames). w ∷ map (coexp_in new.extent) cs) (coexp_same t old new 0 c k (l 0 c refl))
     ∙ ap (λ (w : List (code.Coexp Frames)). coexp_in old.extent c ∷ w) (coexps_same t old new cs k (others_live t old c cs l))
 
-pub store_same : (names : Names) (outside : Outside) (world : StoreWorld) (turns : ℕ) (begun : List _) (t : Tables) (old new : Reach) (table : Table)
+pub store_same : (names : Names) (outside : Outside) (world : StoreWorld) (turns : ℕ) (begun : List _) (t : Tables) (old new : Reach) (table : CoexpTable)
     → KeepsItems old new → AllLive t old table.coexps
     → store_in names outside world turns begun new.extent table ≡ store_in names outside world turns begun old.extent table
 store_same names outside world turns begun t old new table k l =
@@ -64,5 +64,5 @@ runs_on : (t : Tables) (old new : Reach) (o : Option FlatStack) → KeepsItems o
 runs_on t old new None k l = tt
 runs_on t old new (Some m) k l = stack_stays t old new m k l
 
-pub stacks_stay : (t : Tables) (old new : Reach) (table : Table) → KeepsItems old new → AreLiveStacks t old table → AreLiveStacks t new table
+pub stacks_stay : (t : Tables) (old new : Reach) (table : CoexpTable) → KeepsItems old new → AreLiveStacks t old table → AreLiveStacks t new table
 stacks_stay t old new table k l = record { runs = runs_on t old new table.running k l.runs; coexps = coexps_stay t old new table.coexps k l.coexps }

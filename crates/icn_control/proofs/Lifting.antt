@@ -9,25 +9,25 @@ use Rattle.icn_vars.specs.declared.outcome.Halt.TheVariants as Halts
 use Rattle.icn_vars.specs.Worlds.{world_of}
 use Rattle.icn_frames.specs.Stacks as held
 use Rattle.icn_frames.specs.Stacks.{FlatStack}
-use Rattle.icn_frames_laws.proofs.CallsRead.{is_base_read}
-use Rattle.icn_coexp.specs.Transfers.{Table}
+use Rattle.law_frames.proofs.CallsRead.{is_base_read}
+use Rattle.icn_coexp.specs.Transfers.{CoexpTable}
 use Rattle.icn_code.specs.Codes.{Tables}
 use Rattle.icn_run.specs.Rows.{Done}
 use Rattle.icn_run.specs.Stacks.{Frames, flat}
 use Rattle.icn_run.specs.Step.{State, Store, running, failing, over, stuck, all_names, exhaust_active, is_main, proc_fails, without_mark}
 use Rattle.icn_control.specs.Machines.{store_in, running_of, StandsAt}
 use Rattle.icn_control.specs.declared.machine.Machine.{Machine}
-use Rattle.icn_control.specs.declared.machine.Stage.{Stage}
-use Rattle.icn_control.specs.declared.machine.Stage.TheVariants as Stages
-use Rattle.icn_control.specs.Parts.{StandsWith}
-use Rattle.icn_control.specs.Standing.{stack_in, reading_of}
+use Rattle.icn_control.specs.declared.machine.RunState.{RunState}
+use Rattle.icn_control.specs.declared.machine.RunState.TheVariants as RunStates
+use Rattle.icn_control.specs.StackAndWorld.{StandsWith}
+use Rattle.icn_control.specs.StackViews.{stack_in, reading_of}
 
 -- the store of a machine before an instruction, with its turns and what it began
-abbrev pub store_before : {K : Type 0} → Tables → Outside → World → Table → Machine K → Store Frames
+abbrev pub store_before : {K : Type 0} → Tables → Outside → World → CoexpTable → Machine K → Store Frames
 store_before tables outside w table m = store_in (all_names tables) outside (world_of w) m.turns m.begun.items (extent_of w.heap) table
 
 -- a stack that stands is that of a machine, whose heap is the same
-moved : {K : Type 0} (m : Machine K) (tables : Tables) (outside : Outside) (w : World) (table : Table) (n : FlatStack)
+moved : {K : Type 0} (m : Machine K) (tables : Tables) (outside : Outside) (w : World) (table : CoexpTable) (n : FlatStack)
     (F : Frames → Store Frames → State Frames Frames) → m.stacks.table ≡ record table { running = Some n } → m.world.heap ≡ w.heap
     → F (stack_in (extent_of m.world.heap) n) (store_in (all_names tables) outside (world_of m.world) m.turns m.begun.items (extent_of w.heap) table)
     ≡ F (stack_in (extent_of m.world.heap) (running_of m.stacks.table.running))
@@ -35,21 +35,22 @@ moved : {K : Type 0} (m : Machine K) (tables : Tables) (outside : Outside) (w : 
 moved m tables outside w table n F t heap =
     let G : HeldHeap → State Frames Frames = λ h.
     F (stack_in (extent_of m.world.heap) n) (store_in (all_names tables) outside (world_of m.world) m.turns m.begun.items (extent_of h) table) in
-    let H : Table → State Frames Frames = λ x. F (stack_in (extent_of m.world.heap) (running_of x.running))
+    let H : CoexpTable → State Frames Frames = λ x. F (stack_in (extent_of m.world.heap) (running_of x.running))
     (store_in (all_names tables) outside (world_of m.world) m.turns m.begun.items (extent_of m.world.heap) x) in
     ap G (sym heap) ∙ ap H (sym t)
 
-pub stands_at : {K : Type 0} (m : Machine K) (tables : Tables) (outside : Outside) (w : World) (table : Table) (n : FlatStack) (state : State Frames Frames)
-    (stage : Stage) → m.stacks.table ≡ record table { running = Some n } → m.world.heap ≡ w.heap
-    → StandsWith state (store_before tables outside w table m) m.world n stage → (stage ≡ Stages.Over → table.active ≡ 0)
+pub stands_at : {K : Type 0} (m : Machine K) (tables : Tables) (outside : Outside) (w : World) (table : CoexpTable) (n : FlatStack)
+    (state : State Frames Frames)
+    (stage : RunState) → m.stacks.table ≡ record table { running = Some n } → m.world.heap ≡ w.heap
+    → StandsWith state (store_before tables outside w table m) m.world n stage → (stage ≡ RunStates.Over → table.active ≡ 0)
     → StandsAt tables outside state m stage
-stands_at m tables outside w table n state Stages.Runs t heap h o = h ∙ moved m tables outside w table n running t heap
-stands_at m tables outside w table n state Stages.Fails t heap h o = h ∙ moved m tables outside w table n failing t heap
-stands_at m tables outside w table n state Stages.HopDue t heap h o = absurd h
-stands_at m tables outside w table n state Stages.Over t heap h o =
+stands_at m tables outside w table n state RunStates.Running t heap h o = h ∙ moved m tables outside w table n running t heap
+stands_at m tables outside w table n state RunStates.Failing t heap h o = h ∙ moved m tables outside w table n failing t heap
+stands_at m tables outside w table n state RunStates.Hopping t heap h o = absurd h
+stands_at m tables outside w table n state RunStates.Over t heap h o =
     let F : Bool → State Frames Frames = λ x. if x then over Done outside else stuck in
     h ∙ ap F (ap is_main (o refl))
-stands_at m tables outside w table n state Stages.AtBound t heap h o = absurd h
+stands_at m tables outside w table n state RunStates.AtBound t heap h o = absurd h
 
 -- Ends
 
@@ -98,7 +99,8 @@ ends_main all tables m st e = by_base (flat.is_base (stack_in all m)) refl
     by_base false q = ap (λ (x : Bool). F (x && not (is_main st.active))) q
 
 -- a procedure that ends and fails, on a machine
-pub ends_at : {K : Type 0} (m : Machine K) (other tables : Tables) (elsewhere outside : Outside) (w : World) (table : Table) (k n : FlatStack) (stage : Stage)
+pub ends_at : {K : Type 0} (m : Machine K) (other tables : Tables) (elsewhere outside : Outside) (w : World) (table : CoexpTable) (k n : FlatStack)
+    (stage : RunState)
     → table.running ≡ Some k → m.stacks.table ≡ record table { running = Some n } → m.world.heap ≡ w.heap
     → ((any : Tables) (st : Store Frames) → st.active ≡ table.active
     → without_mark flat any (stack_in (extent_of w.heap) k) st ≡ proc_fails flat (stack_in (extent_of w.heap) k) st)
@@ -114,8 +116,8 @@ ends_at m other tables elsewhere outside w table k n stage r t heap same h d =
     = ap (λ (o : Option FlatStack). without_mark flat other (stack_in (extent_of w.heap) (running_of o)) there) r ∙ same other there refl in
     let is_here : without_mark flat tables (stack_in (extent_of w.heap) (running_of table.running)) here ≡ proc_fails flat (stack_in (extent_of w.heap) k) here
     = ap (λ (o : Option FlatStack). without_mark flat tables (stack_in (extent_of w.heap) (running_of o)) here) r ∙ same tables here refl in
-    let main : stage ≡ Stages.Over → table.active ≡ 0
+    let main : stage ≡ RunStates.Over → table.active ≡ 0
     = λ e. over_is_main table.active elsewhere (proc_fails flat (stack_in (extent_of w.heap) k) there)
-    (subst (λ (z : Stage). StandsWith (proc_fails flat (stack_in (extent_of w.heap) k) there) there m.world n z) e (h there refl)) (λ q. d (is_there ∙ q)) in
+    (subst (λ (z : RunState). StandsWith (proc_fails flat (stack_in (extent_of w.heap) k) there) there m.world n z) e (h there refl)) (λ q. d (is_there ∙ q)) in
     subst (λ (x : State Frames Frames). StandsAt tables outside x m stage) (sym is_here)
     (stands_at m tables outside w table n (proc_fails flat (stack_in (extent_of w.heap) k) here) stage t heap (h here refl) main)

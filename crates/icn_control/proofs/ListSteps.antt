@@ -18,30 +18,31 @@ use Rattle.icn_vars.specs.Stops.{halt_of}
 use Rattle.icn_vars.specs.Worlds.{IsLiveItem, KeepsItems, item_in, reach_of, world_of}
 use Rattle.icn_frames.specs.Stacks as held
 use Rattle.icn_frames.specs.Stacks.{FlatStack}
-use Rattle.icn_coexp.specs.Transfers.{Table}
+use Rattle.icn_coexp.specs.Transfers.{CoexpTable}
 use Rattle.icn_code.specs.declared.instr.Instr.TheVariants as Instrs
 use Rattle.icn_code.specs.Codes.{Tables}
 use Rattle.icn_run.specs.Rows as rows
 use Rattle.icn_run.specs.Stacks.{Frames, flat}
 use Rattle.icn_run.specs.Step.{State, Store, running, at_bound, turn, turn_if, all_names, instruction, list_made, push_item, with_values, with_world}
-use Rattle.icn_control.specs.Living.{with_locals, IsLiveStack}
+use Rattle.icn_control.specs.LiveStacks.{with_locals, IsLiveStack}
 use Rattle.icn_control.specs.Machines.{store_in, running_of, HaltsAt, AreLiveStacks}
 use Rattle.icn_control.specs.declared.machine.Machine.{Machine}
-use Rattle.icn_control.specs.Parts.{RunsWith, HaltsWith}
-use Rattle.icn_control.specs.Standing.{stack_in}
-use Rattle.icn_control.specs.Taking.{take_operands, with_values_in, MakesValue, push_list}
-use Rattle.icn_control.proofs.GrowthSteps.{grown}
+use Rattle.icn_control.specs.StackAndWorld.{RunsWith, HaltsWith}
+use Rattle.icn_control.specs.StackViews.{stack_in}
+use Rattle.icn_control.specs.TakenOperands.{take_operands, with_values_in, MakesValue, push_list}
+use Rattle.icn_control.proofs.GrowthSteps.{grown_store}
 use Rattle.icn_control.proofs.KeptItems.{stack_stays}
-use Rattle.icn_control.proofs.LiveCalls.{own, live_push}
-use Rattle.icn_control.proofs.PartSteps.{at_halt}
-use Rattle.icn_control.proofs.TakeSteps.{taken_runs}
+use Rattle.icn_control.proofs.LiveCalls.{own_locals, live_push}
+use Rattle.icn_control.proofs.StackAndWorldSteps.{match_halt}
+use Rattle.icn_control.proofs.TakenOperandSteps.{taken_runs}
 
 -- Turns
 
-pub no_more : (m n : ℕ) → n ≤ m → nat_lt m n ≡ false
-no_more m n p = grind (arith, nat_tests)
+-- the test of `<` fails where it does not hold
+pub nat_lt_false : (m n : ℕ) → n ≤ m → nat_lt m n ≡ false
+nat_lt_false m n p = grind (arith, nat_tests)
 
-pub turn_runs : (t tables : Tables) (names : Names) (outside : Outside) (w v : World) (turns : ℕ) (begun : List Bool) (table : Table) (n : FlatStack)
+pub turn_runs : (t tables : Tables) (names : Names) (outside : Outside) (w v : World) (turns : ℕ) (begun : List Bool) (table : CoexpTable) (n : FlatStack)
     (event : Store Frames → State Frames Frames) → nat_lt turns (heap_of w.heap).bounds.turns ≡ true
     → KeepsItems (reach_of w []) (reach_of v []) → AreLiveStacks t (reach_of w []) table
     → ((st : Store Frames) → st.world ≡ world_of w → RunsWith (event st) st v n)
@@ -50,9 +51,9 @@ pub turn_runs : (t tables : Tables) (names : Names) (outside : Outside) (w v : W
 turn_runs t tables names outside w v turns begun table n event b k l h =
     let st : Store Frames = store_in names outside (world_of w) turns begun (extent_of w.heap) table in
     ap (λ (x : Bool). turn_if x st event) b ∙ h (store_in names outside (world_of w) (suc turns) begun (extent_of w.heap) table) refl
-    ∙ ap (running (stack_in (extent_of v.heap) n)) (grown t names outside w v (suc turns) begun table (Some n) k l)
+    ∙ ap (running (stack_in (extent_of v.heap) n)) (grown_store t names outside w v (suc turns) begun table (Some n) k l)
 
-pub turn_halts : {K : Type 0} (m : Machine K) (tables : Tables) (outside : Outside) (w : World) (turns : ℕ) (begun : List Bool) (table : Table)
+pub turn_halts : {K : Type 0} (m : Machine K) (tables : Tables) (outside : Outside) (w : World) (turns : ℕ) (begun : List Bool) (table : CoexpTable)
     (event : Store Frames → State Frames Frames) (halt : Halt) → nat_lt turns (heap_of w.heap).bounds.turns ≡ true
     → ((st : Store Frames) → st.world ≡ world_of w → HaltsWith (event st) st m.world halt)
     → HaltsAt tables outside (turn tables (store_in (all_names tables) outside (world_of w) turns begun (extent_of w.heap) table) event) m halt
@@ -67,6 +68,7 @@ turn_halts m tables outside w turns begun table event Halts.WriteFault b h =
     absurd (h (store_in (all_names tables) outside (world_of w) (suc turns) begun (extent_of w.heap) table) refl)
 turn_halts m tables outside w turns begun table event Halts.NoMemory b h = tt
 
+-- at the bound of turns, a turn ends the run
 pub turn_bound : (tables : Tables) (st other : Store Frames) (event : Store Frames → State Frames Frames) → nat_lt st.turns st.world.heap.bounds.turns ≡ false
     → other.outside ≡ st.outside → turn tables st event ≡ at_bound {K = Frames} {M = Frames} other
 turn_bound tables st other event b o =
@@ -74,7 +76,7 @@ turn_bound tables st other event b o =
     ap (λ (x : Bool). turn_if x st event) b ∙ ap F (sym o)
 
 -- what an instruction comes to on the stack that runs
-pub on_running : (table : Table) (m : FlatStack) (F : FlatStack → State Frames Frames) → table.running ≡ Some m → F (running_of table.running) ≡ F m
+pub on_running : (table : CoexpTable) (m : FlatStack) (F : FlatStack → State Frames Frames) → table.running ≡ Some m → F (running_of table.running) ≡ F m
 on_running table m F e = ap (λ (o : Option FlatStack). F (running_of o)) e
 
 pub halts_is : {K : Type 0} (m : Machine K) (tables : Tables) (outside : Outside) (halt : Halt) (a b : State Frames Frames) → a ≡ b
@@ -103,7 +105,7 @@ pub list_unfound : {A : Type 0} (result : Result A Halt) (w : World) (m n : Flat
     → (st : Store Frames) → st.world ≡ world_of w
     → MatchResult result (λ (x : A). RunsWith (push_list w m items st) st w n) (HaltsWith (push_list w m items st) st w)
 list_unfound {A} result w m n items stop err f st same =
-    at_halt result (halt_of stop) (λ (x : A). RunsWith (push_list w m items st) st w n) (HaltsWith (push_list w m items st) st w) err
+    match_halt result (halt_of stop) (λ (x : A). RunsWith (push_list w m items st) st w n) (HaltsWith (push_list w m items st) st w) err
     (f st (λ values. list_made flat values (stack_in (extent_of w.heap) m) st (λ list a after. push_item flat (rows.Val list) a after)) same)
 
 pub list_unmade : {A : Type 0} (result : Result A Halt) (w v : World) (m k n : FlatStack) (items : List Item) (vals : List Val) (stop : Stop)
@@ -116,19 +118,20 @@ list_unmade {A} result w v m k n items vals stop err f p g st same =
     let pushes : Value → Frames → Store Frames → State Frames Frames = λ list a after. push_item flat (rows.Val list) a after in
     let here : MakesValue (list_row (map (value_in (extent_of w.heap)) vals)) w m v (Err stop) =
     subst (λ (x : FlatStack). MakesValue (list_row (map (value_in (extent_of w.heap)) vals)) w x v (Err stop)) p g in
-    at_halt result (halt_of stop) (λ (x : A). RunsWith (push_list w m items st) st v n) (HaltsWith (push_list w m items st) st v) err
+    match_halt result (halt_of stop) (λ (x : A). RunsWith (push_list w m items st) st v n) (HaltsWith (push_list w m items st) st v) err
     (subst (λ (x : State Frames Frames). HaltsWith x st v (halt_of stop))
     (sym (f st (λ values. list_made flat values (stack_in (extent_of w.heap) m) st pushes) same)) (here st pushes same))
 
 pub list_live : (t : Tables) (w v : World) (m n : FlatStack) (val : Val) → n ≡ held.push (HeldVal val) m → KeepsItems (reach_of w []) (reach_of v [])
     → IsLive (extent_of v.heap) val → IsLiveStack t (reach_of w []) m → IsLiveStack t (reach_of v []) n
 list_live t w v m n val e k i l =
-    let item : IsLiveItem (with_locals (own m) (reach_of v [])) (HeldVal val) = record { live = i } in
+    let item : IsLiveItem (with_locals (own_locals m) (reach_of v [])) (HeldVal val) = record { live = i } in
     subst (λ (x : FlatStack). IsLiveStack t (reach_of v []) x) (sym e)
     (live_push t (reach_of v []) m (HeldVal val) (stack_stays t (reach_of w []) (reach_of v []) m k l) item)
 
 -- what the instruction is once its operands are taken
-pub llist_is : (all : Extent) (tables : Tables) (table : Table) (m k : FlatStack) (items : List Item) (count : ℕ) (st : Store Frames) → table.running ≡ Some m
+pub llist_is : (all : Extent) (tables : Tables) (table : CoexpTable) (m k : FlatStack) (items : List Item) (count : ℕ) (st : Store Frames)
+    → table.running ≡ Some m
     → take_operands count m ≡ Some (items, k)
     → instruction flat tables (Instrs.Llist count) (stack_in all (running_of table.running)) st
     ≡ turn tables st (λ s. with_values flat (map (item_in all) items) (stack_in all k) s

@@ -14,19 +14,19 @@ use Rattle.icn_heap.specs.Heaps.{extent_of, heap_of}
 use Rattle.icn_vars.specs.Worlds.{Reach, item_in}
 use Rattle.icn_frames.specs.Stacks as held
 use Rattle.icn_frames.specs.Stacks.{FlatStack}
-use Rattle.icn_frames_laws.proofs.CallsRead.{level_read}
+use Rattle.law_frames.proofs.CallsRead.{level_read}
 use Rattle.icn_coexp.specs.Transfers as table
-use Rattle.icn_coexp.specs.Transfers.{Coexp, Table, OneIsActive}
+use Rattle.icn_coexp.specs.Transfers.{Coexp, CoexpTable, OneIsActive}
 use Rattle.icn_code.specs.declared.instr.Instr.TheVariants as Instrs
 use Rattle.icn_code.specs.Codes.{Tables}
 use Rattle.icn_run.specs.Rows as rows
 use Rattle.icn_run.specs.Stacks.{Frames, flat}
 use Rattle.icn_run.specs.Step as code
 use Rattle.icn_run.specs.Step.{State, Store, Active, running, failing, instruction, with_found, push_item, pushed_or_fails}
-use Rattle.icn_control.specs.Living.{IsLiveStack}
-use Rattle.icn_control.specs.Standing.{stack_in, reading_of, GoesOnIn}
+use Rattle.icn_control.specs.LiveStacks.{IsLiveStack}
+use Rattle.icn_control.specs.StackViews.{stack_in, reading_of, GoesOnIn}
 use Rattle.icn_control.specs.Machines.{running_of, AreLiveStacks, IsLiveRunning}
-use Rattle.icn_control.specs.Landing.{Beside, store_with}
+use Rattle.icn_control.specs.TransfersRead.{Beside, store_with}
 use Rattle.icn_control.proofs.TransferSteps.{source_is}
 
 -- the members of a set, said twice
@@ -42,7 +42,7 @@ cset_runs m n tables k set s p all st =
     ∙ ap (λ (y : FlatStack). running (stack_in all y) st) (sym p)
 
 -- what a keyword gives is pushed, or it fails
-keyword_goes : (beside : Beside) (t : Table) (m : FlatStack) (tables : Tables) (word : Keyword) (level current source : ℕ) (item : Option HeldItem)
+keyword_goes : (beside : Beside) (t : CoexpTable) (m : FlatStack) (tables : Tables) (word : Keyword) (level current source : ℕ) (item : Option HeldItem)
     → t.running ≡ Some m → level ≡ held.level m → current ≡ t.active
     → source ≡ table.source t → option_map (item_in beside.all) item ≡ keyword_item (record { level = level; current = current; source = source }) word
     → instruction flat tables (Instrs.Keywd word) (stack_in beside.all (running_of t.running)) (store_with beside t)
@@ -56,7 +56,7 @@ keyword_goes beside t m tables word level current source item r l a s i =
     ∙ ap (λ (k : ℕ). F (record { level = level; current = current; source = k })) (source_is beside t ∙ sym s)
     ∙ ap (λ (o : Option rows.Item). pushed_or_fails flat o (stack_in beside.all m) st) (sym i)
 
-pub keyword_fails : (beside : Beside) (t : Table) (m : FlatStack) (tables : Tables) (word : Keyword) (level current source : ℕ) (item : Option HeldItem)
+pub keyword_fails : (beside : Beside) (t : CoexpTable) (m : FlatStack) (tables : Tables) (word : Keyword) (level current source : ℕ) (item : Option HeldItem)
     → t.running ≡ Some m → level ≡ held.level m → current ≡ t.active
     → source ≡ table.source t → option_map (item_in beside.all) item ≡ keyword_item (record { level = level; current = current; source = source }) word
     → item ≡ None
@@ -66,7 +66,7 @@ keyword_fails beside t m tables word level current source item r l a s i e =
     keyword_goes beside t m tables word level current source item r l a s i
     ∙ ap (λ (o : Option HeldItem). pushed_or_fails flat (option_map (item_in beside.all) o) (stack_in beside.all m) (store_with beside t)) e
 
-pub keyword_runs : (beside : Beside) (t : Table) (m n : FlatStack) (tables : Tables) (word : Keyword) (level current source : ℕ) (item : Option HeldItem)
+pub keyword_runs : (beside : Beside) (t : CoexpTable) (m n : FlatStack) (tables : Tables) (word : Keyword) (level current source : ℕ) (item : Option HeldItem)
     (x : HeldItem) → t.running ≡ Some m → level ≡ held.level m → current ≡ t.active
     → source ≡ table.source t → option_map (item_in beside.all) item ≡ keyword_item (record { level = level; current = current; source = source }) word
     → item ≡ Some x → n ≡ held.push x m
@@ -85,7 +85,7 @@ unfolding extent_of heap_of
 coexps_counted heap = refl
 
 -- the active one is there, where a stack runs
-pub active_there : (t : Table) (m : FlatStack) → t.running ≡ Some m → OneIsActive t → t.active < length t.coexps
+pub active_there : (t : CoexpTable) (m : FlatStack) → t.running ≡ Some m → OneIsActive t → t.active < length t.coexps
 active_there t m r one = by_entry (slice_get t.coexps t.active) refl (one.here ∙ ap table.active_status r)
   where
     by_entry : (o : Option Coexp) → slice_get t.coexps t.active ≡ o → table.status_in o ≡ Active → t.active < length t.coexps
@@ -93,7 +93,7 @@ active_there t m r one = by_entry (slice_get t.coexps t.active) refl (one.here �
     by_entry None g e = cc
 
 -- the stack that runs is of the world
-pub running_live : (tables : Tables) (reach : Reach) (t : Table) (m : FlatStack) → t.running ≡ Some m → AreLiveStacks tables reach t
+pub running_live : (tables : Tables) (reach : Reach) (t : CoexpTable) (m : FlatStack) → t.running ≡ Some m → AreLiveStacks tables reach t
     → IsLiveStack tables reach m
 running_live tables reach t m r k = subst (λ (w : Option FlatStack). IsLiveRunning tables reach w) r k.runs
 

@@ -10,9 +10,9 @@ use Rattle.icn_frames.specs.declared.layout.Registers.{Registers}
 use Rattle.icn_frames.specs.declared.layout.Cell.{Cell}
 use Rattle.icn_frames.specs.declared.layout.Cell.TheVariants.{Base, Call, Local, Mark, Limit, Suspension, Operand}
 use Rattle.icn_frames.specs.Stacks.{locals_of, copy_up, pair_of, pair_at}
-use Rattle.icn_frames.proofs.Fits.{cell_at_on, cell_at_top}
+use Rattle.icn_frames.proofs.SoundStacks.{cell_at_on, cell_at_top}
 use Rattle.icn_code.specs.Codes.{Tables}
-use Rattle.icn_control.specs.Living.{with_locals, MaybeLivePair, IsLiveWhy, IsFrame, locals_at, IsMarkOf, IsRooted, AreLive}
+use Rattle.icn_control.specs.LiveStacks.{with_locals, MaybeLivePair, IsLiveWhy, IsFrame, locals_at, IsMarkOf, IsRooted, AreLive}
 
 -- Where registers lead
 
@@ -89,6 +89,7 @@ first_drop (suc k) (x ∷ s) = first_drop k s
 pub first_cut : (h : ℕ) (s : List Cell) (x : Cell) (below : List Cell) → cut h s ≡ x ∷ below → cell_at h s ≡ Some x
 first_cut h s x below e = first_drop (length s - h) s ∙ ap (λ (w : List Cell). slice_get w 0) e
 
+-- cells that are cut off leave cells of the world, for some number of locals
 pub live_cut : (t : Tables) (reach : Reach) (k n : ℕ) (s : List Cell) (x : Cell) (below : List Cell) → drop k s ≡ x ∷ below → AreLive t reach n s
     → (other : ℕ) × AreLive t reach other (x ∷ below)
 live_cut t reach zero n s x below e l = (n, subst (λ (w : List Cell). AreLive t reach n w) e l)

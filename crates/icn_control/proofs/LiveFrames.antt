@@ -15,17 +15,17 @@ use Rattle.icn_frames.specs.declared.layout.Registers.{Registers}
 use Rattle.icn_frames.specs.declared.layout.Cell.{Cell}
 use Rattle.icn_frames.specs.declared.layout.Cell.TheVariants.{Base, Call, Local, Mark, Limit, Suspension, Operand}
 use Rattle.icn_frames.specs.Stacks.{FlatStack, proc, proc_of, locals_of, level_of, put_above, begin, enter, leave, leave_from, level, resume, resume_from, swap_by, swap_at, with_pair, scan_chosen, pair_of, suspend_proc, suspend_proc_from, registers_at}
-use Rattle.icn_frames.proofs.Levels.{frame_at}
+use Rattle.icn_frames.proofs.FrameBelow.{frame_at}
 use Rattle.icn_code.specs.Codes.{Tables}
-use Rattle.icn_control.specs.Living.{with_locals, IsLivePair, MaybeLivePair, IsLiveWhy, IsFrame, locals_at, IsMarkOf, IsRooted, AreLive, IsLiveStack, variable_count}
+use Rattle.icn_control.specs.LiveStacks.{with_locals, IsLivePair, MaybeLivePair, IsLiveWhy, IsFrame, locals_at, IsMarkOf, IsRooted, AreLive, IsLiveStack, variable_count}
 use Rattle.icn_control.proofs.LiveCells.{live_cut, live_pair}
-use Rattle.icn_control.proofs.LiveCalls.{own, live_onto}
+use Rattle.icn_control.proofs.LiveCalls.{own_locals, live_onto}
 use Rattle.icn_control.proofs.LiveSets.{Replaces, live_replace, owner_replace}
 
 -- Resuming
 
 pub record ResumesLive (t : Tables) (reach : Reach) (why : Why) (n : FlatStack) : Type 0 where
-  pub why_live : IsLiveWhy (with_locals (own n) reach) why
+  pub why_live : IsLiveWhy (with_locals (own_locals n) reach) why
   pub rest : IsLiveStack t reach n
 
 pub live_resume : (t : Tables) (reach : Reach) (m n : FlatStack) (why : Why) → resume m ≡ Some (why, n) → IsLiveStack t reach m → ResumesLive t reach why n
@@ -33,7 +33,7 @@ live_resume t reach m n why e k = by_height m.registers.newest e
   where
     by_cells : (h : ℕ) (s : List Cell) → cut h m.cells ≡ s → resume_from s ≡ Some (why, n) → ResumesLive t reach why n
     by_cells h (Suspension reason r place ∷ below) c q =
-        let l = live_cut t reach (length m.cells - h) (own m) m.cells (Suspension reason r place) below c k.cells in
+        let l = live_cut t reach (length m.cells - h) (own_locals m) m.cells (Suspension reason r place) below c k.cells in
         let made : ResumesLive t reach reason (record { cells = below; registers = r; address = place }) =
         record { why_live = l.1.0; rest = record { root = l.1.1.0; cells = l.1.1.1 } } in
         subst (λ (w : Why × FlatStack). ResumesLive t reach w.0 w.1) (same_Some _ _ q) made
@@ -54,27 +54,28 @@ live_resume t reach m n why e k = by_height m.registers.newest e
 pub record SwapsLive (t : Tables) (reach : Reach) (before : ℕ) (old : Pair) (n : FlatStack) : Type 0 where
   pub pair_live : IsLivePair reach.extent old
   pub rest : IsLiveStack t reach n
-  pub same : own n ≡ before
+  pub same : own_locals n ≡ before
 
 pub live_swap : (t : Tables) (reach : Reach) (m n : FlatStack) (oldest : Bool) (pair old : Pair) → swap_by oldest pair m ≡ Some (old, n)
-    → IsLivePair reach.extent pair → IsLiveStack t reach m → SwapsLive t reach (own m) old n
+    → IsLivePair reach.extent pair → IsLiveStack t reach m → SwapsLive t reach (own_locals m) old n
 live_swap t reach m n oldest pair old e p k = by_choice oldest e
   where
     made : (h : ℕ) (was : Pair) (r : Registers) (place : ℕ) → cell_at h m.cells ≡ Some (Suspension (Scan was) r place)
-        → SwapsLive t reach (own m) was (record m { cells = set_cell h (Suspension (Scan pair) r place) m.cells })
+        → SwapsLive t reach (own_locals m) was (record m { cells = set_cell h (Suspension (Scan pair) r place) m.cells })
     made h was r place at =
         let before : Cell = Suspension (Scan was) r place in
         let after : Cell = Suspension (Scan pair) r place in
         let f : Replaces t reach before after = record { live = λ w s l. (p, l.1); locals = refl; frame = λ w. w; mark = λ base w. w } in
         record {
-          pair_live = subst (λ (w : Option Cell). MaybeLivePair reach.extent (pair_of w)) at (live_pair t reach (own m) (length m.cells - h) m.cells k.cells);
+          pair_live = subst (λ (w : Option Cell). MaybeLivePair reach.extent (pair_of w)) at
+              (live_pair t reach (own_locals m) (length m.cells - h) m.cells k.cells);
           rest = live_replace t reach m h before after at f k;
           same = owner_replace t reach m h before after at f;
         }
 
-    by_cell : (h : ℕ) (cell : Option Cell) → cell_at h m.cells ≡ cell → with_pair pair h m cell ≡ Some (old, n) → SwapsLive t reach (own m) old n
+    by_cell : (h : ℕ) (cell : Option Cell) → cell_at h m.cells ≡ cell → with_pair pair h m cell ≡ Some (old, n) → SwapsLive t reach (own_locals m) old n
     by_cell h (Some (Suspension (Scan was) r place)) at q =
-        subst (λ (w : Pair × FlatStack). SwapsLive t reach (own m) w.0 w.1) (same_Some _ _ q) (made h was r place at)
+        subst (λ (w : Pair × FlatStack). SwapsLive t reach (own_locals m) w.0 w.1) (same_Some _ _ q) (made h was r place at)
     by_cell h (Some (Suspension Alt r place)) at q = cc
     by_cell h (Some (Suspension (Op residual) r place)) at q = cc
     by_cell h (Some (Suspension Escan r place)) at q = cc
@@ -87,11 +88,11 @@ live_swap t reach m n oldest pair old e p k = by_choice oldest e
     by_cell h (Some (Limit count r)) at q = cc
     by_cell h (Some (Operand item)) at q = cc
 
-    by_scan : (scan : Option ℕ) → swap_at pair m scan ≡ Some (old, n) → SwapsLive t reach (own m) old n
+    by_scan : (scan : Option ℕ) → swap_at pair m scan ≡ Some (old, n) → SwapsLive t reach (own_locals m) old n
     by_scan (Some h) q = by_cell h (cell_at h m.cells) refl q
     by_scan None q = cc
 
-    by_choice : (b : Bool) → swap_by b pair m ≡ Some (old, n) → SwapsLive t reach (own m) old n
+    by_choice : (b : Bool) → swap_by b pair m ≡ Some (old, n) → SwapsLive t reach (own_locals m) old n
     by_choice true q = by_scan (scan_chosen true m) q
     by_choice false q = by_scan (scan_chosen false m) q
 
@@ -116,8 +117,8 @@ framed t reach n (suc i) (Mark label changed r ∷ s) l f = framed t reach (loca
 framed t reach n (suc i) (Limit count r ∷ s) l f = framed t reach (locals_at r s) i s l.1.1 f
 framed t reach n (suc i) (Suspension why r place ∷ s) l f = framed t reach (locals_at r s) i s l.1.1 f
 
-pub own_count : (t : Tables) (reach : Reach) (m : FlatStack) → IsLiveStack t reach m → own m ≡ variable_count t (proc m)
-own_count t reach m k = framed t reach (own m) (length m.cells - m.registers.base) m.cells k.cells k.root.frame
+pub own_count : (t : Tables) (reach : Reach) (m : FlatStack) → IsLiveStack t reach m → own_locals m ≡ variable_count t (proc m)
+own_count t reach m k = framed t reach (own_locals m) (length m.cells - m.registers.base) m.cells k.cells k.root.frame
 
 -- a call is not deeper than 32 bits count
 leveled : (t : Tables) (reach : Reach) (n i : ℕ) (s : List Cell) → AreLive t reach n s → IsFrame (slice_get s i) → level_of (slice_get s i) ≤ 4294967295
@@ -138,7 +139,7 @@ leveled t reach n (suc i) (Limit count r ∷ s) l f = leveled t reach (locals_at
 leveled t reach n (suc i) (Suspension why r place ∷ s) l f = leveled t reach (locals_at r s) i s l.1.1 f
 
 pub level_low : (t : Tables) (reach : Reach) (m : FlatStack) → IsLiveStack t reach m → level m ≤ 4294967295
-level_low t reach m k = leveled t reach (own m) (length m.cells - m.registers.base) m.cells k.cells k.root.frame
+level_low t reach m k = leveled t reach (own_locals m) (length m.cells - m.registers.base) m.cells k.cells k.root.frame
 
 -- locals of the world above cells of the world
 live_above : (t : Tables) (reach : Reach) (n : ℕ) (values : List Val) (s : List Cell) → All (IsLive reach.extent) values → AreLive t reach n s
@@ -190,7 +191,7 @@ live_leave t reach m n e k = by_cells (cut m.registers.base m.cells) refl e
   where
     by_cells : (s : List Cell) → cut m.registers.base m.cells ≡ s → leave_from s ≡ Some n → IsLiveStack t reach n
     by_cells (Call proc locals level r place ∷ below) c q =
-        let l = live_cut t reach (length m.cells - m.registers.base) (own m) m.cells (Call proc locals level r place) below c k.cells in
+        let l = live_cut t reach (length m.cells - m.registers.base) (own_locals m) m.cells (Call proc locals level r place) below c k.cells in
         let made : IsLiveStack t reach (record { cells = below; registers = r; address = place }) = record { root = l.1.1.1.0; cells = l.1.1.1.1 } in
         subst (λ (w : FlatStack). IsLiveStack t reach w) (same_Some _ _ q) made
     by_cells [] c q = cc
@@ -206,7 +207,7 @@ live_suspend_proc t reach m n e k = by_cells (cut m.registers.base m.cells) refl
   where
     by_cells : (s : List Cell) → cut m.registers.base m.cells ≡ s → suspend_proc_from m s ≡ Some n → IsLiveStack t reach n
     by_cells (Call proc locals level r place ∷ below) c q =
-        let l = live_cut t reach (length m.cells - m.registers.base) (own m) m.cells (Call proc locals level r place) below c k.cells in
+        let l = live_cut t reach (length m.cells - m.registers.base) (own_locals m) m.cells (Call proc locals level r place) below c k.cells in
         let left = live_onto t reach m Proc (length m.cells - m.registers.base) (Call proc locals level r place) below r place c k tt l.1.1.1.0 l.1.1.1.1 in
         subst (λ (w : FlatStack). IsLiveStack t reach w) (same_Some _ _ q) left.rest
     by_cells [] c q = cc

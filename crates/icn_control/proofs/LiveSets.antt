@@ -11,9 +11,9 @@ use Rattle.icn_frames.specs.declared.layout.Cell.{Cell}
 use Rattle.icn_frames.specs.declared.layout.Cell.TheVariants.{Base, Call, Local, Mark, Limit, Suspension, Operand}
 use Rattle.icn_frames.specs.Stacks.{FlatStack, locals_of, relabel, relabel_at, count_down, count_down_at, unmark, unmark_from, oldest, pair_of, pair_at, below, below_in, pop, push, suspend_mark, given_to}
 use Rattle.icn_code.specs.Codes.{Tables}
-use Rattle.icn_control.specs.Living.{with_locals, MaybeLivePair, IsLiveWhy, IsFrame, locals_at, IsMarkOf, IsRooted, AreLive, IsLiveStack}
+use Rattle.icn_control.specs.LiveStacks.{with_locals, MaybeLivePair, IsLiveWhy, IsFrame, locals_at, IsMarkOf, IsRooted, AreLive, IsLiveStack}
 use Rattle.icn_control.proofs.LiveCells.{live_cut, live_pair}
-use Rattle.icn_control.proofs.LiveCalls.{own, UnmarksLive, mark_is, outside_owner, live_pop, live_push, live_given}
+use Rattle.icn_control.proofs.LiveCalls.{own_locals, UnmarksLive, mark_is, outside_owner, live_pop, live_push, live_given}
 
 -- a cell that may stand in the place of another
 pub record Replaces (t : Tables) (reach : Reach) (old new : Cell) : Type 0 where
@@ -88,11 +88,11 @@ live_replace t reach m h old new e k l =
     record {
       root = rooted_set t reach m.cells i old new m.registers e k l.root;
       cells = subst (λ (c : ℕ). AreLive t reach c (slice_set m.cells i new)) (owner_set t reach m.cells i old new m.registers e k)
-          (live_set t reach (own m) i m.cells old new e k l.cells);
+          (live_set t reach (own_locals m) i m.cells old new e k l.cells);
     }
 
 pub owner_replace : (t : Tables) (reach : Reach) (m : FlatStack) (h : ℕ) (old new : Cell) → cell_at h m.cells ≡ Some old → Replaces t reach old new
-    → locals_at m.registers (set_cell h new m.cells) ≡ own m
+    → locals_at m.registers (set_cell h new m.cells) ≡ own_locals m
 owner_replace t reach m h old new e k = sym (owner_set t reach m.cells (length m.cells - h) old new m.registers e k)
 
 -- Labels and counts
@@ -116,14 +116,14 @@ live_relabel t reach m n label e k = by_cell (cell_at m.registers.mark m.cells) 
 -- a count that stays above 0, with the stack on which it is one lower
 pub record CountsLive (t : Tables) (reach : Reach) (before count : ℕ) (n : FlatStack) : Type 0 where
   pub rest : 0 < count → IsLiveStack t reach n
-  pub same : 0 < count → own n ≡ before
+  pub same : 0 < count → own_locals n ≡ before
 
 pub live_count : (t : Tables) (reach : Reach) (m n : FlatStack) (count : ℕ) → count_down m ≡ Some (count, n) → IsLiveStack t reach m
-    → CountsLive t reach (own m) count n
+    → CountsLive t reach (own_locals m) count n
 live_count t reach m n count e k = by_cell (cell_at m.registers.mark m.cells) refl e
   where
     made : (c : ℕ) (r : Registers) → cell_at m.registers.mark m.cells ≡ Some (Limit (suc c) r)
-        → CountsLive t reach (own m) c (record m { cells = set_cell m.registers.mark (Limit c r) m.cells })
+        → CountsLive t reach (own_locals m) c (record m { cells = set_cell m.registers.mark (Limit c r) m.cells })
     made c r at =
         let f : 0 < c
         → Replaces t reach (Limit (suc c) r) (Limit c r) = λ p. record { live = λ w s l. (p, l.1); locals = refl; frame = λ w. w; mark = λ base w. w } in
@@ -132,8 +132,9 @@ live_count t reach m n count e k = by_cell (cell_at m.registers.mark m.cells) re
           same = λ p. sym (owner_set t reach m.cells (length m.cells - m.registers.mark) (Limit (suc c) r) (Limit c r) m.registers at (f p));
         }
 
-    by_cell : (cell : Option Cell) → cell_at m.registers.mark m.cells ≡ cell → count_down_at m cell ≡ Some (count, n) → CountsLive t reach (own m) count n
-    by_cell (Some (Limit (suc c) r)) at q = subst (λ (w : ℕ × FlatStack). CountsLive t reach (own m) w.0 w.1) (same_Some _ _ q) (made c r at)
+    by_cell : (cell : Option Cell) → cell_at m.registers.mark m.cells ≡ cell → count_down_at m cell ≡ Some (count, n)
+        → CountsLive t reach (own_locals m) count n
+    by_cell (Some (Limit (suc c) r)) at q = subst (λ (w : ℕ × FlatStack). CountsLive t reach (own_locals m) w.0 w.1) (same_Some _ _ q) (made c r at)
     by_cell (Some (Limit zero r)) at q = cc
     by_cell None at q = cc
     by_cell (Some (Base proc locals)) at q = cc
@@ -165,15 +166,15 @@ pair_set : (t : Tables) (reach : Reach) (m : FlatStack) (c : ℕ) (r : Registers
 pair_set t reach m c r None at k = tt
 pair_set t reach m c r (Some h) at k =
     at_set (λ (w : Option Cell). MaybeLivePair reach.extent (pair_of w)) m.cells (length m.cells - m.registers.mark) h (Limit (suc c) r) (Limit c r) at (λ q. q)
-    (live_pair t reach (own m) (length m.cells - h) m.cells k.cells)
+    (live_pair t reach (own_locals m) (length m.cells - h) m.cells k.cells)
 
 pub live_last : (t : Tables) (reach : Reach) (m l n : FlatStack) (count : ℕ) (pair : Option Pair) → count_down m ≡ Some (count, l) → unmark l ≡ Some (n, pair)
-    → IsLiveStack t reach m → UnmarksLive t reach (own m) n pair
+    → IsLiveStack t reach m → UnmarksLive t reach (own_locals m) n pair
 live_last t reach m l n count pair e u k = by_cell (cell_at m.registers.mark m.cells) refl e
   where
     made : (c : ℕ) (r : Registers) → cell_at m.registers.mark m.cells ≡ Some (Limit (suc c) r)
         → unmark (record m { cells = set_cell m.registers.mark (Limit c r) m.cells }) ≡ Some (n, pair)
-        → UnmarksLive t reach (own m) n pair
+        → UnmarksLive t reach (own_locals m) n pair
     made c r at v =
         let i : ℕ = length m.cells - m.registers.mark in
         let after : FlatStack = record m { cells = set_cell m.registers.mark (Limit c r) m.cells } in
@@ -181,15 +182,16 @@ live_last t reach m l n count pair e u k = by_cell (cell_at m.registers.mark m.c
         let here : cut m.registers.mark m.cells ≡ Limit (suc c) r ∷ under = drop_get m.cells i (Limit (suc c) r) at in
         let there : unmark after
         ≡ unmark_from after (Limit c r ∷ under) = ap (unmark_from after) (cut_set m.cells m.registers.mark (Limit (suc c) r) (Limit c r) at) in
-        let w = live_cut t reach i (own m) m.cells (Limit (suc c) r) under here k.cells in
-        let result : UnmarksLive t reach (own m) (record after { cells = under; registers = r }) (pair_at after.cells (oldest r.scan after)) = record {
+        let w = live_cut t reach i (own_locals m) m.cells (Limit (suc c) r) under here k.cells in
+        let result : UnmarksLive t reach (own_locals m) (record after { cells = under; registers = r }) (pair_at after.cells (oldest r.scan after)) = record {
           rest = record { root = w.1.1.0; cells = w.1.1.1 };
           pair_live = pair_set t reach m c r (oldest r.scan after) at k;
           same = outside_owner m (Limit (suc c) r) under r here w.1.1.0 (mark_is m (Limit (suc c) r) under k.root here);
         } in
-        subst (λ (q : FlatStack × Option Pair). UnmarksLive t reach (own m) q.0 q.1) (same_Some _ _ (sym there ∙ v)) result
+        subst (λ (q : FlatStack × Option Pair). UnmarksLive t reach (own_locals m) q.0 q.1) (same_Some _ _ (sym there ∙ v)) result
 
-    by_cell : (cell : Option Cell) → cell_at m.registers.mark m.cells ≡ cell → count_down_at m cell ≡ Some (count, l) → UnmarksLive t reach (own m) n pair
+    by_cell : (cell : Option Cell) → cell_at m.registers.mark m.cells ≡ cell → count_down_at m cell ≡ Some (count, l)
+        → UnmarksLive t reach (own_locals m) n pair
     by_cell (Some (Limit (suc c) r)) at q =
         let same : record m { cells = set_cell m.registers.mark (Limit c r) m.cells } ≡ l = ap (λ (w : ℕ × FlatStack). w.1) (same_Some _ _ q) in
         made c r at (subst (λ (w : FlatStack). unmark w ≡ Some (n, pair)) (sym same) u)
@@ -214,7 +216,7 @@ live_more t reach m k l n item count e f p u live =
 
 pub live_last_result : (t : Tables) (reach : Reach) (m k l o n : FlatStack) (item : Item) (count : ℕ) (pair : Option Pair) → pop m ≡ Some (item, k)
     → count_down k ≡ Some (count, l) → unmark l ≡ Some (o, pair) → n ≡ push item o
-    → IsLiveStack t reach m → UnmarksLive t reach (own n) n pair
+    → IsLiveStack t reach m → UnmarksLive t reach (own_locals n) n pair
 live_last_result t reach m k l o n item count pair e f u p live =
     let popped = live_pop t reach m k item e live in
     let left = live_last t reach k l o count pair f u popped.rest in
@@ -225,16 +227,16 @@ live_last_result t reach m k l o n item count pair e f u p live =
 -- The operand below a mark that is no frame is of the activation that runs.
 
 pub live_below : (t : Tables) (reach : Reach) (m : FlatStack) (item : Item) → below m ≡ Some item → is_none (unmark m) ≡ false → IsLiveStack t reach m
-    → IsLiveItem (with_locals (own m) reach) item
+    → IsLiveItem (with_locals (own_locals m) reach) item
 live_below t reach m item e d k = by_cells (cut m.registers.mark m.cells) refl e d
   where
     made : (x : Cell) (under : List Cell) (r : Registers) → cut m.registers.mark m.cells ≡ x ∷ under → IsRooted r under
         → AreLive t reach (locals_at r under) under → r.base ≡ m.registers.base → below_in (x ∷ under) ≡ Some item
-        → IsLiveItem (with_locals (own m) reach) item
+        → IsLiveItem (with_locals (own_locals m) reach) item
     made x (Operand y ∷ s) r c root cells same q =
-        let there : IsLiveItem (with_locals (own m) reach) y = subst (λ (n : ℕ). IsLiveItem (with_locals n reach) y)
+        let there : IsLiveItem (with_locals (own_locals m) reach) y = subst (λ (n : ℕ). IsLiveItem (with_locals n reach) y)
         (outside_owner m x (Operand y ∷ s) r c root same) cells.0 in
-        subst (λ (w : Item). IsLiveItem (with_locals (own m) reach) w) (same_Some _ _ q) there
+        subst (λ (w : Item). IsLiveItem (with_locals (own_locals m) reach) w) (same_Some _ _ q) there
     made x [] r c root cells same q = cc
     made x (Local value ∷ s) r c root cells same q = cc
     made x (Base proc locals ∷ s) r c root cells same q = cc
@@ -244,12 +246,12 @@ live_below t reach m item e d k = by_cells (cut m.registers.mark m.cells) refl e
     made x (Suspension why saved place ∷ s) r c root cells same q = cc
 
     by_cells : (s : List Cell) → cut m.registers.mark m.cells ≡ s → below_in s ≡ Some item → is_none (unmark_from m s) ≡ false
-        → IsLiveItem (with_locals (own m) reach) item
+        → IsLiveItem (with_locals (own_locals m) reach) item
     by_cells (Mark label changed r ∷ under) c q d =
-        let l = live_cut t reach (length m.cells - m.registers.mark) (own m) m.cells (Mark label changed r) under c k.cells in
+        let l = live_cut t reach (length m.cells - m.registers.mark) (own_locals m) m.cells (Mark label changed r) under c k.cells in
         made (Mark label changed r) under r c l.1.0 l.1.1 (mark_is m (Mark label changed r) under k.root c) q
     by_cells (Limit count r ∷ under) c q d =
-        let l = live_cut t reach (length m.cells - m.registers.mark) (own m) m.cells (Limit count r) under c k.cells in
+        let l = live_cut t reach (length m.cells - m.registers.mark) (own_locals m) m.cells (Limit count r) under c k.cells in
         made (Limit count r) under r c l.1.1.0 l.1.1.1 (mark_is m (Limit count r) under k.root c) q
     by_cells [] c q d = cc
     by_cells (Operand x ∷ under) c q d = cc

@@ -4,9 +4,9 @@ use Rattle.std.proofs.lemmas.List.{length-set}
 use Rattle.std.proofs.lemmas.Option.{same_Some}
 use Rattle.icn_vars.specs.Worlds.{Reach}
 use Rattle.icn_frames.specs.Stacks.{FlatStack}
-use Rattle.icn_coexp.proofs.Puts.{put_at}
+use Rattle.icn_coexp.proofs.ChangedEntries.{put_at}
 use Rattle.icn_coexp.specs.Transfers as table
-use Rattle.icn_coexp.specs.Transfers.{Coexp, Table, exhaust, source}
+use Rattle.icn_coexp.specs.Transfers.{Coexp, CoexpTable, exhaust, source}
 use Rattle.icn_code.specs.Codes.{Tables}
 use Rattle.icn_run.specs.Step.{Status, Fresh, Active, Waiting, Exhausted}
 use Rattle.icn_control.specs.Machines.{IsLiveStatus, IsLiveCoexp, AreLiveStacks}
@@ -36,18 +36,18 @@ pub live_waiting : (t : Tables) (r : Reach) (cs : List Coexp) (n : ℕ) (o : Opt
 live_waiting t r cs n None g k = tt
 live_waiting t r cs n (Some c) g k = (k n c g).status
 
-fails_live : (t : Tables) (r : Reach) (tab u : Table) (n : ℕ) (s : Status FlatStack) → table.fail_by n tab s ≡ Some u → AllLive t r tab.coexps
+fails_live : (t : Tables) (r : Reach) (tab u : CoexpTable) (n : ℕ) (s : Status FlatStack) → table.fail_by n tab s ≡ Some u → AllLive t r tab.coexps
     → IsLiveStatus t r s → AreLiveStacks t r u
 fails_live t r tab u n Fresh e k l = cc
 fails_live t r tab u n Active e k l = cc
 fails_live t r tab u n (Waiting m) e k l =
     let made : AreLiveStacks t r (table.on_stack n m tab) = record { runs = l; coexps = live_put t r tab.coexps n Active k tt } in
-    subst (λ (w : Table). AreLiveStacks t r w) (same_Some _ _ e) made
+    subst (λ (w : CoexpTable). AreLiveStacks t r w) (same_Some _ _ e) made
 fails_live t r tab u n Exhausted e k l =
     let made : AreLiveStacks t r (table.hop_to n tab) = record { runs = tt; coexps = k } in
-    subst (λ (w : Table). AreLiveStacks t r w) (same_Some _ _ e) made
+    subst (λ (w : CoexpTable). AreLiveStacks t r w) (same_Some _ _ e) made
 
-pub exhaust_live : (t : Tables) (r : Reach) (tab u : Table) → exhaust tab ≡ Some u → AreLiveStacks t r tab → AreLiveStacks t r u
+pub exhaust_live : (t : Tables) (r : Reach) (tab u : CoexpTable) → exhaust tab ≡ Some u → AreLiveStacks t r tab → AreLiveStacks t r u
 exhaust_live t r tab u e k =
     let cs : List Coexp = table.with_status tab.active Exhausted tab.coexps in
     let left : AllLive t r cs = live_put t r tab.coexps tab.active Exhausted k.coexps tt in
@@ -60,13 +60,13 @@ in_length : (cs : List Coexp) (n : ℕ) (s : Status FlatStack) (o : Option Coexp
 in_length cs n s None = refl
 in_length cs n s (Some x) = length-set cs n (record x { status = s })
 
-fails_length : (tab u : Table) (n : ℕ) (s : Status FlatStack) → table.fail_by n tab s ≡ Some u → length u.coexps ≡ length tab.coexps
+fails_length : (tab u : CoexpTable) (n : ℕ) (s : Status FlatStack) → table.fail_by n tab s ≡ Some u → length u.coexps ≡ length tab.coexps
 fails_length tab u n Fresh e = cc
 fails_length tab u n Active e = cc
-fails_length tab u n (Waiting m) e = ap (λ (w : Table). length w.coexps) (sym (same_Some _ _ e)) ∙ in_length tab.coexps n Active (slice_get tab.coexps n)
-fails_length tab u n Exhausted e = ap (λ (w : Table). length w.coexps) (sym (same_Some _ _ e))
+fails_length tab u n (Waiting m) e = ap (λ (w : CoexpTable). length w.coexps) (sym (same_Some _ _ e)) ∙ in_length tab.coexps n Active (slice_get tab.coexps n)
+fails_length tab u n Exhausted e = ap (λ (w : CoexpTable). length w.coexps) (sym (same_Some _ _ e))
 
-pub exhaust_length : (tab u : Table) → exhaust tab ≡ Some u → length u.coexps ≡ length tab.coexps
+pub exhaust_length : (tab u : CoexpTable) → exhaust tab ≡ Some u → length u.coexps ≡ length tab.coexps
 exhaust_length tab u e =
     let cs : List Coexp = table.with_status tab.active Exhausted tab.coexps in
     fails_length (record tab { coexps = cs }) u (source tab) (table.status_in (slice_get cs (source tab))) e

@@ -15,19 +15,19 @@ use Rattle.icn_vars.specs.Worlds.{IsLiveItem, Reach, item_in, world_of}
 use Rattle.icn_frames.specs.declared.layout.Cell.TheVariants.{Operand}
 use Rattle.icn_frames.specs.Stacks as held
 use Rattle.icn_frames.specs.Stacks.{FlatStack}
-use Rattle.icn_frames_laws.proofs.CallsRead.{taken_pop}
+use Rattle.law_frames.proofs.CallsRead.{taken_pop}
 use Rattle.icn_code.specs.Codes.{Tables}
 use Rattle.icn_run.specs.Rows as rows
 use Rattle.icn_run.specs.Stacks as code
 use Rattle.icn_run.specs.Stacks.{Frames, flat}
 use Rattle.icn_run.specs.Step.{State, Store, activation, errs, here, on_pair, refresh, with_found, with_popped, with_taken, with_value}
-use Rattle.icn_control.specs.Living.{with_locals, IsLiveStack}
+use Rattle.icn_control.specs.LiveStacks.{with_locals, IsLiveStack}
 use Rattle.icn_control.specs.Operands.{TakesTop, TakesTwo, coexp_number, with_two}
-use Rattle.icn_control.specs.Parts.{FindsValue, HaltsWith}
-use Rattle.icn_control.specs.Standing.{stack_in}
+use Rattle.icn_control.specs.StackAndWorld.{FindsValue, HaltsWith}
+use Rattle.icn_control.specs.StackViews.{stack_in}
 use Rattle.icn_control.proofs.LiveCells.{owner_on}
-use Rattle.icn_control.proofs.LiveCalls.{live_pop, own}
-use Rattle.icn_control.proofs.PartSteps.{popped_halts, popped_value, value_goes, value_halts}
+use Rattle.icn_control.proofs.LiveCalls.{live_pop, own_locals}
+use Rattle.icn_control.proofs.StackAndWorldSteps.{popped_halts, popped_value, value_goes, value_halts}
 use Rattle.icn_control.proofs.StackSteps.{popped_runs, pushed_back}
 
 -- the value of an item on a stack
@@ -89,14 +89,14 @@ second_stops w m l k n upper lower first stop e f g h st next same =
 
 -- two operands that are taken are of the world
 pub record TwoLive (t : Tables) (reach : Reach) (upper lower : Item) (n : FlatStack) : Type 0 where
-  pub upper_live : IsLiveItem (with_locals (own n) reach) upper
-  pub lower_live : IsLiveItem (with_locals (own n) reach) lower
+  pub upper_live : IsLiveItem (with_locals (own_locals n) reach) upper
+  pub lower_live : IsLiveItem (with_locals (own_locals n) reach) lower
   pub rest : IsLiveStack t reach n
 
-same_own : (t : Tables) (reach : Reach) (l k : FlatStack) (lower : Item) → held.pop l ≡ Some (lower, k) → IsLiveStack t reach l → own l ≡ own k
+same_own : (t : Tables) (reach : Reach) (l k : FlatStack) (lower : Item) → held.pop l ≡ Some (lower, k) → IsLiveStack t reach l → own_locals l ≡ own_locals k
 same_own t reach l k lower e live =
     let rest = (live_pop t reach l k lower e live).rest in
-    ap own (sym (pushed_back l k lower e)) ∙ owner_on (Operand lower) k.cells k.registers rest.root
+    ap own_locals (sym (pushed_back l k lower e)) ∙ owner_on (Operand lower) k.cells k.registers rest.root
 
 pub two_live : (t : Tables) (reach : Reach) (m l k : FlatStack) (upper lower : Item) → held.pop m ≡ Some (upper, l) → held.pop l ≡ Some (lower, k)
     → IsLiveStack t reach m → TwoLive t reach upper lower k

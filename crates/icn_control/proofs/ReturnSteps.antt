@@ -24,24 +24,24 @@ use Rattle.icn_frames.specs.declared.layout.Cell.{Cell}
 use Rattle.icn_frames.specs.declared.layout.Cell.TheVariants.{Base, Call, Local, Mark, Limit, Suspension, Operand}
 use Rattle.icn_frames.specs.Stacks as held
 use Rattle.icn_frames.specs.Stacks.{FlatStack}
-use Rattle.icn_frames_laws.specs.Readings.{swapped_read}
-use Rattle.icn_frames_laws.proofs.ScansRead.{swap_oldest_read, leave_read, suspend_proc_read}
+use Rattle.law_frames.specs.ReadStacks.{swapped_read}
+use Rattle.law_frames.proofs.ScansRead.{swap_oldest_read, leave_read, suspend_proc_read}
 use Rattle.icn_code.specs.declared.instr.Instr.TheVariants as Instrs
 use Rattle.icn_code.specs.Codes.{Tables}
 use Rattle.icn_run.specs.Rows as rows
 use Rattle.icn_run.specs.Calls as calls
 use Rattle.icn_run.specs.Stacks.{Frames, flat}
 use Rattle.icn_run.specs.Step.{State, Store, running, failing, with_value, with_world, with_result, here, scans_left, push_item, pair_now, maybe_exchanged, swapped_back, all_left, return_to, finish_run, proc_fails}
-use Rattle.icn_control.specs.declared.machine.Stage.{Stage}
-use Rattle.icn_control.specs.Living.{with_locals, IsLiveStack}
-use Rattle.icn_control.specs.Standing.{instruction_state, stack_in, reading_of, maybe_pair_in, pair_in}
+use Rattle.icn_control.specs.declared.machine.RunState.{RunState}
+use Rattle.icn_control.specs.LiveStacks.{with_locals, IsLiveStack}
+use Rattle.icn_control.specs.StackViews.{instruction_state, stack_in, reading_of, maybe_pair_in, pair_in}
 use Rattle.icn_control.specs.Pairs.{world_with_pair, maybe_paired}
-use Rattle.icn_control.specs.Parts.{RunsWith, FailsWith, StandsWith, HaltsWith, FindsValue}
+use Rattle.icn_control.specs.StackAndWorld.{RunsWith, FailsWith, StandsWith, HaltsWith, FindsValue}
 use Rattle.icn_control.specs.Results.{is_local_item}
 use Rattle.icn_control.proofs.StackSteps.{popped_runs, pushed_back}
-use Rattle.icn_control.proofs.LiveCalls.{own, live_push}
+use Rattle.icn_control.proofs.LiveCalls.{own_locals, live_push}
 use Rattle.icn_control.proofs.LiveFrames.{live_suspend_proc}
-use Rattle.icn_control.proofs.PartSteps.{value_goes, value_halts, left_world, at_halt}
+use Rattle.icn_control.proofs.StackAndWorldSteps.{value_goes, value_halts, left_world, match_halt}
 
 -- Results
 
@@ -89,8 +89,8 @@ result_err (Err s) w m item stop r e h st next same =
 -- Scans that are left
 
 -- the pair of a world is the present one
-pub present : (w : World) (st : Store Frames) → st.world ≡ world_of w → pair_now st ≡ pair_in (extent_of w.heap) w.pair
-present w st e =
+pub present_pair : (w : World) (st : Store Frames) → st.world ≡ world_of w → pair_now st ≡ pair_in (extent_of w.heap) w.pair
+present_pair w st e =
     let F : StoreWorld → calls.Pair = λ x. record { subject = x.subject; position = x.position } in
     ap F e
 
@@ -119,7 +119,7 @@ pub all_left_is : (w v : World) (m : FlatStack) (pair : Option HeldPair) → pai
     → st.world ≡ world_of w → all_left flat (stack_in (extent_of w.heap) m) st ≡ with_world (world_of v) st
 all_left_is w v m pair e back st same =
     let all : Extent = extent_of w.heap in
-    ap (λ (p : calls.Pair). swapped_back (flat.swap_oldest p (stack_in all m)) st) (present w st same)
+    ap (λ (p : calls.Pair). swapped_back (flat.swap_oldest p (stack_in all m)) st) (present_pair w st same)
     ∙ ap (λ (o : Option (calls.Pair × Frames)). swapped_back o st) (swap_oldest_read (reading_of all) w.pair m)
     ∙ left_by all m w.pair (held.oldest None m) st
     ∙ ap (λ (p : Option HeldPair). scans_left (maybe_pair_in all p) st) (sym e)
@@ -135,7 +135,7 @@ pub swapped_on : (w v : World) (m n : FlatStack) → held.swap_by true w.pair m 
 swapped_on w v m n e back heap st next same =
     let all : Extent = extent_of w.heap in
     let F : HeldHeap → State Frames Frames = λ x. next (stack_in (extent_of x) n) (with_world (world_of v) st) in
-    ap (λ (p : calls.Pair). maybe_exchanged (flat.swap_oldest p (stack_in all m)) (stack_in all m) st next) (present w st same)
+    ap (λ (p : calls.Pair). maybe_exchanged (flat.swap_oldest p (stack_in all m)) (stack_in all m) st next) (present_pair w st same)
     ∙ ap (λ (o : Option (calls.Pair × Frames)). maybe_exchanged o (stack_in all m) st next)
     (swap_oldest_read (reading_of all) w.pair m ∙ ap (option_map (swapped_read (reading_of all))) e)
     ∙ ap (λ (x : StoreWorld). next (stack_in all n) (with_world (world_with_pair (pair_in all v.pair) x) st)) same
@@ -252,7 +252,7 @@ pret_runs w v m k l o n item x pair e h p q back heap b r tables st same =
     ∙ ap (λ (y : FlatStack). running (stack_in all y) (with_world (world_of v) st)) (sym r)
     ∙ ap F (sym heap)
 
-pub pret_err : (result : Result Stage Halt) (w : World) (m k n : FlatStack) (item : Item) (stop : Stop) → IsErrAnd result (λ h. h ≡ halt_of stop)
+pub pret_err : (result : Result RunState Halt) (w : World) (m k n : FlatStack) (item : Item) (stop : Stop) → IsErrAnd result (λ h. h ≡ halt_of stop)
     → held.pop m ≡ Some (item, k) → Stops w k item stop → (tables : Tables)
     (st : Store Frames) → st.world ≡ world_of w
     → MatchResult result (StandsWith (instruction_state (extent_of w.heap) tables Instrs.Pret m st) st w n)
@@ -261,7 +261,7 @@ pret_err result w m k n item stop err e h tables st same =
     let all : Extent = extent_of w.heap in
     let next : rows.Item
     → State Frames Frames = λ result. return_to (flat.leave (stack_in all k)) (push_item flat result) (all_left flat (stack_in all k) st) in
-    at_halt result (halt_of stop) (StandsWith (instruction_state all tables Instrs.Pret m st) st w n)
+    match_halt result (halt_of stop) (StandsWith (instruction_state all tables Instrs.Pret m st) st w n)
     (HaltsWith (instruction_state all tables Instrs.Pret m st) st w) err
     (subst (λ (s : State Frames Frames). HaltsWith s st w (halt_of stop)) (sym (popped_runs m k item e all
     (λ y n. with_result flat y n st (λ result. return_to (flat.leave n) (push_item flat result) (all_left flat n st))))) (h st next same))
@@ -317,7 +317,7 @@ psusp_runs w v m k a l o n item x e c h p s heap b tables st same =
     (suspend_proc_read (reading_of all) o ∙ ap (option_map (stack_in all)) split.1.0)
     ∙ ap (λ (y : FlatStack). running (stack_in all y) (with_world (world_of v) st)) split.1.1
 
-pub psusp_err : (result : Result Stage Halt) (w : World) (m k a n : FlatStack) (item : Item) (stop : Stop) → IsErrAnd result (λ h. h ≡ halt_of stop)
+pub psusp_err : (result : Result RunState Halt) (w : World) (m k a n : FlatStack) (item : Item) (stop : Stop) → IsErrAnd result (λ h. h ≡ halt_of stop)
     → held.pop m ≡ Some (item, k) → a ≡ held.push item k → Stops w a item stop
     → (tables : Tables) (st : Store Frames) → st.world ≡ world_of w
     → MatchResult result (StandsWith (instruction_state (extent_of w.heap) tables Instrs.Psusp m st) st w n)
@@ -329,7 +329,7 @@ psusp_err result w m k a n item stop err e b h tables st same =
     let after : rows.Item
     → State Frames Frames = λ result. maybe_exchanged (flat.swap_oldest (pair_now st) (stack_in all m)) (stack_in all m) st (next result) in
     let found : Stops w m item stop = subst (λ (y : FlatStack). Stops w y item stop) back h in
-    at_halt result (halt_of stop) (StandsWith (instruction_state all tables Instrs.Psusp m st) st w n)
+    match_halt result (halt_of stop) (StandsWith (instruction_state all tables Instrs.Psusp m st) st w n)
     (HaltsWith (instruction_state all tables Instrs.Psusp m st) st w) err
     (subst (λ (s : State Frames Frames). HaltsWith s st w (halt_of stop))
     (sym (popped_runs m k item e all (λ y n. with_result flat y (stack_in all m) st after))) (found st after same))
@@ -337,7 +337,7 @@ psusp_err result w m k a n item stop err e b h tables st same =
 -- an item that is put where the procedure is left or suspended
 pub given_free : (t : Tables) (reach : Reach) (m n : FlatStack) (x : Item) → n ≡ held.push x m → IsLiveStack t reach m
     → ((c : ℕ) → IsLiveItem (with_locals c reach) x) → IsLiveStack t reach n
-given_free t reach m n x e k l = subst (λ (y : FlatStack). IsLiveStack t reach y) (sym e) (live_push t reach m x k (l (own m)))
+given_free t reach m n x e k l = subst (λ (y : FlatStack). IsLiveStack t reach y) (sym e) (live_push t reach m x k (l (own_locals m)))
 
 pub suspended_free : (t : Tables) (reach : Reach) (m n : FlatStack) (x : Item) → held.given_to (Some x) (held.suspend_proc m) ≡ Some n → IsLiveStack t reach m
     → ((c : ℕ) → IsLiveItem (with_locals c reach) x) → IsLiveStack t reach n

@@ -15,23 +15,23 @@ use Rattle.icn_frames.specs.declared.layout.Cell.{Cell}
 use Rattle.icn_frames.specs.declared.layout.Cell.TheVariants.{Base, Call, Local, Mark, Limit, Suspension, Operand}
 use Rattle.icn_frames.specs.Stacks as held
 use Rattle.icn_frames.specs.Stacks.{FlatStack}
-use Rattle.icn_frames_laws.specs.Readings.{swapped_read}
-use Rattle.icn_frames_laws.proofs.ScansRead.{swap_newest_read, suspend_read}
+use Rattle.law_frames.specs.ReadStacks.{swapped_read}
+use Rattle.law_frames.proofs.ScansRead.{swap_newest_read, suspend_read}
 use Rattle.icn_code.specs.declared.instr.Instr.TheVariants as Instrs
 use Rattle.icn_code.specs.Codes.{Tables}
 use Rattle.icn_run.specs.Rows as rows
 use Rattle.icn_run.specs.Calls as calls
 use Rattle.icn_run.specs.Stacks.{Frames, flat}
 use Rattle.icn_run.specs.Step.{State, Store, running, with_world, pair_now, with_exchange, push_item}
-use Rattle.icn_control.specs.Living.{with_locals, IsLiveStack}
-use Rattle.icn_control.specs.Standing.{instruction_state, stack_in, reading_of, pair_in}
+use Rattle.icn_control.specs.LiveStacks.{with_locals, IsLiveStack}
+use Rattle.icn_control.specs.StackViews.{instruction_state, stack_in, reading_of, pair_in}
 use Rattle.icn_control.specs.Pairs.{world_with_pair}
-use Rattle.icn_control.specs.Parts.{RunsWith}
-use Rattle.icn_control.proofs.LiveCalls.{own, live_pop, live_push, live_suspend, suspend_owner}
+use Rattle.icn_control.specs.StackAndWorld.{RunsWith}
+use Rattle.icn_control.proofs.LiveCalls.{own_locals, live_pop, live_push, live_suspend, suspend_owner}
 use Rattle.icn_control.proofs.LiveFrames.{live_swap}
-use Rattle.icn_control.proofs.Deref.{present_live}
+use Rattle.icn_control.proofs.OperandValues.{present_live}
 use Rattle.icn_control.proofs.StackSteps.{popped_runs}
-use Rattle.icn_control.proofs.ReturnSteps.{present}
+use Rattle.icn_control.proofs.ReturnSteps.{present_pair}
 
 -- taking an operand keeps the registers
 pub pop_registers : (m n : FlatStack) (item : Item) → held.pop m ≡ Some (item, n) → m.registers ≡ n.registers
@@ -60,7 +60,7 @@ escan_runs w v m k l n item e f back heap g tables st same =
     let next : Frames → Store Frames → State Frames Frames = λ a. push_item flat x (flat.suspend calls.Escan a) in
     let F : HeldHeap → State Frames Frames = λ y. running (stack_in (extent_of y) n) (with_world (world_of v) st) in
     popped_runs m k item e all (λ y a. with_exchange (flat.swap_newest (pair_now st) a) (λ b. push_item flat y (flat.suspend calls.Escan b)) st)
-    ∙ ap (λ (p : calls.Pair). with_exchange (flat.swap_newest p (stack_in all k)) next st) (present w st same)
+    ∙ ap (λ (p : calls.Pair). with_exchange (flat.swap_newest p (stack_in all k)) next st) (present_pair w st same)
     ∙ ap (λ (o : Option (calls.Pair × Frames)). with_exchange o next st)
     (swap_newest_read (reading_of all) w.pair k ∙ ap (option_map (swapped_read (reading_of all))) f)
     ∙ ap (λ (s : StoreWorld). next (stack_in all l) (with_world (world_with_pair (pair_in all v.pair) s) st)) same
@@ -77,7 +77,7 @@ escan_live t w v m k l n item e f g r live =
     let popped = live_pop t reach m k item e live in
     let swapped = live_swap t reach k l false w.pair v.pair f (present_live w) popped.rest in
     let left : IsLiveStack t reach (held.suspend Escan l) = live_suspend t reach l Escan swapped.rest tt in
-    let here : IsLiveItem (with_locals (own (held.suspend Escan l)) reach) item
+    let here : IsLiveItem (with_locals (own_locals (held.suspend Escan l)) reach) item
     = subst (λ (c : ℕ). IsLiveItem (with_locals c reach) item) (sym (suspend_owner l Escan swapped.rest.root ∙ swapped.same)) popped.item_live in
     let on : IsLiveStack t reach n = subst (λ (x : FlatStack). IsLiveStack t reach x) (same_Some _ _ g)
     (live_push t reach (held.suspend Escan l) item left here) in

@@ -11,9 +11,9 @@ use Rattle.icn_frames.specs.declared.layout.Cell.{Cell}
 use Rattle.icn_frames.specs.declared.layout.Cell.TheVariants.{Base, Call, Local, Mark, Limit, Suspension, Operand}
 use Rattle.icn_frames.specs.Stacks as held
 use Rattle.icn_frames.specs.Stacks.{FlatStack}
-use Rattle.icn_frames_laws.specs.Readings.{popped_read, counted_read, unmarked_read}
-use Rattle.icn_frames_laws.proofs.CallsRead.{pop_read, below_read, relabel_read, count_down_read}
-use Rattle.icn_frames_laws.proofs.ScansRead.{unmark_read, suspend_mark_read}
+use Rattle.law_frames.specs.ReadStacks.{popped_read, counted_read, unmarked_read}
+use Rattle.law_frames.proofs.CallsRead.{pop_read, below_read, relabel_read, count_down_read}
+use Rattle.law_frames.proofs.ScansRead.{unmark_read, suspend_mark_read}
 use Rattle.icn_code.specs.declared.instr.Instr.TheVariants as Instrs
 use Rattle.icn_code.specs.Codes.{Tables}
 use Rattle.icn_run.specs.Rows as rows
@@ -21,7 +21,7 @@ use Rattle.icn_run.specs.Calls as calls
 use Rattle.icn_run.specs.Stacks.{Frames, flat}
 use Rattle.icn_run.specs.Step.{State, Store, running, with_found, on_pair, push_item, scans_left, limited_result}
 use Rattle.icn_control.proofs.LiveCalls.{given_split}
-use Rattle.icn_control.specs.Standing.{stack_in, reading_of, maybe_pair_in, GoesOn, GoesOnLeaving}
+use Rattle.icn_control.specs.StackViews.{stack_in, reading_of, maybe_pair_in, GoesOn, GoesOnLeaving}
 
 -- an instruction goes on with a stack
 abbrev on : Store Frames → Frames → State Frames Frames

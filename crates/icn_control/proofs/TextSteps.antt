@@ -7,12 +7,12 @@ use Rattle.icn_value.specs.declared.val.Val.{Val}
 use Rattle.icn_value.specs.declared.val.Val.TheVariants.{Text as TextVal}
 use Rattle.icn_value.specs.Store.{Setting, outside_of}
 use Rattle.icn_heap.specs.declared.heap.Heap.{Heap as HeldHeap}
-use Rattle.icn_heap.specs.Extents.{Keeps, IsText, text_in}
+use Rattle.icn_heap.specs.Extents.{KeepsValues, IsText, text_in}
 use Rattle.icn_heap.specs.Heaps.{extent_of, heap_of}
 use Rattle.icn_vars.specs.declared.world.World.{World}
-use Rattle.icn_vars.specs.Facts.{IsSoundWorld}
+use Rattle.icn_vars.specs.WorldFacts.{IsSoundWorld}
 use Rattle.icn_vars.specs.Worlds.{IsLiveItem, KeepsItems, reach_of, world_of}
-use Rattle.icn_vars.proofs.Growing.{world_over, heap_changed}
+use Rattle.icn_vars.proofs.GrowingWorlds.{world_over, heap_changed}
 use Rattle.std.proofs.lemmas.List.Elements.{All-nil}
 use Rattle.icn_heap.specs.Extents.{IsLive}
 use Rattle.icn_frames.specs.Stacks as held
@@ -22,15 +22,15 @@ use Rattle.icn_code.specs.Codes.{Tables}
 use Rattle.icn_run.specs.Rows as rows
 use Rattle.icn_run.specs.Stacks.{Frames, flat}
 use Rattle.icn_run.specs.Step.{Store, running, with_found, push_item}
-use Rattle.icn_control.specs.Living.{with_locals, IsLiveStack}
-use Rattle.icn_control.specs.Standing.{instruction_state, stack_in}
-use Rattle.icn_control.specs.Parts.{RunsWith}
-use Rattle.icn_control.proofs.LiveCalls.{own, live_push}
+use Rattle.icn_control.specs.LiveStacks.{with_locals, IsLiveStack}
+use Rattle.icn_control.specs.StackViews.{instruction_state, stack_in}
+use Rattle.icn_control.specs.StackAndWorld.{RunsWith}
+use Rattle.icn_control.proofs.LiveCalls.{own_locals, live_push}
 use Rattle.icn_control.proofs.KeptItems.{stack_stays, stack_same}
-use Rattle.icn_control.proofs.PartSteps.{same_world}
+use Rattle.icn_control.proofs.StackAndWorldSteps.{same_world}
 
 -- a heap that holds a text more, in a world that is the same
-pub world_same : (old new : HeldHeap) (pair : Pair) (random : ℕ) (globals statics : List Val) → Keeps (extent_of old) (extent_of new)
+pub world_same : (old new : HeldHeap) (pair : Pair) (random : ℕ) (globals statics : List Val) → KeepsValues (extent_of old) (extent_of new)
     → heap_of new ≡ heap_of old → IsSoundWorld (extent_of old) pair random globals statics
     → world_over new pair random globals statics ≡ world_over old pair random globals statics
 world_same old new pair random globals statics keeps same sound =
@@ -53,6 +53,6 @@ pub string_live : (t : Tables) (w v : World) (m n : FlatStack) (span : Span) →
     → n ≡ held.push (HeldVal (TextVal span)) m → IsLiveStack t (reach_of w []) m
     → IsLiveStack t (reach_of v []) n
 string_live t w v m n span b keeps p live =
-    let text : IsLiveItem (with_locals (own m) (reach_of v [])) (HeldVal (TextVal span)) = record { live = record { live = b } } in
+    let text : IsLiveItem (with_locals (own_locals m) (reach_of v [])) (HeldVal (TextVal span)) = record { live = record { live = b } } in
     subst (λ (x : FlatStack). IsLiveStack t (reach_of v []) x) (sym p)
     (live_push t (reach_of v []) m (HeldVal (TextVal span)) (stack_stays t (reach_of w []) (reach_of v []) m keeps live) text)

@@ -6,16 +6,16 @@ use Rattle.icn_value.specs.declared.item.Item.TheVariants.{Val as HeldVal}
 use Rattle.icn_heap.specs.Extents.{Extent, value_in}
 use Rattle.icn_frames.specs.Stacks as held
 use Rattle.icn_frames.specs.Stacks.{FlatStack}
-use Rattle.icn_frames_laws.proofs.CallsRead.{begin_read}
+use Rattle.law_frames.proofs.CallsRead.{begin_read}
 use Rattle.icn_coexp.specs.Transfers as table
-use Rattle.icn_coexp.specs.Transfers.{Coexp, Table, source}
+use Rattle.icn_coexp.specs.Transfers.{Coexp, CoexpTable, source}
 use Rattle.icn_run.specs.Rows as rows
 use Rattle.icn_run.specs.Stacks.{Frames, flat}
 use Rattle.icn_run.specs.Step as code
 use Rattle.icn_run.specs.Step.{Store, Status, Fresh, Active, Waiting, Exhausted, running, failing, activator_of, status_of, with_status, with_activator, make_active, fail_by, give_by, passed_failure, passed_value}
 use Rattle.icn_control.specs.Machines.{status_in, coexp_in}
-use Rattle.icn_control.specs.Standing.{stack_in, reading_of}
-use Rattle.icn_control.specs.Landing.{Beside, store_with, land, TransfersAreRead}
+use Rattle.icn_control.specs.StackViews.{stack_in, reading_of}
+use Rattle.icn_control.specs.TransfersRead.{Beside, store_with, land, TransfersAreRead}
 
 -- where no co-expression is, an exhausted one
 abbrev absent : code.Coexp Frames
@@ -68,36 +68,37 @@ activator_set all (c ∷ cs) (suc n) a =
 abbrev with_list : Store Frames → List (code.Coexp Frames) → Store Frames
 with_list st coexps = record st { coexps = coexps }
 
-pub status_put : (beside : Beside) (t : Table) (n : ℕ) (s : Status FlatStack)
+pub status_put : (beside : Beside) (t : CoexpTable) (n : ℕ) (s : Status FlatStack)
     → with_status n (status_in beside.all s) (store_with beside t) ≡ store_with beside (record t { coexps = table.with_status n s t.coexps })
 status_put beside t n s = ap (with_list (store_with beside t)) (status_set beside.all t.coexps n s)
 
-activator_put : (beside : Beside) (t : Table) (n a : ℕ)
+activator_put : (beside : Beside) (t : CoexpTable) (n a : ℕ)
     → with_activator n a (store_with beside t) ≡ store_with beside (record t { coexps = table.with_activator n a t.coexps })
 activator_put beside t n a = ap (with_list (store_with beside t)) (activator_set beside.all t.coexps n a)
 
 -- one becomes the active one
-active_put : (beside : Beside) (t : Table) (n : ℕ) (m : FlatStack) → make_active n (store_with beside t) ≡ store_with beside (table.on_stack n m t)
+active_put : (beside : Beside) (t : CoexpTable) (n : ℕ) (m : FlatStack) → make_active n (store_with beside t) ≡ store_with beside (table.on_stack n m t)
 active_put beside t n m = status_put beside (record t { active = n }) n Active
 
 -- Entering with failure
 
-fails_by : (beside : Beside) (t u : Table) (n : ℕ) (m : Frames) (s : Status FlatStack) → table.fail_by n t s ≡ Some u
+fails_by : (beside : Beside) (t u : CoexpTable) (n : ℕ) (m : Frames) (s : Status FlatStack) → table.fail_by n t s ≡ Some u
     → fail_by flat (status_in beside.all s) n m (store_with beside t) ≡ land beside failing m u u.running
 fails_by beside t u n m Fresh e = cc
 fails_by beside t u n m Active e = cc
 fails_by beside t u n m (Waiting k) e =
-    ap (failing (stack_in beside.all k)) (active_put beside t n k) ∙ ap (λ (w : Table). land beside failing m w w.running) (same_Some _ _ e)
-fails_by beside t u n m Exhausted e = ap (λ (w : Table). land beside failing m w w.running) (same_Some _ _ e)
+    ap (failing (stack_in beside.all k)) (active_put beside t n k) ∙ ap (λ (w : CoexpTable). land beside failing m w w.running) (same_Some _ _ e)
+fails_by beside t u n m Exhausted e = ap (λ (w : CoexpTable). land beside failing m w w.running) (same_Some _ _ e)
 
-failure_passed : (beside : Beside) (t u : Table) (n : ℕ) (m : Frames) → table.enter_failing n t ≡ Some u
+failure_passed : (beside : Beside) (t u : CoexpTable) (n : ℕ) (m : Frames) → table.enter_failing n t ≡ Some u
     → passed_failure flat n m (store_with beside t) ≡ land beside failing m u u.running
 failure_passed beside t u n m e =
     ap (λ (s : Status Frames). fail_by flat s n m (store_with beside t)) (status_at beside.all t.coexps n) ∙ fails_by beside t u n m (table.status_of n t) e
 
 -- Entering with a value
 
-begins_by : (beside : Beside) (t : Table) (n : ℕ) (m : Frames) (u : Table) (o : Option Coexp) → slice_get t.coexps n ≡ o → Some (table.begin_by n t o) ≡ Some u
+begins_by : (beside : Beside) (t : CoexpTable) (n : ℕ) (m : Frames) (u : CoexpTable) (o : Option Coexp) → slice_get t.coexps n ≡ o
+    → Some (table.begin_by n t o) ≡ Some u
     → (c : Coexp) → o ≡ Some c
     → give_by flat Fresh n (rows.Null) m (store_with beside t) ≡ land beside running m u u.running
 begins_by beside t n m u (Some c) g e d p =
@@ -106,10 +107,10 @@ begins_by beside t n m u (Some c) g e d p =
     ap (λ (x : code.Coexp Frames). running (flat.begin x.proc x.values x.address m) (make_active n (store_with beside t))) (there_at all t.coexps n c g)
     ∙ ap (λ (x : Frames). running x (make_active n (store_with beside t))) (begin_read (reading_of all) c.proc c.values c.address m)
     ∙ ap (running (stack_in all began)) (active_put beside t n began)
-    ∙ ap (λ (w : Table). land beside running m w w.running) (same_Some _ _ e)
+    ∙ ap (λ (w : CoexpTable). land beside running m w w.running) (same_Some _ _ e)
 begins_by beside t n m u None g e d p = cc
 
-gives_by : (beside : Beside) (t u : Table) (n : ℕ) (value : Val) (m : Frames) (s : Status FlatStack)
+gives_by : (beside : Beside) (t u : CoexpTable) (n : ℕ) (value : Val) (m : Frames) (s : Status FlatStack)
     → (s ≡ Fresh → (c : Coexp) × (slice_get t.coexps n ≡ Some c)) → table.give_by n value t s ≡ Some u
     → give_by flat (status_in beside.all s) n (value_in beside.all value) m (store_with beside t) ≡ land beside running m u u.running
 gives_by beside t u n value m Fresh there e =
@@ -118,8 +119,8 @@ gives_by beside t u n value m Fresh there e =
 gives_by beside t u n value m Active there e = cc
 gives_by beside t u n value m (Waiting k) there e =
     ap (running (stack_in beside.all (held.push (HeldVal value) k))) (active_put beside t n (held.push (HeldVal value) k))
-    ∙ ap (λ (w : Table). land beside running m w w.running) (same_Some _ _ e)
-gives_by beside t u n value m Exhausted there e = ap (λ (w : Table). land beside running m w w.running) (same_Some _ _ e)
+    ∙ ap (λ (w : CoexpTable). land beside running m w w.running) (same_Some _ _ e)
+gives_by beside t u n value m Exhausted there e = ap (λ (w : CoexpTable). land beside running m w w.running) (same_Some _ _ e)
 
 -- a fresh one is there
 fresh_there : (cs : List Coexp) (n : ℕ) → table.status_in (slice_get cs n) ≡ Fresh → (c : Coexp) × (slice_get cs n ≡ Some c)
@@ -127,7 +128,7 @@ fresh_there [] n e = cc
 fresh_there (c ∷ cs) zero e = (c, refl)
 fresh_there (c ∷ cs) (suc n) e = fresh_there cs n e
 
-value_passed : (beside : Beside) (t u : Table) (n : ℕ) (value : Val) (m : Frames) → table.enter_with n value t ≡ Some u
+value_passed : (beside : Beside) (t u : CoexpTable) (n : ℕ) (value : Val) (m : Frames) → table.enter_with n value t ≡ Some u
     → passed_value flat n (value_in beside.all value) m (store_with beside t) ≡ land beside running m u u.running
 value_passed beside t u n value m e =
     ap (λ (s : Status Frames). give_by flat s n (value_in beside.all value) m (store_with beside t)) (status_at beside.all t.coexps n)
@@ -135,15 +136,16 @@ value_passed beside t u n value m e =
 
 -- The transfers
 
-pub source_is : (beside : Beside) (t : Table) → activator_of t.active (store_with beside t) ≡ source t
+pub source_is : (beside : Beside) (t : CoexpTable) → activator_of t.active (store_with beside t) ≡ source t
 source_is beside t = activator_at beside.all t.coexps t.active
 
-waits_on : (beside : Beside) (t : Table) (n : FlatStack) → t.running ≡ Some n
+waits_on : (beside : Beside) (t : CoexpTable) (n : FlatStack) → t.running ≡ Some n
     → with_status t.active (Waiting (stack_in beside.all n)) (store_with beside t) ≡ store_with beside (table.with_waiting t)
 waits_on beside t n e = status_put beside t t.active (Waiting n) ∙ ap (λ (o : Option FlatStack). store_with beside (table.wait_on t o)) (sym e)
 
-pub are_read : (beside : Beside) (t u : Table) (m : Frames) → TransfersAreRead beside t u m
-are_read beside t u m = record {
+-- transfers of a table, once it is read, are those of the definitions
+pub transfers_read : (beside : Beside) (t u : CoexpTable) (m : Frames) → TransfersAreRead beside t u m
+transfers_read beside t u m = record {
   exhausts = λ e.
       ap (λ (n : ℕ). passed_failure flat n m (with_status t.active Exhausted (store_with beside t))) (source_is beside t)
       ∙ ap (passed_failure flat (source t) m) (status_put beside t t.active Exhausted)
@@ -156,6 +158,6 @@ are_read beside t u m = record {
   enters = λ k value n r e.
       ap (λ (s : Store Frames). passed_value flat k (value_in beside.all value) (stack_in beside.all n) (with_activator k t.active s)) (waits_on beside t n r)
       ∙ ap (passed_value flat k (value_in beside.all value) (stack_in beside.all n)) (activator_put beside (table.with_waiting t) k t.active)
-      ∙ value_passed beside (let left : Table = table.with_waiting t in record left { coexps = table.with_activator k t.active left.coexps }) u k value
+      ∙ value_passed beside (let left : CoexpTable = table.with_waiting t in record left { coexps = table.with_activator k t.active left.coexps }) u k value
       (stack_in beside.all n) e;
 }

@@ -11,19 +11,19 @@ use Rattle.icn_vars.specs.declared.outcome.Halt.{Halt}
 use Rattle.icn_vars.specs.declared.outcome.Halt.TheVariants as Halts
 use Rattle.icn_frames.specs.Stacks as held
 use Rattle.icn_frames.specs.Stacks.{FlatStack}
-use Rattle.icn_coexp.specs.Transfers.{Coexp, Table}
+use Rattle.icn_coexp.specs.Transfers.{Coexp, CoexpTable}
 use Rattle.icn_code.specs.declared.instr.Instr.{Instr}
 use Rattle.icn_code.specs.Codes.{Tables}
 use Rattle.icn_run.specs.Rows.{Exit, Done}
 use Rattle.icn_run.specs.Stacks.{Frames, flat}
 use Rattle.icn_run.specs.Step as code
 use Rattle.icn_run.specs.Step.{State, Store, Status, Fresh, Active, Waiting, Exhausted, running, failing, hopping, over, instruction, errs, at_bound, all_names}
-use Rattle.icn_control.specs.Counting.{AreCounted}
-use Rattle.icn_control.specs.Living.{IsLiveStack, variable_count}
-use Rattle.icn_control.specs.Standing.{stack_in}
+use Rattle.icn_control.specs.ResultCounts.{AreCounted}
+use Rattle.icn_control.specs.LiveStacks.{IsLiveStack, variable_count}
+use Rattle.icn_control.specs.StackViews.{stack_in}
 use Rattle.icn_control.specs.declared.machine.Machine.{Machine}
-use Rattle.icn_control.specs.declared.machine.Stage.{Stage}
-use Rattle.icn_control.specs.declared.machine.Stage.TheVariants as Stages
+use Rattle.icn_control.specs.declared.machine.RunState.{RunState}
+use Rattle.icn_control.specs.declared.machine.RunState.TheVariants as RunStates
 
 -- co-expressions and the stacks with which they wait
 
@@ -43,7 +43,7 @@ coexp_in all coexp = record {
 }
 
 -- the store of these things
-abbrev pub store_in : Names → Outside → StoreWorld → ℕ → List Bool → Extent → Table → Store Frames
+abbrev pub store_in : Names → Outside → StoreWorld → ℕ → List Bool → Extent → CoexpTable → Store Frames
 store_in names outside world turns begun all table = record {
   world = world;
   outside = outside;
@@ -82,21 +82,23 @@ does tables outside instr m = instruction flat tables instr (stack_seen m) (stor
 
 -- Where a machine stands: an instruction is due; it fails; an exhausted co-expression was reached; the starting call is over; or one turn more would be
 -- past the bound.
-abbrev pub StandsAt : {K : Type 0} → Tables → Outside → State Frames Frames → Machine K → Stage → Type 0
-StandsAt tables outside state m Stages.Runs = state ≡ running (stack_seen m) (store_seen tables outside m)
-StandsAt tables outside state m Stages.Fails = state ≡ failing (stack_seen m) (store_seen tables outside m)
-StandsAt tables outside state m Stages.HopDue =
+abbrev pub StandsAt : {K : Type 0} → Tables → Outside → State Frames Frames → Machine K → RunState → Type 0
+StandsAt tables outside state m RunStates.Running =
+    state ≡ running (stack_seen m) (store_seen tables outside m)
+StandsAt tables outside state m RunStates.Failing =
+    state ≡ failing (stack_seen m) (store_seen tables outside m)
+StandsAt tables outside state m RunStates.Hopping =
     (old : Frames) × (state ≡ hopping old (store_seen tables outside m))
-StandsAt tables outside state m Stages.Over = state ≡ over Done outside
-StandsAt tables outside state m Stages.AtBound = state ≡ at_bound (store_seen tables outside m)
+StandsAt tables outside state m RunStates.Over = state ≡ over Done outside
+StandsAt tables outside state m RunStates.AtBound = state ≡ at_bound (store_seen tables outside m)
 
 -- a stack runs, but where a hop is due
-abbrev pub HasStack : {K : Type 0} → Machine K → Stage → Type 0
-HasStack m Stages.Runs = IsSome m.stacks.table.running
-HasStack m Stages.Fails = IsSome m.stacks.table.running
-HasStack m Stages.HopDue = m.stacks.table.running ≡ None
-HasStack m Stages.Over = ⊤
-HasStack m Stages.AtBound = ⊤
+abbrev pub HasStack : {K : Type 0} → Machine K → RunState → Type 0
+HasStack m RunStates.Running = IsSome m.stacks.table.running
+HasStack m RunStates.Failing = IsSome m.stacks.table.running
+HasStack m RunStates.Hopping = m.stacks.table.running ≡ None
+HasStack m RunStates.Over = ⊤
+HasStack m RunStates.AtBound = ⊤
 
 -- The run is over by an error or with a status; what neither reads nor writes comes to no fault. Of want of memory this says nothing.
 abbrev pub HaltsAt : {K : Type 0} → Tables → Outside → State Frames Frames → Machine K → Halt → Type 0
@@ -108,7 +110,7 @@ HaltsAt tables outside state m Halts.WriteFault = ⊥
 HaltsAt tables outside state m Halts.NoMemory = ⊤
 
 -- the machine stands at this state of the run, or it halts as the run ends in it
-abbrev pub ComesTo : {K : Type 0} → Tables → Outside → State Frames Frames → Machine K → Result Stage Halt
+abbrev pub ComesTo : {K : Type 0} → Tables → Outside → State Frames Frames → Machine K → Result RunState Halt
     → Type 0
 ComesTo tables outside state m result =
     MatchResult result (StandsAt tables outside state m) (HaltsAt tables outside state m)
@@ -133,7 +135,7 @@ IsLiveRunning tables reach (Some m) = IsLiveStack tables reach m
 IsLiveRunning tables reach None = ⊤
 
 -- all stacks of a table hold what is of the world
-pub record AreLiveStacks (tables : Tables) (reach : Reach) (table : Table) : Type 0 where
+pub record AreLiveStacks (tables : Tables) (reach : Reach) (table : CoexpTable) : Type 0 where
   pub runs : IsLiveRunning tables reach table.running
   pub coexps : (n : ℕ) (coexp : Coexp) → slice_get table.coexps n ≡ Some coexp
       → IsLiveCoexp tables reach n coexp
@@ -144,7 +146,7 @@ world_reach m = reach_of m.world []
 
 -- All that the stacks of a machine hold is of its world, which has the limits of the machine and a count of results for each co-expression, as the turns
 -- allow.
-pub record IsSound {K : Type 0} (tables : Tables) (m : Machine K) : Type 0 where
+pub record IsSoundMachine {K : Type 0} (tables : Tables) (m : Machine K) : Type 0 where
   pub stacks : AreLiveStacks tables (world_reach m) m.stacks.table
   pub bounds : (heap_of m.world.heap).bounds ≡ limits_of m.limits
   pub counts : length (heap_of m.world.heap).coexps ≡ length m.stacks.table.coexps

@@ -14,8 +14,8 @@ use Rattle.icn_vars.specs.Worlds.{world_of}
 use Rattle.icn_frames.specs.Stacks.{FlatStack}
 use Rattle.icn_run.specs.Stacks.{Frames, flat}
 use Rattle.icn_run.specs.Step.{State, Store, with_popped, with_value}
-use Rattle.icn_control.specs.Parts.{HaltsWith}
-use Rattle.icn_control.specs.Standing.{stack_in}
+use Rattle.icn_control.specs.StackAndWorld.{HaltsWith}
+use Rattle.icn_control.specs.StackViews.{stack_in}
 
 -- the value of the top operand, with the stack below it
 abbrev pub with_top : Frames → Store Frames → (Value → Frames → State Frames Frames) → State Frames Frames

@@ -5,27 +5,27 @@ use Rattle.icn_vars.specs.declared.world.World.{World}
 use Rattle.icn_vars.specs.Outcomes.{IsLiveHalt}
 use Rattle.icn_vars.specs.Worlds.{KeepsItems, reach_of}
 use Rattle.icn_code.specs.Codes.{Tables}
-use Rattle.icn_control.specs.Machines.{HasStack, IsSound, world_reach}
-use Rattle.icn_control.specs.Taking.{KeepsCounts}
+use Rattle.icn_control.specs.Machines.{HasStack, IsSoundMachine, world_reach}
+use Rattle.icn_control.specs.TakenOperands.{KeepsCounts}
 use Rattle.icn_control.specs.declared.machine.Machine.{Machine}
-use Rattle.icn_control.specs.declared.machine.Stage.{Stage}
+use Rattle.icn_control.specs.declared.machine.RunState.{RunState}
 
 -- a stack runs, and what the machine keeps is sound
-pub record Stands {K : Type 0} (m : Machine K) : Type 0 where
+pub record IsRunnable {K : Type 0} (m : Machine K) : Type 0 where
   pub runs : IsSome m.stacks.table.running
-  pub sound : (tables : Tables) × IsSound tables m
+  pub sound : (tables : Tables) × IsSoundMachine tables m
 
 -- A step that may halt: what is sound stays so, a stack runs where the run goes on (but where a hop is due), an error is
 -- about a value of the world, and the limits stay.
-pub record StaysSound {K : Type 0} (before after : Machine K) (result : Result Stage Halt) : Type 0 where
-  pub sound : (tables : Tables) → IsSound tables before → OnOk result (IsSound tables after)
+pub record StaysSound {K : Type 0} (before after : Machine K) (result : Result RunState Halt) : Type 0 where
+  pub sound : (tables : Tables) → IsSoundMachine tables before → OnOk result (IsSoundMachine tables after)
   pub halt : IfErr result (IsLiveHalt (world_reach after))
   pub limits : after.limits ≡ before.limits
   pub stack : IfOk result (HasStack after)
 
 -- the same of a step that never halts
-pub record GoesOnSound {K : Type 0} (before after : Machine K) (stage : Stage) : Type 0 where
-  pub sound : (tables : Tables) → IsSound tables before → IsSound tables after
+pub record GoesOnSound {K : Type 0} (before after : Machine K) (stage : RunState) : Type 0 where
+  pub sound : (tables : Tables) → IsSoundMachine tables before → IsSoundMachine tables after
   pub limits : after.limits ≡ before.limits
   pub stack : HasStack after stage
 

@@ -15,9 +15,9 @@ ghost use Rattle.icn_run.specs.Stacks.{flat as calls};
 ghost use Rattle.icn_run.specs.Step.{refresh};
 ghost use Rattle.icn_control.specs.Creations.{MakesCoexp, copy_entry, create_entry};
 ghost use Rattle.icn_control.specs.Machines.{ComesTo, does, stack_of, stack_seen, store_seen};
-ghost use Rattle.icn_control.specs.Soundness.{Stands, StaysSound};
+ghost use Rattle.icn_control.specs.Soundness.{IsRunnable, StaysSound};
 
-use crate::machine::{Machine, Stage};
+use crate::machine::{Machine, RunState};
 use crate::on_stack::put;
 use crate::transfers::{coexp_of, take_value};
 use icn_coexp::Stacks;
@@ -31,20 +31,20 @@ use std::alloc::{AllocError, Global};
 /// at a label with its value.
 ///
 /// The error is 307 or want of memory.
-pub fn create<K: Stack<Cell> + Drop>(m: &mut Machine<K>, label: u32) -> Result<Stage, Halt>
-    requires stands { Stands m.old }
+pub fn create<K: Stack<Cell> + Drop>(m: &mut Machine<K>, label: u32) -> Result<RunState, Halt>
+    requires stands { IsRunnable m.old }
     ensures step { (tables : Tables) (outside : Outside)
         → ComesTo tables outside (does tables outside (Instrs.Create label) m.old) m.new result }
     ensures keeps { StaysSound m.old m.new result }
 {
     if m.turns >= m.limits.turns {
-        return Ok(Stage::AtBound);
+        return Ok(RunState::AtBound);
     }
     m.turns += 1;
     let count = m.stacks.frames().local_count();
     charge_coexp(&mut m.world, count)?;
     match add_here(&mut m.stacks, *m.begun.allocator(), label) {
-        Ok(()) => Ok(Stage::Runs),
+        Ok(()) => Ok(RunState::Running),
         Err(_) => Err(Halt::NoMemory),
     }
 }
@@ -52,15 +52,15 @@ pub fn create<K: Stack<Cell> + Drop>(m: &mut Machine<K>, label: u32) -> Result<S
 /// Makes a co-expression as another one was made, which is the top operand, as a turn. The operand must be there.
 ///
 /// The error is that of the value, 118 where it is no co-expression, 215 where it is `&main`, 307, or want of memory.
-pub fn refresh<K: Stack<Cell> + Drop>(m: &mut Machine<K>) -> Result<Stage, Halt>
-    requires stands { Stands m.old }
+pub fn refresh<K: Stack<Cell> + Drop>(m: &mut Machine<K>) -> Result<RunState, Halt>
+    requires stands { IsRunnable m.old }
     requires operand { IsSome (flat.pop (stack_of m.old)) }
     ensures step { (tables : Tables) (outside : Outside)
         → ComesTo tables outside (does tables outside (Instrs.Op Ops.Refresh) m.old) m.new result }
     ensures keeps { StaysSound m.old m.new result }
 {
     if m.turns >= m.limits.turns {
-        return Ok(Stage::AtBound);
+        return Ok(RunState::AtBound);
     }
     m.turns += 1;
     let v = take_value(m.stacks.frames(), &m.world)?;
@@ -75,8 +75,8 @@ pub fn refresh<K: Stack<Cell> + Drop>(m: &mut Machine<K>) -> Result<Stage, Halt>
 }
 
 // Makes a co-expression as another one was made, where a turn was counted. The stack that runs must have room for an operand.
-fn make_again<K: Stack<Cell> + Drop>(m: &mut Machine<K>, id: u32) -> Result<Stage, Halt>
-    requires stands { Stands m.old }
+fn make_again<K: Stack<Cell> + Drop>(m: &mut Machine<K>, id: u32) -> Result<RunState, Halt>
+    requires stands { IsRunnable m.old }
     requires room { 0 < m.old.stacks.spare }
     requires other { 0 < id }
     requires there { id < length m.old.stacks.table.coexps }
@@ -85,16 +85,16 @@ fn make_again<K: Stack<Cell> + Drop>(m: &mut Machine<K>, id: u32) -> Result<Stag
     ensures keeps { StaysSound m.old m.new result }
 {
     m.stacks.frames().local_count();
-    let count = m.stacks.held(id);
+    let count = m.stacks.value_count(id);
     charge_coexp(&mut m.world, count)?;
     match add_copy(&mut m.stacks, *m.begun.allocator(), id) {
-        Ok(()) => Ok(Stage::Runs),
+        Ok(()) => Ok(RunState::Running),
         Err(_) => Err(Halt::NoMemory),
     }
 }
 
 // Charges a co-expression of so many locals, which is the next one of the heap. The errors are 307 and want of memory.
-#[tactic(auto, using(icn_vars::proofs::Growing::grows))]
+#[tactic(auto, using(icn_vars::proofs::GrowingWorlds::grows))]
 pub fn charge_coexp(world: &mut World, locals: u64) -> Result<(), Stop>
     ensures row { MakesCoexp locals world.old world.new result }
     ensures stops { IfErr result (IsLiveStop (extent_of world.new.heap)) }

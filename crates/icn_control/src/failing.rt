@@ -4,14 +4,14 @@ ghost use Rattle.icn_code.specs.Codes.{Tables};
 ghost use Rattle.icn_heap.specs.Extents.{Extent};
 ghost use Rattle.icn_heap.specs.Heaps.{extent_of};
 ghost use Rattle.icn_value.specs.Store.{Names};
-ghost use Rattle.icn_named.specs.Named.{WorldNamed};
+ghost use Rattle.law_names.specs.NamedSettings.{WorldNamed};
 ghost use Rattle.icn_vars.specs.Worlds.{Reach, reach_of, world_of};
 ghost use Rattle.icn_frames.specs.Stacks as flat;
 ghost use Rattle.icn_run.specs.Stacks.{Frames as FramesRead, flat as calls};
 ghost use Rattle.icn_run.specs.Step.{Store, fails, stuck};
-ghost use Rattle.icn_control.specs.Falls.{DropsTo, FallsBelow, FallsNamed, FallsTo, IsLiveDue};
-ghost use Rattle.icn_control.specs.Living.{IsLiveStack, StaysLive};
-ghost use Rattle.icn_control.specs.Standing.{stack_in};
+ghost use Rattle.icn_control.specs.FailingStacks.{DropsTo, FallsBelow, FallsNamed, FallsTo, IsLiveDue};
+ghost use Rattle.icn_control.specs.LiveStacks.{IsLiveStack, StaysLive};
+ghost use Rattle.icn_control.specs.StackViews.{stack_in};
 ghost use Rattle.icn_control.specs.Soundness.{KeepsHeap};
 
 use crate::scans::swap_pairs;
@@ -22,7 +22,7 @@ use icn_vars::World;
 
 /// What is due after a step of failing.
 #[derive(Clone, Copy, Debug, PartialEq, Eq)]
-pub enum Due {
+pub enum AfterFailure {
     /// The code goes on failing.
     Failing,
     /// The next instruction.
@@ -39,7 +39,7 @@ pub enum Due {
 
 /// One step of failing: the newest suspension of the innermost mark comes back, and where there is none the mark is dropped.
 /// It takes no memory.
-pub fn fall<K: Stack<Cell> + Drop>(frames: &mut Frames<K>, world: &mut World) -> Due
+pub fn fall<K: Stack<Cell> + Drop>(frames: &mut Frames<K>, world: &mut World) -> AfterFailure
     requires live { (tables : Tables) × IsLiveStack tables (reach_of world.old []) frames.old.flat }
     requires goes_on { (tables : Tables) × ((st : Store FramesRead)
         × (fails calls tables (stack_in (extent_of world.old.heap) frames.old.flat) st ≢ stuck)) }
@@ -57,22 +57,22 @@ pub fn fall<K: Stack<Cell> + Drop>(frames: &mut Frames<K>, world: &mut World) ->
 {
     match frames.resume() {
         None => drop_failed(frames),
-        Some(Why::Alt) => Due::Failing,
-        Some(Why::Op(rest)) => Due::Resuming(rest),
+        Some(Why::Alt) => AfterFailure::Failing,
+        Some(Why::Op(rest)) => AfterFailure::Resuming(rest),
         Some(Why::Scan(pair)) => {
             set_pair(world, pair);
-            Due::Failing
+            AfterFailure::Failing
         }
         Some(Why::Escan) => {
             swap_pairs(frames, world, false);
-            Due::Failing
+            AfterFailure::Failing
         }
-        Some(Why::Proc) => Due::Reentering,
+        Some(Why::Proc) => AfterFailure::Reentering,
     }
 }
 
 // The innermost mark is dropped, as nothing in it can be resumed.
-fn drop_failed<K: Stack<Cell> + Drop>(frames: &mut Frames<K>) -> Due
+fn drop_failed<K: Stack<Cell> + Drop>(frames: &mut Frames<K>) -> AfterFailure
     ensures step { DropsTo frames.old.flat frames.new.flat result }
     ensures live { StaysLive frames.old.flat frames.new.flat }
     ensures due { (reach : Reach) → IsLiveDue reach frames.new.flat result }
@@ -80,16 +80,20 @@ fn drop_failed<K: Stack<Cell> + Drop>(frames: &mut Frames<K>) -> Due
     ensures named { (all : Extent) → FallsNamed all frames.old.flat frames.new.flat result }
 {
     if frames.at_base() {
-        return Due::Leaving;
+        return AfterFailure::Leaving;
     }
     let label = frames.label();
-    let again = frames.relabelled();
+    let again = frames.has_new_label();
     frames.unmark();
     match label {
-        None => Due::Failing,
+        None => AfterFailure::Failing,
         Some(address) => {
             frames.go(address);
-            if again { Due::Beginning } else { Due::Running }
+            if again {
+                AfterFailure::Beginning
+            } else {
+                AfterFailure::Running
+            }
         }
     }
 }

@@ -6,17 +6,17 @@ ghost use Rattle.icn_heap.specs.Heaps.{heap_of};
 ghost use Rattle.icn_code.specs.Codes.{Tables};
 ghost use Rattle.icn_run.specs.Stacks.{Frames as FramesRead, flat as calls};
 ghost use Rattle.icn_run.specs.Step.{exhaust_active, hop};
-ghost use Rattle.icn_control.specs.Landing.{is_moved};
+ghost use Rattle.icn_control.specs.TransfersRead.{is_moved};
 ghost use Rattle.icn_control.specs.Machines.{StandsAt, stack_seen, store_seen};
 ghost use Rattle.icn_control.specs.Soundness.{GoesOnSound};
 
-use crate::machine::{Machine, Stage};
-use icn_coexp::Went;
+use crate::machine::{Machine, RunState};
+use icn_coexp::AfterTransfer;
 use icn_frames::{Cell, Stack};
 
 /// The expression of the active co-expression, which must not be `&main`, fails, as a turn: it is exhausted, and what entered
 /// it last is entered with failure. It takes no memory.
-pub fn exhaust<K: Stack<Cell> + Drop>(m: &mut Machine<K>) -> Stage
+pub fn exhaust<K: Stack<Cell> + Drop>(m: &mut Machine<K>) -> RunState
     requires runs { IsSome m.old.stacks.table.running }
     requires other { 0 < m.old.stacks.table.active }
     requires bounds { (heap_of m.old.world.heap).bounds ≡ limits_of m.old.limits }
@@ -29,7 +29,7 @@ pub fn exhaust<K: Stack<Cell> + Drop>(m: &mut Machine<K>) -> Stage
 
 /// The exhausted co-expression that was reached passes failure on to what entered it last, as a turn. A hop must be due. It
 /// takes no memory.
-pub fn hop<K: Stack<Cell> + Drop>(m: &mut Machine<K>) -> Stage
+pub fn hop<K: Stack<Cell> + Drop>(m: &mut Machine<K>) -> RunState
     requires due { m.old.stacks.table.running ≡ None }
     requires bounds { (heap_of m.old.world.heap).bounds ≡ limits_of m.old.limits }
     ensures step { (tables : Tables) (outside : Outside) (old : FramesRead)
@@ -41,7 +41,7 @@ pub fn hop<K: Stack<Cell> + Drop>(m: &mut Machine<K>) -> Stage
 }
 
 // The active co-expression is exhausted, if it was not before, and what entered it last is entered with failure, as a turn.
-fn pass_failure<K: Stack<Cell> + Drop>(m: &mut Machine<K>) -> Stage
+fn pass_failure<K: Stack<Cell> + Drop>(m: &mut Machine<K>) -> RunState
     requires other { 0 < m.old.stacks.table.active }
     requires bounds { (heap_of m.old.world.heap).bounds ≡ limits_of m.old.limits }
     ensures step { (tables : Tables) (outside : Outside) (old : FramesRead) → StandsAt tables outside
@@ -49,24 +49,24 @@ fn pass_failure<K: Stack<Cell> + Drop>(m: &mut Machine<K>) -> Stage
     ensures keeps { GoesOnSound m.old m.new result }
 {
     if m.turns >= m.limits.turns {
-        return Stage::AtBound;
+        return RunState::AtBound;
     }
     m.turns += 1;
     let went = m.stacks.exhaust();
     if is_moved(went) {
-        Stage::Fails
+        RunState::Failing
     } else {
-        Stage::HopDue
+        RunState::Hopping
     }
 }
 
 // Whether another co-expression is active after a transfer.
-pub fn is_moved(went: Went) -> bool
+pub fn is_moved(went: AfterTransfer) -> bool
     ensures { result ≡ is_moved went }
 {
     match went {
-        Went::Moved => true,
-        Went::Same(_) => false,
-        Went::Exhausted => false,
+        AfterTransfer::Moved => true,
+        AfterTransfer::Same(_) => false,
+        AfterTransfer::Exhausted => false,
     }
 }

@@ -14,10 +14,10 @@ ghost use Rattle.icn_heap.specs.Extents.{Extent};
 ghost use Rattle.icn_vars.specs.Worlds.{IsLiveItem, Reach, item_in};
 ghost use Rattle.icn_code.specs.Codes.{Tables};
 ghost use Rattle.icn_code.specs.declared.instr.Instr.TheVariants as Instrs;
-ghost use Rattle.icn_control.specs.Machines.{HasStack, IsSound, StandsAt, does};
-ghost use Rattle.icn_control.specs.Soundness.{Stands};
+ghost use Rattle.icn_control.specs.Machines.{HasStack, IsSoundMachine, StandsAt, does};
+ghost use Rattle.icn_control.specs.Soundness.{IsRunnable};
 
-use crate::machine::{Machine, Stage};
+use crate::machine::{Machine, RunState};
 use icn_frames::{Cell, Stack};
 use icn_text::Keyword;
 use icn_value::{Cset, File, Item, KeywordVariable, Root, Val, VarRef};
@@ -137,11 +137,12 @@ fn of_word(word: KeywordVariable) -> Option<Item>
 pub fn push_keyword<K: Stack<Cell> + Drop>(
     m: &mut Machine<K>,
     word: Keyword,
-) -> Result<Stage, AllocError>
-    requires stands { Stands m.old }
+) -> Result<RunState, AllocError>
+    requires stands { IsRunnable m.old }
     ensures step { IfOk result (λ stage. (tables : Tables) (outside : Outside)
         → StandsAt tables outside (does tables outside (Instrs.Keywd word) m.old) m.new stage) }
-    ensures sound { OnOk result ((tables : Tables) → IsSound tables m.old → IsSound tables m.new) }
+    ensures sound { OnOk result ((tables : Tables) → IsSoundMachine tables m.old
+        → IsSoundMachine tables m.new) }
     ensures limits { m.new.limits ≡ m.old.limits }
     ensures stack { IfOk result (HasStack m.new) }
 {
@@ -150,10 +151,10 @@ pub fn push_keyword<K: Stack<Cell> + Drop>(
     let frames = m.stacks.frames();
     let level = frames.level();
     match keyword_item(word, level, active, source) {
-        None => Ok(Stage::Fails),
+        None => Ok(RunState::Failing),
         Some(x) => {
             frames.push(x)?;
-            Ok(Stage::Runs)
+            Ok(RunState::Running)
         }
     }
 }

@@ -5,17 +5,17 @@ ghost use Rattle.icn_code.specs.Codes.{Tables};
 ghost use Rattle.icn_run.specs.Stacks.{flat as calls};
 ghost use Rattle.icn_run.specs.Step.{stuck, without_mark};
 ghost use Rattle.icn_control.specs.Machines.{StandsAt, stack_seen, store_seen};
-ghost use Rattle.icn_control.specs.Soundness.{GoesOnSound, Stands};
+ghost use Rattle.icn_control.specs.Soundness.{GoesOnSound, IsRunnable};
 
 use crate::hops::exhaust;
-use crate::machine::{Machine, Stage};
+use crate::machine::{Machine, RunState};
 use crate::returns::leave_failing;
 use icn_frames::{Cell, Stack};
 
 /// Ends what fails and has no mark left: a create body is exhausted, as a turn, and a procedure fails in its caller. It takes
 /// no memory.
-pub fn end_failing<K: Stack<Cell> + Drop>(m: &mut Machine<K>) -> Stage
-    requires stands { Stands m.old }
+pub fn end_failing<K: Stack<Cell> + Drop>(m: &mut Machine<K>) -> RunState
+    requires stands { IsRunnable m.old }
     requires goes_on { (tables : Tables) × ((outside : Outside)
         × (without_mark calls tables (stack_seen m.old) (store_seen tables outside m.old) ≢ stuck)) }
     ensures step { (tables : Tables) (outside : Outside) → StandsAt tables outside

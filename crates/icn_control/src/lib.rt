@@ -2,13 +2,13 @@
 #![tactic(auto)]
 
 mod activation;
+mod coexpression_laws;
 mod coexpressions;
 mod failing;
 mod failing_step;
 mod hops;
 mod initial;
 mod keywords;
-mod laws;
 mod leaving;
 mod limits;
 mod lists;
@@ -27,18 +27,18 @@ mod values;
 mod world;
 
 pub use activation::Activation;
+pub use coexpression_laws::{creations_are_read, transfers_are_read};
 pub use coexpressions::{create, refresh};
-pub use failing::{Due, fall};
+pub use failing::{AfterFailure, fall};
 pub use failing_step::fail_once;
 pub use hops::{exhaust, hop};
 pub use initial::init;
 pub use keywords::{keyword_item, push_keyword};
-pub use laws::{creations_are_read, transfers_are_read};
 pub use leaving::end_failing;
 pub use limits::limit;
 pub use lists::{make_list, push_list};
 pub use literals::{push_cset, push_global, push_integer, push_local, push_static};
-pub use machine::{Machine, Stage};
+pub use machine::{Machine, RunState};
 pub use marks::{lsusp, unmark};
 pub use on_stack::{
     change_label, drop_mark, drop_operand, duplicate, give_limited, give_suspended, go_to,

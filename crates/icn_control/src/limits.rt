@@ -5,10 +5,10 @@ ghost use Rattle.icn_code.specs.declared.instr.Instr.TheVariants as Instrs;
 ghost use Rattle.icn_vars.specs.Outcomes.{IsLiveHalt};
 ghost use Rattle.icn_vars.specs.Worlds.{reach_of};
 ghost use Rattle.icn_frames.specs.Stacks as flat;
-ghost use Rattle.icn_control.specs.Living.{IsLiveStack};
-ghost use Rattle.icn_control.specs.Parts.{ComesWith, natural_of};
+ghost use Rattle.icn_control.specs.LiveStacks.{IsLiveStack};
+ghost use Rattle.icn_control.specs.StackAndWorld.{ComesWith, natural_of};
 
-use crate::machine::Stage;
+use crate::machine::RunState;
 use crate::values::value_of;
 use icn_convert::to_integer;
 use icn_frames::{Cell, Frames, Stack};
@@ -17,7 +17,7 @@ use icn_vars::{Halt, World};
 /// Opens a limit mark, with the value of the top operand as its count. At 0 it fails.
 ///
 /// The error is that of the value, 101 where it is no integer, and 205 where it is below 0.
-pub fn limit<K: Stack<Cell> + Drop>(frames: &mut Frames<K>, world: &World) -> Result<Stage, Halt>
+pub fn limit<K: Stack<Cell> + Drop>(frames: &mut Frames<K>, world: &World) -> Result<RunState, Halt>
     requires operand { IsSome (flat.pop frames.old.flat) }
     requires live { (tables : Tables) × IsLiveStack tables (reach_of world.now []) frames.old.flat }
     ensures step { ComesWith Instrs.Limit world.now frames.old.flat world.now frames.new.flat result }
@@ -34,10 +34,10 @@ pub fn limit<K: Stack<Cell> + Drop>(frames: &mut Frames<K>, world: &World) -> Re
         return Err(Halt::Error(205, Some(v)));
     };
     if count == 0 {
-        return Ok(Stage::Fails);
+        return Ok(RunState::Failing);
     }
     open_limit(frames, count);
-    Ok(Stage::Runs)
+    Ok(RunState::Running)
 }
 
 // Opens a limit mark on a stack that has room for it.

@@ -8,13 +8,13 @@ ghost use Rattle.icn_vars.specs.Worlds.{IsLiveItem, reach_of, world_of};
 ghost use Rattle.icn_frames.specs.Stacks as flat;
 ghost use Rattle.icn_run.specs.Stacks.{Frames as FramesRead};
 ghost use Rattle.icn_run.specs.Step.{Store};
-ghost use Rattle.icn_control.specs.Living.{IsLiveStack, with_locals};
+ghost use Rattle.icn_control.specs.LiveStacks.{IsLiveStack, with_locals};
 ghost use Rattle.icn_control.specs.Machines.{ComesTo, does, stack_of};
-ghost use Rattle.icn_control.specs.Soundness.{LeavesWorld, Stands, StaysSound};
-ghost use Rattle.icn_control.specs.Parts.{HaltsWith, RunsWith};
-ghost use Rattle.icn_control.specs.Taking.{push_list, take_operands};
+ghost use Rattle.icn_control.specs.Soundness.{LeavesWorld, IsRunnable, StaysSound};
+ghost use Rattle.icn_control.specs.StackAndWorld.{HaltsWith, RunsWith};
+ghost use Rattle.icn_control.specs.TakenOperands.{push_list, take_operands};
 
-use crate::machine::{Machine, Stage};
+use crate::machine::{Machine, RunState};
 use crate::operands::take_operands;
 use crate::values::{list_of, values_of};
 use icn_frames::{Cell, Frames, Stack};
@@ -57,8 +57,8 @@ pub fn make_list<K: Stack<Cell> + Drop>(
     items: &mut Vec<Item>,
     vals: &mut Vec<Val>,
     count: u32,
-) -> Result<Stage, Halt>
-    requires stands { Stands m.old }
+) -> Result<RunState, Halt>
+    requires stands { IsRunnable m.old }
     requires operands { IsSome (take_operands count (stack_of m.old)) }
     ensures step { (tables : Tables) (outside : Outside)
         → ComesTo tables outside (does tables outside (Instrs.Llist count) m.old) m.new result }
@@ -68,9 +68,9 @@ pub fn make_list<K: Stack<Cell> + Drop>(
         return Err(Halt::NoMemory);
     };
     if m.turns >= m.limits.turns {
-        return Ok(Stage::AtBound);
+        return Ok(RunState::AtBound);
     }
     m.turns += 1;
     push_list(m.stacks.frames(), &mut m.world, items, vals)?;
-    Ok(Stage::Runs)
+    Ok(RunState::Running)
 }

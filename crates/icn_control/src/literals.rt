@@ -1,13 +1,13 @@
 // Instructions that push what the code names, and touch nothing but the stack that runs.
 ghost use Rattle.std.specs.Prelude.{◌≡◌, ◌+◌, ◌<◌, ◌^◌, Some, length, slice_get, OnOk};
 ghost use Rattle.icn_code.specs.Codes.{Tables};
-ghost use Rattle.icn_code.specs.Seen.{tables_of};
+ghost use Rattle.icn_code.specs.CodeTables.{tables_of};
 ghost use Rattle.icn_code.specs.declared.instr.Instr.TheVariants as Instrs;
 ghost use Rattle.icn_frames.specs.Stacks as flat;
 ghost use Rattle.icn_vars.specs.Worlds.{Reach};
 ghost use Rattle.icn_run.specs.Step.{statics_before};
-ghost use Rattle.icn_control.specs.Living.{IsLiveStack, StaysLive};
-ghost use Rattle.icn_control.specs.Standing.{GoesOn, GoesOnIn};
+ghost use Rattle.icn_control.specs.LiveStacks.{IsLiveStack, StaysLive};
+ghost use Rattle.icn_control.specs.StackViews.{GoesOn, GoesOnIn};
 
 use icn_code::Code;
 use icn_frames::{Cell, Frames, Stack};

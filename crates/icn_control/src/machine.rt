@@ -17,13 +17,13 @@ pub struct Machine<K: Stack<Cell> + Drop> {
 
 /// Where a machine stands after an instruction.
 #[derive(Clone, Copy, Debug, PartialEq, Eq)]
-pub enum Stage {
+pub enum RunState {
     /// The next instruction is due.
-    Runs,
+    Running,
     /// The code fails.
-    Fails,
+    Failing,
     /// An exhausted co-expression was reached, whose hop is due.
-    HopDue,
+    Hopping,
     /// The starting call is over.
     Over,
     /// One turn more would be past the bound.

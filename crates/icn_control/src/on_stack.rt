@@ -4,8 +4,8 @@ ghost use Rattle.icn_value.specs.declared.item.Item.TheVariants.{Val as HeldVal}
 ghost use Rattle.icn_value.specs.declared.val.Val.TheVariants.{Null};
 ghost use Rattle.icn_code.specs.declared.instr.Instr.TheVariants as Instrs;
 ghost use Rattle.icn_frames.specs.Stacks as flat;
-ghost use Rattle.icn_control.specs.Living.{MaybeStaysLive, StaysLive};
-ghost use Rattle.icn_control.specs.Standing.{GoesOn, GoesOnLeaving, mark_of};
+ghost use Rattle.icn_control.specs.LiveStacks.{MaybeStaysLive, StaysLive};
+ghost use Rattle.icn_control.specs.StackViews.{GoesOn, GoesOnLeaving, mark_of};
 
 use icn_frames::{Cell, Frames, Stack, Why};
 use icn_value::{Item, Pair, Val};

@@ -12,10 +12,10 @@ ghost use Rattle.icn_vars.specs.Worlds.{KeepsItems, reach_of, world_of};
 ghost use Rattle.icn_frames.specs.Stacks as flat;
 ghost use Rattle.icn_run.specs.Stacks.{Frames as FramesRead, flat as calls};
 ghost use Rattle.icn_run.specs.Step.{Store, scan_opened};
-ghost use Rattle.icn_control.specs.Living.{IsLiveStack};
-ghost use Rattle.icn_control.specs.Parts.{DoesWith, RunsWith};
-ghost use Rattle.icn_control.specs.Standing.{stack_in};
-ghost use Rattle.icn_control.specs.Taking.{KeepsCounts, MakesValue};
+ghost use Rattle.icn_control.specs.LiveStacks.{IsLiveStack};
+ghost use Rattle.icn_control.specs.StackAndWorld.{DoesWith, RunsWith};
+ghost use Rattle.icn_control.specs.StackViews.{stack_in};
+ghost use Rattle.icn_control.specs.TakenOperands.{KeepsCounts, MakesValue};
 ghost use Rattle.icn_control.specs.Soundness.{KeepsHeap, LeavesWorld};
 
 use crate::activation::Activation;

@@ -1,7 +1,7 @@
 // Operands that are taken together.
 ghost use Rattle.std.specs.Prelude.{◌≡◌, ◌+◌, Some, IsSome, OnOk, length};
 ghost use Rattle.icn_frames.specs.Stacks as flat;
-ghost use Rattle.icn_control.specs.Taking.{take_operands};
+ghost use Rattle.icn_control.specs.TakenOperands.{take_operands};
 
 use icn_frames::{Cell, Frames, Stack};
 use icn_value::{Item, Val};

@@ -10,13 +10,13 @@ ghost use Rattle.icn_frames.specs.Stacks as flat;
 ghost use Rattle.icn_run.specs.Rows.{Item as ItemRead};
 ghost use Rattle.icn_run.specs.Stacks.{Frames as FramesRead, flat as calls};
 ghost use Rattle.icn_run.specs.Step.{State, Store, proc_fails, with_result};
-ghost use Rattle.icn_control.specs.Living.{IsLiveStack, with_locals};
-ghost use Rattle.icn_control.specs.Parts.{ComesWith, HaltsWith, StandsWith};
+ghost use Rattle.icn_control.specs.LiveStacks.{IsLiveStack, with_locals};
+ghost use Rattle.icn_control.specs.StackAndWorld.{ComesWith, HaltsWith, StandsWith};
 ghost use Rattle.icn_control.specs.Results.{is_local_item, is_local_root};
-ghost use Rattle.icn_control.specs.Standing.{instruction_state, stack_in};
+ghost use Rattle.icn_control.specs.StackViews.{instruction_state, stack_in};
 ghost use Rattle.icn_control.specs.Soundness.{KeepsHeap};
 
-use crate::machine::Stage;
+use crate::machine::RunState;
 use crate::on_stack::put;
 use crate::scans::swap_if_scanning;
 use crate::values::value_of;
@@ -79,7 +79,7 @@ pub fn result_of<K: Stack<Cell> + Drop>(
 }
 
 /// Ends the procedure, which fails, and all its scans are left. It takes no memory.
-pub fn leave_failing<K: Stack<Cell> + Drop>(frames: &mut Frames<K>, world: &mut World) -> Stage
+pub fn leave_failing<K: Stack<Cell> + Drop>(frames: &mut Frames<K>, world: &mut World) -> RunState
     requires live { (tables : Tables) × IsLiveStack tables (reach_of world.old []) frames.old.flat }
     ensures step { (st : Store FramesRead) → st.world ≡ world_of world.old
         → StandsWith (proc_fails calls (stack_in (extent_of world.old.heap) frames.old.flat) st) st world.new
@@ -91,14 +91,14 @@ pub fn leave_failing<K: Stack<Cell> + Drop>(frames: &mut Frames<K>, world: &mut 
     let pair = frames.oldest_pair();
     restore_pair(world, pair);
     if frames.is_base() {
-        return Stage::Over;
+        return RunState::Over;
     }
     frames.leave();
-    Stage::Fails
+    RunState::Failing
 }
 
 /// Ends the procedure, which fails, as it has no more instructions. It takes no memory.
-pub fn fail_procedure<K: Stack<Cell> + Drop>(frames: &mut Frames<K>, world: &mut World) -> Stage
+pub fn fail_procedure<K: Stack<Cell> + Drop>(frames: &mut Frames<K>, world: &mut World) -> RunState
     requires live { (tables : Tables) × IsLiveStack tables (reach_of world.old []) frames.old.flat }
     ensures step { (tables : Tables) (st : Store FramesRead) → st.world ≡ world_of world.old
         → StandsWith (instruction_state (extent_of world.old.heap) tables Instrs.Pfail frames.old.flat st) st
@@ -116,7 +116,7 @@ pub fn fail_procedure<K: Stack<Cell> + Drop>(frames: &mut Frames<K>, world: &mut
 pub fn give_back<K: Stack<Cell> + Drop>(
     frames: &mut Frames<K>,
     world: &mut World,
-) -> Result<Stage, Halt>
+) -> Result<RunState, Halt>
     requires operand { IsSome (flat.pop frames.old.flat) }
     requires live { (tables : Tables) × IsLiveStack tables (reach_of world.old []) frames.old.flat }
     ensures step { ComesWith Instrs.Pret world.old frames.old.flat world.new frames.new.flat result }
@@ -130,11 +130,11 @@ pub fn give_back<K: Stack<Cell> + Drop>(
     let pair = frames.oldest_pair();
     restore_pair(world, pair);
     if frames.is_base() {
-        return Ok(Stage::Over);
+        return Ok(RunState::Over);
     }
     frames.leave();
     put(frames, r);
-    Ok(Stage::Runs)
+    Ok(RunState::Running)
 }
 
 /// Suspends the procedure with the top operand, which stays in it; of its scans the caller's pair comes back.
@@ -143,7 +143,7 @@ pub fn give_back<K: Stack<Cell> + Drop>(
 pub fn suspend_with<K: Stack<Cell> + Drop>(
     frames: &mut Frames<K>,
     world: &mut World,
-) -> Result<Stage, Halt>
+) -> Result<RunState, Halt>
     requires operand { IsSome (flat.pop frames.old.flat) }
     requires live { (tables : Tables) × IsLiveStack tables (reach_of world.old []) frames.old.flat }
     ensures step { ComesWith Instrs.Psusp world.old frames.old.flat world.new frames.new.flat result }
@@ -157,10 +157,10 @@ pub fn suspend_with<K: Stack<Cell> + Drop>(
     let r = result_of(frames, world, x)?;
     swap_if_scanning(frames, world);
     if frames.is_base() {
-        return Ok(Stage::Over);
+        return Ok(RunState::Over);
     }
     match frames.suspend(Why::Proc, Some(r)) {
-        Ok(()) => Ok(Stage::Runs),
+        Ok(()) => Ok(RunState::Running),
         Err(_) => Err(Halt::NoMemory),
     }
 }

@@ -5,10 +5,10 @@ ghost use Rattle.icn_code.specs.declared.instr.Instr.TheVariants as Instrs;
 ghost use Rattle.icn_heap.specs.Heaps.{extent_of};
 ghost use Rattle.icn_vars.specs.Worlds.{reach_of, world_of};
 ghost use Rattle.icn_frames.specs.Stacks as flat;
-ghost use Rattle.icn_control.specs.Living.{IsLiveStack};
+ghost use Rattle.icn_control.specs.LiveStacks.{IsLiveStack};
 ghost use Rattle.icn_control.specs.Pairs.{world_with_pair};
-ghost use Rattle.icn_control.specs.Parts.{DoesWith};
-ghost use Rattle.icn_control.specs.Standing.{pair_in, stack_in};
+ghost use Rattle.icn_control.specs.StackAndWorld.{DoesWith};
+ghost use Rattle.icn_control.specs.StackViews.{pair_in, stack_in};
 ghost use Rattle.icn_run.specs.Stacks.{Frames as FramesRead, flat as calls};
 ghost use Rattle.icn_run.specs.Step.{State, Store, maybe_exchanged, pair_now, with_world};
 ghost use Rattle.icn_control.specs.Soundness.{KeepsHeap};
@@ -49,7 +49,7 @@ pub fn swap_if_scanning<K: Stack<Cell> + Drop>(frames: &mut Frames<K>, world: &m
         → IsLiveStack tables (reach_of world.new []) frames.new.flat }
     ensures same { KeepsHeap world.old world.new }
 {
-    if frames.scanning() {
+    if frames.is_scanning() {
         swap_pairs(frames, world, true);
     }
 }

@@ -1,16 +1,16 @@
 // Texts of the code.
 ghost use Rattle.std.specs.Prelude.{◌≡◌, ◌<◌, [], Some, length, slice_get, OnOk, IfOk};
 ghost use Rattle.icn_code.specs.Codes.{Tables};
-ghost use Rattle.icn_code.specs.Seen.{tables_of};
+ghost use Rattle.icn_code.specs.CodeTables.{tables_of};
 ghost use Rattle.icn_code.specs.declared.instr.Instr.TheVariants as Instrs;
 ghost use Rattle.icn_heap.specs.Extents.{IsText, text_in};
 ghost use Rattle.icn_heap.specs.Heaps.{extent_of, heap_of};
 ghost use Rattle.icn_vars.specs.Worlds.{KeepsItems, reach_of, world_of};
 ghost use Rattle.icn_run.specs.Stacks.{Frames as FramesRead};
 ghost use Rattle.icn_run.specs.Step.{Store};
-ghost use Rattle.icn_control.specs.Living.{IsLiveStack};
-ghost use Rattle.icn_control.specs.Parts.{RunsWith};
-ghost use Rattle.icn_control.specs.Standing.{instruction_state};
+ghost use Rattle.icn_control.specs.LiveStacks.{IsLiveStack};
+ghost use Rattle.icn_control.specs.StackAndWorld.{RunsWith};
+ghost use Rattle.icn_control.specs.StackViews.{instruction_state};
 
 use icn_code::Code;
 use icn_frames::{Cell, Frames, Stack};
@@ -53,7 +53,7 @@ fn string_at(code: &Code, index: u32) -> &[u8]
 }
 
 // Keeps a text in the heap of a world, without a charge.
-#[tactic(auto, using(icn_vars::proofs::Growing::grows))]
+#[tactic(auto, using(icn_vars::proofs::GrowingWorlds::grows))]
 fn hold(world: &mut World, bytes: &[u8]) -> Result<Span, AllocError>
     ensures live { IfOk result (IsText (extent_of world.new.heap)) }
     ensures bytes { IfOk result (λ span. text_in (extent_of world.new.heap) span ≡ bytes.now) }

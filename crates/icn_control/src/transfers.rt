@@ -14,17 +14,17 @@ ghost use Rattle.icn_code.specs.declared.instr.Instr.TheVariants as Instrs;
 ghost use Rattle.icn_run.specs.Rows.{ACoexp};
 ghost use Rattle.icn_run.specs.Stacks.{flat as calls};
 ghost use Rattle.icn_run.specs.Step.{activation};
-ghost use Rattle.icn_control.specs.Counting.{HasTurn};
-ghost use Rattle.icn_control.specs.Living.{IsLiveStack};
-ghost use Rattle.icn_control.specs.Machines.{HasStack, ComesTo, IsSound, StandsAt, does, extent, stack_of, stack_seen, store_seen};
-ghost use Rattle.icn_control.specs.Soundness.{Stands, StaysSound};
+ghost use Rattle.icn_control.specs.ResultCounts.{HasTurn};
+ghost use Rattle.icn_control.specs.LiveStacks.{IsLiveStack};
+ghost use Rattle.icn_control.specs.Machines.{HasStack, ComesTo, IsSoundMachine, StandsAt, does, extent, stack_of, stack_seen, store_seen};
+ghost use Rattle.icn_control.specs.Soundness.{IsRunnable, StaysSound};
 ghost use Rattle.icn_control.specs.Operands.{TakesTop, TakesTwo, coexp_number, having_result};
 
 use crate::hops::is_moved;
-use crate::machine::{Machine, Stage};
+use crate::machine::{Machine, RunState};
 use crate::on_stack::put;
 use crate::values::value_of;
-use icn_coexp::Went;
+use icn_coexp::AfterTransfer;
 use icn_frames::{Cell, Frames, Stack};
 use icn_heap::live_numbers;
 use icn_value::{Item, Val};
@@ -34,8 +34,8 @@ use icn_vars::{Halt, Stop, World};
 /// fails, and the active one gives the value itself. Both operands must be there.
 ///
 /// The error is that of one of the values, the lower one's first, or 118 where the upper one is no co-expression.
-pub fn coact<K: Stack<Cell> + Drop>(m: &mut Machine<K>) -> Result<Stage, Halt>
-    requires stands { Stands m.old }
+pub fn coact<K: Stack<Cell> + Drop>(m: &mut Machine<K>) -> Result<RunState, Halt>
+    requires stands { IsRunnable m.old }
     requires upper { IsSome (flat.pop (stack_of m.old)) }
     requires lower { IfSome (flat.pop (stack_of m.old)) (λ popped. IsSome (flat.pop popped.1)) }
     ensures step { (tables : Tables) (outside : Outside)
@@ -43,7 +43,7 @@ pub fn coact<K: Stack<Cell> + Drop>(m: &mut Machine<K>) -> Result<Stage, Halt>
     ensures keeps { StaysSound m.old m.new result }
 {
     if m.turns >= m.limits.turns {
-        return Ok(Stage::AtBound);
+        return Ok(RunState::AtBound);
     }
     m.turns += 1;
     let two = take_two_values(m.stacks.frames(), &m.world)?;
@@ -58,8 +58,8 @@ pub fn coact<K: Stack<Cell> + Drop>(m: &mut Machine<K>) -> Result<Stage, Halt>
 /// entered it last is entered with the value. The operand must be there, and no procedure of its own may run on its stack.
 ///
 /// The error is that of the value.
-pub fn coret<K: Stack<Cell> + Drop>(m: &mut Machine<K>) -> Result<Stage, Halt>
-    requires stands { Stands m.old }
+pub fn coret<K: Stack<Cell> + Drop>(m: &mut Machine<K>) -> Result<RunState, Halt>
+    requires stands { IsRunnable m.old }
     requires operand { IsSome (flat.pop (stack_of m.old)) }
     requires base { flat.is_base (stack_of m.old) ≡ true }
     requires other { 0 < m.old.stacks.table.active }
@@ -68,7 +68,7 @@ pub fn coret<K: Stack<Cell> + Drop>(m: &mut Machine<K>) -> Result<Stage, Halt>
     ensures keeps { StaysSound m.old m.new result }
 {
     if m.turns >= m.limits.turns {
-        return Ok(Stage::AtBound);
+        return Ok(RunState::AtBound);
     }
     m.turns += 1;
     let v = take_value(m.stacks.frames(), &m.world)?;
@@ -76,14 +76,14 @@ pub fn coret<K: Stack<Cell> + Drop>(m: &mut Machine<K>) -> Result<Stage, Halt>
     count_result(&mut m.world, from);
     let went = m.stacks.give(v);
     if is_moved(went) {
-        Ok(Stage::Runs)
+        Ok(RunState::Running)
     } else {
-        Ok(Stage::HopDue)
+        Ok(RunState::Hopping)
     }
 }
 
 // Enters a co-expression with a value, where a turn was counted. The stack that runs must have room for an operand.
-fn activate<K: Stack<Cell> + Drop>(m: &mut Machine<K>, id: u32, v: Val) -> Stage
+fn activate<K: Stack<Cell> + Drop>(m: &mut Machine<K>, id: u32, v: Val) -> RunState
     requires runs { IsSome m.old.stacks.table.running }
     requires there { id < length m.old.stacks.table.coexps }
     requires room { 0 < m.old.stacks.spare }
@@ -91,19 +91,20 @@ fn activate<K: Stack<Cell> + Drop>(m: &mut Machine<K>, id: u32, v: Val) -> Stage
     ensures step { (tables : Tables) (outside : Outside)
         → StandsAt tables outside (activation calls (value_in (extent m.old) v) (ACoexp id) (stack_seen m.old)
         (store_seen tables outside m.old)) m.new result }
-    ensures sound { (tables : Tables) → HasTurn m.old → IsSound tables m.old → IsSound tables m.new }
+    ensures sound { (tables : Tables) → HasTurn m.old → IsSoundMachine tables m.old
+        → IsSoundMachine tables m.new }
     ensures world { m.new.world ≡ m.old.world }
     ensures limits { m.new.limits ≡ m.old.limits }
     ensures stack { HasStack m.new result }
 {
     m.stacks.active();
     match m.stacks.activate(id, v) {
-        Went::Same(v) => {
+        AfterTransfer::Same(v) => {
             put(m.stacks.frames(), Item::Val(v));
-            Stage::Runs
+            RunState::Running
         }
-        Went::Moved => Stage::Runs,
-        Went::Exhausted => Stage::Fails,
+        AfterTransfer::Moved => RunState::Running,
+        AfterTransfer::Exhausted => RunState::Failing,
     }
 }
 
@@ -165,7 +166,7 @@ pub fn take_two_values<K: Stack<Cell> + Drop>(
 }
 
 // Counts a result of a co-expression. It takes no memory.
-#[tactic(auto, using(icn_vars::proofs::Growing::grows))]
+#[tactic(auto, using(icn_vars::proofs::GrowingWorlds::grows))]
 fn count_result(world: &mut World, id: u32)
     requires live { IsLive (extent_of world.old.heap) (HeldCoexp id) }
     requires few { count_at (heap_of world.old.heap) id < greatest_integer }

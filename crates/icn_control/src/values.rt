@@ -10,10 +10,10 @@ ghost use Rattle.icn_defs.specs.StepRows.{list_row};
 ghost use Rattle.icn_frames.specs.Stacks as flat;
 ghost use Rattle.icn_run.specs.Stacks.{Frames as FramesRead, flat as calls};
 ghost use Rattle.icn_run.specs.Step.{Store, here};
-ghost use Rattle.icn_control.specs.Living.{IsLiveStack, with_locals};
-ghost use Rattle.icn_control.specs.Parts.{FindsValue};
-ghost use Rattle.icn_control.specs.Standing.{stack_in};
-ghost use Rattle.icn_control.specs.Taking.{FindsValues, KeepsCounts, MakesValue};
+ghost use Rattle.icn_control.specs.LiveStacks.{IsLiveStack, with_locals};
+ghost use Rattle.icn_control.specs.StackAndWorld.{FindsValue};
+ghost use Rattle.icn_control.specs.StackViews.{stack_in};
+ghost use Rattle.icn_control.specs.TakenOperands.{FindsValues, KeepsCounts, MakesValue};
 
 use crate::activation::Activation;
 use icn_args::new_list;

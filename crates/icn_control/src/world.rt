@@ -2,8 +2,8 @@
 ghost use Rattle.std.specs.Prelude.{◌≡◌};
 ghost use Rattle.icn_heap.specs.Heaps.{extent_of, heap_of};
 ghost use Rattle.icn_vars.specs.Worlds.{world_of};
-ghost use Rattle.icn_control.specs.Living.{IsLivePair, MaybeLivePair};
-ghost use Rattle.icn_control.specs.Standing.{maybe_pair_in, pair_in};
+ghost use Rattle.icn_control.specs.LiveStacks.{IsLivePair, MaybeLivePair};
+ghost use Rattle.icn_control.specs.StackViews.{maybe_pair_in, pair_in};
 ghost use Rattle.icn_control.specs.Pairs.{maybe_paired, world_with_pair};
 ghost use Rattle.icn_control.specs.Soundness.{KeepsHeap};
 

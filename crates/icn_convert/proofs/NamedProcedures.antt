@@ -4,7 +4,7 @@ use Rattle.std.specs.Prelude.{codes}
 use Rattle.icn_value.specs.Store.{Names}
 use Rattle.icn_defs.specs.Images.{procedure_image, procedure_name}
 use Rattle.icn_convert.specs.declared.names.ProcKind.TheVariants.{Procedure, Constructor, Function}
-use Rattle.icn_convert.specs.Naming.{kind_of, kind_name}
+use Rattle.icn_convert.specs.ProgramNames.{kind_of, kind_name}
 
 by_tests : (name : List ℕ) (a b : Bool) → kind_name (cond a Procedure (cond b Constructor Function)) ++ name
     ≡ cond a (codes "procedure " ++ name) (cond b (codes "record constructor " ++ name) (codes "function " ++ name))

@@ -8,7 +8,7 @@ use Rattle.icn_heap.specs.declared.heap.Heap.{Heap}
 use Rattle.icn_heap.specs.Extents.{IsLive}
 use Rattle.icn_heap.specs.Heaps.{extent_of, heap_of}
 use Rattle.icn_convert.proofs.RecordCounts.{record_count}
-use Rattle.icn_convert.specs.Naming.{AreRecordsNamed}
+use Rattle.icn_convert.specs.ProgramNames.{AreRecordsNamed}
 
 pub kind_named : (names : Names) (heap : Heap) (id : ℕ) → AreRecordsNamed names (heap_of heap) → IsLive (extent_of heap) (Rec id)
     → (record_at (heap_of heap) id).kind < length names.records

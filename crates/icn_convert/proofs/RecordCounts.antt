@@ -3,7 +3,7 @@ use Rattle.std.proofs.Common.{◌≡◌, length}
 use Rattle.std.proofs.lemmas.List.{length-map}
 use Rattle.icn_heap.specs.declared.heap.Heap.{Heap}
 use Rattle.icn_heap.specs.Heaps.{extent_of, heap_of}
-use Rattle.icn_heap.specs.Parts.{record_in}
+use Rattle.icn_heap.specs.HeapParts.{record_in}
 
 -- the records of the extent are those of the heap
 pub record_count : (heap : Heap) → length (heap_of heap).records ≡ (extent_of heap).records

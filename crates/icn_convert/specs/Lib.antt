@@ -1,4 +1,4 @@
-pub mod Naming
-pub mod Texting
+pub mod ProgramNames
+pub mod TextCharges
 pub mod SortTexts
-pub mod Numbering
+pub mod ImageEnds

@@ -4,9 +4,9 @@ ghost use Rattle.std.specs.Option.{option_map};
 ghost use Rattle.icn_value.specs.Changes.{LimitsFirst, Refuses};
 ghost use Rattle.icn_value.specs.Members.{members_of};
 ghost use Rattle.icn_defs.specs.Conversions.{integer_of, cset_of, text_of};
-ghost use Rattle.icn_heap.specs.Extents.{IsLive, IsText, Keeps, text_in, value_in};
+ghost use Rattle.icn_heap.specs.Extents.{IsLive, IsText, KeepsValues, text_in, value_in};
 ghost use Rattle.icn_heap.specs.Heaps.{extent_of, heap_of};
-ghost use Rattle.icn_convert.specs.Texting.{heap_with_text};
+ghost use Rattle.icn_convert.specs.TextCharges.{heap_with_text};
 
 use crate::csets::{cset_of_text, text_of_cset};
 use icn_heap::Heap;
@@ -51,7 +51,7 @@ pub fn to_text(heap: &mut Heap, val: Val) -> Result<Option<Span>, Full>
         (Refuses (heap_with_text (heap_of heap.old) (value_in (extent_of heap.old) val))) }
     ensures limits { LimitsFirst (heap_with_text (heap_of heap.old) (value_in (extent_of heap.old) val))
         result }
-    ensures kept { Keeps (extent_of heap.old) (extent_of heap.new) }
+    ensures kept { KeepsValues (extent_of heap.old) (extent_of heap.new) }
     ensures unchanged { OnErr result (heap_of heap.new ≡ heap_of heap.old) }
 {
     match val {

@@ -12,8 +12,8 @@ ghost use Rattle.icn_defs.specs.Images.{cset_image, file_name, image, keyword_cs
 ghost use Rattle.icn_heap.specs.Extents.{IsLive, value_in};
 ghost use Rattle.icn_heap.specs.Heaps.{extent_of, heap_of};
 ghost use Rattle.icn_heap.specs.Keys.{file_of};
-ghost use Rattle.icn_convert.specs.Naming.{AreRecordsNamed, IsNamed, kind_name, name_count};
-ghost use Rattle.icn_convert.specs.Numbering.{number_and_size};
+ghost use Rattle.icn_convert.specs.ProgramNames.{AreRecordsNamed, IsNamed, kind_name, name_count};
+ghost use Rattle.icn_convert.specs.ImageEnds.{number_and_size};
 
 use crate::csets::text_of_cset;
 use crate::names::{Names, ProcKind};

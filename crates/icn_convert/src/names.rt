@@ -1,7 +1,7 @@
 // The names of procedures and records.
 ghost use Rattle.std.specs.Prelude.{◌≡◌, ◌<◌, ◌+◌, ℕ, List, length, slice_get, unwrap_or, []};
 ghost use Rattle.icn_defs.specs.Images.{procedure_name};
-ghost use Rattle.icn_convert.specs.Naming.{name_count, kind_of, constructor_name};
+ghost use Rattle.icn_convert.specs.ProgramNames.{name_count, kind_of, constructor_name};
 
 /// What a procedure value is.
 #[derive(Clone, Copy, Debug, PartialEq, Eq)]

@@ -10,7 +10,7 @@ ghost use Rattle.icn_heap.specs.Keys.{file_of};
 ghost use Rattle.icn_value.specs.declared.val.Val.TheVariants.{Rec};
 ghost use Rattle.icn_heap.specs.Heaps.{extent_of, heap_of};
 ghost use Rattle.icn_convert.specs.SortTexts.{sorted_by};
-ghost use Rattle.icn_convert.specs.Naming.{AreRecordsNamed, IsNamed};
+ghost use Rattle.icn_convert.specs.ProgramNames.{AreRecordsNamed, IsNamed};
 
 use crate::csets::{CsetText, text_of_cset};
 use crate::names::Names;

@@ -1,2 +1,2 @@
-mod Firsts
-mod Repeating
+mod FirstOfTwo
+mod RepeatedNames

@@ -5,7 +5,7 @@ use Rattle.icn_tree.specs.declared.rule.Rule.{Rule}
 use Rattle.icn_tree.specs.declared.tree.Place.{Place}
 
 -- A rule that is broken at a place.
-pub record Fault : Type 0 where
+pub record BrokenRule : Type 0 where
   pub rule : Rule
   pub place : Place
 
@@ -35,29 +35,29 @@ others (loop ∷ loops) = loops
 abbrev pub leave_loop : Context → Context
 leave_loop context = record { in_create = context.in_create; loops = others context.loops }
 
-abbrev pub fault : Rule → Place → List Fault
+abbrev pub fault : Rule → Place → List BrokenRule
 fault rule place = record { rule = rule; place = place } ∷ []
 
 -- `return`, `fail` and `suspend`
-abbrev pub result_faults : Context → Place → List Fault
+abbrev pub result_faults : Context → Place → List BrokenRule
 result_faults context place = if context.in_create then fault C4 place else []
 
 -- a word of loops with no loop to belong to
-abbrev pub loopless : Bool → Rule → Place → List Fault
+abbrev pub loopless : Bool → Rule → Place → List BrokenRule
 loopless in_create rule place = if in_create then fault C4 place else fault rule place
 
-abbrev pub break_by : Bool → List Bool → Place → List Fault
+abbrev pub break_by : Bool → List Bool → Place → List BrokenRule
 break_by in_create [] place = loopless in_create C2 place
 break_by in_create (loop ∷ loops) place = []
 
 -- the rules that a `break` breaks in this context
-abbrev pub break_faults : Context → Place → List Fault
+abbrev pub break_faults : Context → Place → List BrokenRule
 break_faults context place = break_by context.in_create context.loops place
 
-abbrev pub next_by : Bool → List Bool → Place → List Fault
+abbrev pub next_by : Bool → List Bool → Place → List BrokenRule
 next_by in_create [] place = loopless in_create C3 place
 next_by in_create (next ∷ loops) place = if next then [] else fault C3 place
 
 -- the rules that a `next` breaks in this context
-abbrev pub next_faults : Context → Place → List Fault
+abbrev pub next_faults : Context → Place → List BrokenRule
 next_faults context place = next_by context.in_create context.loops place

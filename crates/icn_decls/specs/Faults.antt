@@ -10,7 +10,7 @@ use Rattle.icn_tree.specs.declared.tree.Name.{Name}
 use Rattle.icn_tree.specs.declared.tree.Place.{Place}
 use Rattle.icn_tree.specs.Trees.{Tree, MaybeTree, Trees, Clause, Clauses, Initial, NoInitial, Initially, Procedure, Declaration, Global, Link, Invocable, Record, ProcedureOf, Empty, Constant, Identifier, Keyword, Parentheses, Listing, Compound, Call, CoCall, Subscript, Section, Field, Prefix, Not, Binary, To, If, Case, Loop, Repeat, Create, Next, Fail, Break, Return, Suspend, Absent, Present, NoTrees, More, Default, Guarded, NoClauses, MoreClauses}
 use Rattle.icn_tree.specs.NameSets.{NameTest, none_met, with_name}
-use Rattle.icn_decls.specs.Contexts.{Fault, Context, outermost, create_context, enter_loop, leave_loop, fault, result_faults, break_faults, next_faults}
+use Rattle.icn_decls.specs.Contexts.{BrokenRule, Context, outermost, create_context, enter_loop, leave_loop, fault, result_faults, break_faults, next_faults}
 
 -- `next` may stand in the control expression of `while` and `until`, and not in that of `every`
 abbrev pub next_in_control : LoopKind → Bool
@@ -19,12 +19,12 @@ next_in_control Loops.Until = true
 next_in_control Loops.Every = false
 
 -- a `default` clause, where another one may stand before it
-abbrev pub default_faults : Bool → Place → List Fault
+abbrev pub default_faults : Bool → Place → List BrokenRule
 default_faults has_default place = if has_default then fault C5 place else []
 
 abbrev mutual
   -- the context rules that a tree breaks
-  pub faults : Context → Tree → List Fault
+  pub faults : Context → Tree → List BrokenRule
   faults context Empty = []
   faults context (Constant place value) = []
   faults context (Identifier name) = []
@@ -58,22 +58,22 @@ abbrev mutual
   faults context (Suspend place value body) =
       result_faults context place ++ (faults context value ++ maybe_faults context body)
 
-  pub maybe_faults : Context → MaybeTree → List Fault
+  pub maybe_faults : Context → MaybeTree → List BrokenRule
   maybe_faults context Absent = []
   maybe_faults context (Present tree) = faults context tree
 
   -- the context rules that several trees break
-  pub all_faults : Context → Trees → List Fault
+  pub all_faults : Context → Trees → List BrokenRule
   all_faults context NoTrees = []
   all_faults context (More tree trees) = faults context tree ++ all_faults context trees
 
   -- the clauses of a `case`, behind those among which a `default` was or was not
-  pub clauses_faults : Context → Bool → Clauses → List Fault
+  pub clauses_faults : Context → Bool → Clauses → List BrokenRule
   clauses_faults context has_default NoClauses = []
   clauses_faults context has_default (MoreClauses clause clauses) = clause_faults context has_default clause
       ++ clauses_faults context (is_default has_default clause) clauses
 
-  pub clause_faults : Context → Bool → Clause → List Fault
+  pub clause_faults : Context → Bool → Clause → List BrokenRule
   clause_faults context has_default (Default place value) =
       default_faults has_default place ++ faults context value
   clause_faults context has_default (Guarded place guard value) = faults context guard ++ faults context value
@@ -89,35 +89,35 @@ with_names met [] = met
 with_names met (name ∷ names) = with_names (with_name met name.text) names
 
 -- a name that was met
-abbrev pub fault_if_met : Rule → NameTest → Name → List Fault
+abbrev pub fault_if_met : Rule → NameTest → Name → List BrokenRule
 fault_if_met rule met name = if met name.text then fault rule name.place else []
 
 -- names that were met, or that stand among those before them
-abbrev pub all_repeated : Rule → NameTest → List Name → List Fault
+abbrev pub all_repeated : Rule → NameTest → List Name → List BrokenRule
 all_repeated rule met [] = []
 all_repeated rule met (name ∷ names) =
     fault_if_met rule met name ++ all_repeated rule (with_name met name.text) names
 
 -- more than 65535 names at once
-abbrev pub too_many : ℕ → Name → List Fault
+abbrev pub too_many : ℕ → Name → List BrokenRule
 too_many count name = if nat_lt most_entries count then fault C7 name.place else []
 
 -- the parameters, locals and statics of a procedure
 abbrev pub declared_names : Procedure → List Name
 declared_names procedure = procedure.parameters ++ flat_map (λ locals. locals.names) procedure.locals
 
-abbrev pub initial_faults : Initial → List Fault
+abbrev pub initial_faults : Initial → List BrokenRule
 initial_faults NoInitial = []
 initial_faults (Initially place value) = faults outermost value
 
 -- the context rules that a procedure breaks, where names were declared before it
-abbrev pub procedure_faults : NameTest → Procedure → List Fault
+abbrev pub procedure_faults : NameTest → Procedure → List BrokenRule
 procedure_faults met procedure =
     too_many (length (declared_names procedure)) procedure.name ++ (fault_if_met C8 met procedure.name
     ++ (all_repeated C1 none_met (declared_names procedure)
     ++ (initial_faults procedure.initial ++ all_faults outermost procedure.body)))
 
-abbrev pub record_faults : NameTest → Name → List Name → List Fault
+abbrev pub record_faults : NameTest → Name → List Name → List BrokenRule
 record_faults met name fields =
     too_many (length fields) name ++ (fault_if_met C8 met name ++ all_repeated C6 none_met fields)
 
@@ -129,18 +129,18 @@ names_after met (Invocable place items) = met
 names_after met (Record place name fields) = with_name met name.text
 names_after met (ProcedureOf procedure) = with_name met procedure.name.text
 
-abbrev pub declaration_faults : NameTest → Declaration → List Fault
+abbrev pub declaration_faults : NameTest → Declaration → List BrokenRule
 declaration_faults met (Global place names) = []
 declaration_faults met (Link place items) = []
 declaration_faults met (Invocable place items) = []
 declaration_faults met (Record place name fields) = record_faults met name fields
 declaration_faults met (ProcedureOf procedure) = procedure_faults met procedure
 
-abbrev pub declarations_faults : NameTest → List Declaration → List Fault
+abbrev pub declarations_faults : NameTest → List Declaration → List BrokenRule
 declarations_faults met [] = []
 declarations_faults met (declaration ∷ others) =
     declaration_faults met declaration ++ declarations_faults (names_after met declaration) others
 
 -- the faults of a file
-abbrev pub context_faults : List Declaration → List Fault
+abbrev pub context_faults : List Declaration → List BrokenRule
 context_faults declarations = declarations_faults none_met declarations

@@ -1,5 +1,5 @@
 pub mod Contexts
 pub mod Faults
-pub mod Repeats
+pub mod DistinctNames
 pub mod Views
-pub mod Spelled
+pub mod CheckedTexts

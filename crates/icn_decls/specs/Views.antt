@@ -6,7 +6,7 @@ use Rattle.icn_decls.specs.declared.context.Context.{Context as KeptContext}
 use Rattle.icn_decls.specs.declared.fault.Broken.{Broken}
 use Rattle.icn_decls.specs.declared.fault.ContextFault.{ContextFault}
 use Rattle.icn_decls.specs.declared.fault.ContextFault.TheVariants.{Broken as BrokenFault, NoMemory}
-use Rattle.icn_decls.specs.Contexts.{Context, Fault}
+use Rattle.icn_decls.specs.Contexts.{Context, BrokenRule}
 
 abbrev pub loops_of : Loops → List Bool
 loops_of Kept.None = []
@@ -17,17 +17,17 @@ abbrev pub context_of : KeptContext → Context
 context_of kept = record { in_create = kept.in_create; loops = loops_of kept.loops.now }
 
 -- the first fault, if there is one
-abbrev pub first_of : List Fault → Option Fault
+abbrev pub first_of : List BrokenRule → Option BrokenRule
 first_of [] = None
 first_of (fault ∷ faults) = Some fault
 
 -- the fault that a check answers
-abbrev pub fault_of : Result (Unit {0}) Broken → Option Fault
+abbrev pub fault_of : Result (Unit {0}) Broken → Option BrokenRule
 fault_of (Ok done) = None
 fault_of (Err broken) = Some (record { rule = broken.rule; place = broken.place })
 
 -- what a check answers: the first of the faults, or none where there is none, or want of memory
-abbrev pub Checks : List Fault → Result (Unit {0}) ContextFault → Type 0
+abbrev pub Checks : List BrokenRule → Result (Unit {0}) ContextFault → Type 0
 Checks faults (Ok done) = None ≡ first_of faults
 Checks faults (Err (BrokenFault rule file line)) =
     Some (record { rule = rule; place = record { line = line; file = file } }) ≡ first_of faults

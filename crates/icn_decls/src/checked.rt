@@ -2,25 +2,25 @@
 ghost use Rattle.std.specs.Prelude.{◌≡◌, [], IfOk};
 ghost use Rattle.icn_tree.specs.TreeOf.{declarations_of};
 ghost use Rattle.icn_decls.specs.Faults.{context_faults};
-ghost use Rattle.icn_decls.specs.Spelled.{IsSpelled};
+ghost use Rattle.icn_decls.specs.CheckedTexts.{IsSpelled};
 ghost use Rattle.icn_decls.specs.Views.{Checks, check_result};
 
 use crate::decl::check_declarations;
 use crate::fault::ContextFault;
-use icn_tree::File;
+use icn_tree::SourceFile;
 use std::alloc::Global;
 
 /// A program text that breaks no rule of its tokens and no context rule.
 #[derive(Drop)]
 pub struct Checked {
-    text: File,
+    text: SourceFile,
     ghost spelled: { ∥ IsSpelled (declarations_of text) ∥₁ },
     ghost context: { context_faults (declarations_of text) ≡ [] },
 }
 
 impl Checked {
     /// The program text.
-    pub fn file(&self) -> &File
+    pub fn file(&self) -> &SourceFile
         ensures file { result.now ≡ self.now.text }
         ensures spelled { ∥ IsSpelled (declarations_of result.now) ∥₁ }
         ensures context { context_faults (declarations_of result.now) ≡ [] }
@@ -36,7 +36,7 @@ impl Checked {
 ///
 /// `Broken` with the first context rule that the text breaks, in the order of places, and at one place in that of the
 /// rules' numbers. `NoMemory` where memory ran out.
-pub fn check(alloc: Global, file: File) -> Result<Checked, ContextFault>
+pub fn check(alloc: Global, file: SourceFile) -> Result<Checked, ContextFault>
     requires spelled { IsSpelled (declarations_of file) }
     ensures first { Checks (context_faults (declarations_of file)) (check_result result) }
     ensures same { IfOk result (λ checked. checked.text ≡ file) }

@@ -34,7 +34,7 @@ impl<'a> Context<'a> {
     }
 
     /// What stands round the operand of a `create`.
-    pub fn created() -> Self
+    pub fn create_operand() -> Self
         ensures { context_of result ≡ create_context }
     {
         Context {
@@ -58,7 +58,7 @@ impl<'a> Context<'a> {
         ensures { fault_of result ≡ first_of (break_faults (context_of self.entry) place) }
     {
         match self.loops {
-            Loops::None => Err(self.loopless(Rule::C2, place)),
+            Loops::None => Err(self.no_loop(Rule::C2, place)),
             Loops::Inside(..) => Ok(()),
         }
     }
@@ -68,14 +68,14 @@ impl<'a> Context<'a> {
         ensures { fault_of result ≡ first_of (next_faults (context_of self.entry) place) }
     {
         match self.loops {
-            Loops::None => Err(self.loopless(Rule::C3, place)),
+            Loops::None => Err(self.no_loop(Rule::C3, place)),
             Loops::Inside(true, _) => Ok(()),
             Loops::Inside(false, _) => Err(Broken::at(place, Rule::C3)),
         }
     }
 
     // A word of loops with no loop to belong to.
-    fn loopless(self, rule: Rule, place: Place) -> Broken
+    fn no_loop(self, rule: Rule, place: Place) -> Broken
         ensures { Some (record { rule = result.rule; place = result.place })
             ≡ first_of (loopless self.entry.in_create rule place) }
     {
@@ -87,7 +87,7 @@ impl<'a> Context<'a> {
     }
 
     /// What stands round the operand of a `break`.
-    pub fn left(self) -> Context<'a>
+    pub fn break_operand(self) -> Context<'a>
         ensures { context_of result ≡ leave_loop (context_of self.entry) }
     {
         let loops = match self.loops {

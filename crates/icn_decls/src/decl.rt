@@ -12,7 +12,7 @@ use crate::context::Context;
 use crate::expr::{check, check_all};
 use crate::fault::{Broken, ContextFault};
 use icn_profile::MOST_ENTRIES;
-use icn_tree::{Decl, Locals, Name, NameSet, Procedure, Rule};
+use icn_tree::{Decl, LocalDecl, Name, NameSet, Procedure, Rule};
 use std::alloc::Global;
 
 // How many parameters, locals and statics a procedure may have together, and how many fields a record.
@@ -42,7 +42,7 @@ fn check_names<'a>(met: &mut NameSet<'a>, names: &'a [Name], rule: Rule) -> Resu
 }
 
 // The first name of locals and statics that breaks the rule of names declared twice.
-fn check_locals<'a>(met: &mut NameSet<'a>, locals: &'a [Locals]) -> Result<(), ContextFault>
+fn check_locals<'a>(met: &mut NameSet<'a>, locals: &'a [LocalDecl]) -> Result<(), ContextFault>
     ensures { Checks (all_repeated Rule.C1 (has met.old) (flat_map (λ l. l.names) (map locals_of locals.now)))
         result }
 {

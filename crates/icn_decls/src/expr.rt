@@ -35,7 +35,7 @@ pub fn check(expr: &Expr, context: Context<'_>) -> Result<(), Broken>
             ..
         } => {
             check(callee, context)?;
-            check_all(arguments, Context::created())
+            check_all(arguments, Context::create_operand())
         }
         Expr::Subscript {
             subject,
@@ -103,12 +103,12 @@ pub fn check(expr: &Expr, context: Context<'_>) -> Result<(), Broken>
             }
         }
         Expr::Repeat { body, .. } => check_looped(body, context, true),
-        Expr::Create { body, .. } => check(body, Context::created()),
+        Expr::Create { body, .. } => check(body, Context::create_operand()),
         Expr::Next { place } => context.check_next(*place),
         Expr::Fail { place } => context.check_result(*place),
         Expr::Break { place, value } => {
             context.check_break(*place)?;
-            check(value, context.left())
+            check(value, context.break_operand())
         }
         Expr::Return { place, value } => {
             context.check_result(*place)?;

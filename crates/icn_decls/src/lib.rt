@@ -3,11 +3,11 @@
 
 mod checked;
 mod context;
+mod context_laws;
 mod decl;
 mod expr;
 mod fault;
-mod laws;
 
 pub use checked::{Checked, check};
+pub use context_laws::names_once;
 pub use fault::ContextFault;
-pub use laws::names_once;

@@ -13,5 +13,5 @@ passes p [] y h = cc
 passes p (x ∷ xs) y h = chosen p x y (find p xs) (p x) refl h (passes p xs y)
 
 -- looked for by its number
-pub numbered : {A : Type 0} (number : A → ℕ) (xs : List A) (n : ℕ) (y : A) → find (λ x. eqb (number x) n) xs ≡ Some y → number y ≡ n
-numbered number xs n y h = eqb-true (number y) n (passes (λ x. eqb (number x) n) xs y h)
+pub found_number : {A : Type 0} (number : A → ℕ) (xs : List A) (n : ℕ) (y : A) → find (λ x. eqb (number x) n) xs ≡ Some y → number y ≡ n
+found_number number xs n y h = eqb-true (number y) n (passes (λ x. eqb (number x) n) xs y h)

@@ -3,5 +3,5 @@ pub mod FuncNumbers
 pub mod KeywordNumbers
 pub mod FoundFacts
 pub mod KeptSizes
-pub mod Observing
-pub mod Interrupting
+pub mod OneObservation
+pub mod Interruptions

@@ -6,6 +6,7 @@ use Rattle.icn_text.specs.Ops.{op_number}
 use Rattle.icn_text.proofs.OpNumbers.{every_op, op_found}
 use Rattle.icn_defs.specs.Numbers.{op_of}
 
+-- the number of an operation leads back to it
 pub op_back : (any : Op) → op_of (op_number any) ≡ Found any
 op_back any =
     op_found (op_of (op_number any)) any

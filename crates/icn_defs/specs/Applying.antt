@@ -7,7 +7,7 @@ use Rattle.icn_text.specs.declared.func.Func.TheVariants.{Abs, Any, Bal, Center,
 use Rattle.icn_value.specs.Values.{Value, Null, Item, Val}
 use Rattle.icn_value.specs.Store.{Names}
 use Rattle.icn_defs.specs.Rows.{◌>>=◌, Row, fails, Residual, TextBytes, VariableBytes, ListItems, SetMembers, TableValues, TableKeys, RecordFields, InputLines, UndoAssign, UndoExchange, UndoPosition, Counting, Sequence, Balanced, Found, Among}
-use Rattle.icn_defs.specs.Reading.{the_values}
+use Rattle.icn_defs.specs.ReadAndAssign.{the_values}
 use Rattle.icn_defs.specs.Lines.{lines_again}
 use Rattle.icn_defs.specs.Operations.{is_null_row, is_not_null_row, dereference_row, size_row, complement_row, lexically_less_row, lexically_less_or_equal_row, lexically_equal_row, lexically_greater_or_equal_row, lexically_greater_row, lexically_not_equal_row, equivalent_row, not_equivalent_row, concatenate_row, concatenate_lists_row, union_row, difference_row, intersection_row}
 use Rattle.icn_defs.specs.Arithmetic.{add_row, counting_again, divide_row, equal_row, greater_or_equal_row, greater_row, less_or_equal_row, less_row, multiply_row, negate_row, not_equal_row, number_row, power_row, remainder_row, subtract_row, to_by_row}

@@ -6,7 +6,7 @@ use Rattle.icn_text.specs.declared.arithmetic.Arith.{Arith}
 use Rattle.icn_text.specs.IntegerArithmetic.{fitting, within_64_bits, sum, difference, product, quotient, remainder, power}
 use Rattle.icn_value.specs.Values.{Integer, Item, Val}
 use Rattle.icn_defs.specs.Rows.{◌>>=◌, ◌>>◌, Row, Counting, fails, gives_value, suspends, check, number_or_error, passing}
-use Rattle.icn_defs.specs.Reading.{the_value}
+use Rattle.icn_defs.specs.ReadAndAssign.{the_value}
 use Rattle.icn_defs.specs.Arguments.{number, integer}
 
 -- `+n`: the integer

@@ -7,48 +7,48 @@ pub use Rattle.icn_text.specs.IntegerArithmetic.{fits, fitting}
 pub use Rattle.icn_text.specs.Reading.{written_integer}
 use Rattle.icn_value.specs.Values.{Value, Null, Integer, Text, Chars}
 pub use Rattle.icn_value.specs.Members.{contains, members}
-pub use Rattle.icn_value.specs.Sameness.{Shape, file_rank, shape_of, shape_cmp, same, has_value, with_member}
-pub use Rattle.icn_value.specs.Sizes.{Group, Textual, Listed, Collected, Tabled, Recorded, Filed, Activated, Single, group_of, size_in, size_of}
+pub use Rattle.icn_value.specs.Sameness.{ValueRank, file_rank, shape_of, shape_cmp, same, has_value, with_member}
+pub use Rattle.icn_value.specs.Sizes.{ValueGroup, Textual, Listed, Collected, Tabled, Recorded, Filed, Activated, Single, group_of, size_in, size_of}
 
 -- Integers, texts and csets
 
 -- what is an integer, a text or a cset, and what else there is
-pub data Form : Type 0 where
-  Number : ℤ → Form
-  Written : List ℕ → Form
-  Member : List ℕ → Form
-  Other : Form
+pub data ConversionSource : Type 0 where
+  Number : ℤ → ConversionSource
+  Written : List ℕ → ConversionSource
+  Member : List ℕ → ConversionSource
+  Other : ConversionSource
 
 -- the form of a value
-abbrev pub form_of : Value → Form
+abbrev pub form_of : Value → ConversionSource
 form_of (Integer n) = Number n
 form_of (Text bytes) = Written bytes
 form_of (Chars bytes) = Member bytes
 form_of value = Other
 
 -- what converts to an integer: a string or a cset does where its bytes write one
-abbrev pub integer_in : Form → Option ℤ
+abbrev pub integer_in : ConversionSource → Option ℤ
 integer_in (Number n) = Some n
 integer_in (Written bytes) = written_integer bytes
 integer_in (Member bytes) = written_integer bytes
 integer_in Other = None
 
 -- what converts to a string: all three forms
-abbrev pub text_in : Form → Option (List ℕ)
+abbrev pub text_in : ConversionSource → Option (List ℕ)
 text_in (Number n) = Some (signed_decimal n)
 text_in (Written bytes) = Some bytes
 text_in (Member bytes) = Some bytes
 text_in Other = None
 
 -- what converts to a cset: the bytes of an integer's decimal, of a string
-abbrev pub cset_in : Form → Option (List ℕ)
+abbrev pub cset_in : ConversionSource → Option (List ℕ)
 cset_in (Number n) = Some (members (contains (signed_decimal n)))
 cset_in (Written bytes) = Some (members (contains bytes))
 cset_in (Member bytes) = Some bytes
 cset_in Other = None
 
 -- the text that is made where a value that is no text becomes one
-abbrev pub text_made : Form → Option (List ℕ)
+abbrev pub text_made : ConversionSource → Option (List ℕ)
 text_made (Number n) = Some (signed_decimal n)
 text_made (Written bytes) = None
 text_made (Member bytes) = Some bytes

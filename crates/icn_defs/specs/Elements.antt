@@ -4,9 +4,9 @@ use Rattle.icn_text.specs.RandomNumbers.{random_step, pick_place}
 use Rattle.icn_structs.specs.Numbered.{NumberedList}
 use Rattle.icn_value.specs.Values.{Value, Integer, Text, Element, Field, Key, Variable, Whole, Part, Item, Val, Var}
 use Rattle.icn_value.specs.Store.{list_at, set_at, table_at, record_at, having_random, value_at}
-use Rattle.icn_defs.specs.Conversions.{Group, Textual, Listed, Collected, Tabled, Recorded, Filed, Activated, Single, group_of, held_integer, held_text}
+use Rattle.icn_defs.specs.Conversions.{ValueGroup, Textual, Listed, Collected, Tabled, Recorded, Filed, Activated, Single, group_of, held_integer, held_text}
 use Rattle.icn_defs.specs.Rows.{◌>>=◌, ◌>>◌, Row, Finds, TextBytes, VariableBytes, ListItems, SetMembers, TableValues, RecordFields, gives, gives_value, suspends, wrong, check, present, passing, thing_or_failure, here, changes, costs_text}
-use Rattle.icn_defs.specs.Reading.{the_value, reads}
+use Rattle.icn_defs.specs.ReadAndAssign.{the_value, reads}
 use Rattle.icn_defs.specs.Lines.{lines_row}
 
 -- Parts of texts and elements of structures
@@ -91,7 +91,7 @@ text_elements None value text = do
   text_bytes_from text 0
 
 -- the elements of a value: 116 where it has none
-abbrev pub elements_of : Item → Value → Group → Row
+abbrev pub elements_of : Item → Value → ValueGroup → Row
 elements_of x v (Textual text) = text_elements (text_variable x v) v text
 elements_of x v (Listed id) = list_items_from id 0
 elements_of x v (Collected id) = set_members_from id 0
@@ -126,7 +126,7 @@ random_number v (pos n) = do
 random_number v n = wrong 205 (Some v)
 
 -- it fails where there is nothing to pick
-abbrev pub random_of : Item → Value → Group → Row
+abbrev pub random_of : Item → Value → ValueGroup → Row
 random_of x v (Textual text) = do
   costs_text v
   passing (nat_lt 0 (length text))

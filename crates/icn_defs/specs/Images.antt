@@ -12,7 +12,7 @@ use Rattle.icn_text.specs.declared.func.TheConstants.Func.{ALL}
 use Rattle.icn_text.specs.Funcs.{func_name}
 use Rattle.icn_value.specs.Values.{Value, Null, Integer, Text, Chars, Std, Procedure, ARecord, AList, ASet, ATable, ACoexp, File, Input, Output, Errout}
 use Rattle.icn_value.specs.Store.{Heap, Record, Names, record_at}
-use Rattle.icn_defs.specs.Conversions.{Shape, shape_of, shape_cmp, size_of}
+use Rattle.icn_defs.specs.Conversions.{ValueRank, shape_of, shape_cmp, size_of}
 
 -- Names
 
@@ -143,11 +143,11 @@ image names heap (ACoexp id) = numbered_image (codes "co-expression") (id + 1) (
 -- The order of sort: procedures go by name and then by number, records by record name and then by creation
 
 -- a shape with a name
-abbrev pub named_shape : Shape → List ℕ → Shape
+abbrev pub named_shape : ValueRank → List ℕ → ValueRank
 named_shape shape name = record { rank = shape.rank; text = name; number = shape.number }
 
 -- what the order of sort looks at
-abbrev pub sorted_shape : Names → Heap → Value → Shape
+abbrev pub sorted_shape : Names → Heap → Value → ValueRank
 sorted_shape names heap (Procedure number) =
     named_shape (shape_of (Procedure number)) (procedure_name names number)
 sorted_shape names heap (ARecord id) = named_shape (shape_of (ARecord id)) (record_name names heap id)

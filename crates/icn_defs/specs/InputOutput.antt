@@ -44,31 +44,31 @@ put_on Output text outside = record outside { output = outside.output ++ text }
 put_on Errout text outside = record outside { errors = outside.errors ++ text }
 
 -- an argument of `write` puts a text, or selects where the next ones go
-pub data Piece : Type 0 where
-  Puts : List ℕ → Piece
-  Selects : File → Piece
+pub data WriteArgument : Type 0 where
+  Puts : List ℕ → WriteArgument
+  Selects : File → WriteArgument
 
 -- a text is put
-abbrev pub texts_piece : Option (List ℕ) → Option Piece
+abbrev pub texts_piece : Option (List ℕ) → Option WriteArgument
 texts_piece None = None
 texts_piece (Some text) = Some (Puts text)
 
 -- a file selects, and null puts nothing
-abbrev pub piece_by : Value → Option File → Option Piece
+abbrev pub piece_by : Value → Option File → Option WriteArgument
 piece_by value (Some file) = Some (Selects file)
 piece_by value None = if is_null value then Some (Puts []) else texts_piece (text_of value)
 
 -- what an argument of `write` does, if it may stand there
-abbrev pub piece_of : Value → Option Piece
+abbrev pub piece_of : Value → Option WriteArgument
 piece_of value = piece_by value (file_of value)
 
 -- nothing is put on the input
-abbrev pub takes_output : Piece → Bool
+abbrev pub takes_output : WriteArgument → Bool
 takes_output (Puts text) = true
 takes_output (Selects file) = not (is_input file)
 
 -- the arguments as pieces: 109 where one is none, 213 where it is the input
-abbrev pub pieces : List Value → Finds (List Piece)
+abbrev pub pieces : List Value → Finds (List WriteArgument)
 pieces [] next = next []
 pieces (value ∷ values) next = do
   piece ← present (piece_of value) 109 (Some value)
@@ -78,7 +78,7 @@ pieces (value ∷ values) next = do
 
 -- Where the next piece goes, and the outside. Where lines end, one that selects is put behind a newline,
 -- unless it is the first argument.
-abbrev pub put_pieces : List ℕ → Bool → List Piece → File → Outside → File × Outside
+abbrev pub put_pieces : List ℕ → Bool → List WriteArgument → File → Outside → File × Outside
 put_pieces newline is_first [] file outside = (file, outside)
 put_pieces newline is_first (Puts text ∷ others) file outside =
     put_pieces newline false others file (put_on file text outside)
@@ -86,7 +86,7 @@ put_pieces newline is_first (Selects other ∷ others) file outside =
     put_pieces newline false others other (put_on file (if is_first then [] else newline) outside)
 
 -- the pieces are put, and then a newline where lines end
-abbrev pub puts_line : List ℕ → File → List Piece → Row → Row
+abbrev pub puts_line : List ℕ → File → List WriteArgument → Row → Row
 puts_line newline file parts next = do
   setting ← here
   let end = put_pieces newline true parts file setting.outside

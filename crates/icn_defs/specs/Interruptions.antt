@@ -29,7 +29,7 @@ taken_of input seen = length input - length seen.outside.left
 
 -- The run, which was begun with this input, was broken off at a put or for want of memory. Each output has
 -- gained some first part of what the run puts there, and the input has lost some first part of what it takes.
-pub record Breaks (input : List ℕ) (seen : Observation) (before after : Streams) : Type 0 where
+pub record BreaksRun (input : List ℕ) (seen : Observation) (before after : Streams) : Type 0 where
   pub left : LosesPart input (taken_of input seen) after.left
   pub output : GainsPart before.output after.output seen.outside.output
   pub errors : GainsPart before.errors after.errors seen.outside.errors
@@ -43,7 +43,7 @@ asked_of (SomeBytes count) left = count
 -- The run was broken off at a reading. It is one of those that the run makes: both outputs have gained what
 -- the run puts before it and no more, and the input is what is left before it, less perhaps some first part
 -- of what it reads.
-pub record BreaksReading (seen : Observation) (before after : Streams) : Type 0 where
+pub record BreaksRunReading (seen : Observation) (before after : Streams) : Type 0 where
   pub place : ℕ
   pub reading : Reading
   pub made : slice_get seen.outside.readings place ≡ Some reading

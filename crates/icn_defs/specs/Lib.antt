@@ -2,7 +2,7 @@ pub mod Arities
 pub mod Numbers
 pub mod Conversions
 pub mod Rows
-pub mod Reading
+pub mod ReadAndAssign
 pub mod Arguments
 pub mod Images
 pub mod Arithmetic
@@ -15,11 +15,11 @@ pub mod Strings
 pub mod Structures
 pub mod InputOutput
 pub mod Applying
-pub mod Facts
+pub mod RowFacts
 pub mod Calls
 pub mod Keywords
 pub mod Errors
-pub mod Keeping
+pub mod KeptSizes
 pub mod StepRows
 pub mod Running
 pub mod Interruptions

@@ -6,7 +6,7 @@ use Rattle.icn_value.specs.Values.{Value, Integer, Text, Chars, ASet, Item}
 use Rattle.icn_value.specs.Store.{list_at, set_at}
 use Rattle.icn_defs.specs.Conversions.{contains, members, cset_of, is_null, size_of, same, has_value}
 use Rattle.icn_defs.specs.Rows.{Row, Finds, ◌>>=◌, ◌>>◌, gives, gives_value, present, passing, here, changes_heap, costs_cells, costs_texts, builds, gives_list}
-use Rattle.icn_defs.specs.Reading.{the_value}
+use Rattle.icn_defs.specs.ReadAndAssign.{the_value}
 use Rattle.icn_defs.specs.Arguments.{string, cset, list, set_of}
 
 -- Null and size

@@ -6,14 +6,14 @@ use Rattle.icn_value.specs.Values.{Value, Integer, Text, Chars, Item, Val}
 use Rattle.icn_value.specs.Store.{having_position}
 use Rattle.icn_defs.specs.Conversions.{contains, members, place_of, is_null}
 use Rattle.icn_defs.specs.Rows.{◌>>=◌, ◌>>◌, Row, Finds, UndoPosition, Balanced, Found, Among, fails, gives_value, suspends, check, passing, thing_or_failure, here, changes, costs_text, costs_texts}
-use Rattle.icn_defs.specs.Reading.{the_value}
+use Rattle.icn_defs.specs.ReadAndAssign.{the_value}
 use Rattle.icn_defs.specs.Arguments.{arg, arg_or, integer, string, cset}
 use Rattle.icn_defs.specs.Variables.{places}
 
 -- A text and two positions in it
 
 -- a text, and two positions in it
-pub record Region : Type 0 where
+pub record SearchedText : Type 0 where
   pub text : List ℕ
   pub first : ℤ
   pub last : ℤ
@@ -28,7 +28,7 @@ between text a b = slice_range text (a - 1) (b - 1)
 
 -- The arguments from this one on: a text, and two positions. The text is `&subject` where it is null, and
 -- then the first position is `&pos` where that is null; else 1. The second is 0 where it is null.
-abbrev pub region_from : List Value → ℕ → Finds Region
+abbrev pub region_from : List Value → ℕ → Finds SearchedText
 region_from args n next = do
   setting ← here
   text ← string (arg_or (Text setting.world.subject) args n)
@@ -38,7 +38,7 @@ region_from args n next = do
   next (record { text = text; first = first; last = last })
 
 -- the two places, the smaller first; it fails where one is out of range
-abbrev pub ends_of : Region → Finds (ℕ × ℕ)
+abbrev pub ends_of : SearchedText → Finds (ℕ × ℕ)
 ends_of region = places region.first region.last (length region.text)
 
 -- Tests at the first place

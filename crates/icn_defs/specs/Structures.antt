@@ -6,9 +6,9 @@ use Rattle.icn_structs.specs.Numbered.{NumberedList, leftmost, rightmost, withou
 use Rattle.icn_structs.specs.PairLists.{value_of, without}
 use Rattle.icn_value.specs.Values.{Value, Null, Integer, AList, ATable, ARecord, Val}
 use Rattle.icn_value.specs.Store.{Heap, Table, Record, Names, list_at, set_at, table_at, record_at, with_list, with_set, with_table}
-use Rattle.icn_defs.specs.Conversions.{Group, Textual, Listed, Collected, Tabled, Recorded, Filed, Activated, Single, group_of, same, has_value, with_member, sort_list, is_null}
+use Rattle.icn_defs.specs.Conversions.{ValueGroup, Textual, Listed, Collected, Tabled, Recorded, Filed, Activated, Single, group_of, same, has_value, with_member, sort_list, is_null}
 use Rattle.icn_defs.specs.Rows.{◌>>=◌, ◌>>◌, Row, Finds, TableKeys, gives_value, suspends, wrong, check, passing, thing_or_failure, natural, here, changes_heap, costs_cells, new_list_of, gives_list}
-use Rattle.icn_defs.specs.Reading.{costs_unless, stores}
+use Rattle.icn_defs.specs.ReadAndAssign.{costs_unless, stores}
 use Rattle.icn_defs.specs.Operations.{new_set_of}
 use Rattle.icn_defs.specs.Arguments.{arg, arg_or, integer, list, list_of, table, Keeper, SetKeeper, TableKeeper, keeper}
 use Rattle.icn_defs.specs.Images.{value_cmp}
@@ -34,7 +34,7 @@ new_record_of structure next = do
   next (ARecord (length records))
 
 -- `copy(x)`
-abbrev pub copy_of : Value → Group → Row
+abbrev pub copy_of : Value → ValueGroup → Row
 copy_of v (Textual text) = gives_value v
 copy_of v (Listed id) = do
   setting ← here
@@ -232,7 +232,7 @@ table_sorted names heap pairs (pos (suc (suc (suc (suc zero))))) chosen =
 table_sorted names heap pairs n chosen = wrong 205 (Some chosen)
 
 -- a sorted list of what a structure holds: 115 for other values
-abbrev pub sorted_of : Names → Value → ℤ → Value → Group → Row
+abbrev pub sorted_of : Names → Value → ℤ → Value → ValueGroup → Row
 sorted_of names v n chosen (Listed id) = do
   setting ← here
   gives_list (sort_list (value_cmp names setting.world.heap) (list_at setting.world.heap id).items)

@@ -4,9 +4,9 @@ use Rattle.icn_text.specs.declared.arithmetic.Arith.{Arith}
 use Rattle.icn_text.specs.IntegerArithmetic.{sum, difference}
 use Rattle.icn_value.specs.Values.{Value, Variable, Item, Var}
 use Rattle.icn_value.specs.Store.{list_at, record_at}
-use Rattle.icn_defs.specs.Conversions.{Group, Textual, Listed, Collected, Tabled, Recorded, Filed, Activated, Single, group_of, place_of}
+use Rattle.icn_defs.specs.Conversions.{ValueGroup, Textual, Listed, Collected, Tabled, Recorded, Filed, Activated, Single, group_of, place_of}
 use Rattle.icn_defs.specs.Rows.{◌>>=◌, ◌>>◌, Row, Finds, Mover, UndoAssign, UndoExchange, fails, gives, suspends, wrong, number_or_error, passing, thing_or_failure, here, costs_text, gives_list}
-use Rattle.icn_defs.specs.Reading.{the_value, the_variable, assigns, undoes, exchanges, undoes_exchange, mover_of}
+use Rattle.icn_defs.specs.ReadAndAssign.{the_value, the_variable, assigns, undoes, exchanges, undoes_exchange, mover_of}
 use Rattle.icn_defs.specs.Arguments.{integer}
 use Rattle.icn_defs.specs.Elements.{part_item, text_variable, element_item, field_item, key_item}
 
@@ -71,7 +71,7 @@ element_place n size next = do
   next place
 
 -- the element, the field, the byte or the value at a key: 114 for other values
-abbrev pub subscript_of : Item → Value → Value → Group → Row
+abbrev pub subscript_of : Item → Value → Value → ValueGroup → Row
 subscript_of x v w (Textual text) = do
   n ← integer w
   costs_text v
@@ -123,7 +123,7 @@ positions second u w next = do
   next (m, end)
 
 -- the bytes or elements between two positions: 110 for other values
-abbrev pub section_of : (ℤ → ℤ → Result ℤ Arith) → Item → Value → Value → Value → Group → Row
+abbrev pub section_of : (ℤ → ℤ → Result ℤ Arith) → Item → Value → Value → Value → ValueGroup → Row
 section_of second x v u w (Textual text) = do
   range ← positions second u w
   costs_text v

@@ -3,11 +3,11 @@
 #![tactic(auto)]
 
 mod arities;
+mod definition_laws;
 mod ending;
-mod laws;
 mod numbers;
 
 pub use arities::arity;
+pub use definition_laws::{broken_off, numbers_lead_back, rows_keep};
 pub use ending::Ending;
-pub use laws::{broken_off, numbers_lead_back, rows_keep};
 pub use numbers::{func_numbered, keyword_numbered, op_numbered};

@@ -35,45 +35,45 @@ pub data Bracket : Type 0 where
   Subscripts : Tree → Bracket
 
 -- what was read of a form, up to the part that is being read
-pub data Holding : Type 0 where
-  Elements : Bracket → Trees → Holding
-  SectionEnd : SectionKind → Tree → Tree → Holding
-  PrefixOperand : Operator → Holding
-  NotOperand : Holding
-  RightOperand : Infix → Tree → Holding
-  ToOperand : Tree → Holding
-  ByOperand : Tree → Tree → Holding
-  Condition : Holding
-  Consequence : Tree → Holding
-  Alternative : Tree → Tree → Holding
-  CaseSubject : Holding
-  ClauseGuard : Tree → Clauses → Place → Holding
-  GuardedValue : Tree → Clauses → Place → Tree → Holding
-  DefaultValue : Tree → Clauses → Place → Holding
-  Control : LoopKind → Holding
-  LoopBody : LoopKind → Tree → Holding
-  RepeatBody : Holding
-  CreateBody : Holding
-  BreakValue : Holding
-  ReturnValue : Holding
-  SuspendValue : Holding
-  SuspendBody : Tree → Holding
+pub data PartialForm : Type 0 where
+  Elements : Bracket → Trees → PartialForm
+  SectionEnd : SectionKind → Tree → Tree → PartialForm
+  PrefixOperand : Operator → PartialForm
+  NotOperand : PartialForm
+  RightOperand : Infix → Tree → PartialForm
+  ToOperand : Tree → PartialForm
+  ByOperand : Tree → Tree → PartialForm
+  Condition : PartialForm
+  Consequence : Tree → PartialForm
+  Alternative : Tree → Tree → PartialForm
+  CaseSubject : PartialForm
+  ClauseGuard : Tree → Clauses → Place → PartialForm
+  GuardedValue : Tree → Clauses → Place → Tree → PartialForm
+  DefaultValue : Tree → Clauses → Place → PartialForm
+  Control : LoopKind → PartialForm
+  LoopBody : LoopKind → Tree → PartialForm
+  RepeatBody : PartialForm
+  CreateBody : PartialForm
+  BreakValue : PartialForm
+  ReturnValue : PartialForm
+  SuspendValue : PartialForm
+  SuspendBody : Tree → PartialForm
 
 -- an open form: the level of the expression that it belongs to, and where that expression began
-pub record Frame : Type 0 where
+pub record OpenForm : Type 0 where
   pub level : ℕ
   pub place : Place
-  pub holds : Holding
+  pub holds : PartialForm
 
-pub data State : Type 0 where
+pub data ReadingState : Type 0 where
   -- an expression of this level, or of level 0 an empty one, begins here
-  Starting : ℕ → List Frame → List Token → State
+  Starting : ℕ → List OpenForm → List Token → ReadingState
   -- a tree was read, which may go on at this level
-  Climbing : ℕ → Place → Tree → List Frame → List Token → State
+  Climbing : ℕ → Place → Tree → List OpenForm → List Token → ReadingState
   -- a part is complete, and it is empty or not
-  Closing : Tree → Bool → List Frame → List Token → State
-  Finished : Tree → List Token → State
-  Broken : State
+  Closing : Tree → Bool → List OpenForm → List Token → ReadingState
+  Finished : Tree → List Token → ReadingState
+  Broken : ReadingState
 
 abbrev pub behind : List Token → List Token
 behind [] = []
@@ -147,11 +147,11 @@ keyword_text (Some (IdentifierKind text)) = Some text
 keyword_text (Some (WordKind Words.Fail)) = Some (codes "fail")
 keyword_text _ = None
 
-abbrev pub unless_broken : {A : Type 0} → Option A → (A → State) → State
+abbrev pub unless_broken : {A : Type 0} → Option A → (A → ReadingState) → ReadingState
 unless_broken None f = Broken
 unless_broken (Some x) f = f x
 
-abbrev pub provided : Bool → State → State
+abbrev pub provided : Bool → ReadingState → ReadingState
 provided true state = state
 provided false state = Broken
 
@@ -162,10 +162,10 @@ abbrev pub climbing_level : ℕ → ℕ
 climbing_level zero = 1
 climbing_level (suc level) = suc level
 
-abbrev pub frame : ℕ → Place → Holding → Frame
+abbrev pub frame : ℕ → Place → PartialForm → OpenForm
 frame level place holds = record { level = level; place = place; holds = holds }
 
-abbrev pub word_step : ℕ → Place → Word → List Frame → List Token → State
+abbrev pub word_step : ℕ → Place → Word → List OpenForm → List Token → ReadingState
 word_step level place Words.Not frames tokens = Starting 12 (frame level place NotOperand ∷ frames) tokens
 word_step level place Words.If frames tokens = Starting 1 (frame level place Condition ∷ frames) tokens
 word_step level place Words.Case frames tokens = Starting 1 (frame level place CaseSubject ∷ frames) tokens
@@ -181,18 +181,18 @@ word_step level place Words.Return frames tokens = Starting 0 (frame level place
 word_step level place Words.Suspend frames tokens = Starting 0 (frame level place SuspendValue ∷ frames) tokens
 word_step level place _ frames tokens = Broken
 
-abbrev pub operator_step : ℕ → Place → Option (Operator × Option Operator) → List Frame → List Token → State
+abbrev pub operator_step : ℕ → Place → Option (Operator × Option Operator) → List OpenForm → List Token → ReadingState
 operator_step level place None frames tokens =
     unless_broken (name_by (keyword_text (next tokens)) tokens) (λ name. Climbing level place (Keyword place name) frames (behind tokens))
 operator_step level place (Some found) frames tokens = Starting 12 (frame level place (PrefixOperand found.0) ∷ frames) (before place found.1 tokens)
 
-abbrev pub mark_step : ℕ → Place → Punctuation → List Frame → List Token → State
+abbrev pub mark_step : ℕ → Place → Punctuation → List OpenForm → List Token → ReadingState
 mark_step level place OpenParenthesis frames tokens = Starting 0 (frame level place (Elements Round NoTrees) ∷ frames) tokens
 mark_step level place OpenBracket frames tokens = Starting 0 (frame level place (Elements Square NoTrees) ∷ frames) tokens
 mark_step level place OpenBrace frames tokens = Starting 0 (frame level place (Elements Curly NoTrees) ∷ frames) tokens
 mark_step level place _ frames tokens = Broken
 
-abbrev pub operand_step : ℕ → Place → Kind → List Frame → List Token → State
+abbrev pub operand_step : ℕ → Place → Kind → List OpenForm → List Token → ReadingState
 operand_step level place (IdentifierKind text) frames tokens = Climbing level place (Identifier (record { text = text; place = place })) frames tokens
 operand_step level place (IntegerKind n) frames tokens = Climbing level place (Constant place (Integer n)) frames tokens
 operand_step level place (TextKind text) frames tokens = Climbing level place (Constant place (Text text)) frames tokens
@@ -202,47 +202,47 @@ operand_step level place (OperatorKind operator) frames tokens = operator_step l
 operand_step level place (AugmentedKind operator) frames tokens = Broken
 operand_step level place (PunctuationKind mark) frames tokens = mark_step level place mark frames tokens
 
-abbrev pub empty_step : ℕ → List Frame → List Token → State
+abbrev pub empty_step : ℕ → List OpenForm → List Token → ReadingState
 empty_step zero frames tokens = Closing Empty false frames tokens
 empty_step (suc level) frames tokens = Broken
 
-abbrev pub start_by : Bool → ℕ → Token → List Frame → List Token → State
+abbrev pub start_by : Bool → ℕ → Token → List OpenForm → List Token → ReadingState
 start_by true level token frames tokens = operand_step (climbing_level level) (record { line = token.line; file = token.file }) token.kind frames tokens
 start_by false level token frames tokens = empty_step level frames (token ∷ tokens)
 
-abbrev pub start_step : ℕ → List Frame → List Token → State
+abbrev pub start_step : ℕ → List OpenForm → List Token → ReadingState
 start_step level frames [] = empty_step level frames []
 start_step level frames (token ∷ tokens) = start_by (kind_begins token.kind) level token frames tokens
 
 -- Climbing
 
-abbrev pub infix_step : ℕ → Place → Tree → Infix → List Frame → List Token → State
+abbrev pub infix_step : ℕ → Place → Tree → Infix → List OpenForm → List Token → ReadingState
 infix_step level place tree operator frames tokens =
     Starting (right_level (infix_level operator)) (frame level place (RightOperand operator tree) ∷ frames) tokens
 
-abbrev pub plain_step : Bool → ℕ → Place → Tree → Operator → List Frame → List Token → State
+abbrev pub plain_step : Bool → ℕ → Place → Tree → Operator → List OpenForm → List Token → ReadingState
 plain_step true level place tree operator frames tokens =
     unless_broken (name_by (identifier_text (next tokens)) tokens) (λ name. Climbing level place (Field place tree name) frames (behind tokens))
 plain_step false level place tree operator frames tokens = infix_step level place tree (Plain operator) frames tokens
 
-abbrev pub suffix_step : ℕ → Place → Tree → Punctuation → List Frame → List Token → State
+abbrev pub suffix_step : ℕ → Place → Tree → Punctuation → List OpenForm → List Token → ReadingState
 suffix_step level place tree OpenParenthesis frames tokens = Starting 0 (frame level place (Elements (Arguments tree) NoTrees) ∷ frames) tokens
 suffix_step level place tree OpenBracket frames tokens = Starting 0 (frame level place (Elements (Subscripts tree) NoTrees) ∷ frames) tokens
 suffix_step level place tree OpenBrace frames tokens = Starting 0 (frame level place (Elements (CoArguments tree) NoTrees) ∷ frames) tokens
 suffix_step level place tree _ frames tokens = Broken
 
-abbrev pub extend_step : ℕ → Place → Tree → Kind → List Frame → List Token → State
+abbrev pub extend_step : ℕ → Place → Tree → Kind → List OpenForm → List Token → ReadingState
 extend_step level place tree (OperatorKind operator) frames tokens = plain_step (is_dot operator) level place tree operator frames tokens
 extend_step level place tree (AugmentedKind operator) frames tokens = infix_step level place tree (Augmented operator) frames tokens
 extend_step level place tree (WordKind word) frames tokens = Starting 5 (frame level place (ToOperand tree) ∷ frames) tokens
 extend_step level place tree (PunctuationKind mark) frames tokens = suffix_step level place tree mark frames tokens
 extend_step level place tree _ frames tokens = Broken
 
-abbrev pub climb_by : Bool → ℕ → Place → Tree → Token → List Frame → List Token → State
+abbrev pub climb_by : Bool → ℕ → Place → Tree → Token → List OpenForm → List Token → ReadingState
 climb_by true level place tree token frames tokens = extend_step level place tree token.kind frames tokens
 climb_by false level place tree token frames tokens = Closing tree true frames (token ∷ tokens)
 
-abbrev pub climb_step : ℕ → Place → Tree → List Frame → List Token → State
+abbrev pub climb_step : ℕ → Place → Tree → List OpenForm → List Token → ReadingState
 climb_step level place tree frames [] = Closing tree true frames []
 climb_step level place tree frames (token ∷ tokens) = climb_by (nat_le level (kind_goes_on token.kind)) level place tree token frames tokens
 
@@ -273,11 +273,11 @@ abbrev pub section_subject : Bracket → Trees → Bool → Option Tree
 section_subject (Subscripts subject) NoTrees true = Some subject
 section_subject _ _ _ = None
 
-abbrev pub section_by : Option Tree → Option SectionKind → ℕ → Place → Tree → List Frame → List Token → State
+abbrev pub section_by : Option Tree → Option SectionKind → ℕ → Place → Tree → List OpenForm → List Token → ReadingState
 section_by (Some subject) (Some kind) level place from frames tokens = Starting 1 (frame level place (SectionEnd kind subject from) ∷ frames) tokens
 section_by _ _ level place from frames tokens = Broken
 
-abbrev pub element_by : Bool → Bool → Bracket → Trees → ℕ → Place → Tree → Bool → List Frame → List Token → State
+abbrev pub element_by : Bool → Bool → Bracket → Trees → ℕ → Place → Tree → Bool → List OpenForm → List Token → ReadingState
 element_by true closer bracket trees level place tree present frames tokens =
     Starting 0 (frame level place (Elements bracket (with_last trees tree)) ∷ frames) (behind tokens)
 element_by false true bracket trees level place tree present frames tokens =
@@ -286,30 +286,30 @@ element_by false false bracket trees level place tree present frames tokens =
     section_by (section_subject bracket trees present) (section_kind (next tokens)) level place tree frames (behind tokens)
 
 -- a clause begins here
-abbrev pub clause_by : Bool → ℕ → Place → Tree → Clauses → List Frame → List Token → State
+abbrev pub clause_by : Bool → ℕ → Place → Tree → Clauses → List OpenForm → List Token → ReadingState
 clause_by true level place subject clauses frames tokens = provided (is_colon (next (behind tokens)))
     (Starting 1 (frame level place (DefaultValue subject clauses (place_of tokens)) ∷ frames) (behind (behind tokens)))
 clause_by false level place subject clauses frames tokens = Starting 1 (frame level place (ClauseGuard subject clauses (place_of tokens)) ∷ frames) tokens
 
-abbrev pub clause_step : ℕ → Place → Tree → Clauses → List Frame → List Token → State
+abbrev pub clause_step : ℕ → Place → Tree → Clauses → List OpenForm → List Token → ReadingState
 clause_step level place subject clauses frames tokens = clause_by (is_default (next tokens)) level place subject clauses frames tokens
 
 -- a clause is complete
-abbrev pub clause_end : Bool → ℕ → Place → Tree → Clauses → List Frame → List Token → State
+abbrev pub clause_end : Bool → ℕ → Place → Tree → Clauses → List OpenForm → List Token → ReadingState
 clause_end true level place subject clauses frames tokens = clause_step level place subject clauses frames (behind tokens)
 clause_end false level place subject clauses frames tokens =
     provided (is_close_brace (next tokens)) (Climbing level place (Case place subject clauses) frames (behind tokens))
 
 -- where this token stands next a further part follows, else the form is complete
-abbrev pub part_or : Bool → Frame → Tree → List Frame → List Token → State
+abbrev pub part_or : Bool → OpenForm → Tree → List OpenForm → List Token → ReadingState
 part_or true more tree frames tokens = Starting 1 (more ∷ frames) (behind tokens)
 part_or false more tree frames tokens = Climbing more.level more.place tree frames tokens
 
-abbrev pub by_or : Bool → Frame → Tree → List Frame → List Token → State
+abbrev pub by_or : Bool → OpenForm → Tree → List OpenForm → List Token → ReadingState
 by_or true more tree frames tokens = Starting 5 (more ∷ frames) (behind tokens)
 by_or false more tree frames tokens = Climbing more.level more.place tree frames tokens
 
-abbrev pub close_by : Holding → ℕ → Place → Tree → Bool → List Frame → List Token → State
+abbrev pub close_by : PartialForm → ℕ → Place → Tree → Bool → List OpenForm → List Token → ReadingState
 close_by (Elements bracket trees) level place tree present frames tokens =
     element_by (is_separator (separator_of bracket) (next tokens)) (is_closer bracket (next tokens)) bracket trees level place tree present frames tokens
 close_by (SectionEnd kind subject from) level place tree present frames tokens =
@@ -344,11 +344,11 @@ close_by SuspendValue level place tree present frames tokens =
     part_or (is_do (next tokens)) (frame level place (SuspendBody tree)) (Suspend place tree Absent) frames tokens
 close_by (SuspendBody value) level place tree present frames tokens = Climbing level place (Suspend place value (Present tree)) frames tokens
 
-abbrev pub close_step : Tree → Bool → List Frame → List Token → State
+abbrev pub close_step : Tree → Bool → List OpenForm → List Token → ReadingState
 close_step tree present [] tokens = Finished tree tokens
 close_step tree present (newest ∷ frames) tokens = close_by newest.holds newest.level newest.place tree present frames tokens
 
-abbrev pub step : State → State
+abbrev pub step : ReadingState → ReadingState
 step (Starting level frames tokens) = start_step level frames tokens
 step (Climbing level place tree frames tokens) = climb_step level place tree frames tokens
 step (Closing tree present frames tokens) = close_step tree present frames tokens
@@ -356,6 +356,6 @@ step (Finished tree tokens) = Finished tree tokens
 step Broken = Broken
 
 -- so many steps
-unfoldable pub run : ℕ → State → State
+unfoldable pub run : ℕ → ReadingState → ReadingState
 run zero state = state
 run (suc n) state = run n (step state)

@@ -26,23 +26,23 @@ use Rattle.icn_tree.specs.Levels.{infix_level, infix_kind, left_level, right_lev
 use Rattle.icn_tree.specs.Wants.{wants}
 use Rattle.icn_tree.specs.Phrases.{Phrase, next, place_of, token_at, sign}
 use Rattle.icn_tree.specs.Grammar.{identifier, keyword, Part, Spells, SpellsList, SpellsMore, SpellsClause, SpellsClauses, SpellsMoreClauses, before, IsPrefix, Separator, ByComma, BySemicolon, separator, literal_kind, section_sign, loop_word}
-use Rattle.icn_expr.proofs.Automaton.{Bracket, Round, Square, Curly, Arguments, CoArguments, Subscripts, Holding, Elements, SectionEnd, PrefixOperand, NotOperand, RightOperand, ToOperand, ByOperand, Condition, Consequence, Alternative, CaseSubject, ClauseGuard, GuardedValue, DefaultValue, Control, LoopBody, RepeatBody, CreateBody, BreakValue, ReturnValue, SuspendValue, SuspendBody, Frame, State, Starting, Climbing, Closing, Finished, Broken, behind, is_separator, is_close_parenthesis, is_close_bracket, is_close_brace, is_open_brace, is_colon, is_then, is_of, is_default, is_dot, section_kind, name_by, identifier_text, keyword_text, unless_broken, provided, climbing_level, frame, word_step, operator_step, mark_step, operand_step, empty_step, start_by, start_step, infix_step, plain_step, suffix_step, extend_step, climb_by, climb_step, separator_of, is_closer, bracketed, section_subject, section_by, element_by, clause_by, clause_step, clause_end, part_or, by_or, close_by, close_step, step, run}
+use Rattle.icn_expr.proofs.Automaton.{Bracket, Round, Square, Curly, Arguments, CoArguments, Subscripts, PartialForm, Elements, SectionEnd, PrefixOperand, NotOperand, RightOperand, ToOperand, ByOperand, Condition, Consequence, Alternative, CaseSubject, ClauseGuard, GuardedValue, DefaultValue, Control, LoopBody, RepeatBody, CreateBody, BreakValue, ReturnValue, SuspendValue, SuspendBody, OpenForm, ReadingState, Starting, Climbing, Closing, Finished, Broken, behind, is_separator, is_close_parenthesis, is_close_bracket, is_close_brace, is_open_brace, is_colon, is_then, is_of, is_default, is_dot, section_kind, name_by, identifier_text, keyword_text, unless_broken, provided, climbing_level, frame, word_step, operator_step, mark_step, operand_step, empty_step, start_by, start_step, infix_step, plain_step, suffix_step, extend_step, climb_by, climb_step, separator_of, is_closer, bracketed, section_subject, section_by, element_by, clause_by, clause_step, clause_end, part_or, by_or, close_by, close_step, step, run}
 use Rattle.icn_expr.specs.Capped.{with_last, with_last_clause}
 use Rattle.icn_tree.proofs.LevelFacts.{edge, level_edge, goes_on_up, operand_edge, goes_on_infix, begins_prefix, right_one, left_up}
-use Rattle.icn_expr.proofs.Leading.{Leads, one_more, climbed_to, Found, part_read, optional_read, behind_sign, next_sign, ends_at, past, provided_so, part_or_no, part_or_yes, by_or_no, by_or_yes, begun_at, appended, FoundList, FoundMore, more_next, appended_clauses, FoundClauses}
+use Rattle.icn_expr.proofs.MeantParts.{Leads, one_more, climbed_to, Found, part_read, optional_read, behind_sign, next_sign, ends_at, past, provided_so, part_or_no, part_or_yes, by_or_no, by_or_yes, begun_at, appended, FoundList, FoundMore, more_next, appended_clauses, FoundClauses}
 
 begins_literal : (literal : Literal) → kind_begins (literal_kind literal) ≡ true
 begins_literal (Integer n) = refl
 begins_literal (Text bytes) = refl
 begins_literal (Cset set) = refl
 
-constant_step : (level : ℕ) (place : Place) (literal : Literal) (frames : List Frame) (tokens : List Token)
+constant_step : (level : ℕ) (place : Place) (literal : Literal) (frames : List OpenForm) (tokens : List Token)
     → operand_step level place (literal_kind literal) frames tokens ≡ Climbing level place (Constant place literal) frames tokens
 constant_step level place (Integer n) frames tokens = refl
 constant_step level place (Text bytes) frames tokens = refl
 constant_step level place (Cset set) frames tokens = refl
 
-so : (state other : State) (r : Tree) (t : List Token) → state ≡ other → Leads other r t → Leads state r t
+so : (state other : ReadingState) (r : Tree) (t : List Token) → state ≡ other → Leads other r t → Leads state r t
 so state other r t e g = subst (λ s. Leads s r t) (sym e) g
 
 pub found_constant : (place : Place) (literal : Literal) → Found (Constant place literal)
@@ -54,7 +54,7 @@ pub found_identifier : (name : Name) → Found (Identifier name)
 found_identifier name level frames here after r t fits s longest ends g =
     begun_at name.place (IdentifierKind name.text) level frames here after after (Identifier name) r t s refl (λ h. h) g
 
-keyword_step_is : (level : ℕ) (place : Place) (name : Name) (frames : List Frame) (here after : List Token) → keyword name here after
+keyword_step_is : (level : ℕ) (place : Place) (name : Name) (frames : List OpenForm) (here after : List Token) → keyword name here after
     → operator_step level place None frames here ≡ Climbing level place (Keyword place name) frames after
 keyword_step_is level place name frames here after (inl e) = ap (operator_step level place None frames) e
 keyword_step_is level place name frames here after (inr s) = ap (operator_step level place None frames) s.1
@@ -86,7 +86,7 @@ all_clauses (MoreClauses clause others) = clauses_in_front clause NoClauses othe
 list_read : (bracket : Bracket) (trees : Trees) → FoundList trees → (close : Punctuation)
     → is_separator (separator_of bracket) (Some (PunctuationKind close)) ≡ false → is_closer bracket (Some (PunctuationKind close)) ≡ true
     → goes_on 1 (Some (PunctuationKind close)) ≡ false
-    → (level : ℕ) (place : Place) (frames : List Frame) (here middle after : List Token) (r : Tree) (t : List Token)
+    → (level : ℕ) (place : Place) (frames : List OpenForm) (here middle after : List Token) (r : Tree) (t : List Token)
     → SpellsList (separator_of bracket) trees here middle → sign (PunctuationKind close) middle after
     → Leads (Climbing level place (bracketed bracket place trees) frames after) r t
     → Leads (Starting 0 (frame level place (Elements bracket NoTrees) ∷ frames) here) r t
@@ -114,13 +114,13 @@ found_compound place exprs f level frames here after r t fits s longest ends g =
 
 -- Forms that go on with an operand
 
-extended : (level : ℕ) (place at : Place) (left : Tree) (kind : Kind) (frames : List Frame) (tokens : List Token) (r : Tree) (t : List Token)
+extended : (level : ℕ) (place at : Place) (left : Tree) (kind : Kind) (frames : List OpenForm) (tokens : List Token) (r : Tree) (t : List Token)
     → level ≤ kind_goes_on kind → Leads (extend_step level place left kind frames tokens) r t
     → Leads (Climbing level place left frames (token_at at kind ∷ tokens)) r t
 extended level place at left kind frames tokens r t h g =
     one_more _ r t (subst (λ b. Leads (climb_by b level place left (token_at at kind) frames tokens) r t) (sym (le-leb level (kind_goes_on kind) h)) g)
 
-extends_by : (level : ℕ) (left : Tree) → Found left → (kind : Kind) (frames : List Frame) (here middle after : List Token) (r : Tree) (t : List Token)
+extends_by : (level : ℕ) (left : Tree) → Found left → (kind : Kind) (frames : List OpenForm) (here middle after : List Token) (r : Tree) (t : List Token)
     → climbing_level level ≤ kind_goes_on kind
     → Part (left_level (kind_goes_on kind)) left (Spells left) here middle → sign kind middle after
     → Leads (extend_step (climbing_level level) (place_of here) left kind frames after) r t → Leads (Starting level frames here) r t
@@ -132,7 +132,7 @@ extends_by level left f kind frames here middle after r t h p s g =
     (extended (climbing_level level) (place_of here) s.0 left kind frames after r t h g))
 
 -- the place of the whole is that of its first token
-placed : (make : Place → State) (place other : Place) (r : Tree) (t : List Token) → other ≡ place → Leads (make place) r t → Leads (make other) r t
+placed : (make : Place → ReadingState) (place other : Place) (r : Tree) (t : List Token) → other ≡ place → Leads (make place) r t → Leads (make other) r t
 placed make place other r t e g = subst (λ (p : Place). Leads (make p) r t) (sym e) g
 
 pub found_call : (place : Place) (callee : Tree) (arguments : Trees) → Found callee → FoundList arguments → Found (Call place callee arguments)
@@ -167,7 +167,8 @@ section_ends Forward = refl
 section_ends Backward = refl
 
 -- the first position of a section is complete
-position_step : (kind : SectionKind) (subject from : Tree) (level : ℕ) (place : Place) (frames : List Frame) (tokens : List Token) (r : Tree) (t : List Token)
+position_step : (kind : SectionKind) (subject from : Tree) (level : ℕ) (place : Place) (frames : List OpenForm) (tokens : List Token) (r : Tree)
+    (t : List Token)
     → next tokens ≡ Some (PunctuationKind (section_sign kind))
     → Leads (Starting 1 (frame level place (SectionEnd kind subject from) ∷ frames) (behind tokens)) r t
     → Leads (Closing from true (frame level place (Elements (Subscripts subject) NoTrees) ∷ frames) tokens) r t
@@ -195,7 +196,7 @@ found_section place kind subject from to f h b level frames here after r t fits 
     let colon : Kind = PunctuationKind (section_sign kind) in
     let m = s.1.2.2 in
     let q = m.2.2 in
-    let open_bracket : State = Starting 0 (frame (climbing_level level) (place_of here) (Elements (Subscripts subject) NoTrees) ∷ frames) s.1.2.0 in
+    let open_bracket : ReadingState = Starting 0 (frame (climbing_level level) (place_of here) (Elements (Subscripts subject) NoTrees) ∷ frames) s.1.2.0 in
     let first_ends : goes_on 1 (next m.0) ≡ false = ends_at 1 colon m.0 m.2.0 m.2.1 (section_ends kind) in
     extends_by level subject f (PunctuationKind OpenBracket) frames here s.1.0 s.1.2.0 r t fits s.1.1 s.1.2.1
     (first_position from h (frame (climbing_level level) (place_of here) (Elements (Subscripts subject) NoTrees) ∷ frames) s.1.2.0 m.0 r t m.1 first_ends
@@ -206,13 +207,13 @@ found_section place kind subject from to f h b level frames here after r t fits 
     (past (Climbing (climbing_level level) (place_of here) (Section (place_of here) kind subject from to) frames) close q.0 after r t q.2
     (placed (λ p. Climbing (climbing_level level) (place_of here) (Section p kind subject from to) frames after) place (place_of here) r t s.0 g))))))))
   where
-    first_position : (tree : Tree) → Found tree → (frames : List Frame) (here after : List Token) (r : Tree) (t : List Token)
+    first_position : (tree : Tree) → Found tree → (frames : List OpenForm) (here after : List Token) (r : Tree) (t : List Token)
         → Part 1 tree (Spells tree) here after → goes_on 1 (next after) ≡ false → Leads (Closing tree true frames after) r t
         → Leads (Starting 0 frames here) r t
     first_position tree f frames here after r t p e g = f 0 frames here after r t p.fits p.spells p.longest
         (goes_on_up 1 (edge tree) (le_trans p.fits (level_edge tree)) (next after) e) (climbed_to 1 (place_of here) tree frames after r t e g)
 
-field_step_is : (level : ℕ) (place : Place) (left : Tree) (name : Name) (frames : List Frame) (here after : List Token) → identifier name here after
+field_step_is : (level : ℕ) (place : Place) (left : Tree) (name : Name) (frames : List OpenForm) (here after : List Token) → identifier name here after
     → plain_step true level place left Dot frames here ≡ Climbing level place (Field place left name) frames after
 field_step_is level place left name frames here after e = ap (plain_step true level place left Dot frames) e
 
@@ -226,12 +227,12 @@ not_dot : (operator : Operator) → 1 ≤ infix_level (Plain operator) → is_do
 not_dot Dot h = absurd (omega arith)
 not_dot _ h = refl
 
-extended_infix : (level : ℕ) (place : Place) (left : Tree) (operator : Infix) (frames : List Frame) (tokens : List Token) → 1 ≤ infix_level operator
+extended_infix : (level : ℕ) (place : Place) (left : Tree) (operator : Infix) (frames : List OpenForm) (tokens : List Token) → 1 ≤ infix_level operator
     → extend_step level place left (infix_kind operator) frames tokens ≡ infix_step level place left operator frames tokens
 extended_infix level place left (Plain operator) frames tokens h = ap (λ b. plain_step b level place left operator frames tokens) (not_dot operator h)
 extended_infix level place left (Augmented operator) frames tokens h = refl
 
-any_part_read : (level : ℕ) (tree : Tree) → Found tree → 1 ≤ level → (frames : List Frame) (here after : List Token) (r : Tree) (t : List Token)
+any_part_read : (level : ℕ) (tree : Tree) → Found tree → 1 ≤ level → (frames : List OpenForm) (here after : List Token) (r : Tree) (t : List Token)
     → Part level tree (Spells tree) here after → goes_on level (next after) ≡ false → Leads (Closing tree true frames after) r t
     → Leads (Starting level frames here) r t
 any_part_read zero tree f one frames here after r t p e g = absurd (omega arith)
@@ -334,7 +335,7 @@ begins_loop Loops.While = refl
 begins_loop Loops.Until = refl
 begins_loop Loops.Every = refl
 
-loop_step_is : (level : ℕ) (place : Place) (kind : LoopKind) (frames : List Frame) (tokens : List Token)
+loop_step_is : (level : ℕ) (place : Place) (kind : LoopKind) (frames : List OpenForm) (tokens : List Token)
     → word_step level place (loop_word kind) frames tokens ≡ Starting 1 (frame level place (Control kind) ∷ frames) tokens
 loop_step_is level place Loops.While frames tokens = refl
 loop_step_is level place Loops.Until frames tokens = refl

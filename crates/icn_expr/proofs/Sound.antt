@@ -26,19 +26,19 @@ use Rattle.icn_tree.specs.Levels.{operator_level, groups_right, infix_level, inf
 use Rattle.icn_tree.specs.Wants.{wants}
 use Rattle.icn_tree.specs.Phrases.{Phrase, next, place_of, token_at, sign}
 use Rattle.icn_tree.specs.Grammar.{identifier, keyword, Part, Spells, SpellsList, SpellsMore, SpellsClause, SpellsClauses, SpellsMoreClauses, before, IsPrefix, Separator, ByComma, BySemicolon, separator, literal_kind, section_sign, loop_word}
-use Rattle.icn_expr.proofs.Automaton.{Bracket, Round, Square, Curly, Arguments, CoArguments, Subscripts, Holding, Elements, SectionEnd, PrefixOperand, NotOperand, RightOperand, ToOperand, ByOperand, Condition, Consequence, Alternative, CaseSubject, ClauseGuard, GuardedValue, DefaultValue, Control, LoopBody, RepeatBody, CreateBody, BreakValue, ReturnValue, SuspendValue, SuspendBody, Frame, State, Starting, Climbing, Closing, Finished, Broken, behind, is_separator, is_close_parenthesis, is_close_bracket, is_close_brace, is_open_brace, is_colon, is_then, is_of, is_default, is_dot, section_kind, name_by, identifier_text, keyword_text, unless_broken, provided, climbing_level, frame, word_step, operator_step, mark_step, operand_step, empty_step, start_by, start_step, infix_step, plain_step, suffix_step, extend_step, climb_by, climb_step, separator_of, is_closer, bracketed, section_subject, section_by, element_by, clause_by, clause_step, clause_end, part_or, by_or, close_by, close_step, step, run}
+use Rattle.icn_expr.proofs.Automaton.{Bracket, Round, Square, Curly, Arguments, CoArguments, Subscripts, PartialForm, Elements, SectionEnd, PrefixOperand, NotOperand, RightOperand, ToOperand, ByOperand, Condition, Consequence, Alternative, CaseSubject, ClauseGuard, GuardedValue, DefaultValue, Control, LoopBody, RepeatBody, CreateBody, BreakValue, ReturnValue, SuspendValue, SuspendBody, OpenForm, ReadingState, Starting, Climbing, Closing, Finished, Broken, behind, is_separator, is_close_parenthesis, is_close_bracket, is_close_brace, is_open_brace, is_colon, is_then, is_of, is_default, is_dot, section_kind, name_by, identifier_text, keyword_text, unless_broken, provided, climbing_level, frame, word_step, operator_step, mark_step, operand_step, empty_step, start_by, start_step, infix_step, plain_step, suffix_step, extend_step, climb_by, climb_step, separator_of, is_closer, bracketed, section_subject, section_by, element_by, clause_by, clause_step, clause_end, part_or, by_or, close_by, close_step, step, run}
 use Rattle.icn_expr.specs.Capped.{with_last, with_last_clause}
 use Rattle.icn_tree.specs.Phrases.{nothing, sign_at, ◌⨾◌, starts_at}
 use Rattle.icn_tree.specs.Grammar.{infix_sign, mark, word, mark_at, word_at}
 use Rattle.icn_tree.specs.Levels.{operator_begins, operator_goes_on}
 use Rattle.icn_tree.proofs.LevelFacts.{edge, level_edge, right_one}
-use Rattle.icn_expr.proofs.Leading.{is_nonempty, present_ends}
-use Rattle.icn_expr.proofs.Standing.{SoFar, ClausesSoFar, Opened, CaseHead, Held, awaits, awaited, Open, Standing, Ends, Climbed, Closed, Sound, awaited_bound, climbing_bound, below_climbing, one_climbing, beyond, fits_left, ends_alone, present_of, sign_of, at_sign, then_kind, of_kind, else_kind, do_kind, by_kind, default_kind, colon_kind, open_brace_kind, close_brace_kind, close_bracket_kind, close_parenthesis_kind, separator_sign, section_mark, list_so_far, more_so_far, clauses_list, clauses_more, infix_bound}
+use Rattle.icn_expr.proofs.MeantParts.{is_nonempty, present_ends}
+use Rattle.icn_expr.proofs.ReadByGrammar.{SoFar, ClausesSoFar, Opened, CaseHead, Held, awaits, awaited, Open, Standing, Ends, Climbed, Closed, Sound, awaited_bound, climbing_bound, below_climbing, one_climbing, beyond, fits_left, ends_alone, present_of, sign_of, at_sign, then_kind, of_kind, else_kind, do_kind, by_kind, default_kind, colon_kind, open_brace_kind, close_brace_kind, close_bracket_kind, close_parenthesis_kind, separator_sign, section_mark, list_so_far, more_so_far, clauses_list, clauses_more, infix_bound}
 
 -- Starting
 
 -- a form that stands by itself
-settled : (frames : List Frame) (whole : ℕ) (first begin here : List Token) (tree : Tree) → whole ≤ 12 → Standing frames whole first begin
+settled : (frames : List OpenForm) (whole : ℕ) (first begin here : List Token) (tree : Tree) → whole ≤ 12 → Standing frames whole first begin
     → Spells tree begin here → 12 ≤ level_of tree → wants tree (next here) ≡ false → goes_on (edge tree) (next here) ≡ false
     → Climbed (climbing_level (awaited frames whole)) (place_of begin) tree (awaited frames whole) (Standing frames whole first) here
 settled frames whole first begin here tree w st s l n e = record {
@@ -53,12 +53,12 @@ settled frames whole first begin here tree w st s l n e = record {
 }
 
 -- a form whose first token was read
-entered : (holds : Holding) (frames : List Frame) (whole : ℕ) (first begin here : List Token) → Standing frames whole first begin
+entered : (holds : PartialForm) (frames : List OpenForm) (whole : ℕ) (first begin here : List Token) → Standing frames whole first begin
     → Held holds (place_of begin) (climbing_level (awaited frames whole)) begin here
     → Open holds (climbing_level (awaited frames whole)) (place_of begin) (awaited frames whole) (Standing frames whole first) here
 entered holds frames whole first begin here st h = record { begin = begin; held = h; is_level = refl; is_place = refl; rest = st }
 
-word_sound : (word : Word) (place : Place) (frames : List Frame) (whole : ℕ) (first tokens : List Token)
+word_sound : (word : Word) (place : Place) (frames : List OpenForm) (whole : ℕ) (first tokens : List Token)
     → whole ≤ 12 → Standing frames whole first (token_at place (WordKind word) ∷ tokens)
     → Sound whole first (word_step (climbing_level (awaited frames whole)) place word frames tokens)
 word_sound Words.Not place frames whole first tokens w st = (refl, entered NotOperand frames whole first _ tokens st refl)
@@ -79,7 +79,7 @@ word_sound Words.Suspend place frames whole first tokens w st = (refl, entered S
 word_sound _ place frames whole first tokens w st = tt
 
 -- what stands behind `&`
-keyword_token : (kind : Kind) (at : Place) (tokens : List Token) (place : Place) (frames : List Frame) (whole : ℕ) (first : List Token) → whole ≤ 12
+keyword_token : (kind : Kind) (at : Place) (tokens : List Token) (place : Place) (frames : List OpenForm) (whole : ℕ) (first : List Token) → whole ≤ 12
     → Standing frames whole first (token_at place (OperatorKind Ampersand) ∷ token_at at kind ∷ tokens)
     → Sound whole first (operator_step (climbing_level (awaited frames whole)) place None frames (token_at at kind ∷ tokens))
 keyword_token (IdentifierKind text) at tokens place frames whole first w st =
@@ -88,7 +88,7 @@ keyword_token (WordKind Words.Fail) at tokens place frames whole first w st = se
     _ tokens (Keyword place (record { text = codes "fail"; place = at })) w st (_, refl, inr (refl, refl)) (omega arith) refl (beyond (next tokens))
 keyword_token _ at tokens place frames whole first w st = tt
 
-keyword_sound : (tokens : List Token) (place : Place) (frames : List Frame) (whole : ℕ) (first : List Token) → whole ≤ 12
+keyword_sound : (tokens : List Token) (place : Place) (frames : List OpenForm) (whole : ℕ) (first : List Token) → whole ≤ 12
     → Standing frames whole first (token_at place (OperatorKind Ampersand) ∷ tokens)
     → Sound whole first (operator_step (climbing_level (awaited frames whole)) place None frames tokens)
 keyword_sound [] place frames whole first w st = tt
@@ -100,7 +100,7 @@ ampersand_of Ampersand b e = refl
 ampersand_of _ b e = absurd (false≢true (sym (ap is_some e) ∙ b))
 
 operator_sound : (found : Option (Operator × Option Operator)) (operator : Operator) → prefix_of operator ≡ found
-    → operator_begins operator ≡ true → (place : Place) (frames : List Frame) (whole : ℕ) (first tokens : List Token) → whole ≤ 12
+    → operator_begins operator ≡ true → (place : Place) (frames : List OpenForm) (whole : ℕ) (first tokens : List Token) → whole ≤ 12
     → Standing frames whole first (token_at place (OperatorKind operator) ∷ tokens)
     → Sound whole first (operator_step (climbing_level (awaited frames whole)) place found frames tokens)
 operator_sound None operator e b place frames whole first tokens w st = keyword_sound tokens place frames whole first w
@@ -111,7 +111,7 @@ operator_sound (Some found) operator e b place frames whole first tokens w st = 
       (record { characters = operator; others = found.1; behind = tokens; first = e; is_here = refl; is_after = refl }),
 )
 
-mark_sound : (punctuation : Punctuation) (place : Place) (frames : List Frame) (whole : ℕ) (first tokens : List Token)
+mark_sound : (punctuation : Punctuation) (place : Place) (frames : List OpenForm) (whole : ℕ) (first tokens : List Token)
     → whole ≤ 12 → Standing frames whole first (token_at place (PunctuationKind punctuation) ∷ tokens)
     → Sound whole first (mark_step (climbing_level (awaited frames whole)) place punctuation frames tokens)
 mark_sound OpenParenthesis place frames whole first tokens w st = (refl, entered (Elements Round NoTrees) frames whole first _ tokens st (tokens, refl, refl))
@@ -119,7 +119,7 @@ mark_sound OpenBracket place frames whole first tokens w st = (refl, entered (El
 mark_sound OpenBrace place frames whole first tokens w st = (refl, entered (Elements Curly NoTrees) frames whole first _ tokens st (tokens, refl, refl))
 mark_sound _ place frames whole first tokens w st = tt
 
-operand_sound : (kind : Kind) (place : Place) (frames : List Frame) (whole : ℕ) (first tokens : List Token)
+operand_sound : (kind : Kind) (place : Place) (frames : List OpenForm) (whole : ℕ) (first tokens : List Token)
     → whole ≤ 12 → kind_begins kind ≡ true → Standing frames whole first (token_at place kind ∷ tokens)
     → Sound whole first (operand_step (climbing_level (awaited frames whole)) place kind frames tokens)
 operand_sound (IdentifierKind text) place frames whole first tokens w b st =
@@ -136,7 +136,7 @@ operand_sound (OperatorKind operator) place frames whole first tokens w b st =
 operand_sound (AugmentedKind operator) place frames whole first tokens w b st = tt
 operand_sound (PunctuationKind punctuation) place frames whole first tokens w b st = mark_sound punctuation place frames whole first tokens w st
 
-empty_sound : (level : ℕ) (frames : List Frame) (whole : ℕ) (first here : List Token) → level ≡ awaited frames whole → begins (next here) ≡ false
+empty_sound : (level : ℕ) (frames : List OpenForm) (whole : ℕ) (first here : List Token) → level ≡ awaited frames whole → begins (next here) ≡ false
     → Standing frames whole first here → Sound whole first (empty_step level frames here)
 empty_sound zero frames whole first here e b st = record {
   begin = here;
@@ -147,13 +147,14 @@ empty_sound zero frames whole first here e b st = record {
 }
 empty_sound (suc level) frames whole first here e b st = tt
 
-start_by_sound : (b : Bool) (level : ℕ) (token : Token) (frames : List Frame) (whole : ℕ) (first tokens : List Token) → whole ≤ 12 → kind_begins token.kind ≡ b
+start_by_sound : (b : Bool) (level : ℕ) (token : Token) (frames : List OpenForm) (whole : ℕ) (first tokens : List Token) → whole ≤ 12
+    → kind_begins token.kind ≡ b
     → level ≡ awaited frames whole → Standing frames whole first (token ∷ tokens) → Sound whole first (start_by b level token frames tokens)
 start_by_sound true level token frames whole first tokens w b e st = subst (λ n. Sound whole first (start_by true n token frames tokens)) (sym e)
     (operand_sound token.kind (record { line = token.line; file = token.file }) frames whole first tokens w b st)
 start_by_sound false level token frames whole first tokens w b e st = empty_sound level frames whole first (token ∷ tokens) e b st
 
-start_sound : (level : ℕ) (frames : List Frame) (whole : ℕ) (first here : List Token) → whole ≤ 12 → level ≡ awaited frames whole
+start_sound : (level : ℕ) (frames : List OpenForm) (whole : ℕ) (first here : List Token) → whole ≤ 12 → level ≡ awaited frames whole
     → Standing frames whole first here → Sound whole first (start_step level frames here)
 start_sound level frames whole first [] w e st = empty_sound level frames whole first [] e refl st
 start_sound level frames whole first (token ∷ tokens) w e st = start_by_sound (kind_begins token.kind) level token frames whole first tokens w refl e st
@@ -161,7 +162,7 @@ start_sound level frames whole first (token ∷ tokens) w e st = start_by_sound 
 -- Climbing
 
 -- the tree as the left operand of what goes on with it
-left_part : (n level : ℕ) (place : Place) (tree : Tree) (frames : List Frame) (whole : ℕ) (first : List Token) (token : Token) (tokens : List Token)
+left_part : (n level : ℕ) (place : Place) (tree : Tree) (frames : List OpenForm) (whole : ℕ) (first : List Token) (token : Token) (tokens : List Token)
     → kind_goes_on token.kind ≡ n → (c : Climbed level place tree (awaited frames whole) (Standing frames whole first) (token ∷ tokens))
     → Part (left_level n) tree (Spells tree) c.begin (token ∷ tokens)
 left_part n level place tree frames whole first token tokens e c = record {
@@ -175,14 +176,14 @@ left_part n level place tree frames whole first token tokens e c = record {
     level_at_least {level} e = subst (λ n. n ≤ level) e (omega arith)
 
 -- a form that a tree was made the first part of
-grown : (holds : Holding) (level : ℕ) (place : Place) (tree : Tree) (frames : List Frame) (whole : ℕ) (first here after : List Token)
+grown : (holds : PartialForm) (level : ℕ) (place : Place) (tree : Tree) (frames : List OpenForm) (whole : ℕ) (first here after : List Token)
     → (c : Climbed level place tree (awaited frames whole) (Standing frames whole first) here) → Held holds place level c.begin after
     → Open holds level place (awaited frames whole) (Standing frames whole first) after
 grown holds level place tree frames whole first here after c h =
     record { begin = c.begin; held = h; is_level = c.is_level; is_place = c.is_place; rest = c.rest }
 
 field_token : (kind : Kind)
-    (at dot : Place) (tokens : List Token) (level : ℕ) (place : Place) (tree : Tree) (frames : List Frame) (whole : ℕ) (first : List Token)
+    (at dot : Place) (tokens : List Token) (level : ℕ) (place : Place) (tree : Tree) (frames : List OpenForm) (whole : ℕ) (first : List Token)
     → level ≤ 13 → Climbed level place tree (awaited frames whole) (Standing frames whole first) (token_at dot (OperatorKind Dot) ∷ token_at at kind ∷ tokens)
     → Sound whole first (plain_step true level place tree Dot frames (token_at at kind ∷ tokens))
 field_token (IdentifierKind text) at dot tokens level place tree frames whole first l c =
@@ -198,14 +199,15 @@ field_token (IdentifierKind text) at dot tokens level place tree frames whole fi
     }
 field_token _ at dot tokens level place tree frames whole first l c = tt
 
-field_sound : (dot : Place) (tokens : List Token) (level : ℕ) (place : Place) (tree : Tree) (frames : List Frame) (whole : ℕ) (first : List Token) → level ≤ 13
+field_sound : (dot : Place) (tokens : List Token) (level : ℕ) (place : Place) (tree : Tree) (frames : List OpenForm) (whole : ℕ) (first : List Token)
+    → level ≤ 13
     → Climbed level place tree (awaited frames whole) (Standing frames whole first) (token_at dot (OperatorKind Dot) ∷ tokens)
     → Sound whole first (plain_step true level place tree Dot frames tokens)
 field_sound dot [] level place tree frames whole first l c = tt
 field_sound dot (token ∷ tokens) level place tree frames whole first l c =
     field_token token.kind (record { line = token.line; file = token.file }) dot tokens level place tree frames whole first l c
 
-infix_sound : (operator : Infix) (at : Place) (tokens : List Token) (level : ℕ) (place : Place) (tree : Tree) (frames : List Frame) (whole : ℕ)
+infix_sound : (operator : Infix) (at : Place) (tokens : List Token) (level : ℕ) (place : Place) (tree : Tree) (frames : List OpenForm) (whole : ℕ)
     (first : List Token) → kind_goes_on (infix_kind operator) ≡ infix_level operator → 1 ≤ level → level ≤ infix_level operator
     → Climbed level place tree (awaited frames whole) (Standing frames whole first) (token_at at (infix_kind operator) ∷ tokens)
     → Sound whole first (infix_step level place tree operator frames tokens)
@@ -215,7 +217,7 @@ infix_sound operator at tokens level place tree frames whole first e one l c = (
       (l, (c.is_place, (_, left_part (infix_level operator) level place tree frames whole first _ _ e c, (omega (arith, one, l), (at, refl))))),
 )
 
-plain_sound : (operator : Operator) (at : Place) (tokens : List Token) (level : ℕ) (place : Place) (tree : Tree) (frames : List Frame) (whole : ℕ)
+plain_sound : (operator : Operator) (at : Place) (tokens : List Token) (level : ℕ) (place : Place) (tree : Tree) (frames : List OpenForm) (whole : ℕ)
     (first : List Token) → 1 ≤ level → level ≤ operator_goes_on operator
     → Climbed level place tree (awaited frames whole) (Standing frames whole first) (token_at at (OperatorKind operator) ∷ tokens)
     → Sound whole first (plain_step (is_dot operator) level place tree operator frames tokens)
@@ -223,7 +225,7 @@ plain_sound Dot at tokens level place tree frames whole first one l c = field_so
 plain_sound operator at tokens level place tree frames whole first one l c =
     infix_sound (Plain operator) at tokens level place tree frames whole first refl one l c
 
-to_sound : (word : Word) (at : Place) (tokens : List Token) (level : ℕ) (place : Place) (tree : Tree) (frames : List Frame) (whole : ℕ) (first : List Token)
+to_sound : (word : Word) (at : Place) (tokens : List Token) (level : ℕ) (place : Place) (tree : Tree) (frames : List OpenForm) (whole : ℕ) (first : List Token)
     → 1 ≤ level → level ≤ kind_goes_on (WordKind word)
     → Climbed level place tree (awaited frames whole) (Standing frames whole first) (token_at at (WordKind word) ∷ tokens)
     → Sound whole first (extend_step level place tree (WordKind word) frames tokens)
@@ -231,7 +233,7 @@ to_sound Words.To at tokens level place tree frames whole first one l c =
     (refl, grown (ToOperand tree) level place tree frames whole first _ tokens c (l, (c.is_place, (_, left_part 4 level place tree frames whole first _ _ refl c, (at, refl)))))
 to_sound _ at tokens level place tree frames whole first one l c = absurd (omega (arith, one, l))
 
-suffix_sound : (punctuation : Punctuation) (at : Place) (tokens : List Token) (level : ℕ) (place : Place) (tree : Tree) (frames : List Frame) (whole : ℕ)
+suffix_sound : (punctuation : Punctuation) (at : Place) (tokens : List Token) (level : ℕ) (place : Place) (tree : Tree) (frames : List OpenForm) (whole : ℕ)
     (first : List Token)
     → Climbed level place tree (awaited frames whole) (Standing frames whole first) (token_at at (PunctuationKind punctuation) ∷ tokens)
     → Sound whole first (suffix_step level place tree punctuation frames tokens)
@@ -243,7 +245,8 @@ suffix_sound OpenBrace at tokens level place tree frames whole first c =
     (refl, grown (Elements (CoArguments tree) NoTrees) level place tree frames whole first _ tokens c (tokens, (c.is_place, (_, left_part 13 level place tree frames whole first _ _ refl c, (at, refl))), refl))
 suffix_sound _ at tokens level place tree frames whole first c = tt
 
-extend_sound : (kind : Kind) (at : Place) (tokens : List Token) (level : ℕ) (place : Place) (tree : Tree) (frames : List Frame) (whole : ℕ) (first : List Token)
+extend_sound : (kind : Kind) (at : Place) (tokens : List Token) (level : ℕ) (place : Place) (tree : Tree) (frames : List OpenForm) (whole : ℕ)
+    (first : List Token)
     → 1 ≤ level → level ≤ kind_goes_on kind
     → Climbed level place tree (awaited frames whole) (Standing frames whole first) (token_at at kind ∷ tokens)
     → Sound whole first (extend_step level place tree kind frames tokens)
@@ -257,7 +260,7 @@ extend_sound (PunctuationKind punctuation) at tokens level place tree frames who
 extend_sound _ at tokens level place tree frames whole first one l c = tt
 
 -- a tree with which nothing goes on
-full : (level : ℕ) (place : Place) (tree : Tree) (frames : List Frame) (whole : ℕ) (first here : List Token)
+full : (level : ℕ) (place : Place) (tree : Tree) (frames : List OpenForm) (whole : ℕ) (first here : List Token)
     → goes_on level (next here) ≡ false → Climbed level place tree (awaited frames whole) (Standing frames whole first) here
     → Closed tree true (awaited frames whole) (Standing frames whole first) here
 full level place tree frames whole first here e c =
@@ -270,14 +273,14 @@ full level place tree frames whole first here e c =
       is_present = present_of tree (le_trans (one_climbing (awaited frames whole)) fits);
     }
 
-climb_by_sound : (b : Bool) (level : ℕ) (place : Place) (tree : Tree) (token : Token) (frames : List Frame) (whole : ℕ) (first tokens : List Token)
+climb_by_sound : (b : Bool) (level : ℕ) (place : Place) (tree : Tree) (token : Token) (frames : List OpenForm) (whole : ℕ) (first tokens : List Token)
     → nat_le level (kind_goes_on token.kind) ≡ b → 1 ≤ level → Climbed level place tree (awaited frames whole) (Standing frames whole first) (token ∷ tokens)
     → Sound whole first (climb_by b level place tree token frames tokens)
 climb_by_sound true level place tree token frames whole first tokens e one c = extend_sound token.kind
     (record { line = token.line; file = token.file }) tokens level place tree frames whole first one (leb-true level (kind_goes_on token.kind) e) c
 climb_by_sound false level place tree token frames whole first tokens e one c = full level place tree frames whole first (token ∷ tokens) e c
 
-climb_sound : (level : ℕ) (place : Place) (tree : Tree) (frames : List Frame) (whole : ℕ) (first here : List Token)
+climb_sound : (level : ℕ) (place : Place) (tree : Tree) (frames : List OpenForm) (whole : ℕ) (first here : List Token)
     → Climbed level place tree (awaited frames whole) (Standing frames whole first) here → Sound whole first (climb_step level place tree frames here)
 climb_sound level place tree frames whole first [] c = full level place tree frames whole first [] refl c
 climb_sound level place tree frames whole first (token ∷ tokens) c = climb_by_sound (nat_le level (kind_goes_on token.kind)) level place tree token frames whole
@@ -285,11 +288,11 @@ climb_sound level place tree frames whole first (token ∷ tokens) c = climb_by_
 
 -- Closing
 
-abbrev Below : Holding → ℕ → Place → List Frame → ℕ → List Token → List Token → Type 0
+abbrev Below : PartialForm → ℕ → Place → List OpenForm → ℕ → List Token → List Token → Type 0
 Below holds level place frames whole first here = Open holds level place (awaited frames whole) (Standing frames whole first) here
 
 -- a form that is complete
-reduced : (holds : Holding) (level : ℕ) (place : Place) (tree : Tree) (frames : List Frame) (whole : ℕ) (first here after : List Token)
+reduced : (holds : PartialForm) (level : ℕ) (place : Place) (tree : Tree) (frames : List OpenForm) (whole : ℕ) (first here after : List Token)
     → (o : Below holds level place frames whole first here) → Spells tree o.begin after → level ≤ level_of tree → wants tree (next after) ≡ false
     → goes_on (edge tree) (next after) ≡ false
     → Climbed level place tree (awaited frames whole) (Standing frames whole first) after
@@ -297,34 +300,35 @@ reduced holds level place tree frames whole first here after o s l n e =
     record { begin = o.begin; is_level = o.is_level; is_place = o.is_place; rest = o.rest; spells = s; fits = l; longest = n; edged = e }
 
 -- a form that has read one part more
-kept : (holds other : Holding) (level : ℕ) (place : Place) (frames : List Frame) (whole : ℕ) (first here after : List Token)
+kept : (holds other : PartialForm) (level : ℕ) (place : Place) (frames : List OpenForm) (whole : ℕ) (first here after : List Token)
     → (o : Below holds level place frames whole first here) → Held other place level o.begin after → Below other level place frames whole first after
 kept holds other level place frames whole first here after o h =
     record { begin = o.begin; held = h; is_level = o.is_level; is_place = o.is_place; rest = o.rest }
 
-level_bound : (holds : Holding) (level : ℕ) (place : Place) (frames : List Frame) (whole : ℕ) (first here : List Token) → whole ≤ 12
+level_bound : (holds : PartialForm) (level : ℕ) (place : Place) (frames : List OpenForm) (whole : ℕ) (first here : List Token) → whole ≤ 12
     → Below holds level place frames whole first here → level ≤ 12
 level_bound holds level place frames whole first here w o =
     subst (λ n. n ≤ 12) (sym o.is_level) (climbing_bound (awaited frames whole) (awaited_bound frames whole w))
 
-provided_sound : (b : Bool) (state : State) (whole : ℕ) (first : List Token) → (b ≡ true → Sound whole first state) → Sound whole first (provided b state)
+provided_sound : (b : Bool) (state : ReadingState) (whole : ℕ) (first : List Token) → (b ≡ true → Sound whole first state)
+    → Sound whole first (provided b state)
 provided_sound true state whole first f = f refl
 provided_sound false state whole first f = tt
 
-part_or_sound : (b : Bool) (more : Frame) (tree : Tree) (frames : List Frame) (whole : ℕ) (first tokens : List Token)
+part_or_sound : (b : Bool) (more : OpenForm) (tree : Tree) (frames : List OpenForm) (whole : ℕ) (first tokens : List Token)
     → (b ≡ true → Sound whole first (Starting 1 (more ∷ frames) (behind tokens)))
     → (b ≡ false → Sound whole first (Climbing more.level more.place tree frames tokens)) → Sound whole first (part_or b more tree frames tokens)
 part_or_sound true more tree frames whole first tokens f g = f refl
 part_or_sound false more tree frames whole first tokens f g = g refl
 
-by_or_sound : (b : Bool) (more : Frame) (tree : Tree) (frames : List Frame) (whole : ℕ) (first tokens : List Token)
+by_or_sound : (b : Bool) (more : OpenForm) (tree : Tree) (frames : List OpenForm) (whole : ℕ) (first tokens : List Token)
     → (b ≡ true → Sound whole first (Starting 5 (more ∷ frames) (behind tokens)))
     → (b ≡ false → Sound whole first (Climbing more.level more.place tree frames tokens)) → Sound whole first (by_or b more tree frames tokens)
 by_or_sound true more tree frames whole first tokens f g = f refl
 by_or_sound false more tree frames whole first tokens f g = g refl
 
-abbrev CloseSound : Holding → Type 0
-CloseSound holds = (level : ℕ) (place : Place) (tree : Tree) (present : Bool) (frames : List Frame) (whole : ℕ) (first here : List Token)
+abbrev CloseSound : PartialForm → Type 0
+CloseSound holds = (level : ℕ) (place : Place) (tree : Tree) (present : Bool) (frames : List OpenForm) (whole : ℕ) (first here : List Token)
     → whole ≤ 12 → Closed tree present (awaits holds) (λ tokens. Below holds level place frames whole first tokens) here
     → Sound whole first (close_by holds level place tree present frames here)
 
@@ -369,7 +373,7 @@ bracket_edge (CoArguments callee) place trees kind = beyond kind
 bracket_edge (Subscripts subject) place trees kind = beyond kind
 
 -- the first position of a section
-section_sound : (subject : Tree) (kind : Option SectionKind) (level : ℕ) (place : Place) (tree : Tree) (frames : List Frame) (whole : ℕ)
+section_sound : (subject : Tree) (kind : Option SectionKind) (level : ℕ) (place : Place) (tree : Tree) (frames : List OpenForm) (whole : ℕ)
     (first here : List Token) → section_kind (next here) ≡ kind
     → Closed tree true 0 (λ tokens. Below (Elements (Subscripts subject) NoTrees) level place frames whole first tokens) here
     → Sound whole first (section_by (Some subject) kind level place tree frames (behind here))
@@ -384,14 +388,14 @@ section_sound subject (Some kind) level place tree frames whole first here e c =
           (h.1.0, (h.1.1.0, h.1.1.1, (c.begin, subst (λ tokens. mark OpenBracket h.1.1.0 tokens) h.2 h.1.1.2, (here, one, section_mark kind here e)))),
     )
 
-no_section : (bracket : Bracket) (done : Trees) (present : Bool) (level : ℕ) (place : Place) (tree : Tree) (frames : List Frame) (whole : ℕ)
+no_section : (bracket : Bracket) (done : Trees) (present : Bool) (level : ℕ) (place : Place) (tree : Tree) (frames : List OpenForm) (whole : ℕ)
     (first here : List Token) → Closed tree present 0 (λ tokens. Below (Elements bracket done) level place frames whole first tokens) here
     → Sound whole first (section_by (section_subject bracket done present) (section_kind (next here)) level place tree frames (behind here))
 no_section (Subscripts subject) NoTrees true level place tree frames whole first here c =
     section_sound subject (section_kind (next here)) level place tree frames whole first here refl c
 no_section _ _ _ level place tree frames whole first here c = tt
 
-element_sound : (separated closes : Bool) (bracket : Bracket) (done : Trees) (level : ℕ) (place : Place) (tree : Tree) (present : Bool) (frames : List Frame)
+element_sound : (separated closes : Bool) (bracket : Bracket) (done : Trees) (level : ℕ) (place : Place) (tree : Tree) (present : Bool) (frames : List OpenForm)
     (whole : ℕ) (first here : List Token) → is_separator (separator_of bracket) (next here) ≡ separated → is_closer bracket (next here) ≡ closes → whole ≤ 12
     → Closed tree present 0 (λ tokens. Below (Elements bracket done) level place frames whole first tokens) here
     → Sound whole first (element_by separated closes bracket done level place tree present frames here)
@@ -495,7 +499,7 @@ alternative_close condition other level place tree present frames whole first he
 
 -- a `case` whose clauses begin or go on here
 clause_sound : (b : Bool)
-    (holds : Holding) (level : ℕ) (place : Place) (subject : Tree) (done : Clauses) (frames : List Frame) (whole : ℕ) (first here after : List Token)
+    (holds : PartialForm) (level : ℕ) (place : Place) (subject : Tree) (done : Clauses) (frames : List OpenForm) (whole : ℕ) (first here after : List Token)
     → is_default (next after) ≡ b → (o : Below holds level place frames whole first here) → (CaseHead subject place ⨾ ClausesSoFar done) o.begin after
     → Sound whole first (clause_by b level place subject done frames after)
 clause_sound true holds level place subject done frames whole first here after e o h = provided_sound (is_colon (next (behind after))) _ whole first (λ f.
@@ -545,7 +549,7 @@ guard_close subject done at level place tree present frames whole first here w c
     ))
 
 -- a clause is complete
-clause_end_sound : (b : Bool) (holds : Holding) (clause : Clause) (level : ℕ) (place : Place) (subject : Tree) (done : Clauses) (frames : List Frame)
+clause_end_sound : (b : Bool) (holds : PartialForm) (clause : Clause) (level : ℕ) (place : Place) (subject : Tree) (done : Clauses) (frames : List OpenForm)
     (whole : ℕ) (first here after : List Token) → is_separator BySemicolon (next after) ≡ b → whole ≤ 12 → (o : Below holds level place frames whole first here)
     → (CaseHead subject place ⨾ ClausesSoFar done ⨾ SpellsClause clause) o.begin after
     → Sound whole first (clause_end b level place subject (with_last_clause done clause) frames after)
@@ -639,7 +643,7 @@ suspend_body_close value level place tree present frames whole first here w c =
     reduced _ level place (Suspend place value (Present tree)) frames whole first c.begin here o (h.0, h.1, (h.2.0, h.2.1, (c.begin, h.2.2, c.part)))
     (omega (arith, level_bound _ level place frames whole first c.begin w o)) (ends_alone 0 tree c.begin here c.part c.ends) (beyond (next here))
 
-close_sound : (holds : Holding) → CloseSound holds
+close_sound : (holds : PartialForm) → CloseSound holds
 close_sound (Elements bracket done) = elements_close bracket done
 close_sound (SectionEnd kind subject from) = section_close kind subject from
 close_sound (PrefixOperand operator) = prefix_close operator
@@ -663,19 +667,19 @@ close_sound ReturnValue = return_close
 close_sound SuspendValue = suspend_close
 close_sound (SuspendBody value) = suspend_body_close value
 
-closing_sound : (frames : List Frame) (tree : Tree) (present : Bool) (whole : ℕ) (first here : List Token) → whole ≤ 12
+closing_sound : (frames : List OpenForm) (tree : Tree) (present : Bool) (whole : ℕ) (first here : List Token) → whole ≤ 12
     → Closed tree present (awaited frames whole) (Standing frames whole first) here → Sound whole first (close_step tree present frames here)
 closing_sound [] tree present whole first here w c = (subst (λ tokens. Part whole tree (Spells tree) tokens here) c.rest c.part, c.ends)
 closing_sound (newest ∷ frames) tree present whole first here w c = close_sound newest.holds newest.level newest.place tree present frames whole first here w c
 
-pub step_sound : (state : State) (whole : ℕ) (first : List Token) → whole ≤ 12 → Sound whole first state → Sound whole first (step state)
+pub step_sound : (state : ReadingState) (whole : ℕ) (first : List Token) → whole ≤ 12 → Sound whole first state → Sound whole first (step state)
 step_sound (Starting level frames here) whole first w s = start_sound level frames whole first here w s.0 s.1
 step_sound (Climbing level place tree frames here) whole first w s = climb_sound level place tree frames whole first here s
 step_sound (Closing tree present frames here) whole first w s = closing_sound frames tree present whole first here w s
 step_sound (Finished tree here) whole first w s = s
 step_sound Broken whole first w s = tt
 
-pub run_sound : (n : ℕ) (state : State) (whole : ℕ) (first : List Token) → whole ≤ 12 → Sound whole first state → Sound whole first (run n state)
+pub run_sound : (n : ℕ) (state : ReadingState) (whole : ℕ) (first : List Token) → whole ≤ 12 → Sound whole first state → Sound whole first (run n state)
 unfolding run
 run_sound zero state whole first w s = s
 run_sound (suc n) state whole first w s = run_sound n (step state) whole first w (step_sound state whole first w s)

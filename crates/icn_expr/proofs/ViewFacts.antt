@@ -4,7 +4,7 @@ use Rattle.icn_tree.specs.declared.tree.Expr.{Expr}
 use Rattle.icn_tree.specs.declared.tree.Clause.{Clause as ClauseExpr}
 use Rattle.icn_tree.specs.Trees.{Trees, Clauses, More, MoreClauses}
 use Rattle.icn_tree.specs.TreeOf.{tree_of, all_of, clause_of, all_clauses_of}
-use Rattle.icn_expr.specs.declared.frame.Frame.{Frame as FrameValue}
+use Rattle.icn_expr.specs.declared.frame.OpenForm.{OpenForm as FrameValue}
 use Rattle.icn_expr.specs.Capped.{with_last, with_last_clause}
 use Rattle.icn_expr.specs.Views.{OpenFrame, frame_of, frames_onto}
 

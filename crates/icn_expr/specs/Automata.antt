@@ -94,22 +94,22 @@ pub data PartialForm (V L C : Type 0) : Type 0 where
   SuspendBody : V → PartialForm V L C
 
 -- an open form: the level of the expression that it belongs to, and where that expression began
-pub record Frame (V L C : Type 0) : Type 0 where
+pub record OpenForm (V L C : Type 0) : Type 0 where
   pub level : ℕ
   pub place : Place
   pub holds : PartialForm V L C
 
 -- where the reading stands: a part of a level begins, a tree may go on at a level, a part is complete, all is read, or it
 -- can't be read
-pub data State (V L C : Type 0) : Type 0 where
+pub data ReadingState (V L C : Type 0) : Type 0 where
   -- an expression of this level, or of level 0 an empty one, begins here
-  Starting : ℕ → List (Frame V L C) → List Token → State V L C
+  Starting : ℕ → List (OpenForm V L C) → List Token → ReadingState V L C
   -- a tree was read, which may go on at this level
-  Climbing : ℕ → Place → V → List (Frame V L C) → List Token → State V L C
+  Climbing : ℕ → Place → V → List (OpenForm V L C) → List Token → ReadingState V L C
   -- a part is complete, and it is empty or not
-  Closing : V → Bool → List (Frame V L C) → List Token → State V L C
-  Finished : V → List Token → State V L C
-  Broken : State V L C
+  Closing : V → Bool → List (OpenForm V L C) → List Token → ReadingState V L C
+  Finished : V → List Token → ReadingState V L C
+  Broken : ReadingState V L C
 
 -- the tokens behind the first
 abbrev pub behind : List Token → List Token
@@ -200,12 +200,12 @@ keyword_text (Some (WordKind Words.Fail)) = Some (codes "fail")
 keyword_text _ = None
 
 -- it goes on where something was found
-abbrev pub unless_broken : {A V L C : Type 0} → Option A → (A → State V L C) → State V L C
+abbrev pub unless_broken : {A V L C : Type 0} → Option A → (A → ReadingState V L C) → ReadingState V L C
 unless_broken None f = Broken
 unless_broken (Some x) f = f x
 
 -- it goes on where this holds
-abbrev pub state_if : {V L C : Type 0} → Bool → State V L C → State V L C
+abbrev pub state_if : {V L C : Type 0} → Bool → ReadingState V L C → ReadingState V L C
 state_if true state = state
 state_if false state = Broken
 
@@ -217,12 +217,12 @@ climbing_level zero = 1
 climbing_level (suc level) = suc level
 
 -- a form that is open: the level at which it stands, its place, and what was read of it
-abbrev pub frame : {V L C : Type 0} → ℕ → Place → PartialForm V L C → Frame V L C
+abbrev pub frame : {V L C : Type 0} → ℕ → Place → PartialForm V L C → OpenForm V L C
 frame level place holds = record { level = level; place = place; holds = holds }
 
 -- an operand that begins with a word
-abbrev pub word_step : {V L C : Type 0} → Builds V L C → ℕ → Place → Word → List (Frame V L C) → List Token
-    → State V L C
+abbrev pub word_step : {V L C : Type 0} → Builds V L C → ℕ → Place → Word → List (OpenForm V L C) → List Token
+    → ReadingState V L C
 word_step make level place Words.Not frames tokens =
     Starting 12 (frame level place NotOperand ∷ frames) tokens
 word_step make level place Words.If frames tokens = Starting 1 (frame level place Condition ∷ frames) tokens
@@ -252,7 +252,7 @@ word_step make level place _ frames tokens = Broken
 
 -- an operand that begins with an operator: a keyword behind its `&`, or an operator and its operand
 abbrev pub operator_step : {V L C : Type 0} → Builds V L C → ℕ → Place → Option (Operator × Option Operator)
-    → List (Frame V L C) → List Token → State V L C
+    → List (OpenForm V L C) → List Token → ReadingState V L C
 operator_step make level place None frames tokens =
     unless_broken (name_by (keyword_text (next tokens)) tokens)
     (λ name. Climbing level place (make.keyword place name) frames (behind tokens))
@@ -260,8 +260,8 @@ operator_step make level place (Some found) frames tokens =
     Starting 12 (frame level place (PrefixOperand found.0) ∷ frames) (before place found.1 tokens)
 
 -- an operand that begins with a bracket
-abbrev pub mark_step : {V L C : Type 0} → Builds V L C → ℕ → Place → Punctuation → List (Frame V L C)
-    → List Token → State V L C
+abbrev pub mark_step : {V L C : Type 0} → Builds V L C → ℕ → Place → Punctuation → List (OpenForm V L C)
+    → List Token → ReadingState V L C
 mark_step make level place OpenParenthesis frames tokens =
     Starting 0 (frame level place (Elements Round make.no_elements) ∷ frames) tokens
 mark_step make level place OpenBracket frames tokens =
@@ -271,8 +271,9 @@ mark_step make level place OpenBrace frames tokens =
 mark_step make level place _ frames tokens = Broken
 
 -- an operand, by its first token
-abbrev pub operand_step : {V L C : Type 0} → Builds V L C → ℕ → Place → Kind → List (Frame V L C) → List Token
-    → State V L C
+abbrev pub operand_step : {V L C : Type 0} → Builds V L C → ℕ → Place → Kind → List (OpenForm V L C)
+    → List Token
+    → ReadingState V L C
 operand_step make level place (IdentifierKind text) frames tokens =
     Climbing level place (make.identifier (record { text = text; place = place })) frames tokens
 operand_step make level place (IntegerKind n) frames tokens =
@@ -289,19 +290,21 @@ operand_step make level place (PunctuationKind mark) frames tokens =
     mark_step make level place mark frames tokens
 
 -- an empty part, where the level allows it
-abbrev pub empty_step : {V L C : Type 0} → Builds V L C → ℕ → List (Frame V L C) → List Token → State V L C
+abbrev pub empty_step : {V L C : Type 0} → Builds V L C → ℕ → List (OpenForm V L C) → List Token
+    → ReadingState V L C
 empty_step make zero frames tokens = Closing make.empty false frames tokens
 empty_step make (suc level) frames tokens = Broken
 
 -- an operand, where the token can begin one; else an empty part
-abbrev pub start_by : {V L C : Type 0} → Builds V L C → Bool → ℕ → Token → List (Frame V L C) → List Token
-    → State V L C
+abbrev pub start_by : {V L C : Type 0} → Builds V L C → Bool → ℕ → Token → List (OpenForm V L C) → List Token
+    → ReadingState V L C
 start_by make true level token frames tokens = operand_step make (climbing_level level)
     (record { line = token.line; file = token.file }) token.kind frames tokens
 start_by make false level token frames tokens = empty_step make level frames (token ∷ tokens)
 
 -- where a part of this level is to begin: its first token is read, or the part is empty
-abbrev pub start_step : {V L C : Type 0} → Builds V L C → ℕ → List (Frame V L C) → List Token → State V L C
+abbrev pub start_step : {V L C : Type 0} → Builds V L C → ℕ → List (OpenForm V L C) → List Token
+    → ReadingState V L C
 start_step make level frames [] = empty_step make level frames []
 start_step make level frames (token ∷ tokens) =
     start_by make (kind_begins token.kind) level token frames tokens
@@ -309,14 +312,15 @@ start_step make level frames (token ∷ tokens) =
 -- Climbing
 
 -- an operator between operands: its right operand begins
-abbrev pub infix_step : {V L C : Type 0} → Builds V L C → ℕ → Place → V → Infix → List (Frame V L C)
-    → List Token → State V L C
+abbrev pub infix_step : {V L C : Type 0} → Builds V L C → ℕ → Place → V → Infix → List (OpenForm V L C)
+    → List Token → ReadingState V L C
 infix_step make level place tree operator frames tokens = Starting (right_level (infix_level operator))
     (frame level place (RightOperand operator tree) ∷ frames) tokens
 
 -- a dot with a field's name, or an operator between operands
-abbrev pub plain_step : {V L C : Type 0} → Builds V L C → Bool → ℕ → Place → V → Operator → List (Frame V L C)
-    → List Token → State V L C
+abbrev pub plain_step : {V L C : Type 0} → Builds V L C → Bool → ℕ → Place → V → Operator
+    → List (OpenForm V L C)
+    → List Token → ReadingState V L C
 plain_step make true level place tree operator frames tokens =
     unless_broken (name_by (identifier_text (next tokens)) tokens)
     (λ name. Climbing level place (make.field place tree name) frames (behind tokens))
@@ -324,8 +328,8 @@ plain_step make false level place tree operator frames tokens =
     infix_step make level place tree (Plain operator) frames tokens
 
 -- a bracket behind a tree: a call, subscripts, or a call with co-expressions
-abbrev pub suffix_step : {V L C : Type 0} → Builds V L C → ℕ → Place → V → Punctuation → List (Frame V L C)
-    → List Token → State V L C
+abbrev pub suffix_step : {V L C : Type 0} → Builds V L C → ℕ → Place → V → Punctuation → List (OpenForm V L C)
+    → List Token → ReadingState V L C
 suffix_step make level place tree OpenParenthesis frames tokens =
     Starting 0 (frame level place (Elements (Arguments tree) make.no_elements) ∷ frames) tokens
 suffix_step make level place tree OpenBracket frames tokens =
@@ -335,8 +339,8 @@ suffix_step make level place tree OpenBrace frames tokens =
 suffix_step make level place tree _ frames tokens = Broken
 
 -- a tree goes on with this token
-abbrev pub extend_step : {V L C : Type 0} → Builds V L C → ℕ → Place → V → Kind → List (Frame V L C)
-    → List Token → State V L C
+abbrev pub extend_step : {V L C : Type 0} → Builds V L C → ℕ → Place → V → Kind → List (OpenForm V L C)
+    → List Token → ReadingState V L C
 extend_step make level place tree (OperatorKind operator) frames tokens =
     plain_step make (is_dot operator) level place tree operator frames tokens
 extend_step make level place tree (AugmentedKind operator) frames tokens =
@@ -348,15 +352,15 @@ extend_step make level place tree (PunctuationKind mark) frames tokens =
 extend_step make level place tree _ frames tokens = Broken
 
 -- the tree goes on where the level allows it; else the part is complete
-abbrev pub climb_by : {V L C : Type 0} → Builds V L C → Bool → ℕ → Place → V → Token → List (Frame V L C)
-    → List Token → State V L C
+abbrev pub climb_by : {V L C : Type 0} → Builds V L C → Bool → ℕ → Place → V → Token → List (OpenForm V L C)
+    → List Token → ReadingState V L C
 climb_by make true level place tree token frames tokens =
     extend_step make level place tree token.kind frames tokens
 climb_by make false level place tree token frames tokens = Closing tree true frames (token ∷ tokens)
 
 -- a tree was read: the next token makes a larger one of it, or the part is complete
-abbrev pub climb_step : {V L C : Type 0} → Builds V L C → ℕ → Place → V → List (Frame V L C) → List Token
-    → State V L C
+abbrev pub climb_step : {V L C : Type 0} → Builds V L C → ℕ → Place → V → List (OpenForm V L C) → List Token
+    → ReadingState V L C
 climb_step make level place tree frames [] = Closing tree true frames []
 climb_step make level place tree frames (token ∷ tokens) =
     climb_by make (nat_le level (kind_goes_on token.kind)) level place tree token frames tokens
@@ -393,14 +397,14 @@ section_subject make _ _ _ = None
 
 -- the second position of a section begins, where its sign stands in subscripts
 abbrev pub section_by : {V L C : Type 0} → Builds V L C → Option V → Option SectionKind → ℕ → Place → V
-    → List (Frame V L C) → List Token → State V L C
+    → List (OpenForm V L C) → List Token → ReadingState V L C
 section_by make (Some subject) (Some kind) level place from frames tokens =
     Starting 1 (frame level place (SectionEnd kind subject from) ∷ frames) tokens
 section_by make _ _ level place from frames tokens = Broken
 
 -- an element is complete: another one begins, the bracket closes, or it was the first position of a section
 abbrev pub element_by : {V L C : Type 0} → Builds V L C → Bool → Bool → Bracket V → L → ℕ → Place → V → Bool
-    → List (Frame V L C) → List Token → State V L C
+    → List (OpenForm V L C) → List Token → ReadingState V L C
 element_by make true closer bracket trees level place tree present frames tokens =
     Starting 0 (frame level place (Elements bracket (make.with_element trees tree)) ∷ frames) (behind tokens)
 element_by make false true bracket trees level place tree present frames tokens = Climbing level place
@@ -410,8 +414,8 @@ element_by make false false bracket trees level place tree present frames tokens
     (section_kind (next tokens)) level place tree frames (behind tokens)
 
 -- a clause begins here
-abbrev pub clause_by : {V L C : Type 0} → Builds V L C → Bool → ℕ → Place → V → C → List (Frame V L C)
-    → List Token → State V L C
+abbrev pub clause_by : {V L C : Type 0} → Builds V L C → Bool → ℕ → Place → V → C → List (OpenForm V L C)
+    → List Token → ReadingState V L C
 clause_by make true level place subject clauses frames tokens =
     state_if (is_colon (next (behind tokens))) (Starting 1
     (frame level place (DefaultValue subject clauses (place_of tokens)) ∷ frames) (behind (behind tokens)))
@@ -419,34 +423,36 @@ clause_by make false level place subject clauses frames tokens =
     Starting 1 (frame level place (ClauseGuard subject clauses (place_of tokens)) ∷ frames) tokens
 
 -- a clause of a `case` begins, a guarded one or the default
-abbrev pub clause_step : {V L C : Type 0} → Builds V L C → ℕ → Place → V → C → List (Frame V L C) → List Token
-    → State V L C
+abbrev pub clause_step : {V L C : Type 0} → Builds V L C → ℕ → Place → V → C → List (OpenForm V L C)
+    → List Token
+    → ReadingState V L C
 clause_step make level place subject clauses frames tokens =
     clause_by make (is_default (next tokens)) level place subject clauses frames tokens
 
 -- a clause is complete
-abbrev pub clause_end : {V L C : Type 0} → Builds V L C → Bool → ℕ → Place → V → C → List (Frame V L C)
-    → List Token → State V L C
+abbrev pub clause_end : {V L C : Type 0} → Builds V L C → Bool → ℕ → Place → V → C → List (OpenForm V L C)
+    → List Token → ReadingState V L C
 clause_end make true level place subject clauses frames tokens =
     clause_step make level place subject clauses frames (behind tokens)
 clause_end make false level place subject clauses frames tokens = state_if (is_close_brace (next tokens))
     (Climbing level place (make.case_form place subject clauses) frames (behind tokens))
 
 -- where this token stands next a further part follows, else the form is complete
-abbrev pub part_or : {V L C : Type 0} → Builds V L C → Bool → Frame V L C → V → List (Frame V L C)
-    → List Token → State V L C
+abbrev pub part_or : {V L C : Type 0} → Builds V L C → Bool → OpenForm V L C → V → List (OpenForm V L C)
+    → List Token → ReadingState V L C
 part_or make true more tree frames tokens = Starting 1 (more ∷ frames) (behind tokens)
 part_or make false more tree frames tokens = Climbing more.level more.place tree frames tokens
 
 -- where `by` stands next its operand begins; else the form is complete
-abbrev pub by_or : {V L C : Type 0} → Builds V L C → Bool → Frame V L C → V → List (Frame V L C) → List Token
-    → State V L C
+abbrev pub by_or : {V L C : Type 0} → Builds V L C → Bool → OpenForm V L C → V → List (OpenForm V L C)
+    → List Token
+    → ReadingState V L C
 by_or make true more tree frames tokens = Starting 5 (more ∷ frames) (behind tokens)
 by_or make false more tree frames tokens = Climbing more.level more.place tree frames tokens
 
 -- a part is complete, by the form that it is of
 abbrev pub close_by : {V L C : Type 0} → Builds V L C → PartialForm V L C → ℕ → Place → V → Bool
-    → List (Frame V L C) → List Token → State V L C
+    → List (OpenForm V L C) → List Token → ReadingState V L C
 close_by make (Elements bracket trees) level place tree present frames tokens =
     element_by make (is_separator (separator_of bracket) (next tokens))
     (is_closer bracket (next tokens)) bracket trees level place tree present frames tokens
@@ -500,14 +506,14 @@ close_by make (SuspendBody value) level place tree present frames tokens =
     Climbing level place (make.suspend_form place value (Some tree)) frames tokens
 
 -- a part is complete: it goes into the newest open form, or all is read
-abbrev pub close_step : {V L C : Type 0} → Builds V L C → V → Bool → List (Frame V L C) → List Token
-    → State V L C
+abbrev pub close_step : {V L C : Type 0} → Builds V L C → V → Bool → List (OpenForm V L C) → List Token
+    → ReadingState V L C
 close_step make tree present [] tokens = Finished tree tokens
 close_step make tree present (newest ∷ frames) tokens =
     close_by make newest.holds newest.level newest.place tree present frames tokens
 
 -- one step of the reading
-abbrev pub step : {V L C : Type 0} → Builds V L C → State V L C → State V L C
+abbrev pub step : {V L C : Type 0} → Builds V L C → ReadingState V L C → ReadingState V L C
 step make (Starting level frames tokens) = start_step make level frames tokens
 step make (Climbing level place tree frames tokens) = climb_step make level place tree frames tokens
 step make (Closing tree present frames tokens) = close_step make tree present frames tokens
@@ -515,6 +521,6 @@ step make (Finished tree tokens) = Finished tree tokens
 step make Broken = Broken
 
 -- so many steps
-unfoldable pub run : {V L C : Type 0} → Builds V L C → ℕ → State V L C → State V L C
+unfoldable pub run : {V L C : Type 0} → Builds V L C → ℕ → ReadingState V L C → ReadingState V L C
 run make zero state = state
 run make (suc n) state = run make n (step make state)

@@ -5,7 +5,7 @@ use Rattle.icn_tree.specs.declared.token.Kind.TheVariants.{Operator as OperatorK
 use Rattle.icn_tree.specs.declared.token.Token.{Token}
 use Rattle.icn_tree.specs.declared.token.Operator.{Operator}
 use Rattle.icn_tree.specs.declared.token.Operator.TheVariants.{StarStar, PlusPlus, MinusMinus, BarBar, BarBarBar, NotEqual, EqualEqual, NotEqualEqual, EqualEqualEqual, NotEqualEqualEqual}
-use Rattle.icn_expr.specs.Automata.{Builds, State, Starting, Climbing, Closing, Finished, Broken, run}
+use Rattle.icn_expr.specs.Automata.{Builds, ReadingState, Starting, Climbing, Closing, Finished, Broken, run}
 
 -- how many operators before an operand a token can be
 abbrev pub operator_weight : Operator → ℕ
@@ -32,7 +32,7 @@ weight [] = 0
 weight (token ∷ tokens) = kind_weight token.kind + weight tokens
 
 -- a number that falls at each step, so that so many steps come to the end
-abbrev pub steps_left : {V L C : Type 0} → State V L C → ℕ
+abbrev pub steps_left : {V L C : Type 0} → ReadingState V L C → ℕ
 steps_left (Starting level frames tokens) = 8 * weight tokens + 4 * length frames + 3
 steps_left (Climbing level place tree frames tokens) = 8 * weight tokens + 4 * length frames + 2
 steps_left (Closing tree present frames tokens) = 8 * weight tokens + 4 * length frames + 1
@@ -40,12 +40,12 @@ steps_left (Finished tree tokens) = 0
 steps_left Broken = 0
 
 -- the tree that was read, with the tokens behind it
-abbrev pub result : {V L C : Type 0} → State V L C → Option (V × List Token)
+abbrev pub result : {V L C : Type 0} → ReadingState V L C → Option (V × List Token)
 result (Finished tree tokens) = Some (tree, tokens)
 result _ = None
 
 -- what comes of a state after as many steps as it can take
-abbrev pub end_of : {V L C : Type 0} → Builds V L C → State V L C → Option (V × List Token)
+abbrev pub end_of : {V L C : Type 0} → Builds V L C → ReadingState V L C → Option (V × List Token)
 end_of make state = result (run make (steps_left state) state)
 
 -- an expression of this level in front of the tokens, as long as it can be, and the tokens behind it

@@ -4,25 +4,25 @@ use Rattle.icn_tree.specs.declared.token.Token.{Token}
 use Rattle.icn_tree.specs.TreeOf.{tree_of, all_of, all_clauses_of}
 use Rattle.icn_tree.specs.Trees.{Tree, Trees, Clauses}
 use Rattle.icn_tree.specs.Grammar.{before}
-use Rattle.icn_expr.specs.declared.value.Value.{Value}
+use Rattle.icn_expr.specs.declared.value.CappedTree.{CappedTree}
 use Rattle.icn_expr.specs.declared.value.Elements.{Elements as ElementsValue}
 use Rattle.icn_expr.specs.declared.value.Branches.{Branches}
 use Rattle.icn_expr.specs.declared.frame.Bracket.{Bracket as BracketValue}
 use Rattle.icn_expr.specs.declared.frame.Bracket.TheVariants as B
-use Rattle.icn_expr.specs.declared.frame.Holding.{Holding as HoldingValue}
-use Rattle.icn_expr.specs.declared.frame.Holding.TheVariants as H
-use Rattle.icn_expr.specs.declared.frame.Frame.{Frame as FrameValue}
-use Rattle.icn_expr.specs.declared.stack.Stack.{Stack}
-use Rattle.icn_expr.specs.declared.state.State.{State as StateValue}
-use Rattle.icn_expr.specs.declared.state.State.TheVariants as S
+use Rattle.icn_expr.specs.declared.frame.PartialForm.{PartialForm as HoldingValue}
+use Rattle.icn_expr.specs.declared.frame.PartialForm.TheVariants as H
+use Rattle.icn_expr.specs.declared.frame.OpenForm.{OpenForm as FrameValue}
+use Rattle.icn_expr.specs.declared.stack.OpenForms.{OpenForms}
+use Rattle.icn_expr.specs.declared.state.ReadingState.{ReadingState as StateValue}
+use Rattle.icn_expr.specs.declared.state.ReadingState.TheVariants as S
 use Rattle.icn_expr.specs.declared.reader.Progress.{Progress}
 use Rattle.icn_expr.specs.declared.reader.Progress.TheVariants as P
 use Rattle.icn_expr.specs.Reading.{end_of}
 use Rattle.icn_expr.specs.Capped.{WithHeight, capped_at, builds_with_height}
-use Rattle.icn_expr.specs.Automata.{Bracket, Round, Square, Curly, Arguments, CoArguments, Subscripts, PartialForm, Elements, SectionEnd, PrefixOperand, NotOperand, RightOperand, ToOperand, ByOperand, Condition, Consequence, Alternative, CaseSubject, ClauseGuard, GuardedValue, DefaultValue, Control, LoopBody, RepeatBody, CreateBody, BreakValue, ReturnValue, SuspendValue, SuspendBody, Frame, State, Starting, Climbing, Closing, Finished, Broken}
+use Rattle.icn_expr.specs.Automata.{Bracket, Round, Square, Curly, Arguments, CoArguments, Subscripts, PartialForm, Elements, SectionEnd, PrefixOperand, NotOperand, RightOperand, ToOperand, ByOperand, Condition, Consequence, Alternative, CaseSubject, ClauseGuard, GuardedValue, DefaultValue, Control, LoopBody, RepeatBody, CreateBody, BreakValue, ReturnValue, SuspendValue, SuspendBody, OpenForm, ReadingState, Starting, Climbing, Closing, Finished, Broken}
 
 -- the tree of a value, unless it is too high
-abbrev pub capped_of : Value → WithHeight Tree
+abbrev pub capped_of : CappedTree → WithHeight Tree
 capped_of value = capped_at (tree_of value.expr) value.height
 
 -- the elements of a list so far, unless one is too high
@@ -70,7 +70,7 @@ holding_of (H.SuspendBody value) = SuspendBody (capped_of value)
 
 -- an open form, whose parts may be too high
 abbrev pub OpenFrame : Type 0
-OpenFrame = Frame (WithHeight Tree) (WithHeight Trees) (WithHeight Clauses)
+OpenFrame = OpenForm (WithHeight Tree) (WithHeight Trees) (WithHeight Clauses)
 
 -- an open form, as definitions see it
 abbrev pub frame_of : FrameValue → OpenFrame
@@ -82,12 +82,12 @@ frames_onto [] below = below
 frames_onto (frame ∷ frames) below = frames_onto frames (frame_of frame ∷ below)
 
 -- the open forms, the newest first
-abbrev pub stack_of : Stack → List OpenFrame
+abbrev pub stack_of : OpenForms → List OpenFrame
 stack_of stack = frames_onto stack.frames.items []
 
 -- where the reading stands, with trees that may be too high
 abbrev pub CappedState : Type 0
-CappedState = State (WithHeight Tree) (WithHeight Trees) (WithHeight Clauses)
+CappedState = ReadingState (WithHeight Tree) (WithHeight Trees) (WithHeight Clauses)
 
 -- where the reading stands, with the open forms and the tokens left
 abbrev pub state_of : StateValue → List OpenFrame → List Token → CappedState

@@ -7,138 +7,152 @@ ghost use Rattle.icn_expr.specs.Automata.{behind as behind_first, Elements as El
 ghost use Rattle.icn_expr.specs.Capped.{builds_with_height};
 ghost use Rattle.icn_expr.specs.Views.{OpenFrame, capped_of, elements_of, branches_of, bracket_of, holding_of, stack_of, state_of};
 
-use crate::frame::{Bracket, Frame, Holding};
-use crate::machine::{climbing, open};
+use crate::frame::{Bracket, OpenForm, PartialForm};
+use crate::machine::{climb_at, open_form};
 use crate::next::{
     behind, by_next, close_brace_next, close_bracket_next, close_parenthesis_next, colon_next,
     comma_next, default_next, do_next, else_next, of_next, open_brace_next, place_of, section_next,
     semicolon_next, then_next,
 };
-use crate::stack::Stack;
-use crate::state::State;
-use crate::value::{Branches, Elements, Value, discard, discard_branches, discard_elements};
+use crate::stack::OpenForms;
+use crate::state::ReadingState;
+use crate::value::{Branches, CappedTree, Elements, discard, discard_branches, discard_elements};
 use icn_tree::{LoopKind, Place, SectionKind, Token};
 use std::alloc::{AllocError, Global};
 
 // The condition of an `if`.
 fn condition<'a>(
-    stack: &mut Stack,
+    stack: &mut OpenForms,
     level: u32,
     place: Place,
-    value: Value,
+    value: CappedTree,
     tokens: &'a [Token],
-) -> Result<(State, &'a [Token]), AllocError>
+) -> Result<(ReadingState, &'a [Token]), AllocError>
     ensures { IfOk result
         (λ r. state_of r.0 (stack_of stack.new) r.1.now ≡ close_by builds_with_height ConditionHolding
         level place (capped_of value) true (stack_of stack.old) tokens.now) }
 {
     if !then_next(tokens) {
         discard(value);
-        return Ok((State::Broken, tokens));
+        return Ok((ReadingState::Broken, tokens));
     }
     Ok((
-        open(stack, level, place, Holding::Consequence(value), 1)?,
+        open_form(stack, level, place, PartialForm::Consequence(value), 1)?,
         behind(tokens),
     ))
 }
 
 // What stands behind `then`.
 fn consequence<'a>(
-    stack: &mut Stack,
+    stack: &mut OpenForms,
     alloc: Global,
     level: u32,
     place: Place,
-    before: Value,
-    value: Value,
+    before: CappedTree,
+    value: CappedTree,
     tokens: &'a [Token],
-) -> Result<(State, &'a [Token]), AllocError>
+) -> Result<(ReadingState, &'a [Token]), AllocError>
     ensures { IfOk result (λ r. state_of r.0 (stack_of stack.new) r.1.now ≡ close_by builds_with_height
         (Consequence (capped_of before)) level place (capped_of value) true (stack_of stack.old) tokens.now) }
 {
     if else_next(tokens) {
         return Ok((
-            open(stack, level, place, Holding::Alternative(before, value), 1)?,
+            open_form(
+                stack,
+                level,
+                place,
+                PartialForm::Alternative(before, value),
+                1,
+            )?,
             behind(tokens),
         ));
     }
     Ok((
-        climbing(level, place, Value::if_then(alloc, place, before, value)?),
+        climb_at(
+            level,
+            place,
+            CappedTree::if_then(alloc, place, before, value)?,
+        ),
         tokens,
     ))
 }
 
 // What a `to` goes up to.
 fn to_operand<'a>(
-    stack: &mut Stack,
+    stack: &mut OpenForms,
     alloc: Global,
     level: u32,
     place: Place,
-    from: Value,
-    value: Value,
+    from: CappedTree,
+    value: CappedTree,
     tokens: &'a [Token],
-) -> Result<(State, &'a [Token]), AllocError>
+) -> Result<(ReadingState, &'a [Token]), AllocError>
     ensures { IfOk result (λ r. state_of r.0 (stack_of stack.new) r.1.now ≡ close_by builds_with_height
         (ToOperand (capped_of from)) level place (capped_of value) true (stack_of stack.old) tokens.now) }
 {
     if by_next(tokens) {
         return Ok((
-            open(stack, level, place, Holding::ByOperand(from, value), 5)?,
+            open_form(stack, level, place, PartialForm::ByOperand(from, value), 5)?,
             behind(tokens),
         ));
     }
     Ok((
-        climbing(level, place, Value::to(alloc, place, from, value)?),
+        climb_at(level, place, CappedTree::to(alloc, place, from, value)?),
         tokens,
     ))
 }
 
 // The control expression of a loop.
 fn control<'a>(
-    stack: &mut Stack,
+    stack: &mut OpenForms,
     alloc: Global,
     level: u32,
     place: Place,
     kind: LoopKind,
-    value: Value,
+    value: CappedTree,
     tokens: &'a [Token],
-) -> Result<(State, &'a [Token]), AllocError>
+) -> Result<(ReadingState, &'a [Token]), AllocError>
     ensures { IfOk result (λ r. state_of r.0 (stack_of stack.new) r.1.now
         ≡ close_by builds_with_height (Control kind) level place (capped_of value) true
         (stack_of stack.old) tokens.now) }
 {
     if do_next(tokens) {
         return Ok((
-            open(stack, level, place, Holding::LoopBody(kind, value), 1)?,
+            open_form(stack, level, place, PartialForm::LoopBody(kind, value), 1)?,
             behind(tokens),
         ));
     }
     Ok((
-        climbing(level, place, Value::control(alloc, place, kind, value)?),
+        climb_at(
+            level,
+            place,
+            CappedTree::control(alloc, place, kind, value)?,
+        ),
         tokens,
     ))
 }
 
 // What a `suspend` gives.
-fn suspended<'a>(
-    stack: &mut Stack,
+fn close_suspend<'a>(
+    stack: &mut OpenForms,
     alloc: Global,
     level: u32,
     place: Place,
-    value: Value,
+    value: CappedTree,
     tokens: &'a [Token],
-) -> Result<(State, &'a [Token]), AllocError>
+) -> Result<(ReadingState, &'a [Token]), AllocError>
     ensures { IfOk result (λ r. state_of r.0 (stack_of stack.new) r.1.now
         ≡ close_by builds_with_height SuspendValue level place (capped_of value) true
         (stack_of stack.old) tokens.now) }
 {
     if do_next(tokens) {
         return Ok((
-            open(stack, level, place, Holding::SuspendBody(value), 1)?,
+            open_form(stack, level, place, PartialForm::SuspendBody(value), 1)?,
             behind(tokens),
         ));
     }
     Ok((
-        climbing(level, place, Value::suspend(alloc, place, value)?),
+        climb_at(level, place, CappedTree::suspend(alloc, place, value)?),
         tokens,
     ))
 }
@@ -149,11 +163,11 @@ fn section_end<'a>(
     level: u32,
     place: Place,
     kind: SectionKind,
-    subject: Value,
-    from: Value,
-    value: Value,
+    subject: CappedTree,
+    from: CappedTree,
+    value: CappedTree,
     tokens: &'a [Token],
-) -> Result<(State, &'a [Token]), AllocError>
+) -> Result<(ReadingState, &'a [Token]), AllocError>
     ensures { IfOk result (λ r. (frames : List OpenFrame) → state_of r.0 frames r.1.now
         ≡ close_by builds_with_height (SectionEnd kind (capped_of subject) (capped_of from)) level place
         (capped_of value) true frames tokens.now) }
@@ -162,13 +176,13 @@ fn section_end<'a>(
         discard(subject);
         discard(from);
         discard(value);
-        return Ok((State::Broken, tokens));
+        return Ok((ReadingState::Broken, tokens));
     }
     Ok((
-        climbing(
+        climb_at(
             level,
             place,
-            Value::section(alloc, place, kind, subject, from, value)?,
+            CappedTree::section(alloc, place, kind, subject, from, value)?,
         ),
         behind(tokens),
     ))
@@ -176,13 +190,13 @@ fn section_end<'a>(
 
 // A clause of a `case` begins.
 fn clause<'a>(
-    stack: &mut Stack,
+    stack: &mut OpenForms,
     level: u32,
     place: Place,
-    subject: Value,
+    subject: CappedTree,
     clauses: Branches,
     tokens: &'a [Token],
-) -> Result<(State, &'a [Token]), AllocError>
+) -> Result<(ReadingState, &'a [Token]), AllocError>
     ensures { IfOk result
         (λ r. state_of r.0 (stack_of stack.new) r.1.now ≡ clause_step builds_with_height level place
         (capped_of subject) (branches_of clauses) (stack_of stack.old) tokens.now) }
@@ -190,11 +204,11 @@ fn clause<'a>(
     let at = place_of(tokens);
     if !default_next(tokens) {
         return Ok((
-            open(
+            open_form(
                 stack,
                 level,
                 place,
-                Holding::ClauseGuard(subject, clauses, at),
+                PartialForm::ClauseGuard(subject, clauses, at),
                 1,
             )?,
             tokens,
@@ -204,14 +218,14 @@ fn clause<'a>(
     if !colon_next(rest) {
         discard(subject);
         discard_branches(clauses);
-        return Ok((State::Broken, tokens));
+        return Ok((ReadingState::Broken, tokens));
     }
     Ok((
-        open(
+        open_form(
             stack,
             level,
             place,
-            Holding::DefaultValue(subject, clauses, at),
+            PartialForm::DefaultValue(subject, clauses, at),
             1,
         )?,
         behind(rest),
@@ -220,20 +234,20 @@ fn clause<'a>(
 
 // The subject of a `case`.
 fn case_subject<'a>(
-    stack: &mut Stack,
+    stack: &mut OpenForms,
     alloc: Global,
     level: u32,
     place: Place,
-    value: Value,
+    value: CappedTree,
     tokens: &'a [Token],
-) -> Result<(State, &'a [Token]), AllocError>
+) -> Result<(ReadingState, &'a [Token]), AllocError>
     ensures { IfOk result (λ r. state_of r.0 (stack_of stack.new) r.1.now
         ≡ close_by builds_with_height CaseSubject level place (capped_of value) true
         (stack_of stack.old) tokens.now) }
 {
     if !of_next(tokens) || !open_brace_next(behind(tokens)) {
         discard(value);
-        return Ok((State::Broken, tokens));
+        return Ok((ReadingState::Broken, tokens));
     }
     clause(
         stack,
@@ -247,15 +261,15 @@ fn case_subject<'a>(
 
 // What stands before the colon of a clause.
 fn clause_guard<'a>(
-    stack: &mut Stack,
+    stack: &mut OpenForms,
     level: u32,
     place: Place,
-    subject: Value,
+    subject: CappedTree,
     clauses: Branches,
     at: Place,
-    value: Value,
+    value: CappedTree,
     tokens: &'a [Token],
-) -> Result<(State, &'a [Token]), AllocError>
+) -> Result<(ReadingState, &'a [Token]), AllocError>
     ensures { IfOk result (λ r. state_of r.0 (stack_of stack.new) r.1.now
         ≡ close_by builds_with_height (ClauseGuard (capped_of subject) (branches_of clauses) at) level place
         (capped_of value) true (stack_of stack.old) tokens.now) }
@@ -264,14 +278,14 @@ fn clause_guard<'a>(
         discard(subject);
         discard_branches(clauses);
         discard(value);
-        return Ok((State::Broken, tokens));
+        return Ok((ReadingState::Broken, tokens));
     }
     Ok((
-        open(
+        open_form(
             stack,
             level,
             place,
-            Holding::GuardedValue(subject, clauses, at, value),
+            PartialForm::GuardedValue(subject, clauses, at, value),
             1,
         )?,
         behind(tokens),
@@ -280,14 +294,14 @@ fn clause_guard<'a>(
 
 // A clause is complete.
 fn clause_ends<'a>(
-    stack: &mut Stack,
+    stack: &mut OpenForms,
     alloc: Global,
     level: u32,
     place: Place,
-    subject: Value,
+    subject: CappedTree,
     clauses: Branches,
     tokens: &'a [Token],
-) -> Result<(State, &'a [Token]), AllocError>
+) -> Result<(ReadingState, &'a [Token]), AllocError>
     ensures { IfOk result (λ r. state_of r.0 (stack_of stack.new) r.1.now
         ≡ clause_end builds_with_height (is_separator BySemicolon (next tokens.now)) level place
         (capped_of subject)
@@ -299,27 +313,31 @@ fn clause_ends<'a>(
     if !close_brace_next(tokens) {
         discard(subject);
         discard_branches(clauses);
-        return Ok((State::Broken, tokens));
+        return Ok((ReadingState::Broken, tokens));
     }
     Ok((
-        climbing(level, place, Value::case(alloc, place, subject, clauses)?),
+        climb_at(
+            level,
+            place,
+            CappedTree::case(alloc, place, subject, clauses)?,
+        ),
         behind(tokens),
     ))
 }
 
 // The value of a guarded clause.
 fn guarded_value<'a>(
-    stack: &mut Stack,
+    stack: &mut OpenForms,
     alloc: Global,
     level: u32,
     place: Place,
-    subject: Value,
+    subject: CappedTree,
     clauses: Branches,
     at: Place,
-    guard: Value,
-    value: Value,
+    guard: CappedTree,
+    value: CappedTree,
     tokens: &'a [Token],
-) -> Result<(State, &'a [Token]), AllocError>
+) -> Result<(ReadingState, &'a [Token]), AllocError>
     ensures { IfOk result (λ r. state_of r.0 (stack_of stack.new) r.1.now ≡ close_by builds_with_height
         (GuardedValue (capped_of subject) (branches_of clauses) at (capped_of guard)) level place
         (capped_of value) true (stack_of stack.old) tokens.now) }
@@ -330,16 +348,16 @@ fn guarded_value<'a>(
 
 // The value of a default clause.
 fn default_value<'a>(
-    stack: &mut Stack,
+    stack: &mut OpenForms,
     alloc: Global,
     level: u32,
     place: Place,
-    subject: Value,
+    subject: CappedTree,
     clauses: Branches,
     at: Place,
-    value: Value,
+    value: CappedTree,
     tokens: &'a [Token],
-) -> Result<(State, &'a [Token]), AllocError>
+) -> Result<(ReadingState, &'a [Token]), AllocError>
     ensures { IfOk result (λ r. state_of r.0 (stack_of stack.new) r.1.now
         ≡ close_by builds_with_height (DefaultValue (capped_of subject) (branches_of clauses) at) level place
         (capped_of value) true (stack_of stack.old) tokens.now) }
@@ -350,32 +368,38 @@ fn default_value<'a>(
 
 // An element of a list.
 fn element<'a>(
-    stack: &mut Stack,
+    stack: &mut OpenForms,
     alloc: Global,
     level: u32,
     place: Place,
     bracket: Bracket,
     elements: Elements,
-    value: Value,
+    value: CappedTree,
     present: bool,
     tokens: &'a [Token],
-) -> Result<(State, &'a [Token]), AllocError>
+) -> Result<(ReadingState, &'a [Token]), AllocError>
     ensures { IfOk result (λ r. state_of r.0 (stack_of stack.new) r.1.now
         ≡ close_by builds_with_height
         (ElementsHolding (bracket_of bracket) (elements_of elements)) level place
         (capped_of value) present (stack_of stack.old) tokens.now) }
 {
-    if separated(&bracket, tokens) {
+    if is_separator_next(&bracket, tokens) {
         let elements = elements.with(alloc, value)?;
         return Ok((
-            open(stack, level, place, Holding::Elements(bracket, elements), 0)?,
+            open_form(
+                stack,
+                level,
+                place,
+                PartialForm::Elements(bracket, elements),
+                0,
+            )?,
             behind(tokens),
         ));
     }
-    if closed(&bracket, tokens) {
+    if is_closer_next(&bracket, tokens) {
         let elements = elements.with(alloc, value)?;
         return Ok((
-            climbing(level, place, in_brackets(alloc, bracket, place, elements)?),
+            climb_at(level, place, in_brackets(alloc, bracket, place, elements)?),
             behind(tokens),
         ));
     }
@@ -385,7 +409,7 @@ fn element<'a>(
 }
 
 // Whether a further element follows.
-fn separated(bracket: &Bracket, tokens: &[Token]) -> bool
+fn is_separator_next(bracket: &Bracket, tokens: &[Token]) -> bool
     ensures { result ≡ is_separator (separator_of (bracket_of bracket.now)) (next tokens.now) }
 {
     match bracket {
@@ -395,7 +419,7 @@ fn separated(bracket: &Bracket, tokens: &[Token]) -> bool
 }
 
 // Whether the list is closed.
-fn closed(bracket: &Bracket, tokens: &[Token]) -> bool
+fn is_closer_next(bracket: &Bracket, tokens: &[Token]) -> bool
     ensures { result ≡ is_closer (bracket_of bracket.now) (next tokens.now) }
 {
     match bracket {
@@ -411,32 +435,32 @@ fn in_brackets(
     bracket: Bracket,
     place: Place,
     elements: Elements,
-) -> Result<Value, AllocError>
+) -> Result<CappedTree, AllocError>
     ensures { IfOk result
         (λ value. capped_of value
         ≡ bracket_tree builds_with_height (bracket_of bracket) place (elements_of elements)) }
 {
     match bracket {
-        Bracket::Round => Ok(Value::parentheses(place, elements)),
-        Bracket::Square => Ok(Value::list(place, elements)),
-        Bracket::Curly => Ok(Value::compound(place, elements)),
-        Bracket::Arguments(callee) => Value::call(alloc, place, callee, elements),
-        Bracket::CoArguments(callee) => Value::co_call(alloc, place, callee, elements),
-        Bracket::Subscripts(subject) => Value::subscript(alloc, place, subject, elements),
+        Bracket::Round => Ok(CappedTree::parentheses(place, elements)),
+        Bracket::Square => Ok(CappedTree::list(place, elements)),
+        Bracket::Curly => Ok(CappedTree::compound(place, elements)),
+        Bracket::Arguments(callee) => CappedTree::call(alloc, place, callee, elements),
+        Bracket::CoArguments(callee) => CappedTree::co_call(alloc, place, callee, elements),
+        Bracket::Subscripts(subject) => CappedTree::subscript(alloc, place, subject, elements),
     }
 }
 
 // The first position of a section, if this is one.
 fn section<'a>(
-    stack: &mut Stack,
+    stack: &mut OpenForms,
     level: u32,
     place: Place,
     bracket: Bracket,
     elements: Elements,
-    value: Value,
+    value: CappedTree,
     present: bool,
     tokens: &'a [Token],
-) -> Result<(State, &'a [Token]), AllocError>
+) -> Result<(ReadingState, &'a [Token]), AllocError>
     ensures { IfOk result (λ r. state_of r.0 (stack_of stack.new) r.1.now ≡ section_by builds_with_height
         (section_subject builds_with_height (bracket_of bracket)
         (builds_with_height.has_none (elements_of elements)) present)
@@ -448,11 +472,11 @@ fn section<'a>(
     let kind = section_next(tokens);
     match (bracket, first && present, kind) {
         (Bracket::Subscripts(subject), true, Some(kind)) => Ok((
-            open(
+            open_form(
                 stack,
                 level,
                 place,
-                Holding::SectionEnd(kind, subject, value),
+                PartialForm::SectionEnd(kind, subject, value),
                 1,
             )?,
             behind(tokens),
@@ -460,7 +484,7 @@ fn section<'a>(
         (bracket, _, _) => {
             discard_bracket(bracket);
             discard(value);
-            Ok((State::Broken, tokens))
+            Ok((ReadingState::Broken, tokens))
         }
     }
 }
@@ -471,79 +495,89 @@ fn discard_bracket(bracket: Bracket) {
 
 // A part of an open form is complete.
 fn close_frame<'a>(
-    stack: &mut Stack,
+    stack: &mut OpenForms,
     alloc: Global,
-    frame: Frame,
-    value: Value,
+    frame: OpenForm,
+    value: CappedTree,
     present: bool,
     tokens: &'a [Token],
-) -> Result<(State, &'a [Token]), AllocError>
+) -> Result<(ReadingState, &'a [Token]), AllocError>
     ensures { IfOk result
         (λ r. state_of r.0 (stack_of stack.new) r.1.now
         ≡ close_by builds_with_height (holding_of frame.holds) frame.level
         frame.place (capped_of value) present (stack_of stack.old) tokens.now) }
 {
-    let Frame {
+    let OpenForm {
         level,
         place,
         holds,
     } = frame;
     let whole = match holds {
-        Holding::Elements(bracket, elements) => return element(
+        PartialForm::Elements(bracket, elements) => return element(
             stack, alloc, level, place, bracket, elements, value, present, tokens,
         ),
-        Holding::SectionEnd(kind, subject, from) => return section_end(
+        PartialForm::SectionEnd(kind, subject, from) => return section_end(
             alloc, level, place, kind, subject, from, value, tokens,
         ),
-        Holding::ToOperand(from) => return to_operand(
+        PartialForm::ToOperand(from) => return to_operand(
             stack, alloc, level, place, from, value, tokens,
         ),
-        Holding::Condition => return condition(stack, level, place, value, tokens),
-        Holding::Consequence(before) => return consequence(
+        PartialForm::Condition => return condition(stack, level, place, value, tokens),
+        PartialForm::Consequence(before) => return consequence(
             stack, alloc, level, place, before, value, tokens,
         ),
-        Holding::CaseSubject => return case_subject(stack, alloc, level, place, value, tokens),
-        Holding::ClauseGuard(subject, clauses, at) => return clause_guard(
+        PartialForm::CaseSubject => return case_subject(stack, alloc, level, place, value, tokens),
+        PartialForm::ClauseGuard(subject, clauses, at) => return clause_guard(
             stack, level, place, subject, clauses, at, value, tokens,
         ),
-        Holding::GuardedValue(subject, clauses, at, guard) => return guarded_value(
+        PartialForm::GuardedValue(subject, clauses, at, guard) => return guarded_value(
             stack, alloc, level, place, subject, clauses, at, guard, value, tokens,
         ),
-        Holding::DefaultValue(subject, clauses, at) => return default_value(
+        PartialForm::DefaultValue(subject, clauses, at) => return default_value(
             stack, alloc, level, place, subject, clauses, at, value, tokens,
         ),
-        Holding::Control(kind) => return control(stack, alloc, level, place, kind, value, tokens),
-        Holding::SuspendValue => return suspended(stack, alloc, level, place, value, tokens),
-        Holding::PrefixOperand(operator) => Value::prefix(alloc, place, operator, value)?,
-        Holding::NotOperand => Value::not(alloc, place, value)?,
-        Holding::RightOperand(operator, left) => Value::binary(
+        PartialForm::Control(kind) => return control(
+            stack, alloc, level, place, kind, value, tokens,
+        ),
+        PartialForm::SuspendValue => return close_suspend(
+            stack, alloc, level, place, value, tokens,
+        ),
+        PartialForm::PrefixOperand(operator) => CappedTree::prefix(alloc, place, operator, value)?,
+        PartialForm::NotOperand => CappedTree::not(alloc, place, value)?,
+        PartialForm::RightOperand(operator, left) => CappedTree::binary(
             alloc, place, operator, left, value,
         )?,
-        Holding::ByOperand(from, to) => Value::to_by(alloc, place, from, to, value)?,
-        Holding::Alternative(before, first) => Value::if_else(alloc, place, before, first, value)?,
-        Holding::LoopBody(kind, control) => Value::control_do(alloc, place, kind, control, value)?,
-        Holding::RepeatBody => Value::repeat(alloc, place, value)?,
-        Holding::CreateBody => Value::create(alloc, place, value)?,
-        Holding::BreakValue => Value::break_with(alloc, place, value)?,
-        Holding::ReturnValue => Value::return_with(alloc, place, value)?,
-        Holding::SuspendBody(suspended) => Value::suspend_do(alloc, place, suspended, value)?,
+        PartialForm::ByOperand(from, to) => CappedTree::to_by(alloc, place, from, to, value)?,
+        PartialForm::Alternative(before, first) => CappedTree::if_else(
+            alloc, place, before, first, value,
+        )?,
+        PartialForm::LoopBody(kind, control) => CappedTree::control_do(
+            alloc, place, kind, control, value,
+        )?,
+        PartialForm::RepeatBody => CappedTree::repeat(alloc, place, value)?,
+        PartialForm::CreateBody => CappedTree::create(alloc, place, value)?,
+        PartialForm::BreakValue => CappedTree::break_with(alloc, place, value)?,
+        PartialForm::ReturnValue => CappedTree::return_with(alloc, place, value)?,
+        PartialForm::SuspendBody(suspended) => CappedTree::suspend_do(
+            alloc, place, suspended, value,
+        )?,
     };
-    Ok((climbing(level, place, whole), tokens))
+    Ok((climb_at(level, place, whole), tokens))
 }
 
 /// A part is complete.
 pub fn close<'a>(
-    stack: &mut Stack,
+    stack: &mut OpenForms,
     alloc: Global,
-    value: Value,
+    value: CappedTree,
     present: bool,
     tokens: &'a [Token],
-) -> Result<(State, &'a [Token]), AllocError>
+) -> Result<(ReadingState, &'a [Token]), AllocError>
     ensures { IfOk result (λ r. state_of r.0 (stack_of stack.new) r.1.now
         ≡ close_step builds_with_height (capped_of value) present (stack_of stack.old) tokens.now) }
 {
     match stack.pop() {
         Some(frame) => close_frame(stack, alloc, frame, value, present, tokens),
-        None => Ok((State::Finished { value }, tokens)),
+        None => Ok((ReadingState::Finished { value }, tokens)),
     }
 }

@@ -1,5 +1,5 @@
 // What is open while an expression is read.
-use crate::value::{Branches, Elements, Value};
+use crate::value::{Branches, CappedTree, Elements};
 use icn_tree::{Infix, LoopKind, Operator, Place, SectionKind};
 
 /// What a list in brackets is read for.
@@ -8,42 +8,42 @@ pub enum Bracket {
     Round,
     Square,
     Curly,
-    Arguments(Value),
-    CoArguments(Value),
-    Subscripts(Value),
+    Arguments(CappedTree),
+    CoArguments(CappedTree),
+    Subscripts(CappedTree),
 }
 
 /// What was read of a form, up to the part that is being read.
 #[derive(Drop)]
-pub enum Holding {
+pub enum PartialForm {
     Elements(Bracket, Elements),
-    SectionEnd(SectionKind, Value, Value),
+    SectionEnd(SectionKind, CappedTree, CappedTree),
     PrefixOperand(Operator),
     NotOperand,
-    RightOperand(Infix, Value),
-    ToOperand(Value),
-    ByOperand(Value, Value),
+    RightOperand(Infix, CappedTree),
+    ToOperand(CappedTree),
+    ByOperand(CappedTree, CappedTree),
     Condition,
-    Consequence(Value),
-    Alternative(Value, Value),
+    Consequence(CappedTree),
+    Alternative(CappedTree, CappedTree),
     CaseSubject,
-    ClauseGuard(Value, Branches, Place),
-    GuardedValue(Value, Branches, Place, Value),
-    DefaultValue(Value, Branches, Place),
+    ClauseGuard(CappedTree, Branches, Place),
+    GuardedValue(CappedTree, Branches, Place, CappedTree),
+    DefaultValue(CappedTree, Branches, Place),
     Control(LoopKind),
-    LoopBody(LoopKind, Value),
+    LoopBody(LoopKind, CappedTree),
     RepeatBody,
     CreateBody,
     BreakValue,
     ReturnValue,
     SuspendValue,
-    SuspendBody(Value),
+    SuspendBody(CappedTree),
 }
 
 /// An open form: the level of the expression that it belongs to, and where that expression began.
 #[derive(Drop)]
-pub struct Frame {
+pub struct OpenForm {
     pub level: u32,
     pub place: Place,
-    pub holds: Holding,
+    pub holds: PartialForm,
 }

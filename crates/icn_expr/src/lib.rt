@@ -13,4 +13,4 @@ mod value;
 
 pub use next::{behind, place_of};
 pub use reader::expression;
-pub use value::{Elements, Value};
+pub use value::{CappedTree, Elements};

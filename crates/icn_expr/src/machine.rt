@@ -8,70 +8,88 @@ ghost use Rattle.icn_expr.specs.Automata.{Starting, Climbing, Closing, Elements 
 ghost use Rattle.icn_expr.specs.Capped.{builds_with_height};
 ghost use Rattle.icn_expr.specs.Views.{OpenFrame, capped_of, bracket_of, holding_of, stack_of, state_of};
 
-use crate::frame::{Bracket, Frame, Holding};
+use crate::frame::{Bracket, OpenForm, PartialForm};
 use crate::levels::{
     begins, climbing_level, goes_on, infix_level_of, operator_begins, right_level, split,
 };
-use crate::stack::Stack;
-use crate::state::State;
-use crate::value::{Elements, Value, discard};
+use crate::stack::OpenForms;
+use crate::state::ReadingState;
+use crate::value::{CappedTree, Elements, discard};
 use icn_tree::{
     Bytes, Infix, Kind, Literal, LoopKind, Name, Operator, Place, Punctuation, Token, Word,
 };
 use std::alloc::{AllocError, Global};
 
 // A form is open, and a part of it begins.
-pub fn open(
-    stack: &mut Stack,
+pub fn open_form(
+    stack: &mut OpenForms,
     level: u32,
     place: Place,
-    holds: Holding,
+    holds: PartialForm,
     awaits: u32,
-) -> Result<State, AllocError>
+) -> Result<ReadingState, AllocError>
     ensures { IfOk result (λ state. (tokens : List Token) → state_of state (stack_of stack.new) tokens
         ≡ Starting awaits (frame_at level place (holding_of holds) ∷ stack_of stack.old) tokens) }
 {
-    stack.push(Frame {
+    stack.push(OpenForm {
         level,
         place,
         holds,
     })?;
-    Ok(State::Starting { level: awaits })
+    Ok(ReadingState::Starting { level: awaits })
 }
 
 // A word that begins a form.
 fn word_operand(
-    stack: &mut Stack,
+    stack: &mut OpenForms,
     level: u32,
     place: Place,
     word: Word,
-) -> Result<State, AllocError>
+) -> Result<ReadingState, AllocError>
     ensures { IfOk result (λ state. (tokens : List Token) → state_of state (stack_of stack.new) tokens
         ≡ word_step builds_with_height level place word (stack_of stack.old) tokens) }
 {
     match word {
-        Word::Not => open(stack, level, place, Holding::NotOperand, 12),
-        Word::If => open(stack, level, place, Holding::Condition, 1),
-        Word::Case => open(stack, level, place, Holding::CaseSubject, 1),
-        Word::While => open(stack, level, place, Holding::Control(LoopKind::While), 1),
-        Word::Until => open(stack, level, place, Holding::Control(LoopKind::Until), 1),
-        Word::Every => open(stack, level, place, Holding::Control(LoopKind::Every), 1),
-        Word::Repeat => open(stack, level, place, Holding::RepeatBody, 1),
-        Word::Create => open(stack, level, place, Holding::CreateBody, 1),
-        Word::Break => open(stack, level, place, Holding::BreakValue, 0),
-        Word::Return => open(stack, level, place, Holding::ReturnValue, 0),
-        Word::Suspend => open(stack, level, place, Holding::SuspendValue, 0),
-        Word::Next => Ok(climbing(level, place, Value::next(place))),
-        Word::Fail => Ok(climbing(level, place, Value::fail(place))),
-        _ => Ok(State::Broken),
+        Word::Not => open_form(stack, level, place, PartialForm::NotOperand, 12),
+        Word::If => open_form(stack, level, place, PartialForm::Condition, 1),
+        Word::Case => open_form(stack, level, place, PartialForm::CaseSubject, 1),
+        Word::While => open_form(
+            stack,
+            level,
+            place,
+            PartialForm::Control(LoopKind::While),
+            1,
+        ),
+        Word::Until => open_form(
+            stack,
+            level,
+            place,
+            PartialForm::Control(LoopKind::Until),
+            1,
+        ),
+        Word::Every => open_form(
+            stack,
+            level,
+            place,
+            PartialForm::Control(LoopKind::Every),
+            1,
+        ),
+        Word::Repeat => open_form(stack, level, place, PartialForm::RepeatBody, 1),
+        Word::Create => open_form(stack, level, place, PartialForm::CreateBody, 1),
+        Word::Break => open_form(stack, level, place, PartialForm::BreakValue, 0),
+        Word::Return => open_form(stack, level, place, PartialForm::ReturnValue, 0),
+        Word::Suspend => open_form(stack, level, place, PartialForm::SuspendValue, 0),
+        Word::Next => Ok(climb_at(level, place, CappedTree::next(place))),
+        Word::Fail => Ok(climb_at(level, place, CappedTree::fail(place))),
+        _ => Ok(ReadingState::Broken),
     }
 }
 
-pub fn climbing(level: u32, place: Place, value: Value) -> State
+pub fn climb_at(level: u32, place: Place, value: CappedTree) -> ReadingState
     ensures { (frames : List OpenFrame) (tokens : List Token)
         → state_of result frames tokens ≡ Climbing level place (capped_of value) frames tokens }
 {
-    State::Climbing {
+    ReadingState::Climbing {
         level,
         place,
         value,
@@ -80,12 +98,12 @@ pub fn climbing(level: u32, place: Place, value: Value) -> State
 
 // A mark that opens a list.
 fn mark_operand(
-    stack: &mut Stack,
+    stack: &mut OpenForms,
     alloc: Global,
     level: u32,
     place: Place,
     mark: Punctuation,
-) -> Result<State, AllocError>
+) -> Result<ReadingState, AllocError>
     ensures { IfOk result (λ state. (tokens : List Token) → state_of state (stack_of stack.new) tokens
         ≡ mark_step builds_with_height level place mark (stack_of stack.old) tokens) }
 {
@@ -93,41 +111,41 @@ fn mark_operand(
         Punctuation::OpenParenthesis => open_list(stack, alloc, level, place, Bracket::Round),
         Punctuation::OpenBracket => open_list(stack, alloc, level, place, Bracket::Square),
         Punctuation::OpenBrace => open_list(stack, alloc, level, place, Bracket::Curly),
-        _ => Ok(State::Broken),
+        _ => Ok(ReadingState::Broken),
     }
 }
 
 // A list is open, and its first element begins.
 fn open_list(
-    stack: &mut Stack,
+    stack: &mut OpenForms,
     alloc: Global,
     level: u32,
     place: Place,
     bracket: Bracket,
-) -> Result<State, AllocError>
+) -> Result<ReadingState, AllocError>
     ensures { IfOk result (λ state. (tokens : List Token) → state_of state (stack_of stack.new) tokens
         ≡ Starting 0
         (frame_at level place (ElementsHolding (bracket_of bracket) builds_with_height.no_elements)
         ∷ stack_of stack.old) tokens) }
 {
-    open(
+    open_form(
         stack,
         level,
         place,
-        Holding::Elements(bracket, Elements::new(alloc)),
+        PartialForm::Elements(bracket, Elements::new(alloc)),
         0,
     )
 }
 
 // A mark that goes on with a tree.
 fn suffix(
-    stack: &mut Stack,
+    stack: &mut OpenForms,
     alloc: Global,
     level: u32,
     place: Place,
-    value: Value,
+    value: CappedTree,
     mark: Punctuation,
-) -> Result<State, AllocError>
+) -> Result<ReadingState, AllocError>
     ensures { IfOk result (λ state. (tokens : List Token) → state_of state (stack_of stack.new) tokens
         ≡ suffix_step builds_with_height level place (capped_of value) mark (stack_of stack.old) tokens) }
 {
@@ -155,64 +173,64 @@ fn suffix(
         ),
         _ => {
             discard(value);
-            Ok(State::Broken)
+            Ok(ReadingState::Broken)
         }
     }
 }
 
 // Nothing stands where an expression may be empty.
-fn nothing(level: u32) -> State
+fn empty_part(level: u32) -> ReadingState
     ensures { (frames : List OpenFrame) (tokens : List Token)
         → state_of result frames tokens ≡ empty_step builds_with_height level frames tokens }
 {
     if level == 0 {
-        State::Closing {
-            value: Value::empty(),
+        ReadingState::Closing {
+            value: CappedTree::empty(),
             present: false,
         }
     } else {
-        State::Broken
+        ReadingState::Broken
     }
 }
 
 // An operator before its operand, or a keyword.
 fn operator_operand<'a>(
-    stack: &mut Stack,
+    stack: &mut OpenForms,
     alloc: Global,
     level: u32,
     place: Place,
     operator: Operator,
     tokens: &'a [Token],
-) -> Result<(State, &'a [Token]), AllocError>
+) -> Result<(ReadingState, &'a [Token]), AllocError>
     ensures { IfOk result (λ r. state_of r.0 (stack_of stack.new) r.1.now
         ≡ operator_step builds_with_height level place (prefix_of operator) (stack_of stack.old) tokens.now) }
 {
     match split(operator) {
-        Some((first, others)) => Ok((prefixed(stack, level, place, first, others)?, tokens)),
+        Some((first, others)) => Ok((begin_prefix(stack, level, place, first, others)?, tokens)),
         None => keyword(alloc, level, place, tokens),
     }
 }
 
 // What stands behind an operator before its operand.
-fn prefixed(
-    stack: &mut Stack,
+fn begin_prefix(
+    stack: &mut OpenForms,
     level: u32,
     place: Place,
     first: Operator,
     others: Option<Operator>,
-) -> Result<State, AllocError>
+) -> Result<ReadingState, AllocError>
     ensures { IfOk result
         (λ state. (tokens : List Token) → state_of state (stack_of stack.new) tokens ≡ Starting 12
         (frame_at level place (PrefixOperand first) ∷ stack_of stack.old) (before place others tokens)) }
 {
-    stack.push(Frame {
+    stack.push(OpenForm {
         level,
         place,
-        holds: Holding::PrefixOperand(first),
+        holds: PartialForm::PrefixOperand(first),
     })?;
     match others {
-        Some(operator) => Ok(State::StartingWith { place, operator }),
-        None => Ok(State::Starting { level: 12 }),
+        Some(operator) => Ok(ReadingState::StartingWith { place, operator }),
+        None => Ok(ReadingState::Starting { level: 12 }),
     }
 }
 
@@ -222,17 +240,17 @@ fn keyword<'a>(
     level: u32,
     place: Place,
     tokens: &'a [Token],
-) -> Result<(State, &'a [Token]), AllocError>
+) -> Result<(ReadingState, &'a [Token]), AllocError>
     ensures { IfOk result (λ r. (frames : List OpenFrame)
         → state_of r.0 frames r.1.now ≡ operator_step builds_with_height level place None frames tokens.now) }
 {
     let Some((token, rest)) = tokens.split_first() else {
-        return Ok((State::Broken, tokens));
+        return Ok((ReadingState::Broken, tokens));
     };
     let text = match &token.kind {
         Kind::Identifier(text) => Bytes::from_slice(alloc, text.as_slice())?,
         Kind::Word(Word::Fail) => Bytes::from_slice(alloc, b"fail")?,
-        _ => return Ok((State::Broken, tokens)),
+        _ => return Ok((ReadingState::Broken, tokens)),
     };
     let name = Name {
         text,
@@ -241,18 +259,21 @@ fn keyword<'a>(
             file: token.file,
         },
     };
-    Ok((climbing(level, place, Value::keyword(place, name)), rest))
+    Ok((
+        climb_at(level, place, CappedTree::keyword(place, name)),
+        rest,
+    ))
 }
 
 // A token that begins an expression.
 fn operand<'a>(
-    stack: &mut Stack,
+    stack: &mut OpenForms,
     alloc: Global,
     level: u32,
     place: Place,
     kind: &Kind,
     tokens: &'a [Token],
-) -> Result<(State, &'a [Token]), AllocError>
+) -> Result<(ReadingState, &'a [Token]), AllocError>
     ensures { IfOk result (λ r. state_of r.0 (stack_of stack.new) r.1.now
         ≡ operand_step builds_with_height level place kind.now (stack_of stack.old) tokens.now) }
 {
@@ -260,29 +281,41 @@ fn operand<'a>(
         Kind::Word(word) => Ok((word_operand(stack, level, place, *word)?, tokens)),
         Kind::Operator(operator) => operator_operand(stack, alloc, level, place, *operator, tokens),
         Kind::Punctuation(mark) => Ok((mark_operand(stack, alloc, level, place, *mark)?, tokens)),
-        Kind::Augmented(_) => Ok((State::Broken, tokens)),
+        Kind::Augmented(_) => Ok((ReadingState::Broken, tokens)),
         Kind::Identifier(text) => {
             let text = Bytes::from_slice(alloc, text.as_slice())?;
             Ok((
-                climbing(level, place, Value::identifier(Name { text, place })),
+                climb_at(level, place, CappedTree::identifier(Name { text, place })),
                 tokens,
             ))
         }
         Kind::Integer(n) => Ok((
-            climbing(level, place, Value::constant(place, Literal::Integer(*n))),
+            climb_at(
+                level,
+                place,
+                CappedTree::constant(place, Literal::Integer(*n)),
+            ),
             tokens,
         )),
         Kind::Text(text) => {
             let text = Bytes::from_slice(alloc, text.as_slice())?;
             Ok((
-                climbing(level, place, Value::constant(place, Literal::Text(text))),
+                climb_at(
+                    level,
+                    place,
+                    CappedTree::constant(place, Literal::Text(text)),
+                ),
                 tokens,
             ))
         }
         Kind::Cset(set) => {
             let set = set.copy(alloc)?;
             Ok((
-                climbing(level, place, Value::constant(place, Literal::Cset(set))),
+                climb_at(
+                    level,
+                    place,
+                    CappedTree::constant(place, Literal::Cset(set)),
+                ),
                 tokens,
             ))
         }
@@ -291,19 +324,19 @@ fn operand<'a>(
 
 // An expression begins.
 pub fn start<'a>(
-    stack: &mut Stack,
+    stack: &mut OpenForms,
     alloc: Global,
     level: u32,
     tokens: &'a [Token],
-) -> Result<(State, &'a [Token]), AllocError>
+) -> Result<(ReadingState, &'a [Token]), AllocError>
     ensures { IfOk result (λ r. state_of r.0 (stack_of stack.new) r.1.now
         ≡ start_step builds_with_height level (stack_of stack.old) tokens.now) }
 {
     let Some((token, rest)) = tokens.split_first() else {
-        return Ok((nothing(level), tokens));
+        return Ok((empty_part(level), tokens));
     };
     if !begins(&token.kind) {
-        return Ok((nothing(level), tokens));
+        return Ok((empty_part(level), tokens));
     }
     let place = Place {
         line: token.line,
@@ -321,26 +354,26 @@ pub fn start<'a>(
 
 // An operand begins with what is left of its operator's token.
 pub fn start_with<'a>(
-    stack: &mut Stack,
+    stack: &mut OpenForms,
     alloc: Global,
     place: Place,
     operator: Operator,
     tokens: &'a [Token],
-) -> Result<(State, &'a [Token]), AllocError>
+) -> Result<(ReadingState, &'a [Token]), AllocError>
     ensures { IfOk result (λ r. state_of r.0 (stack_of stack.new) r.1.now
         ≡ start_step builds_with_height 12 (stack_of stack.old) (before place (Some operator) tokens.now)) }
 {
     if !operator_begins(operator) {
-        return Ok((State::Broken, tokens));
+        return Ok((ReadingState::Broken, tokens));
     }
     operator_operand(stack, alloc, 12, place, operator, tokens)
 }
 
-fn closing(value: Value) -> State
+fn close_with(value: CappedTree) -> ReadingState
     ensures { (frames : List OpenFrame) (tokens : List Token)
         → state_of result frames tokens ≡ Closing (capped_of value) true frames tokens }
 {
-    State::Closing {
+    ReadingState::Closing {
         value,
         present: true,
     }
@@ -348,35 +381,35 @@ fn closing(value: Value) -> State
 
 // A tree, with which the next token may go on.
 pub fn climb<'a>(
-    stack: &mut Stack,
+    stack: &mut OpenForms,
     alloc: Global,
     level: u32,
     place: Place,
-    value: Value,
+    value: CappedTree,
     tokens: &'a [Token],
-) -> Result<(State, &'a [Token]), AllocError>
+) -> Result<(ReadingState, &'a [Token]), AllocError>
     ensures { IfOk result (λ r. state_of r.0 (stack_of stack.new) r.1.now
         ≡ climb_step builds_with_height level place (capped_of value) (stack_of stack.old) tokens.now) }
 {
     let Some((token, rest)) = tokens.split_first() else {
-        return Ok((closing(value), tokens));
+        return Ok((close_with(value), tokens));
     };
     if level > goes_on(&token.kind) {
-        return Ok((closing(value), tokens));
+        return Ok((close_with(value), tokens));
     }
     extend(stack, alloc, level, place, value, &token.kind, rest)
 }
 
 // What a token makes with the tree before it.
 fn extend<'a>(
-    stack: &mut Stack,
+    stack: &mut OpenForms,
     alloc: Global,
     level: u32,
     place: Place,
-    value: Value,
+    value: CappedTree,
     kind: &Kind,
     tokens: &'a [Token],
-) -> Result<(State, &'a [Token]), AllocError>
+) -> Result<(ReadingState, &'a [Token]), AllocError>
     ensures { IfOk result (λ r. state_of r.0 (stack_of stack.new) r.1.now
         ≡ extend_step builds_with_height level place (capped_of value) kind.now
         (stack_of stack.old) tokens.now) }
@@ -388,27 +421,27 @@ fn extend<'a>(
             tokens,
         )),
         Kind::Word(_) => Ok((
-            open(stack, level, place, Holding::ToOperand(value), 5)?,
+            open_form(stack, level, place, PartialForm::ToOperand(value), 5)?,
             tokens,
         )),
         Kind::Punctuation(mark) => Ok((suffix(stack, alloc, level, place, value, *mark)?, tokens)),
         _ => {
             discard(value);
-            Ok((State::Broken, tokens))
+            Ok((ReadingState::Broken, tokens))
         }
     }
 }
 
 // An operator behind a tree.
 fn plain<'a>(
-    stack: &mut Stack,
+    stack: &mut OpenForms,
     alloc: Global,
     level: u32,
     place: Place,
-    value: Value,
+    value: CappedTree,
     operator: Operator,
     tokens: &'a [Token],
-) -> Result<(State, &'a [Token]), AllocError>
+) -> Result<(ReadingState, &'a [Token]), AllocError>
     ensures { IfOk result (λ r. state_of r.0 (stack_of stack.new) r.1.now ≡ plain_step builds_with_height
         (is_dot operator) level place (capped_of value) operator (stack_of stack.old) tokens.now) }
 {
@@ -422,20 +455,20 @@ fn plain<'a>(
 }
 
 fn infix(
-    stack: &mut Stack,
+    stack: &mut OpenForms,
     level: u32,
     place: Place,
-    value: Value,
+    value: CappedTree,
     operator: Infix,
-) -> Result<State, AllocError>
+) -> Result<ReadingState, AllocError>
     ensures { IfOk result (λ state. (tokens : List Token) → state_of state (stack_of stack.new) tokens
         ≡ infix_step builds_with_height level place (capped_of value) operator (stack_of stack.old) tokens) }
 {
-    open(
+    open_form(
         stack,
         level,
         place,
-        Holding::RightOperand(operator, value),
+        PartialForm::RightOperand(operator, value),
         right_level(infix_level_of(operator)),
     )
 }
@@ -445,19 +478,19 @@ fn field<'a>(
     alloc: Global,
     level: u32,
     place: Place,
-    value: Value,
+    value: CappedTree,
     tokens: &'a [Token],
-) -> Result<(State, &'a [Token]), AllocError>
+) -> Result<(ReadingState, &'a [Token]), AllocError>
     ensures { IfOk result (λ r. (frames : List OpenFrame) → state_of r.0 frames r.1.now
         ≡ plain_step builds_with_height true level place (capped_of value) Dot frames tokens.now) }
 {
     let Some((token, rest)) = tokens.split_first() else {
         discard(value);
-        return Ok((State::Broken, tokens));
+        return Ok((ReadingState::Broken, tokens));
     };
     let Kind::Identifier(text) = &token.kind else {
         discard(value);
-        return Ok((State::Broken, tokens));
+        return Ok((ReadingState::Broken, tokens));
     };
     let name = Name {
         text: Bytes::from_slice(alloc, text.as_slice())?,
@@ -467,7 +500,7 @@ fn field<'a>(
         },
     };
     Ok((
-        climbing(level, place, Value::field(alloc, place, value, name)?),
+        climb_at(level, place, CappedTree::field(alloc, place, value, name)?),
         rest,
     ))
 }

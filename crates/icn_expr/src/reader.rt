@@ -7,9 +7,9 @@ ghost use Rattle.icn_expr.specs.Views.{capped_of, stack_of, state_of, progress_e
 
 use crate::closing::close;
 use crate::machine::{climb, start, start_with};
-use crate::stack::Stack;
-use crate::state::State;
-use crate::value::Value;
+use crate::stack::OpenForms;
+use crate::state::ReadingState;
+use crate::value::CappedTree;
 use icn_tree::Token;
 use std::alloc::{AllocError, Global};
 
@@ -17,18 +17,18 @@ use std::alloc::{AllocError, Global};
 #[derive(Drop)]
 pub enum Progress<'a> {
     /// An expression was read.
-    Found(Value, &'a [Token]),
+    Found(CappedTree, &'a [Token]),
     /// None stands here.
     Nothing,
     /// It goes on.
-    Going(State, &'a [Token]),
+    Going(ReadingState, &'a [Token]),
 }
 
 // One step, or the end.
 fn advance<'a>(
-    stack: &mut Stack,
+    stack: &mut OpenForms,
     alloc: Global,
-    state: State,
+    state: ReadingState,
     tokens: &'a [Token],
 ) -> Result<Progress<'a>, AllocError>
     ensures same { IfOk result (λ p. progress_end p (stack_of stack.new)
@@ -37,17 +37,17 @@ fn advance<'a>(
         (stack_of stack.new) rest) < steps_left (state_of state (stack_of stack.old) tokens.now))) }
 {
     match state {
-        State::Finished { value } => Ok(Progress::Found(value, tokens)),
-        State::Broken => Ok(Progress::Nothing),
-        State::Starting { level } => {
+        ReadingState::Finished { value } => Ok(Progress::Found(value, tokens)),
+        ReadingState::Broken => Ok(Progress::Nothing),
+        ReadingState::Starting { level } => {
             let (next, rest) = start(stack, alloc, level, tokens)?;
             Ok(Progress::Going(next, rest))
         }
-        State::StartingWith { place, operator } => {
+        ReadingState::StartingWith { place, operator } => {
             let (next, rest) = start_with(stack, alloc, place, operator, tokens)?;
             Ok(Progress::Going(next, rest))
         }
-        State::Climbing {
+        ReadingState::Climbing {
             level,
             place,
             value,
@@ -55,7 +55,7 @@ fn advance<'a>(
             let (next, rest) = climb(stack, alloc, level, place, value, tokens)?;
             Ok(Progress::Going(next, rest))
         }
-        State::Closing { value, present } => {
+        ReadingState::Closing { value, present } => {
             let (next, rest) = close(stack, alloc, value, present, tokens)?;
             Ok(Progress::Going(next, rest))
         }
@@ -68,12 +68,12 @@ pub fn expression<'a>(
     alloc: Global,
     level: u32,
     tokens: &'a [Token],
-) -> Result<Option<(Value, &'a [Token])>, AllocError>
+) -> Result<Option<(CappedTree, &'a [Token])>, AllocError>
     ensures { IfOk result (λ found. option_map (λ f. (capped_of f.0, f.1.now)) found
         ≡ expression_read builds_with_height level tokens.now) }
 {
-    let mut stack = Stack::new(alloc);
-    let mut state = State::Starting { level };
+    let mut stack = OpenForms::new(alloc);
+    let mut state = ReadingState::Starting { level };
     let mut rest = tokens;
     'reading: loop {
         match advance(&mut stack, alloc, state, rest)? {

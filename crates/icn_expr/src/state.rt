@@ -1,10 +1,10 @@
 // Where the reading of an expression stands.
-use crate::value::Value;
+use crate::value::CappedTree;
 use icn_tree::{Operator, Place};
 
 /// Where the reading of an expression stands.
 #[derive(Drop)]
-pub enum State {
+pub enum ReadingState {
     /// A part of this level begins here.
     Starting {
         level: u32,
@@ -18,16 +18,16 @@ pub enum State {
     Climbing {
         level: u32,
         place: Place,
-        value: Value,
+        value: CappedTree,
     },
     /// A part is complete, and it is empty or not.
     Closing {
-        value: Value,
+        value: CappedTree,
         present: bool,
     },
     /// All is read.
     Finished {
-        value: Value,
+        value: CappedTree,
     },
     /// No expression stands here.
     Broken,

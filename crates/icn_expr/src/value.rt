@@ -16,7 +16,7 @@ const HIGHEST: u32 = HIGHEST_TREE;
 
 /// A tree with its height. Of a tree that is higher than 2000 only a height above that is kept.
 #[derive(Drop)]
-pub struct Value {
+pub struct CappedTree {
     pub expr: Expr,
     pub height: u32,
 }
@@ -36,7 +36,7 @@ pub struct Branches {
 }
 
 // What is too high is let go.
-pub fn discard(value: Value) {
+pub fn discard(value: CappedTree) {
     drop(value);
 }
 
@@ -48,10 +48,10 @@ pub fn discard_branches(branches: Branches) {
     drop(branches);
 }
 
-fn too_high() -> Value
+fn too_high() -> CappedTree
     ensures { highest_tree < result.height }
 {
-    Value {
+    CappedTree {
         expr: Expr::Empty,
         height: HIGHEST + 1,
     }
@@ -115,7 +115,7 @@ fn case_expr(place: Place, subject: Box<Expr>, clauses: Vec<Clause>) -> Expr
     }
 }
 
-impl Value {
+impl CappedTree {
     /// The tree, unless it is higher than 2000.
     pub fn into_expr(self) -> Option<Expr>
         ensures { option_map tree_of result ≡ kept_tree (capped_of self) }
@@ -128,67 +128,67 @@ impl Value {
     }
 
     /// Nothing.
-    pub fn empty() -> Value
+    pub fn empty() -> CappedTree
         ensures { capped_of result ≡ builds_with_height.empty }
     {
-        Value {
+        CappedTree {
             expr: Expr::Empty,
             height: 1,
         }
     }
 
     /// A literal.
-    pub fn constant(place: Place, value: Literal) -> Value
+    pub fn constant(place: Place, value: Literal) -> CappedTree
         ensures { capped_of result ≡ builds_with_height.constant place value }
     {
-        Value {
+        CappedTree {
             expr: Expr::Literal { place, value },
             height: 1,
         }
     }
 
     /// An identifier.
-    pub fn identifier(name: Name) -> Value
+    pub fn identifier(name: Name) -> CappedTree
         ensures { capped_of result ≡ builds_with_height.identifier name }
     {
-        Value {
+        CappedTree {
             expr: Expr::Identifier { name },
             height: 1,
         }
     }
 
     /// `&name`.
-    pub fn keyword(place: Place, name: Name) -> Value
+    pub fn keyword(place: Place, name: Name) -> CappedTree
         ensures { capped_of result ≡ builds_with_height.keyword place name }
     {
-        Value {
+        CappedTree {
             expr: Expr::Keyword { place, name },
             height: 1,
         }
     }
 
     /// `next`.
-    pub fn next(place: Place) -> Value
+    pub fn next(place: Place) -> CappedTree
         ensures { capped_of result ≡ builds_with_height.next_form place }
     {
-        Value {
+        CappedTree {
             expr: Expr::Next { place },
             height: 1,
         }
     }
 
     /// `fail`.
-    pub fn fail(place: Place) -> Value
+    pub fn fail(place: Place) -> CappedTree
         ensures { capped_of result ≡ builds_with_height.fail_form place }
     {
-        Value {
+        CappedTree {
             expr: Expr::Fail { place },
             height: 1,
         }
     }
 
     /// `(a, b)`.
-    pub fn parentheses(place: Place, elements: Elements) -> Value
+    pub fn parentheses(place: Place, elements: Elements) -> CappedTree
         ensures { capped_of result ≡ builds_with_height.parentheses place (elements_of elements) }
     {
         let height = elements.height;
@@ -196,14 +196,14 @@ impl Value {
             discard_elements(elements);
             return too_high();
         }
-        Value {
+        CappedTree {
             height: height + 1,
             expr: parentheses_expr(place, elements.exprs),
         }
     }
 
     /// `[a, b]`.
-    pub fn list(place: Place, elements: Elements) -> Value
+    pub fn list(place: Place, elements: Elements) -> CappedTree
         ensures { capped_of result ≡ builds_with_height.listing place (elements_of elements) }
     {
         let height = elements.height;
@@ -211,14 +211,14 @@ impl Value {
             discard_elements(elements);
             return too_high();
         }
-        Value {
+        CappedTree {
             height: height + 1,
             expr: list_expr(place, elements.exprs),
         }
     }
 
     /// `{a; b}`.
-    pub fn compound(place: Place, exprs: Elements) -> Value
+    pub fn compound(place: Place, exprs: Elements) -> CappedTree
         ensures { capped_of result ≡ builds_with_height.compound place (elements_of exprs) }
     {
         let height = exprs.height;
@@ -226,7 +226,7 @@ impl Value {
             discard_elements(exprs);
             return too_high();
         }
-        Value {
+        CappedTree {
             height: height + 1,
             expr: compound_expr(place, exprs.exprs),
         }
@@ -236,9 +236,9 @@ impl Value {
     pub fn call(
         alloc: Global,
         place: Place,
-        callee: Value,
+        callee: CappedTree,
         arguments: Elements,
-    ) -> Result<Value, AllocError>
+    ) -> Result<CappedTree, AllocError>
         ensures { IfOk result
             (λ built. capped_of built
             ≡ builds_with_height.call place (capped_of callee) (elements_of arguments)) }
@@ -249,7 +249,7 @@ impl Value {
             discard_elements(arguments);
             return Ok(too_high());
         }
-        Ok(Value {
+        Ok(CappedTree {
             height: height + 1,
             expr: call_expr(place, Box::new(alloc, callee.expr)?, arguments.exprs),
         })
@@ -259,9 +259,9 @@ impl Value {
     pub fn co_call(
         alloc: Global,
         place: Place,
-        callee: Value,
+        callee: CappedTree,
         arguments: Elements,
-    ) -> Result<Value, AllocError>
+    ) -> Result<CappedTree, AllocError>
         ensures { IfOk result
             (λ built. capped_of built
             ≡ builds_with_height.co_call place (capped_of callee) (elements_of arguments)) }
@@ -272,7 +272,7 @@ impl Value {
             discard_elements(arguments);
             return Ok(too_high());
         }
-        Ok(Value {
+        Ok(CappedTree {
             height: height + 1,
             expr: co_call_expr(place, Box::new(alloc, callee.expr)?, arguments.exprs),
         })
@@ -282,9 +282,9 @@ impl Value {
     pub fn subscript(
         alloc: Global,
         place: Place,
-        subject: Value,
+        subject: CappedTree,
         subscripts: Elements,
-    ) -> Result<Value, AllocError>
+    ) -> Result<CappedTree, AllocError>
         ensures { IfOk result
             (λ built. capped_of built
             ≡ builds_with_height.subscript place (capped_of subject) (elements_of subscripts)) }
@@ -295,7 +295,7 @@ impl Value {
             discard_elements(subscripts);
             return Ok(too_high());
         }
-        Ok(Value {
+        Ok(CappedTree {
             height: height + 1,
             expr: subscript_expr(place, Box::new(alloc, subject.expr)?, subscripts.exprs),
         })
@@ -306,10 +306,10 @@ impl Value {
         alloc: Global,
         place: Place,
         kind: SectionKind,
-        subject: Value,
-        from: Value,
-        to: Value,
-    ) -> Result<Value, AllocError>
+        subject: CappedTree,
+        from: CappedTree,
+        to: CappedTree,
+    ) -> Result<CappedTree, AllocError>
         ensures { IfOk result (λ built. capped_of built
             ≡ builds_with_height.section place kind (capped_of subject) (capped_of from) (capped_of to)) }
     {
@@ -320,7 +320,7 @@ impl Value {
             discard(to);
             return Ok(too_high());
         }
-        Ok(Value {
+        Ok(CappedTree {
             height: height + 1,
             expr: Expr::Section {
                 place,
@@ -336,9 +336,9 @@ impl Value {
     pub fn field(
         alloc: Global,
         place: Place,
-        subject: Value,
+        subject: CappedTree,
         name: Name,
-    ) -> Result<Value, AllocError>
+    ) -> Result<CappedTree, AllocError>
         ensures { IfOk result
             (λ built. capped_of built ≡ builds_with_height.field place (capped_of subject) name) }
     {
@@ -347,7 +347,7 @@ impl Value {
             discard(subject);
             return Ok(too_high());
         }
-        Ok(Value {
+        Ok(CappedTree {
             height: height + 1,
             expr: Expr::Field {
                 place,
@@ -362,8 +362,8 @@ impl Value {
         alloc: Global,
         place: Place,
         operator: Operator,
-        operand: Value,
-    ) -> Result<Value, AllocError>
+        operand: CappedTree,
+    ) -> Result<CappedTree, AllocError>
         ensures { IfOk result
             (λ built. capped_of built ≡ builds_with_height.prefix place operator (capped_of operand)) }
     {
@@ -372,7 +372,7 @@ impl Value {
             discard(operand);
             return Ok(too_high());
         }
-        Ok(Value {
+        Ok(CappedTree {
             height: height + 1,
             expr: Expr::Prefix {
                 place,
@@ -383,7 +383,7 @@ impl Value {
     }
 
     /// `not a`. An error is want of memory.
-    pub fn not(alloc: Global, place: Place, operand: Value) -> Result<Value, AllocError>
+    pub fn not(alloc: Global, place: Place, operand: CappedTree) -> Result<CappedTree, AllocError>
         ensures { IfOk result
             (λ built. capped_of built ≡ builds_with_height.not_form place (capped_of operand)) }
     {
@@ -392,7 +392,7 @@ impl Value {
             discard(operand);
             return Ok(too_high());
         }
-        Ok(Value {
+        Ok(CappedTree {
             height: height + 1,
             expr: Expr::Not {
                 place,
@@ -406,9 +406,9 @@ impl Value {
         alloc: Global,
         place: Place,
         operator: Infix,
-        left: Value,
-        right: Value,
-    ) -> Result<Value, AllocError>
+        left: CappedTree,
+        right: CappedTree,
+    ) -> Result<CappedTree, AllocError>
         ensures { IfOk result
             (λ built. capped_of built
             ≡ builds_with_height.binary place operator (capped_of left) (capped_of right)) }
@@ -419,7 +419,7 @@ impl Value {
             discard(right);
             return Ok(too_high());
         }
-        Ok(Value {
+        Ok(CappedTree {
             height: height + 1,
             expr: Expr::Binary {
                 place,
@@ -431,7 +431,12 @@ impl Value {
     }
 
     /// `a to b`. An error is want of memory.
-    pub fn to(alloc: Global, place: Place, from: Value, to: Value) -> Result<Value, AllocError>
+    pub fn to(
+        alloc: Global,
+        place: Place,
+        from: CappedTree,
+        to: CappedTree,
+    ) -> Result<CappedTree, AllocError>
         ensures { IfOk result
             (λ built. capped_of built
             ≡ builds_with_height.to_form place (capped_of from) (capped_of to) None) }
@@ -442,7 +447,7 @@ impl Value {
             discard(to);
             return Ok(too_high());
         }
-        Ok(Value {
+        Ok(CappedTree {
             height: height + 1,
             expr: Expr::To {
                 place,
@@ -457,10 +462,10 @@ impl Value {
     pub fn to_by(
         alloc: Global,
         place: Place,
-        from: Value,
-        to: Value,
-        by: Value,
-    ) -> Result<Value, AllocError>
+        from: CappedTree,
+        to: CappedTree,
+        by: CappedTree,
+    ) -> Result<CappedTree, AllocError>
         ensures { IfOk result (λ built. capped_of built
             ≡ builds_with_height.to_form place (capped_of from) (capped_of to) (Some (capped_of by))) }
     {
@@ -471,7 +476,7 @@ impl Value {
             discard(by);
             return Ok(too_high());
         }
-        Ok(Value {
+        Ok(CappedTree {
             height: height + 1,
             expr: Expr::To {
                 place,
@@ -486,9 +491,9 @@ impl Value {
     pub fn if_then(
         alloc: Global,
         place: Place,
-        condition: Value,
-        then: Value,
-    ) -> Result<Value, AllocError>
+        condition: CappedTree,
+        then: CappedTree,
+    ) -> Result<CappedTree, AllocError>
         ensures { IfOk result
             (λ built. capped_of built
             ≡ builds_with_height.if_form place (capped_of condition) (capped_of then) None) }
@@ -499,7 +504,7 @@ impl Value {
             discard(then);
             return Ok(too_high());
         }
-        Ok(Value {
+        Ok(CappedTree {
             height: height + 1,
             expr: Expr::If {
                 place,
@@ -514,10 +519,10 @@ impl Value {
     pub fn if_else(
         alloc: Global,
         place: Place,
-        condition: Value,
-        then: Value,
-        otherwise: Value,
-    ) -> Result<Value, AllocError>
+        condition: CappedTree,
+        then: CappedTree,
+        otherwise: CappedTree,
+    ) -> Result<CappedTree, AllocError>
         ensures { IfOk result (λ built. capped_of built
             ≡ builds_with_height.if_form place (capped_of condition) (capped_of then)
             (Some (capped_of otherwise))) }
@@ -529,7 +534,7 @@ impl Value {
             discard(otherwise);
             return Ok(too_high());
         }
-        Ok(Value {
+        Ok(CappedTree {
             height: height + 1,
             expr: Expr::If {
                 place,
@@ -544,9 +549,9 @@ impl Value {
     pub fn case(
         alloc: Global,
         place: Place,
-        subject: Value,
+        subject: CappedTree,
         clauses: Branches,
-    ) -> Result<Value, AllocError>
+    ) -> Result<CappedTree, AllocError>
         ensures { IfOk result
             (λ built. capped_of built
             ≡ builds_with_height.case_form place (capped_of subject) (branches_of clauses)) }
@@ -557,7 +562,7 @@ impl Value {
             discard_branches(clauses);
             return Ok(too_high());
         }
-        Ok(Value {
+        Ok(CappedTree {
             height: height + 1,
             expr: case_expr(place, Box::new(alloc, subject.expr)?, clauses.clauses),
         })
@@ -568,8 +573,8 @@ impl Value {
         alloc: Global,
         place: Place,
         kind: LoopKind,
-        control: Value,
-    ) -> Result<Value, AllocError>
+        control: CappedTree,
+    ) -> Result<CappedTree, AllocError>
         ensures { IfOk result
             (λ built. capped_of built ≡ builds_with_height.loop_form place kind (capped_of control) None) }
     {
@@ -578,7 +583,7 @@ impl Value {
             discard(control);
             return Ok(too_high());
         }
-        Ok(Value {
+        Ok(CappedTree {
             height: height + 1,
             expr: Expr::Loop {
                 place,
@@ -594,9 +599,9 @@ impl Value {
         alloc: Global,
         place: Place,
         kind: LoopKind,
-        control: Value,
-        body: Value,
-    ) -> Result<Value, AllocError>
+        control: CappedTree,
+        body: CappedTree,
+    ) -> Result<CappedTree, AllocError>
         ensures { IfOk result (λ built. capped_of built
             ≡ builds_with_height.loop_form place kind (capped_of control) (Some (capped_of body))) }
     {
@@ -606,7 +611,7 @@ impl Value {
             discard(body);
             return Ok(too_high());
         }
-        Ok(Value {
+        Ok(CappedTree {
             height: height + 1,
             expr: Expr::Loop {
                 place,
@@ -618,7 +623,7 @@ impl Value {
     }
 
     /// `repeat a`. An error is want of memory.
-    pub fn repeat(alloc: Global, place: Place, body: Value) -> Result<Value, AllocError>
+    pub fn repeat(alloc: Global, place: Place, body: CappedTree) -> Result<CappedTree, AllocError>
         ensures { IfOk result
             (λ built. capped_of built ≡ builds_with_height.repeat_form place (capped_of body)) }
     {
@@ -627,7 +632,7 @@ impl Value {
             discard(body);
             return Ok(too_high());
         }
-        Ok(Value {
+        Ok(CappedTree {
             height: height + 1,
             expr: Expr::Repeat {
                 place,
@@ -637,7 +642,7 @@ impl Value {
     }
 
     /// `create a`. An error is want of memory.
-    pub fn create(alloc: Global, place: Place, body: Value) -> Result<Value, AllocError>
+    pub fn create(alloc: Global, place: Place, body: CappedTree) -> Result<CappedTree, AllocError>
         ensures { IfOk result
             (λ built. capped_of built ≡ builds_with_height.create_form place (capped_of body)) }
     {
@@ -646,7 +651,7 @@ impl Value {
             discard(body);
             return Ok(too_high());
         }
-        Ok(Value {
+        Ok(CappedTree {
             height: height + 1,
             expr: Expr::Create {
                 place,
@@ -656,7 +661,11 @@ impl Value {
     }
 
     /// `break a`. An error is want of memory.
-    pub fn break_with(alloc: Global, place: Place, value: Value) -> Result<Value, AllocError>
+    pub fn break_with(
+        alloc: Global,
+        place: Place,
+        value: CappedTree,
+    ) -> Result<CappedTree, AllocError>
         ensures { IfOk result
             (λ built. capped_of built ≡ builds_with_height.break_form place (capped_of value)) }
     {
@@ -665,7 +674,7 @@ impl Value {
             discard(value);
             return Ok(too_high());
         }
-        Ok(Value {
+        Ok(CappedTree {
             height: height + 1,
             expr: Expr::Break {
                 place,
@@ -675,7 +684,11 @@ impl Value {
     }
 
     /// `return a`. An error is want of memory.
-    pub fn return_with(alloc: Global, place: Place, value: Value) -> Result<Value, AllocError>
+    pub fn return_with(
+        alloc: Global,
+        place: Place,
+        value: CappedTree,
+    ) -> Result<CappedTree, AllocError>
         ensures { IfOk result
             (λ built. capped_of built ≡ builds_with_height.return_form place (capped_of value)) }
     {
@@ -684,7 +697,7 @@ impl Value {
             discard(value);
             return Ok(too_high());
         }
-        Ok(Value {
+        Ok(CappedTree {
             height: height + 1,
             expr: Expr::Return {
                 place,
@@ -694,7 +707,7 @@ impl Value {
     }
 
     /// `suspend a`. An error is want of memory.
-    pub fn suspend(alloc: Global, place: Place, value: Value) -> Result<Value, AllocError>
+    pub fn suspend(alloc: Global, place: Place, value: CappedTree) -> Result<CappedTree, AllocError>
         ensures { IfOk result
             (λ built. capped_of built ≡ builds_with_height.suspend_form place (capped_of value) None) }
     {
@@ -703,7 +716,7 @@ impl Value {
             discard(value);
             return Ok(too_high());
         }
-        Ok(Value {
+        Ok(CappedTree {
             height: height + 1,
             expr: Expr::Suspend {
                 place,
@@ -717,9 +730,9 @@ impl Value {
     pub fn suspend_do(
         alloc: Global,
         place: Place,
-        value: Value,
-        body: Value,
-    ) -> Result<Value, AllocError>
+        value: CappedTree,
+        body: CappedTree,
+    ) -> Result<CappedTree, AllocError>
         ensures { IfOk result
             (λ built. capped_of built
             ≡ builds_with_height.suspend_form place (capped_of value) (Some (capped_of body))) }
@@ -730,7 +743,7 @@ impl Value {
             discard(body);
             return Ok(too_high());
         }
-        Ok(Value {
+        Ok(CappedTree {
             height: height + 1,
             expr: Expr::Suspend {
                 place,
@@ -778,7 +791,7 @@ impl Elements {
 
     /// One element more. An error is want of memory.
     #[tactic(auto, using(crate::proofs::ViewFacts::all_of_last))]
-    pub fn with(mut self, alloc: Global, value: Value) -> Result<Elements, AllocError>
+    pub fn with(mut self, alloc: Global, value: CappedTree) -> Result<Elements, AllocError>
         ensures { IfOk result
             (λ all. elements_of all ≡ builds_with_height.with_element (elements_of self) (capped_of value)) }
     {
@@ -816,7 +829,7 @@ impl Branches {
         mut self,
         alloc: Global,
         place: Place,
-        value: Value,
+        value: CappedTree,
     ) -> Result<Branches, AllocError>
         ensures { IfOk result
             (λ all. branches_of all
@@ -847,8 +860,8 @@ impl Branches {
         mut self,
         alloc: Global,
         place: Place,
-        guard: Value,
-        value: Value,
+        guard: CappedTree,
+        value: CappedTree,
     ) -> Result<Branches, AllocError>
         ensures { IfOk result (λ all. branches_of all
             ≡ builds_with_height.with_guarded (branches_of self) place (capped_of guard) (capped_of value)) }

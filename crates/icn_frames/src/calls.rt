@@ -1,12 +1,13 @@
 // The calls of a stack.
 ghost use Rattle.std.specs.Prelude.{◌≡◌, ◌+◌, ◌<◌, ◌≤◌, ◌^◌, ℕ, Option, None, Bool, true, false, OnOk, OnErr, IsOk, IfOk, IsSome, is_some, is_none, length, map, slice_get, slice_set};
 ghost use Rattle.icn_frames.specs.Stacks as flat;
-ghost use Rattle.icn_frames.specs.Shapes.{shape, IsScan, MayBeAt};
+ghost use Rattle.icn_frames.specs.StackInvariant.{shape, IsScan, MayBeAt};
 
 use crate::layout::{Cell, Registers, Why};
 use crate::stack::Stack;
 use crate::steps::{
-    at_frame, bottom_of, hang, is_same, oldest_from, opening, raise, saved_by, scan_after, swap_at,
+    at_frame, bottom_of, hang, is_same, mark_cell, oldest_from, raise, saved_by, scan_after,
+    swap_at,
 };
 use icn_value::{Item, Pair, Val};
 use std::alloc::{AllocError, Global};
@@ -26,7 +27,7 @@ pub struct Frames<K: Stack<Cell> + Drop> {
 }
 
 impl<K: Stack<Cell> + Drop> Model for Frames<K> {
-    ghost use Rattle.icn_frames.specs.Shapes.{SeenStack, Sound};
+    ghost use Rattle.icn_frames.specs.StackInvariant.{SeenStack, Sound};
 
     ghost Value = { SeenStack };
 
@@ -188,7 +189,7 @@ impl<K: Stack<Cell> + Drop> Frames<K> {
         ensures succeeds { 0 < self.old.spare → IsOk result }
     {
         self.cells.reserve(1)?;
-        self.cells.push(opening(label, count, self.registers));
+        self.cells.push(mark_cell(label, count, self.registers));
         self.registers = Registers {
             base: self.registers.base,
             mark: self.cells.len(),
@@ -246,7 +247,7 @@ impl<K: Stack<Cell> + Drop> Frames<K> {
     }
 
     /// Whether `relabel` set the innermost mark's label.
-    pub fn relabelled(&self) -> bool
+    pub fn has_new_label(&self) -> bool
         ensures { result ≡ flat.is_relabelled self.now.flat }
     {
         match self.cells.get(self.registers.mark - 1) {
@@ -361,7 +362,7 @@ impl<K: Stack<Cell> + Drop> Frames<K> {
     }
 
     /// Whether a scan of the running procedure is open.
-    pub fn scanning(&self) -> bool
+    pub fn is_scanning(&self) -> bool
         ensures { result ≡ is_some self.now.flat.registers.scan }
     {
         self.registers.scan.is_some()

@@ -3,14 +3,14 @@
 #![tactic(auto)]
 
 mod calls;
-mod laws;
 mod layout;
+mod level_laws;
 mod stack;
 mod steps;
 mod vec_stack;
 
 pub use calls::Frames;
-pub use laws::levels_count_calls;
 pub use layout::{Cell, Registers, Why};
+pub use level_laws::levels_count_calls;
 pub use stack::Stack;
 pub use vec_stack::VecStack;

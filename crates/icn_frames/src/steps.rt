@@ -2,7 +2,7 @@
 ghost use Rattle.std.specs.Prelude.{◌≡◌, ◌+◌, ◌≤◌, ◌==◌, ℕ, ◌∷◌, length, map, Option, Bool, OnOk, OnErr, IfOk};
 ghost use Rattle.icn_frames.specs.Stacks as flat;
 ghost use Rattle.icn_frames.specs.Heights.{with_copy};
-ghost use Rattle.icn_frames.specs.Shapes.{shape, AMark, KindAt, IsScan, MayBeAt, Fit, bottom, FrameAt, IsMarked};
+ghost use Rattle.icn_frames.specs.StackInvariant.{shape, AMark, KindAt, IsScan, MayBeAt, Fit, bottom, FrameAt, IsMarked};
 
 use crate::layout::{Cell, Registers, Why};
 use crate::stack::Stack;
@@ -10,7 +10,7 @@ use icn_value::{Item, Pair, Val};
 use std::alloc::AllocError;
 
 // The cell of a plain mark, or with a count that of a limit mark.
-pub fn opening(label: Option<u32>, count: Option<u64>, registers: Registers) -> Cell
+pub fn mark_cell(label: Option<u32>, count: Option<u64>, registers: Registers) -> Cell
     ensures { result ≡ flat.opening label count registers }
 {
     match count {

@@ -9,16 +9,16 @@ use Rattle.std.proofs.lemmas.List.{map-set, map-append, length-map, length-set, 
 use Rattle.std.proofs.lemmas.List.Elements.{All-push, All-set, All-cons, All-head, All-tail, All-take, All-replicate}
 use Rattle.std.proofs.Math.ListN.{get_or-map}
 use Rattle.icn_strings.specs.declared.region.Region.{Region}
-use Rattle.icn_strings.specs.Regions.{Keeps as KeepsTexts}
+use Rattle.icn_strings.specs.Regions.{KeepsRanges as KeepsTexts}
 use Rattle.icn_structs.specs.Numbered.{NumberedList, number_after, with_right, with_left, without_left, without_right, with_numbered, items_with, item_at, item_numbered, leftmost, rightmost, after_first}
 use Rattle.icn_value.specs.declared.val.Val.{Val}
 use Rattle.icn_value.specs.Values.{Value}
 use Rattle.icn_value.specs.Store.{Heap, new_list, list_at, with_list}
 use Rattle.icn_value.specs.Changes.{having_list}
-use Rattle.icn_heap.specs.Extents.{Extent, IsLive, value_in, Keeps}
-use Rattle.icn_heap.specs.Parts.{Parts, list_in, heap_over, extent_in, no_vals, IsSoundList, IsCharged, IsSound}
+use Rattle.icn_heap.specs.Extents.{Extent, IsLive, value_in, KeepsValues}
+use Rattle.icn_heap.specs.HeapParts.{Parts, list_in, heap_over, extent_in, no_vals, IsSoundList, IsCharged, IsSoundHeap}
 use Rattle.icn_heap.specs.Heaps.{with_cells}
-use Rattle.icn_heap.proofs.Keeping.{lists_later, optional_kept, Becomes, becomes}
+use Rattle.icn_heap.proofs.GrowingHeaps.{lists_later, optional_kept, Becomes, becomes}
 
 pub texts_stay : (region : Region) → KeepsTexts region region
 texts_stay region = record { limit = refl; of = λ place is. is; bytes = λ place is. refl }
@@ -31,7 +31,7 @@ at_view f xs k d = unwrap_or-slice_get (map f xs) k (f d) ∙ get_or-map f xs k 
 pub list_view : (all : Extent) (parts : Parts) (id : ℕ) → list_at (heap_over all parts) id ≡ list_in all (slice_index_or parts.lists id no_vals)
 list_view all parts id = at_view (list_in all) parts.lists id no_vals
 
-pub list_sound : (parts : Parts) → IsSound parts → (id : ℕ) → id < length parts.lists
+pub list_sound : (parts : Parts) → IsSoundHeap parts → (id : ℕ) → id < length parts.lists
     → IsSoundList (extent_in parts) parts.cells (slice_index_or parts.lists id no_vals)
 list_sound parts is id there = is.structures.lists id no_vals there
 
@@ -158,7 +158,7 @@ get_live P (x ∷ xs) (suc k) are = get_live P xs k (All-tail P x xs are)
 
 -- A list of a heap that changes, and one that joins it
 
-module _ (parts : Parts) (is : IsSound parts) {sum : ℕ} (more : parts.cells ≤ sum) (within : sum ≤ parts.limits.cells) where
+module _ (parts : Parts) (is : IsSoundHeap parts) {sum : ℕ} (more : parts.cells ≤ sum) (within : sum ≤ parts.limits.cells) where
   lists_more : All (IsSoundList (extent_in parts) sum) parts.lists
   lists_more = lists_later (extent_in parts) parts.cells sum more parts.lists is.structures.lists
 
@@ -212,7 +212,7 @@ module _ (parts : Parts) (is : IsSound parts) {sum : ℕ} (more : parts.cells �
 
 -- The calls on one list
 
-module _ (parts : Parts) (is : IsSound parts) (id : ℕ) (there : id < length parts.lists) where
+module _ (parts : Parts) (is : IsSoundHeap parts) (id : ℕ) (there : id < length parts.lists) where
   found_sound : IsSoundList (extent_in parts) parts.cells (slice_index_or parts.lists id no_vals)
   found_sound = list_sound parts is id there
 
@@ -279,11 +279,11 @@ module _ (parts : Parts) (is : IsSound parts) (id : ℕ) (there : id < length pa
       ∙ ap (λ (list : NumberedList Value). is_some (item_numbered list n)) view)
 
 -- an item that was found, as the heap afterwards sees it
-pub item_kept : {a b : Extent} {item : Option Value} (found : Option Val) → Keeps a b → IfSome found (IsLive a) → option_map (value_in a) found ≡ item
+pub item_kept : {a b : Extent} {item : Option Value} (found : Option Val) → KeepsValues a b → IfSome found (IsLive a) → option_map (value_in a) found ≡ item
     → option_map (value_in b) found ≡ item
 item_kept found keeps live same = optional_kept keeps found live ∙ same
 
-pub item_stays : {a b : Extent} (found : Option Val) → Keeps a b → IfSome found (IsLive a) → IfSome found (IsLive b)
+pub item_stays : {a b : Extent} (found : Option Val) → KeepsValues a b → IfSome found (IsLive a) → IfSome found (IsLive b)
 item_stays None keeps live = tt
 item_stays (Some val) keeps live = keeps.live val live
 
@@ -292,7 +292,7 @@ map-replicate all zero fill = refl
 map-replicate all (suc n) fill = ap (λ rest. value_in all fill ∷ rest) (map-replicate all n fill)
 
 -- a list of one value so many times joins a heap
-pub list_repeats : (parts : Parts) → IsSound parts → {sum : ℕ} {list : NumberedList Val} (n : ℕ) (fill : Val) → sum ≡ parts.cells + (1 + n)
+pub list_repeats : (parts : Parts) → IsSoundHeap parts → {sum : ℕ} {list : NumberedList Val} (n : ℕ) (fill : Val) → sum ≡ parts.cells + (1 + n)
     → sum ≤ parts.limits.cells
     → list.items ≡ replicate n fill → list.number ≡ pos 1 → IsLive (extent_in parts) fill
     → Becomes parts (record parts { lists = parts.lists ++ list ∷ []; cells = sum })

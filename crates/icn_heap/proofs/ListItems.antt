@@ -5,10 +5,10 @@ use Rattle.icn_structs.specs.Numbered.{NumberedList, item_at, item_numbered}
 use Rattle.icn_value.specs.Values.{Value}
 use Rattle.icn_value.specs.Store.{list_at}
 use Rattle.icn_heap.specs.Extents.{IsLive, value_in}
-use Rattle.icn_heap.specs.Parts.{Parts, heap_over, extent_in, no_vals, IsSound}
+use Rattle.icn_heap.specs.HeapParts.{Parts, heap_over, extent_in, no_vals, IsSoundHeap}
 use Rattle.icn_heap.proofs.ListChanges.{item_in, get_live, list_sound, list_view}
 
-module _ (parts : Parts) (is : IsSound parts) (id : ℕ) (there : id < length parts.lists) (n : ℤ) where
+module _ (parts : Parts) (is : IsSoundHeap parts) (id : ℕ) (there : id < length parts.lists) (n : ℤ) where
   pub item_is : option_map (value_in (extent_in parts)) (item_numbered (slice_index_or parts.lists id no_vals) n)
       ≡ item_numbered (list_at (heap_over (extent_in parts) parts) id) n
   item_is =

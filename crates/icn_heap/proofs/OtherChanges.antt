@@ -7,7 +7,7 @@ use Rattle.std.proofs.lemmas.Option.{slice_get-map, unwrap_or-slice_get}
 use Rattle.std.proofs.lemmas.List.{map-set, map-append, length-map, length-set, set-get_or}
 use Rattle.std.proofs.lemmas.List.Elements.{All-push, All-set}
 use Rattle.icn_strings.specs.declared.region.Region.{Region}
-use Rattle.icn_strings.specs.Regions.{Keeps as KeepsTexts, sum_of}
+use Rattle.icn_strings.specs.Regions.{KeepsRanges as KeepsTexts, sum_of}
 use Rattle.icn_structs.specs.Numbered.{NumberedList}
 use Rattle.icn_structs.specs.PairLists.{value_of, with_value_of, without, KeysDiffer}
 use Rattle.icn_value.specs.declared.full.Full.{Full}
@@ -25,9 +25,9 @@ use Rattle.icn_heap.specs.Extents.{Extent, IsLive, value_in, values_in}
 use Rattle.icn_heap.specs.Keys.{key_value, IsKey}
 use Rattle.icn_heap.specs.KeyTests.{key_eq}
 use Rattle.icn_heap.specs.Records.{HeldRecord, held_record, no_fields}
-use Rattle.icn_heap.specs.Parts.{list_in, Parts, member_in, set_in, pair_in, table_in, record_in, heap_over, extent_in, no_entries, member_val, entry_of, entry_value, entry_vals, table_with, table_without, IsSoundList, IsSoundMember, IsSoundPair, IsSoundTable, IsSoundRecord, IsCharged, IsSound}
+use Rattle.icn_heap.specs.HeapParts.{list_in, Parts, member_in, set_in, pair_in, table_in, record_in, heap_over, extent_in, no_entries, member_val, entry_of, entry_value, entry_vals, table_with, table_without, IsSoundList, IsSoundMember, IsSoundPair, IsSoundTable, IsSoundRecord, IsCharged, IsSoundHeap}
 use Rattle.icn_heap.specs.Heaps.{with_cells}
-use Rattle.icn_heap.proofs.Keeping.{lists_later, Becomes, becomes}
+use Rattle.icn_heap.proofs.GrowingHeaps.{lists_later, Becomes, becomes}
 use Rattle.icn_heap.proofs.ListChanges.{texts_stay, at_view, get_live, is_some_map}
 use Rattle.icn_heap.proofs.PairViews.{stored_new, all_without, member_found, member_removed, value_found, found_live, pair_stored, pair_removed, stored_sound}
 
@@ -38,7 +38,7 @@ set_view all parts id = at_view set_in parts.sets id []
 
 -- One structure of a heap changes, or joins it
 
-module _ (parts : Parts) (is : IsSound parts) {sum : ℕ} (more : parts.cells ≤ sum) (within : sum ≤ parts.limits.cells) where
+module _ (parts : Parts) (is : IsSoundHeap parts) {sum : ℕ} (more : parts.cells ≤ sum) (within : sum ≤ parts.limits.cells) where
   lists_more : All (IsSoundList (extent_in parts) sum) parts.lists
   lists_more = lists_later (extent_in parts) parts.cells sum more parts.lists is.structures.lists
 
@@ -60,6 +60,7 @@ module _ (parts : Parts) (is : IsSound parts) {sum : ℕ} (more : parts.cells �
       (ap (λ structures. let heap : Heap = record (with_cells sum (heap_over (extent_in parts) parts)) { sets = structures } in heap)
       (map-set (set_in) parts.sets id one ∙ ap (slice_set (map (set_in) parts.sets) id) alike))
 
+  -- a set joins the heap
   pub set_joins : (one : List (Key × Val)) {value : List Value} → parts.cells + 1 ≤ sum → All (IsSoundMember (extent_in parts)) one → set_in one ≡ value
       → Becomes parts (record parts { sets = parts.sets ++ one ∷ []; cells = sum })
       (let heap : Heap = record (with_cells sum (heap_over (extent_in parts) parts)) { sets = map (set_in) parts.sets ++ value ∷ [] } in heap)
@@ -96,6 +97,7 @@ module _ (parts : Parts) (is : IsSound parts) {sum : ℕ} (more : parts.cells �
       (ap (λ structures. let heap : Heap = record (with_cells sum (heap_over (extent_in parts) parts)) { tables = structures } in heap)
       (map-set (table_in (extent_in parts)) parts.tables id one ∙ ap (slice_set (map (table_in (extent_in parts)) parts.tables) id) alike))
 
+  -- a table joins the heap
   pub table_joins : {one : Entries} {value : Table} → parts.cells + 1 ≤ sum → IsSoundTable (extent_in parts) one → table_in (extent_in parts) one ≡ value
       → Becomes parts (record parts { tables = parts.tables ++ one ∷ []; cells = sum })
       (let heap : Heap = record (with_cells sum (heap_over (extent_in parts) parts)) { tables = map (table_in (extent_in parts)) parts.tables ++ value ∷ [] } in
@@ -169,7 +171,7 @@ module _ (parts : Parts) (is : IsSound parts) {sum : ℕ} (more : parts.cells �
       (record { limit = charged.limit; within = within; counted = (let few = charged.counted in omega arith); main = (let some = charged.main in omega arith) })
       refl
 
-pub coexp_counts : (parts : Parts) → IsSound parts → (id : ℕ) → slice_index parts.coexps id < 9223372036854775807
+pub coexp_counts : (parts : Parts) → IsSoundHeap parts → (id : ℕ) → slice_index parts.coexps id < 9223372036854775807
     → Becomes parts (record parts { coexps = slice_set parts.coexps id (slice_index parts.coexps id + 1) }) (with_result id (heap_over (extent_in parts) parts))
 coexp_counts parts is id few =
     let size : length (slice_set parts.coexps id (slice_index parts.coexps id + 1)) ≡ length parts.coexps = length-set parts.coexps id _ in
@@ -192,13 +194,13 @@ coexp_counts parts is id few =
 
 -- Sets: a member is found, joins and leaves
 
-module _ (parts : Parts) (is : IsSound parts) (id : ℕ) (there : id < length parts.sets) where
+module _ (parts : Parts) (is : IsSoundHeap parts) (id : ℕ) (there : id < length parts.sets) where
   pub members_sound : All (IsSoundMember (extent_in parts)) (slice_index_or parts.sets id [])
   members_sound = is.structures.sets id [] there
 
-  pub has_is : (key : Key) → IsKey key
+  pub has_key_is : (key : Key) → IsKey key
       → is_some (value_of key_eq (slice_index_or parts.sets id []) key) ≡ has_value (set_at (heap_over (extent_in parts) parts) id) (key_value key)
-  has_is key formed =
+  has_key_is key formed =
       member_found (extent_in parts) key formed (slice_index_or parts.sets id []) members_sound
       ∙ ap (λ members. has_value members (key_value key)) (sym (set_view (extent_in parts) parts id))
 
@@ -209,7 +211,7 @@ module _ (parts : Parts) (is : IsSound parts) (id : ℕ) (there : id < length pa
       (having_member id (value_in (extent_in parts) val) (with_cells sum (heap_over (extent_in parts) parts)))
   member_adds {sum} more within key val formed live alike none =
       let members : List (Key × Val) = slice_index_or parts.sets id [] in
-      let joined : with_value_of key_eq members key val ≡ members ++ (key, val) ∷ [] = stored_new key_eq members key val (has_is key formed ∙ none) in
+      let joined : with_value_of key_eq members key val ≡ members ++ (key, val) ∷ [] = stored_new key_eq members key val (has_key_is key formed ∙ none) in
       set_changes parts is more within id (with_value_of key_eq members key val)
       (rw joined (All-push (IsSoundMember (extent_in parts)) members (key, val) members_sound
       (record { live = live; formed = formed; alike = rw alike (same_self (value_in (extent_in parts) val)) })))
@@ -268,7 +270,7 @@ member_there heap id value there =
 pub table_view : (all : Extent) (parts : Parts) (id : ℕ) → table_at (heap_over all parts) id ≡ table_in all (slice_index_or parts.tables id no_entries)
 table_view all parts id = at_view (table_in all) parts.tables id no_entries
 
-module _ (parts : Parts) (is : IsSound parts) (id : ℕ) (there : id < length parts.tables) where
+module _ (parts : Parts) (is : IsSoundHeap parts) (id : ℕ) (there : id < length parts.tables) where
   pub table_sound : IsSoundTable (extent_in parts) (slice_index_or parts.tables id no_entries)
   table_sound = is.structures.tables id no_entries there
 
@@ -363,7 +365,7 @@ module _ (parts : Parts) (is : IsSound parts) (id : ℕ) (there : id < length pa
 pub record_view : (all : Extent) (parts : Parts) (id : ℕ) → record_at (heap_over all parts) id ≡ record_in all (slice_index_or parts.records id no_fields)
 record_view all parts id = at_view (record_in all) parts.records id no_fields
 
-module _ (parts : Parts) (is : IsSound parts) (id : ℕ) (there : id < length parts.records) where
+module _ (parts : Parts) (is : IsSoundHeap parts) (id : ℕ) (there : id < length parts.records) where
   pub record_sound : IsSoundRecord (extent_in parts) (slice_index_or parts.records id no_fields)
   record_sound = is.structures.records id no_fields there
 
@@ -406,7 +408,7 @@ module _ (parts : Parts) (is : IsSound parts) (id : ℕ) (there : id < length pa
 -- Texts
 
 -- texts join the region
-pub texts_join : (parts : Parts) → IsSound parts → (strings : Region) → KeepsTexts parts.strings strings
+pub texts_join : (parts : Parts) → IsSoundHeap parts → (strings : Region) → KeepsTexts parts.strings strings
     → Becomes parts (record parts { strings = strings }) (let heap : Heap = record (heap_over (extent_in parts) parts) { strings = sum_of strings } in heap)
 texts_join parts is strings texts =
     let charged : IsCharged parts = is.charged in

@@ -15,7 +15,7 @@ use Rattle.icn_heap.specs.declared.entries.Entry.{Entry}
 use Rattle.icn_heap.specs.Extents.{Extent, IsLive, value_in}
 use Rattle.icn_heap.specs.Keys.{key_value, IsKey}
 use Rattle.icn_heap.specs.KeyTests.{key_eq}
-use Rattle.icn_heap.specs.Parts.{member_in, pair_in, entry_value, IsSoundMember, IsSoundPair}
+use Rattle.icn_heap.specs.HeapParts.{member_in, pair_in, entry_value, IsSoundMember, IsSoundPair}
 use Rattle.icn_heap.proofs.KeyValues.{same_keys}
 
 -- a pair goes behind the others where its key is not there

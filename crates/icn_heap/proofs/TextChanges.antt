@@ -3,18 +3,18 @@ use Rattle.std.proofs.Common.{◌≡◌, ◌∙◌, refl, sym, ap, ℕ, ◌+◌,
 use Rattle.std.proofs.lemmas.Bool.{cases_lt}
 use Rattle.icn_strings.specs.declared.region.Region.{Region}
 use Rattle.icn_strings.specs.declared.byte_range.ByteRange.{ByteRange}
-use Rattle.icn_strings.specs.declared.full.Full.{Full as FullRegion}
-use Rattle.icn_strings.specs.declared.full.Full.TheVariants.{Strings as StringsRegion, NoMemory as NoRoom}
-use Rattle.icn_strings.specs.Regions.{IsOf, Keeps as KeepsTexts, bytes_of, sum_of, limit_of}
+use Rattle.icn_strings.specs.declared.full.RegionFull.{RegionFull}
+use Rattle.icn_strings.specs.declared.full.RegionFull.TheVariants.{Strings as StringsRegion, NoMemory as NoRoom}
+use Rattle.icn_strings.specs.Regions.{IsOf, KeepsRanges as KeepsTexts, bytes_of, sum_of, limit_of}
 use Rattle.icn_value.specs.declared.full.Full.{Full}
 use Rattle.icn_value.specs.declared.val.Span.{Span}
 use Rattle.icn_value.specs.Store.{Heap}
 use Rattle.icn_value.specs.Changes.{charged_strings, Refuses, LimitsFirst}
 use Rattle.icn_heap.specs.Extents.{Extent, range_of, IsText, text_in}
-use Rattle.icn_heap.specs.Fulls.{strings_full}
-use Rattle.icn_heap.specs.Parts.{Parts, heap_over, extent_in, IsSound}
-use Rattle.icn_heap.proofs.Charging.{strings_fit, strings_full_is, limits_ok, limits_err}
-use Rattle.icn_heap.proofs.Keeping.{Becomes}
+use Rattle.icn_heap.specs.RegionRefusals.{strings_full}
+use Rattle.icn_heap.specs.HeapParts.{Parts, heap_over, extent_in, IsSoundHeap}
+use Rattle.icn_heap.proofs.HeapCharges.{strings_fit, strings_full_is, limits_ok, limits_err}
+use Rattle.icn_heap.proofs.GrowingHeaps.{Becomes}
 use Rattle.icn_heap.proofs.OtherChanges.{texts_join}
 
 -- a text of the region is one of the heap
@@ -26,7 +26,7 @@ pub text_has : (all : Extent) (span : Span) {range : ByteRange} {bytes : List �
 unfolding text_in
 text_has all span {range} same is = rw same is
 
-module _ (parts : Parts) (is : IsSound parts) (strings : Region) (texts : KeepsTexts parts.strings strings) where
+module _ (parts : Parts) (is : IsSoundHeap parts) (strings : Region) (texts : KeepsTexts parts.strings strings) where
   -- texts that are charged
   pub texts_charged : (n : ℕ) → sum_of strings ≡ sum_of parts.strings + n → sum_of strings ≤ limit_of strings
       → charged_strings (heap_over (extent_in parts) parts) n
@@ -45,10 +45,10 @@ module _ (parts : Parts) (is : IsSound parts) (strings : Region) (texts : KeepsT
 
 -- why the region refused is why the heap does
 
-module _ (parts : Parts) (is : IsSound parts) (n : ℕ) {full : FullRegion}
-    (exact : (let refused : Result ByteRange FullRegion = Err full in refused ≡ Err (StringsRegion (sum_of parts.strings) (limit_of parts.strings)))
+module _ (parts : Parts) (is : IsSoundHeap parts) (n : ℕ) {full : RegionFull}
+    (exact : (let refused : Result ByteRange RegionFull = Err full in refused ≡ Err (StringsRegion (sum_of parts.strings) (limit_of parts.strings)))
     ↔ (limit_of parts.strings < sum_of parts.strings + n))
-    (memory : sum_of parts.strings + n ≤ limit_of parts.strings → (let refused : Result ByteRange FullRegion = Err full in refused ≡ Err NoRoom)) where
+    (memory : sum_of parts.strings + n ≤ limit_of parts.strings → (let refused : Result ByteRange RegionFull = Err full in refused ≡ Err NoRoom)) where
   limit : limit_of parts.strings ≡ parts.limits.strings
   limit = is.charged.limit
 

@@ -73,7 +73,7 @@ pub record AreLive (all : Extent) (pair : Val × Val) : Type 0 where
   pub second : IsLive all pair.1
 
 -- every value stays of the heap, and stands for the same
-pub record Keeps (old new : Extent) : Type 0 where
+pub record KeepsValues (old new : Extent) : Type 0 where
   pub live : (val : Val) → IsLive old val → IsLive new val
   pub value : (val : Val) → IsLive old val → value_in new val ≡ value_in old val
   pub text : (span : Span) → IsText old span → IsText new span

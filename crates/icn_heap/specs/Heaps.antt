@@ -3,7 +3,7 @@ use Rattle.std.specs.Prelude.{ℕ, [], ◌∷◌}
 use Rattle.icn_value.specs.Limited.{Bounds}
 use Rattle.icn_value.specs.Store.{Heap}
 use Rattle.icn_heap.specs.Extents.{Extent}
-use Rattle.icn_heap.specs.Parts.{Parts, parts, extent_in, heap_over}
+use Rattle.icn_heap.specs.HeapParts.{Parts, parts, extent_in, heap_over}
 use Rattle.icn_heap.specs.declared.heap.Heap.{Heap as HeldHeap}
 
 -- the parts that a heap holds

@@ -2,8 +2,8 @@ pub mod Keys
 pub mod KeyTests
 pub mod Extents
 pub mod Records
-pub mod Parts
+pub mod HeapParts
 pub mod Heaps
-pub mod Fulls
+pub mod RegionRefusals
 pub mod Texts
-pub mod Making
+pub mod MadeStructures

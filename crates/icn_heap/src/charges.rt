@@ -11,7 +11,7 @@ impl Heap {
     ///
     /// Where there is room, a limit refuses no change that costs as many cells or fewer, so a caller that adds several elements looks once
     /// and then adds them one by one.
-    #[tactic(auto, using(crate::proofs::Charging::charge_fits, crate::proofs::Charging::charge_full), unfolding(crate::specs::Heaps::heap_of))]
+    #[tactic(auto, using(crate::proofs::HeapCharges::charge_fits, crate::proofs::HeapCharges::charge_full), unfolding(crate::specs::Heaps::heap_of))]
     pub fn room_for_cells(&self, cells: u64) -> Result<(), Full>
         ensures answer { MatchResult result (λ _. charged_cells (heap_of self.now) cells
             ≡ Ok (with_cells ((heap_of self.now).cells + cells) (heap_of self.now)))
@@ -58,8 +58,8 @@ impl Heap {
     }
 
     // The sum once a cell is charged and one more for each of so many elements, or why it is not.
-    #[tactic(auto, using(crate::proofs::Charging::charge_fits, crate::proofs::Charging::charge_full), unfolding(crate::specs::Heaps::heap_of))]
-    pub(crate) fn paid(&self, elements: u64) -> Result<u64, Full>
+    #[tactic(auto, using(crate::proofs::HeapCharges::charge_fits, crate::proofs::HeapCharges::charge_full), unfolding(crate::specs::Heaps::heap_of))]
+    pub(crate) fn charged_sum(&self, elements: u64) -> Result<u64, Full>
         ensures sum { IfOk result (λ sum. sum ≡ self.now.cells + (1 + elements)) }
         ensures within { IfOk result (λ sum. sum ≤ self.now.limits.cells) }
         ensures ok { IfOk result (λ sum. charged_cells (heap_of self.now) (1 + elements)
@@ -87,7 +87,7 @@ impl Heap {
         if nothing {
             Ok(self.cells)
         } else {
-            self.paid(0)
+            self.charged_sum(0)
         }
     }
 }

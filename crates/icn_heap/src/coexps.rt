@@ -10,7 +10,7 @@ impl Heap {
     ghost use Rattle.icn_value.specs.declared.val.Val.TheVariants.{Coexp};
     ghost use Rattle.icn_value.specs.Store.{count_at};
     ghost use Rattle.icn_value.specs.Changes.{made_coexp, with_result, Refuses, LimitsFirst};
-    ghost use Rattle.icn_heap.specs.Extents.{IsLive, Keeps};
+    ghost use Rattle.icn_heap.specs.Extents.{IsLive, KeepsValues};
     ghost use Rattle.icn_heap.specs.Heaps.{extent_of, heap_of};
 
     /// Adds a co-expression, which has given nothing. It costs a cell, and one more for each of its parameters and locals. `&main` has
@@ -21,10 +21,10 @@ impl Heap {
         ensures step { MatchResult result (λ _. made_coexp (heap_of self.old) locals ≡ Ok (heap_of self.new))
             (Refuses (made_coexp (heap_of self.old) locals)) }
         ensures limits { LimitsFirst (made_coexp (heap_of self.old) locals) result }
-        ensures kept { Keeps (extent_of self.old) (extent_of self.new) }
+        ensures kept { KeepsValues (extent_of self.old) (extent_of self.new) }
         ensures unchanged { OnErr result (heap_of self.new ≡ heap_of self.old) }
     {
-        let sum = self.paid(locals)?;
+        let sum = self.charged_sum(locals)?;
         add_count(&mut self.coexps)?;
         self.cells = sum;
         Ok(())
@@ -36,7 +36,7 @@ impl Heap {
         requires live { IsLive (extent_of self.old) (Coexp id) }
         requires few { count_at (heap_of self.old) id < greatest_integer }
         ensures step { heap_of self.new ≡ with_result id (heap_of self.old) }
-        ensures kept { Keeps (extent_of self.old) (extent_of self.new) }
+        ensures kept { KeepsValues (extent_of self.old) (extent_of self.new) }
     {
         raise_at(&mut self.coexps, id);
     }

@@ -1,9 +1,9 @@
 // Sets and tables that are made with their elements.
 use crate::entries::{Entries, Entry, add_entries, join_entry};
 use crate::heap::Heap;
+use crate::heap_laws::{keys_differ, members_differ};
 use crate::key::Key;
-use crate::laws::{keys_differ, members_differ};
-use crate::members::{Members, add_members, join_member};
+use crate::members::{MemberMap, add_members, join_member};
 use icn_structs::Pairs;
 use icn_value::{Full, Val};
 use std::alloc::AllocError;
@@ -15,9 +15,9 @@ impl Heap {
     ghost use Rattle.icn_value.specs.Sameness.{with_member};
     ghost use Rattle.icn_value.specs.Store.{set_at, table_at};
     ghost use Rattle.icn_value.specs.Changes.{next_set, next_table, Refuses, LimitsFirst};
-    ghost use Rattle.icn_heap.specs.Extents.{IsLive, AreLive, value_in, values_in, Keeps};
-    ghost use Rattle.icn_heap.specs.Making.{made_set_of, made_table_of, stands, intersection, difference, with_stored};
-    ghost use Rattle.icn_heap.specs.Parts.{set_in, table_in, pair_in, IsSoundMember, IsSoundPair, IsSoundTable};
+    ghost use Rattle.icn_heap.specs.Extents.{IsLive, AreLive, value_in, values_in, KeepsValues};
+    ghost use Rattle.icn_heap.specs.MadeStructures.{made_set_of, made_table_of, stands, intersection, difference, with_stored};
+    ghost use Rattle.icn_heap.specs.HeapParts.{set_in, table_in, pair_in, IsSoundMember, IsSoundPair, IsSoundTable};
     ghost use Rattle.icn_heap.specs.Heaps.{extent_of, heap_of};
 
     /// Makes a set of these values, each of them once, in the order in which they first come. It costs a cell, and one more for each member.
@@ -30,11 +30,11 @@ impl Heap {
         ensures step { MatchResult result (λ _. made_set_of (heap_of self.old) (fold with_member []
             (map (value_in (extent_of self.old)) vals.now)) ≡ Ok (heap_of self.new)) (Refuses (made_set_of
             (heap_of self.old) (fold with_member [] (map (value_in (extent_of self.old)) vals.now)))) }
-        ensures kept { Keeps (extent_of self.old) (extent_of self.new) }
+        ensures kept { KeepsValues (extent_of self.old) (extent_of self.new) }
         ensures unchanged { OnErr result (heap_of self.new ≡ heap_of self.old) }
     {
         let members = self.members_from(vals)?;
-        let sum = self.paid(members.len())?;
+        let sum = self.charged_sum(members.len())?;
         let id = self.sets.len() as u32;
         add_members(&mut self.sets, members)?;
         self.cells = sum;
@@ -51,10 +51,10 @@ impl Heap {
             (λ _. made_set_of (heap_of self.old) (set_at (heap_of self.old) set) ≡ Ok (heap_of self.new))
             (Refuses (made_set_of (heap_of self.old) (set_at (heap_of self.old) set))) }
         ensures limits { LimitsFirst (made_set_of (heap_of self.old) (set_at (heap_of self.old) set)) result }
-        ensures kept { Keeps (extent_of self.old) (extent_of self.new) }
+        ensures kept { KeepsValues (extent_of self.old) (extent_of self.new) }
         ensures unchanged { OnErr result (heap_of self.new ≡ heap_of self.old) }
     {
-        let sum = self.paid(self.member_count(set))?;
+        let sum = self.charged_sum(self.member_count(set))?;
         let members = self.members_like(set)?;
         let id = self.sets.len() as u32;
         add_members(&mut self.sets, members)?;
@@ -73,7 +73,7 @@ impl Heap {
             first ++ difference (set_at (heap_of self.old) second) (set_at (heap_of self.old) first))
             ≡ Ok (heap_of self.new)) (Refuses (made_set_of (heap_of self.old) (set_at (heap_of self.old) first
             ++ difference (set_at (heap_of self.old) second) (set_at (heap_of self.old) first)))) }
-        ensures kept { Keeps (extent_of self.old) (extent_of self.new) }
+        ensures kept { KeepsValues (extent_of self.old) (extent_of self.new) }
         ensures unchanged { OnErr result (heap_of self.new ≡ heap_of self.old) }
     {
         members_differ(self, first);
@@ -95,7 +95,7 @@ impl Heap {
             (difference (set_at (heap_of self.old) first) (set_at (heap_of self.old) second))
             ≡ Ok (heap_of self.new)) (Refuses (made_set_of (heap_of self.old)
             (difference (set_at (heap_of self.old) first) (set_at (heap_of self.old) second)))) }
-        ensures kept { Keeps (extent_of self.old) (extent_of self.new) }
+        ensures kept { KeepsValues (extent_of self.old) (extent_of self.new) }
         ensures unchanged { OnErr result (heap_of self.new ≡ heap_of self.old) }
     {
         members_differ(self, first);
@@ -114,7 +114,7 @@ impl Heap {
             (intersection (set_at (heap_of self.old) first) (set_at (heap_of self.old) second))
             ≡ Ok (heap_of self.new)) (Refuses (made_set_of (heap_of self.old)
             (intersection (set_at (heap_of self.old) first) (set_at (heap_of self.old) second)))) }
-        ensures kept { Keeps (extent_of self.old) (extent_of self.new) }
+        ensures kept { KeepsValues (extent_of self.old) (extent_of self.new) }
         ensures unchanged { OnErr result (heap_of self.new ≡ heap_of self.old) }
     {
         members_differ(self, first);
@@ -134,10 +134,10 @@ impl Heap {
             (Refuses (made_table_of (heap_of self.old) (table_at (heap_of self.old) table))) }
         ensures limits { LimitsFirst (made_table_of (heap_of self.old) (table_at (heap_of self.old) table))
             result }
-        ensures kept { Keeps (extent_of self.old) (extent_of self.new) }
+        ensures kept { KeepsValues (extent_of self.old) (extent_of self.new) }
         ensures unchanged { OnErr result (heap_of self.new ≡ heap_of self.old) }
     {
-        let sum = self.paid(self.pair_count(table))?;
+        let sum = self.charged_sum(self.pair_count(table))?;
         let entries = self.entries_like(table)?;
         let id = self.tables.len() as u32;
         add_entries(&mut self.tables, entries)?;
@@ -146,7 +146,7 @@ impl Heap {
     }
 
     // These values as the members of a set.
-    fn members_from(&self, vals: &[Val]) -> Result<Members, AllocError>
+    fn members_from(&self, vals: &[Val]) -> Result<MemberMap, AllocError>
         requires { All (IsLive (extent_of self.now)) vals.now }
         ensures members { IfOk result
             (λ members. set_in members ≡ fold with_member [] (map (value_in (extent_of self.now)) vals.now)) }
@@ -161,7 +161,7 @@ impl Heap {
     }
 
     // The members of a set, as those of another.
-    fn members_like(&self, set: u32) -> Result<Members, AllocError>
+    fn members_like(&self, set: u32) -> Result<MemberMap, AllocError>
         requires { IsLive (extent_of self.now) (Set set) }
         ensures members { IfOk result (λ members. set_in members ≡ set_at (heap_of self.now) set) }
         ensures sound { IfOk result (All (IsSoundMember (extent_of self.now))) }

@@ -3,14 +3,14 @@ ghost use Rattle.std.specs.Prelude.{◌≡◌, ◌<◌, ◌^◌, ◌++◌, ◌�
 ghost use Rattle.std.specs.Int.{w64};
 ghost use Rattle.std.specs.Vec.{vec_len};
 ghost use Rattle.icn_structs.specs.Numbered.{number_after, with_left, with_right, with_numbered, without_left, without_right, leftmost, rightmost, item_numbered};
-ghost use Rattle.icn_heap.specs.Parts.{no_vals};
+ghost use Rattle.icn_heap.specs.HeapParts.{no_vals};
 
 use icn_structs::Deque;
 use icn_value::Val;
 use std::alloc::{AllocError, Global};
 
 // A new list of these items.
-pub fn filled(alloc: Global, items: &[Val]) -> Result<Deque<Val>, AllocError>
+pub fn deque_of(alloc: Global, items: &[Val]) -> Result<Deque<Val>, AllocError>
     requires few { length items.now < 2 ^ 32 }
     ensures items { IfOk result (λ list. list.items ≡ items.now) }
     ensures number { IfOk result (λ list. list.number ≡ pos 1) }
@@ -23,7 +23,7 @@ pub fn filled(alloc: Global, items: &[Val]) -> Result<Deque<Val>, AllocError>
 }
 
 // A new list of one value so many times.
-pub fn repeated(alloc: Global, n: u64, fill: Val) -> Result<Deque<Val>, AllocError>
+pub fn deque_of_copies(alloc: Global, n: u64, fill: Val) -> Result<Deque<Val>, AllocError>
     requires few { n < 2 ^ 32 }
     ensures items { IfOk result (λ list. list.items ≡ replicate n fill) }
     ensures number { IfOk result (λ list. list.number ≡ pos 1) }

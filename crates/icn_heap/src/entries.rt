@@ -4,7 +4,7 @@ ghost use Rattle.std.specs.Option.{option_map};
 ghost use Rattle.std.specs.Vec.{vec_len};
 ghost use Rattle.icn_structs.specs.PairLists.{value_of, with_value_of, without, KeysDiffer};
 ghost use Rattle.icn_heap.specs.KeyTests.{key_eq};
-ghost use Rattle.icn_heap.specs.Parts.{no_entries, entry_of, entry_value, entry_vals, table_with, table_without};
+ghost use Rattle.icn_heap.specs.HeapParts.{no_entries, entry_of, entry_value, entry_vals, table_with, table_without};
 
 use crate::key::Key;
 use icn_structs::Pairs;

@@ -1,10 +1,10 @@
 // The heap.
-ghost use Rattle.icn_heap.specs.Parts.{parts, IsSound, IsSound-prop};
+ghost use Rattle.icn_heap.specs.HeapParts.{parts, IsSoundHeap, IsSound-prop};
 
 use crate::counts::add_count;
 use crate::entries::Entries;
 use crate::fields::Fields;
-use crate::members::Members;
+use crate::members::MemberMap;
 use icn_strings::Region;
 use icn_structs::Deque;
 use icn_value::{Limits, Val};
@@ -18,13 +18,13 @@ pub struct Heap {
     pub(crate) alloc: Global,
     pub(crate) strings: Region,
     pub(crate) lists: Vec<Deque<Val>>,
-    pub(crate) sets: Vec<Members>,
+    pub(crate) sets: Vec<MemberMap>,
     pub(crate) tables: Vec<Entries>,
     pub(crate) records: Vec<Fields>,
     pub(crate) coexps: Vec<u64>,
     pub(crate) cells: u64,
     pub(crate) limits: Limits,
-    ghost sound: { IsSound (parts strings
+    ghost sound: { IsSoundHeap (parts strings
         lists.items sets.items tables.items records.items coexps.items cells limits) } by { IsSound-prop
             (parts strings lists.items sets.items tables.items records.items coexps.items cells limits) },
 }

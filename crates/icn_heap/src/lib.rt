@@ -10,9 +10,9 @@ mod elements;
 mod entries;
 mod fields;
 mod heap;
+mod heap_laws;
 mod key;
 mod keys;
-mod laws;
 mod lists;
 mod members;
 mod records;
@@ -23,8 +23,8 @@ mod tables;
 mod texts;
 
 pub use heap::Heap;
-pub use icn_value::Full;
-pub use laws::{
+pub use heap_laws::{
     empty_text, few_coexps, keys_differ, length_of_text, live_numbers, made_differ, main_is_live,
     members_differ, short_text, strings_within_limit, within_limit,
 };
+pub use icn_value::Full;

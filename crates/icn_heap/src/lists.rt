@@ -1,6 +1,6 @@
 // The lists of a heap.
 use crate::deques::{
-    add_list, filled, get_at, list_ref, pull_at, push_at, put_at, repeated, set_at,
+    add_list, deque_of, deque_of_copies, get_at, list_ref, pull_at, push_at, put_at, set_at,
 };
 use crate::heap::Heap;
 use icn_structs::Deque;
@@ -14,8 +14,8 @@ impl Heap {
     ghost use Rattle.icn_value.specs.declared.val.Val.TheVariants.{List};
     ghost use Rattle.icn_value.specs.Store.{list_at, with_list};
     ghost use Rattle.icn_value.specs.Changes.{made_list, next_list, put_on, pushed_on, Refuses, LimitsFirst};
-    ghost use Rattle.icn_heap.specs.Extents.{IsLive, value_in, Keeps};
-    ghost use Rattle.icn_heap.specs.Parts.{list_in};
+    ghost use Rattle.icn_heap.specs.Extents.{IsLive, value_in, KeepsValues};
+    ghost use Rattle.icn_heap.specs.HeapParts.{list_in};
     ghost use Rattle.icn_heap.specs.Heaps.{extent_of, heap_of};
 
     /// Makes a list of one value so many times. It costs a cell, and one more for each item.
@@ -30,11 +30,11 @@ impl Heap {
             (Refuses (made_list (heap_of self.old) (replicate n (value_in (extent_of self.old) fill)))) }
         ensures limits { LimitsFirst
             (made_list (heap_of self.old) (replicate n (value_in (extent_of self.old) fill))) result }
-        ensures kept { Keeps (extent_of self.old) (extent_of self.new) }
+        ensures kept { KeepsValues (extent_of self.old) (extent_of self.new) }
         ensures unchanged { OnErr result (heap_of self.new ≡ heap_of self.old) }
     {
-        let sum = self.paid(n)?;
-        let list = repeated(self.alloc, n, fill)?;
+        let sum = self.charged_sum(n)?;
+        let list = deque_of_copies(self.alloc, n, fill)?;
         let id = self.lists.len() as u32;
         add_list(&mut self.lists, list)?;
         self.cells = sum;
@@ -53,11 +53,11 @@ impl Heap {
             (Refuses (made_list (heap_of self.old) (map (value_in (extent_of self.old)) items.now))) }
         ensures limits { LimitsFirst
             (made_list (heap_of self.old) (map (value_in (extent_of self.old)) items.now)) result }
-        ensures kept { Keeps (extent_of self.old) (extent_of self.new) }
+        ensures kept { KeepsValues (extent_of self.old) (extent_of self.new) }
         ensures unchanged { OnErr result (heap_of self.new ≡ heap_of self.old) }
     {
-        let sum = self.paid(items.len() as u64)?;
-        let list = filled(self.alloc, items)?;
+        let sum = self.charged_sum(items.len() as u64)?;
+        let list = deque_of(self.alloc, items)?;
         let id = self.lists.len() as u32;
         add_list(&mut self.lists, list)?;
         self.cells = sum;
@@ -74,10 +74,10 @@ impl Heap {
             (Refuses (put_on (heap_of self.old) list (value_in (extent_of self.old) val))) }
         ensures limits { LimitsFirst (put_on (heap_of self.old) list (value_in (extent_of self.old) val))
             result }
-        ensures kept { Keeps (extent_of self.old) (extent_of self.new) }
+        ensures kept { KeepsValues (extent_of self.old) (extent_of self.new) }
         ensures unchanged { OnErr result (heap_of self.new ≡ heap_of self.old) }
     {
-        let sum = self.paid(0)?;
+        let sum = self.charged_sum(0)?;
         put_at(&mut self.lists, list, val)?;
         self.cells = sum;
         Ok(())
@@ -93,10 +93,10 @@ impl Heap {
             (Refuses (pushed_on (heap_of self.old) list (value_in (extent_of self.old) val))) }
         ensures limits { LimitsFirst (pushed_on (heap_of self.old) list (value_in (extent_of self.old) val))
             result }
-        ensures kept { Keeps (extent_of self.old) (extent_of self.new) }
+        ensures kept { KeepsValues (extent_of self.old) (extent_of self.new) }
         ensures unchanged { OnErr result (heap_of self.new ≡ heap_of self.old) }
     {
-        let sum = self.paid(0)?;
+        let sum = self.charged_sum(0)?;
         push_at(&mut self.lists, list, val)?;
         self.cells = sum;
         Ok(())
@@ -111,7 +111,7 @@ impl Heap {
         ensures live { IfSome result (IsLive (extent_of self.new)) }
         ensures step { heap_of self.new
             ≡ with_list list (without_left (list_at (heap_of self.old) list)) (heap_of self.old) }
-        ensures kept { Keeps (extent_of self.old) (extent_of self.new) }
+        ensures kept { KeepsValues (extent_of self.old) (extent_of self.new) }
     {
         get_at(&mut self.lists, list)
     }
@@ -125,7 +125,7 @@ impl Heap {
         ensures live { IfSome result (IsLive (extent_of self.new)) }
         ensures step { heap_of self.new
             ≡ with_list list (without_right (list_at (heap_of self.old) list)) (heap_of self.old) }
-        ensures kept { Keeps (extent_of self.old) (extent_of self.new) }
+        ensures kept { KeepsValues (extent_of self.old) (extent_of self.new) }
     {
         pull_at(&mut self.lists, list)
     }
@@ -138,7 +138,7 @@ impl Heap {
         ensures found { result ≡ is_some (item_numbered (list_at (heap_of self.old) list) n) }
         ensures step { heap_of self.new ≡ with_list list (with_numbered (list_at (heap_of self.old) list) n
             (value_in (extent_of self.old) val)) (heap_of self.old) }
-        ensures kept { Keeps (extent_of self.old) (extent_of self.new) }
+        ensures kept { KeepsValues (extent_of self.old) (extent_of self.new) }
     {
         set_at(&mut self.lists, list, n, val)
     }

@@ -4,7 +4,7 @@ ghost use Rattle.std.specs.Option.{option_map};
 ghost use Rattle.std.specs.Vec.{vec_len};
 ghost use Rattle.icn_structs.specs.PairLists.{value_of, with_value_of, without, KeysDiffer};
 ghost use Rattle.icn_heap.specs.KeyTests.{key_eq};
-ghost use Rattle.icn_heap.specs.Parts.{member_val, with_entry};
+ghost use Rattle.icn_heap.specs.HeapParts.{member_val, with_entry};
 
 use crate::key::Key;
 use icn_structs::Pairs;
@@ -12,10 +12,10 @@ use icn_value::Val;
 use std::alloc::{AllocError, Global};
 
 /// A set: each member, as it came, under its key.
-pub type Members = Pairs<Key, Val>;
+pub type MemberMap = Pairs<Key, Val>;
 
 // Adds a set without members, or leaves all as it was.
-pub fn add_set(alloc: Global, sets: &mut Vec<Members>) -> Result<(), AllocError>
+pub fn add_set(alloc: Global, sets: &mut Vec<MemberMap>) -> Result<(), AllocError>
     ensures ok { OnOk result (sets.new.items ≡ sets.old.items ++ [] ∷ []) }
     ensures err { OnErr result (sets.new.items ≡ sets.old.items) }
 {
@@ -24,7 +24,7 @@ pub fn add_set(alloc: Global, sets: &mut Vec<Members>) -> Result<(), AllocError>
 }
 
 // Adds a set, or leaves all as it was.
-pub fn add_members(sets: &mut Vec<Members>, members: Members) -> Result<(), AllocError>
+pub fn add_members(sets: &mut Vec<MemberMap>, members: MemberMap) -> Result<(), AllocError>
     ensures ok { OnOk result (sets.new.items ≡ sets.old.items ++ members ∷ []) }
     ensures err { OnErr result (sets.new.items ≡ sets.old.items) }
 {
@@ -34,7 +34,7 @@ pub fn add_members(sets: &mut Vec<Members>, members: Members) -> Result<(), Allo
 
 // Joins a member under its key to the others, unless that key is there.
 #[tactic(auto, using(crate::proofs::KeyTests::same_tests))]
-pub fn join_member(members: &mut Members, key: Key, val: Val) -> Result<(), AllocError>
+pub fn join_member(members: &mut MemberMap, key: Key, val: Val) -> Result<(), AllocError>
     ensures { OnOk result (members.new ≡ with_entry members.old key val) }
 {
     if members.look(&key).is_none() {
@@ -45,7 +45,7 @@ pub fn join_member(members: &mut Members, key: Key, val: Val) -> Result<(), Allo
 
 // Whether a set has a member of this key.
 #[tactic(auto, using(crate::proofs::KeyTests::same_tests))]
-pub fn has_at(sets: &Vec<Members>, set: u32, key: &Key) -> bool
+pub fn has_at(sets: &Vec<MemberMap>, set: u32, key: &Key) -> bool
     requires { set < vec_len sets.now }
     ensures { result ≡ is_some (value_of key_eq (slice_index_or sets.now.items set []) key.now) }
 {
@@ -55,7 +55,7 @@ pub fn has_at(sets: &Vec<Members>, set: u32, key: &Key) -> bool
 // Stores a member under its key in a set, or leaves all as it was.
 #[tactic(auto, using(crate::proofs::KeyTests::same_tests))]
 pub fn member_stored_at(
-    sets: &mut Vec<Members>,
+    sets: &mut Vec<MemberMap>,
     set: u32,
     key: Key,
     val: Val,
@@ -71,7 +71,7 @@ pub fn member_stored_at(
 }
 
 // The member at a place of a set.
-pub fn member_at(sets: &Vec<Members>, set: u32, place: u64) -> Option<Val>
+pub fn member_at(sets: &Vec<MemberMap>, set: u32, place: u64) -> Option<Val>
     requires { set < vec_len sets.now }
     ensures { result ≡ option_map member_val (slice_get (slice_index_or sets.now.items set []) place) }
 {
@@ -81,7 +81,7 @@ pub fn member_at(sets: &Vec<Members>, set: u32, place: u64) -> Option<Val>
 
 // Removes the member of this key, and answers whether there was one.
 #[tactic(auto, using(crate::proofs::KeyTests::same_tests))]
-pub fn member_removed_at(sets: &mut Vec<Members>, set: u32, key: &Key) -> bool
+pub fn member_removed_at(sets: &mut Vec<MemberMap>, set: u32, key: &Key) -> bool
     requires { set < vec_len sets.old }
     ensures found { result ≡ is_some (value_of key_eq (slice_index_or sets.old.items set []) key.now) }
     ensures members { sets.new.items
@@ -91,7 +91,7 @@ pub fn member_removed_at(sets: &mut Vec<Members>, set: u32, key: &Key) -> bool
 }
 
 // How many members a set has.
-pub fn count_at(sets: &Vec<Members>, set: u32) -> u64
+pub fn count_at(sets: &Vec<MemberMap>, set: u32) -> u64
     requires { set < vec_len sets.now }
     ensures count { result ≡ length (slice_index_or sets.now.items set []) }
     ensures small { result < 2 ^ 63 }
@@ -101,7 +101,7 @@ pub fn count_at(sets: &Vec<Members>, set: u32) -> u64
 
 // No member of a set has the key of another. A call does nothing: it tells a caller's proof so.
 #[tactic(auto, using(crate::proofs::KeyTests::same_tests))]
-pub fn keys_of_members_differ(sets: &Vec<Members>, set: u32)
+pub fn keys_of_members_differ(sets: &Vec<MemberMap>, set: u32)
     requires { set < vec_len sets.now }
     ensures { KeysDiffer key_eq (slice_index_or sets.now.items set []) }
 {

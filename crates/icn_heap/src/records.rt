@@ -9,7 +9,7 @@ impl Heap {
     ghost use Rattle.icn_value.specs.declared.val.Val.TheVariants.{Rec};
     ghost use Rattle.icn_value.specs.Store.{record_at, value_at};
     ghost use Rattle.icn_value.specs.Changes.{made_record, next_record, with_field, Refuses, LimitsFirst};
-    ghost use Rattle.icn_heap.specs.Extents.{IsLive, value_in, Keeps};
+    ghost use Rattle.icn_heap.specs.Extents.{IsLive, value_in, KeepsValues};
     ghost use Rattle.icn_heap.specs.Heaps.{extent_of, heap_of};
 
     /// Makes a record of the constructor with this number among all constructors. It costs a cell, and one more for each field.
@@ -26,10 +26,10 @@ impl Heap {
             (Refuses (made_record (heap_of self.old) kind (map (value_in (extent_of self.old)) fields.now))) }
         ensures limits { LimitsFirst
             (made_record (heap_of self.old) kind (map (value_in (extent_of self.old)) fields.now)) result }
-        ensures kept { Keeps (extent_of self.old) (extent_of self.new) }
+        ensures kept { KeepsValues (extent_of self.old) (extent_of self.new) }
         ensures unchanged { OnErr result (heap_of self.new ≡ heap_of self.old) }
     {
-        let sum = self.paid(fields.len() as u64)?;
+        let sum = self.charged_sum(fields.len() as u64)?;
         let id = self.records.len() as u32;
         add_record(self.alloc, &mut self.records, kind, fields)?;
         self.cells = sum;
@@ -56,7 +56,7 @@ impl Heap {
         requires live { IsLive (extent_of self.old) val }
         ensures step { heap_of self.new
             ≡ with_field rec n (value_in (extent_of self.old) val) (heap_of self.old) }
-        ensures kept { Keeps (extent_of self.old) (extent_of self.new) }
+        ensures kept { KeepsValues (extent_of self.old) (extent_of self.new) }
     {
         field_set_at(&mut self.records, rec, n, val);
     }

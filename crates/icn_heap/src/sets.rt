@@ -14,7 +14,7 @@ impl Heap {
     ghost use Rattle.icn_value.specs.Sameness.{same, has_value};
     ghost use Rattle.icn_value.specs.Store.{set_at, with_set};
     ghost use Rattle.icn_value.specs.Changes.{made_set, next_set, added_in, Refuses, LimitsFirst};
-    ghost use Rattle.icn_heap.specs.Extents.{IsLive, value_in, Keeps};
+    ghost use Rattle.icn_heap.specs.Extents.{IsLive, value_in, KeepsValues};
     ghost use Rattle.icn_heap.specs.Keys.{key_value, IsKey};
     ghost use Rattle.icn_heap.specs.Texts.{is_text};
     ghost use Rattle.icn_heap.specs.Heaps.{extent_of, heap_of};
@@ -27,10 +27,10 @@ impl Heap {
         ensures step { MatchResult result (λ _. made_set (heap_of self.old) ≡ Ok (heap_of self.new))
             (Refuses (made_set (heap_of self.old))) }
         ensures limits { LimitsFirst (made_set (heap_of self.old)) result }
-        ensures kept { Keeps (extent_of self.old) (extent_of self.new) }
+        ensures kept { KeepsValues (extent_of self.old) (extent_of self.new) }
         ensures unchanged { OnErr result (heap_of self.new ≡ heap_of self.old) }
     {
-        let sum = self.paid(0)?;
+        let sum = self.charged_sum(0)?;
         let id = self.sets.len() as u32;
         add_set(self.alloc, &mut self.sets)?;
         self.cells = sum;
@@ -59,14 +59,14 @@ impl Heap {
             (Refuses (added_in (heap_of self.old) set (value_in (extent_of self.old) val))) }
         ensures limits { is_text val ≡ false
             → LimitsFirst (added_in (heap_of self.old) set (value_in (extent_of self.old) val)) result }
-        ensures kept { Keeps (extent_of self.old) (extent_of self.new) }
+        ensures kept { KeepsValues (extent_of self.old) (extent_of self.new) }
         ensures unchanged { OnErr result (heap_of self.new ≡ heap_of self.old) }
     {
         let key = self.key_of(val)?;
         if self.has_member(set, &key) {
             return Ok(());
         }
-        let sum = self.paid(0)?;
+        let sum = self.charged_sum(0)?;
         member_stored_at(&mut self.sets, set, key, val)?;
         self.cells = sum;
         Ok(())
@@ -103,7 +103,7 @@ impl Heap {
         ensures step { heap_of self.new ≡ with_set set
             (filter (λ member. not (same (key_value key.now) member)) (set_at (heap_of self.old) set))
             (heap_of self.old) }
-        ensures kept { Keeps (extent_of self.old) (extent_of self.new) }
+        ensures kept { KeepsValues (extent_of self.old) (extent_of self.new) }
     {
         keys_of_members_differ(&self.sets, set);
         member_removed_at(&mut self.sets, set, key)

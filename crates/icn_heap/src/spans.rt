@@ -1,7 +1,7 @@
 // Ranges of a region as spans, and its refusals as those of a heap.
 ghost use Rattle.std.specs.Prelude.{◌≡◌};
 ghost use Rattle.icn_heap.specs.Extents.{range_of};
-ghost use Rattle.icn_heap.specs.Fulls.{strings_full};
+ghost use Rattle.icn_heap.specs.RegionRefusals.{strings_full};
 
 use icn_strings::ByteRange;
 use icn_value::{Full, Span};
@@ -24,11 +24,11 @@ pub fn as_range(span: Span) -> ByteRange
     }
 }
 
-pub fn full_of(full: icn_strings::Full) -> Full
+pub fn full_of(full: icn_strings::RegionFull) -> Full
     ensures { result ≡ strings_full full }
 {
     match full {
-        icn_strings::Full::Strings { sum, limit } => Full::Strings { sum, limit },
-        icn_strings::Full::NoMemory => Full::NoMemory,
+        icn_strings::RegionFull::Strings { sum, limit } => Full::Strings { sum, limit },
+        icn_strings::RegionFull::NoMemory => Full::NoMemory,
     }
 }

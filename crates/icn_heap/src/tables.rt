@@ -16,7 +16,7 @@ impl Heap {
     ghost use Rattle.icn_value.specs.Sameness.{same};
     ghost use Rattle.icn_value.specs.Store.{table_at, with_table};
     ghost use Rattle.icn_value.specs.Changes.{made_table, next_table, value_at_key, stored_in, has_key, without_key, Refuses, LimitsFirst};
-    ghost use Rattle.icn_heap.specs.Extents.{IsLive, value_in, values_in, Keeps};
+    ghost use Rattle.icn_heap.specs.Extents.{IsLive, value_in, values_in, KeepsValues};
     ghost use Rattle.icn_heap.specs.Keys.{key_value, IsKey};
     ghost use Rattle.icn_heap.specs.Texts.{is_text};
     ghost use Rattle.icn_heap.specs.Heaps.{extent_of, heap_of};
@@ -33,10 +33,10 @@ impl Heap {
             (Refuses (made_table (heap_of self.old) (value_in (extent_of self.old) default))) }
         ensures limits { LimitsFirst (made_table (heap_of self.old) (value_in (extent_of self.old) default))
             result }
-        ensures kept { Keeps (extent_of self.old) (extent_of self.new) }
+        ensures kept { KeepsValues (extent_of self.old) (extent_of self.new) }
         ensures unchanged { OnErr result (heap_of self.new ≡ heap_of self.old) }
     {
-        let sum = self.paid(0)?;
+        let sum = self.charged_sum(0)?;
         let id = self.tables.len() as u32;
         add_table(self.alloc, &mut self.tables, default)?;
         self.cells = sum;
@@ -93,7 +93,7 @@ impl Heap {
             (value_in (extent_of self.old) val))) }
         ensures limits { is_text key ≡ false → LimitsFirst (stored_in (heap_of self.old) table
             (value_in (extent_of self.old) key) (value_in (extent_of self.old) val)) result }
-        ensures kept { Keeps (extent_of self.old) (extent_of self.new) }
+        ensures kept { KeepsValues (extent_of self.old) (extent_of self.new) }
         ensures unchanged { OnErr result (heap_of self.new ≡ heap_of self.old) }
     {
         let held = self.key_of(key)?;
@@ -113,7 +113,7 @@ impl Heap {
         ensures step { OnOk result (heap_of self.new ≡ without_key (value_in (extent_of self.old) from)
             (value_in (extent_of self.old) key) (heap_of self.old)) }
         ensures succeeds { is_text key ≡ false → IsOk result }
-        ensures kept { Keeps (extent_of self.old) (extent_of self.new) }
+        ensures kept { KeepsValues (extent_of self.old) (extent_of self.new) }
         ensures unchanged { OnErr result (heap_of self.new ≡ heap_of self.old) }
     {
         let held = self.key_of(key)?;
@@ -155,7 +155,7 @@ impl Heap {
         ensures step { heap_of self.new ≡ with_table table (record (table_at (heap_of self.old)
             table) { pairs = without same (table_at (heap_of self.old) table).pairs (key_value key.now) })
             (heap_of self.old) }
-        ensures kept { Keeps (extent_of self.old) (extent_of self.new) }
+        ensures kept { KeepsValues (extent_of self.old) (extent_of self.new) }
     {
         entry_removed_at(&mut self.tables, table, key)
     }

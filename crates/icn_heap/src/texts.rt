@@ -8,7 +8,7 @@ use std::alloc::AllocError;
 impl Heap {
     ghost use Rattle.std.specs.Prelude.{◌≡◌, ◌+◌, ◌≤◌, ◌++◌, take, drop, length, MatchResult, IfOk, OnErr, Ok};
     ghost use Rattle.icn_value.specs.Changes.{charged_strings, Refuses, LimitsFirst};
-    ghost use Rattle.icn_heap.specs.Extents.{IsText, text_in, Keeps};
+    ghost use Rattle.icn_heap.specs.Extents.{IsText, text_in, KeepsValues};
     ghost use Rattle.icn_heap.specs.Heaps.{extent_of, heap_of};
 
     /// Makes a text of these bytes, and charges them.
@@ -18,7 +18,7 @@ impl Heap {
         ensures step { MatchResult result (λ _. charged_strings (heap_of self.old) (length bytes.now)
             ≡ Ok (heap_of self.new)) (Refuses (charged_strings (heap_of self.old) (length bytes.now))) }
         ensures limits { LimitsFirst (charged_strings (heap_of self.old) (length bytes.now)) result }
-        ensures kept { Keeps (extent_of self.old) (extent_of self.new) }
+        ensures kept { KeepsValues (extent_of self.old) (extent_of self.new) }
         ensures unchanged { OnErr result (heap_of self.new ≡ heap_of self.old) }
     {
         match self.strings.build(bytes) {
@@ -41,7 +41,7 @@ impl Heap {
             (length (text_in (extent_of self.old) a ++ text_in (extent_of self.old) b)))) }
         ensures limits { LimitsFirst (charged_strings (heap_of self.old)
             (length (text_in (extent_of self.old) a ++ text_in (extent_of self.old) b))) result }
-        ensures kept { Keeps (extent_of self.old) (extent_of self.new) }
+        ensures kept { KeepsValues (extent_of self.old) (extent_of self.new) }
         ensures unchanged { OnErr result (heap_of self.new ≡ heap_of self.old) }
     {
         let first = as_range(a);
@@ -59,7 +59,7 @@ impl Heap {
     pub fn hold(&mut self, bytes: &[u8]) -> Result<Span, AllocError>
         ensures live { IfOk result (IsText (extent_of self.new)) }
         ensures bytes { IfOk result (λ span. text_in (extent_of self.new) span ≡ bytes.now) }
-        ensures kept { Keeps (extent_of self.old) (extent_of self.new) }
+        ensures kept { KeepsValues (extent_of self.old) (extent_of self.new) }
         ensures unchanged { heap_of self.new ≡ heap_of self.old }
     {
         Ok(span_of(self.strings.hold(bytes)?))

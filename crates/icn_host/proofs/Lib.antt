@@ -1,5 +1,5 @@
-pub mod Stores
+pub mod StoreChanges
 pub mod SinkSteps
 pub mod ReaderSteps
 pub mod LineSteps
-pub mod Putting
+pub mod ToldPuts

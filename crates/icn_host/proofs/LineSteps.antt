@@ -10,7 +10,7 @@ use Rattle.std.proofs.Math.Seq.{drop-append_seam, drop-append-add, take-append_s
 use Rattle.icn_host.proofs.ReaderSteps.{taken, keeps_after, slice_split, given_on, appended_on, counted_on}
 use Rattle.icn_host.specs.Readers.{HasLinePart, left_of}
 use Rattle.icn_host.specs.Sources.{ExtendsByLine, is_newline, line_kind, TakesLine, TakesLinePart}
-use Rattle.icn_host.specs.declared.fault.Line.TheVariants.{Whole}
+use Rattle.icn_host.specs.declared.fault.LineEnd.TheVariants.{Whole}
 
 position-append : (xs ys : List ℕ) → position_or_len is_newline xs ≡ length xs
     → position_or_len is_newline (xs ++ ys) ≡ length xs + position_or_len is_newline ys

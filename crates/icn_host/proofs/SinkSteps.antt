@@ -18,9 +18,11 @@ both (Some es) (Some bs) (Some cs) xs ys g h = h ∙ (ap (λ s. s ++ ys) g ∙ a
 along : (a b : Option (List ℕ)) (xs ys : List ℕ) → xs ≡ ys → Appends a b xs → Appends a b ys
 along a b xs ys e h = rw (← e) h
 
+-- a sink that is as before gained nothing
 pub gains_nothing : (a : Option (List ℕ)) → Gains a a []
 gains_nothing a = record { appends = nothing a }
 
+-- what a sink gains in two steps is one behind the other
 pub gains_then : {a b c : Option (List ℕ)} {xs ys : List ℕ} → Gains a b xs → Gains b c ys → Gains a c (xs ++ ys)
 gains_then {a} {b} {c} {xs} {ys} g h = record { appends = both a b c xs ys g.appends h.appends }
 
@@ -58,6 +60,6 @@ pub one_more : (xs ys rest whole : List ℕ) (n : ℕ) → rest ≡ drop n ys �
 one_more xs ys rest whole n f e = rw f (append_assoc xs (take n ys) (drop n ys) ∙ (ap (λ s. xs ++ s) (take-append-drop n ys) ∙ e))
 
 -- what holds always holds at an `Err`
-pub at_err : {T E P : Type 0} (r : Result T E) → P → OnErr r P
-at_err (Ok _) h = tt
-at_err (Err _) h = h
+pub on_err_always : {T E P : Type 0} (r : Result T E) → P → OnErr r P
+on_err_always (Ok _) h = tt
+on_err_always (Err _) h = h

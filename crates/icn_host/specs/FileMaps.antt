@@ -41,7 +41,7 @@ IsLeftBehind was bytes content =
     (content ≡ None) ⊎ (content ≡ was) ⊎ ((n : ℕ) × (content ≡ Some (take n bytes)))
 
 -- the name holds these bytes now
-pub record Sets (before after : Option FileMap) (name bytes : List ℕ) : Type 0 where
+pub record SetsFile (before after : Option FileMap) (name bytes : List ℕ) : Type 0 where
   pub follows : Follows before after (λ old new. Changes old new name (Some bytes))
 
 -- the name holds what a broken write of these bytes may leave

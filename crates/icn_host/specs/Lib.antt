@@ -1,5 +1,5 @@
 pub mod Buffers
-pub mod Counting
+pub mod CountsAtFault
 pub mod Counts
 pub mod FileMaps
 pub mod Plans

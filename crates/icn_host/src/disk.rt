@@ -2,7 +2,7 @@
 ghost use Rattle.std.specs.Prelude.{◌≡◌, ◌+◌, ◌-◌, ◌^◌, ◌≤◌, ◌++◌, min, take, None, OnOk, IfSome, IsErrOf, vec_len};
 ghost use Rattle.icn_host.specs.Buffers.{Extends};
 
-use crate::fault::{Fault, Look};
+use crate::fault::{Fault, ReadFailure};
 use crate::retry::{fault_of, open, read_some, write_whole};
 use crate::traits::Files;
 use std::fs::{OpenFile, OpenOptions};
@@ -56,22 +56,27 @@ fn read_first<R: Read>(reader: &mut R, most: u64, into: &mut Vec<u8>) -> Result<
     Ok(())
 }
 
-fn read_file<R: rt::Files>(rt: &R, name: &str, most: u64, into: &mut Vec<u8>) -> Result<(), Look>
+fn read_file<R: rt::Files>(
+    rt: &R,
+    name: &str,
+    most: u64,
+    into: &mut Vec<u8>,
+) -> Result<(), ReadFailure>
     ensures kept { Extends into.old.items into.new.items }
     ensures within { vec_len into.new ≤ vec_len into.old + (most + 1) }
-    ensures nothing { IsErrOf result Look.NotThere → into.new.items ≡ into.old.items }
+    ensures nothing { IsErrOf result ReadFailure.NotThere → into.new.items ≡ into.old.items }
 {
     let mut options = OpenOptions::new();
     options.read(true);
     match open(rt, &options, name) {
         Ok(mut file) => {
             if is_folder(&file)? {
-                return Err(Look::NotThere);
+                return Err(ReadFailure::NotThere);
             }
             Ok(read_first(&mut file, most, into)?)
         }
-        Err(e) if names_no_file(e.kind()) => Err(Look::NotThere),
-        Err(e) => Err(Look::from(fault_of(&e))),
+        Err(e) if names_no_file(e.kind()) => Err(ReadFailure::NotThere),
+        Err(e) => Err(ReadFailure::from(fault_of(&e))),
     }
 }
 
@@ -111,11 +116,11 @@ impl<R: rt::Files> Files for DiskFiles<R> {
 
     ghost absences = { λ s. s.absences };
 
-    fn read(&mut self, name: &str, most: u64, into: &mut Vec<u8>) -> Result<(), Look> {
+    fn read(&mut self, name: &str, most: u64, into: &mut Vec<u8>) -> Result<(), ReadFailure> {
         let result = read_file(&self.rt, name, most, into);
         match result {
-            Err(Look::NotThere) => self.absences = self.absences.saturating_add(1),
-            Err(Look::Failed) => self.faults = self.faults.saturating_add(1),
+            Err(ReadFailure::NotThere) => self.absences = self.absences.saturating_add(1),
+            Err(ReadFailure::Failed) => self.faults = self.faults.saturating_add(1),
             _ => {}
         }
         result

@@ -1,7 +1,7 @@
 // Why a call on a handed-in object gave up, and how a line ended.
 ghost use Rattle.std.specs.Prelude.{◌≡◌, ◌≢◌};
 ghost use Rattle.icn_host.specs.declared.fault.Fault.TheVariants.{Failed, NoMemory};
-ghost use Rattle.icn_host.specs.declared.fault.Look.TheVariants.{NotThere, Failed as LookFailed, NoMemory as LookNoMemory};
+ghost use Rattle.icn_host.specs.declared.fault.ReadFailure.TheVariants.{NotThere, Failed as LookFailed, NoMemory as LookNoMemory};
 
 use std::alloc::{AllocError, AllocFailed};
 
@@ -17,7 +17,7 @@ pub enum Fault {
 
 /// Why a read of a file gave up.
 #[derive(Clone, Copy, Debug, PartialEq, Eq)]
-pub enum Look {
+pub enum ReadFailure {
     /// No file has the name, and the count of absences rose or stands at its last value.
     NotThere,
 
@@ -30,7 +30,7 @@ pub enum Look {
 
 /// How a line ended.
 #[derive(Clone, Copy, Debug, PartialEq, Eq)]
-pub enum Line {
+pub enum LineEnd {
     /// At a newline, which was taken.
     Whole,
 
@@ -57,22 +57,22 @@ impl<T: Drop> From<AllocFailed<T>> for Fault {
     }
 }
 
-impl From<AllocError> for Look {
+impl From<AllocError> for ReadFailure {
     ghost from_gives = { λ _ e. e ≡ LookNoMemory };
 
     fn from(_: AllocError) -> Self {
-        Look::NoMemory
+        ReadFailure::NoMemory
     }
 }
 
-impl From<Fault> for Look {
+impl From<Fault> for ReadFailure {
     ghost from_gives = { λ fault look. (look ≢ NotThere) × (fault ≡ NoMemory → look ≡ LookNoMemory)
         × (fault ≡ Failed → look ≡ LookFailed) };
 
     fn from(fault: Fault) -> Self {
         match fault {
-            Fault::Failed => Look::Failed,
-            Fault::NoMemory => Look::NoMemory,
+            Fault::Failed => ReadFailure::Failed,
+            Fault::NoMemory => ReadFailure::NoMemory,
         }
     }
 }

@@ -6,7 +6,7 @@ ghost use Rattle.icn_host.specs.Sources.{ExtendsByLine, TakesLine, TakesLinePart
 ghost use Rattle.icn_host.specs.Buffers.{Extends};
 
 use crate::bytes::{line_len, take_first};
-use crate::fault::{Fault, Line};
+use crate::fault::{Fault, LineEnd};
 use crate::retry::read_some;
 use crate::traits::Source;
 use std::io::Read;
@@ -41,7 +41,7 @@ impl<R: Read> Ahead<R> {
         Ok(())
     }
 
-    fn line(&mut self, into: &mut Vec<u8>) -> Result<Line, Fault>
+    fn line(&mut self, into: &mut Vec<u8>) -> Result<LineEnd, Fault>
         ensures ok { IfOk result (TakesLine (ahead_left R.remaining self.old)
             (ahead_left R.remaining self.new) into.old.items into.new.items) }
         ensures err { OnErr result (TakesLinePart (ahead_left R.remaining self.old)
@@ -49,7 +49,7 @@ impl<R: Read> Ahead<R> {
             (IsErrOf result Fault.Failed)) }
         ensures kept { Extends into.old.items into.new.items }
         ensures plain { IfOk result (λ _. ExtendsByLine into.old.items into.new.items) }
-        ensures none { IfOk result (λ line. line ≡ Line.End → into.new.items ≡ into.old.items) }
+        ensures none { IfOk result (λ line. line ≡ LineEnd.End → into.new.items ≡ into.old.items) }
     {
         let mut room = LONGEST_LINE;
         loop {
@@ -57,9 +57,9 @@ impl<R: Read> Ahead<R> {
             let rest = &self.bytes[self.at..self.end];
             if rest.is_empty() {
                 return if room < LONGEST_LINE {
-                    Ok(Line::Last)
+                    Ok(LineEnd::Last)
                 } else {
-                    Ok(Line::End)
+                    Ok(LineEnd::End)
                 };
             }
             let count = line_len(rest);
@@ -69,7 +69,7 @@ impl<R: Read> Ahead<R> {
             into.extend_from_slice(&rest[..count])?;
             if count < rest.len() {
                 self.at += count + 1;
-                return Ok(Line::Whole);
+                return Ok(LineEnd::Whole);
             }
             self.at += count;
             room -= count as u64;
@@ -138,7 +138,7 @@ impl<R: Read> Source for StdSource<R> {
     ghost faults = { λ s. s.faults };
 
     // The source tells nothing, but where the reader tells what it has left, the line is the next one of it.
-    fn line(&mut self, into: &mut Vec<u8>) -> Result<Line, Fault>
+    fn line(&mut self, into: &mut Vec<u8>) -> Result<LineEnd, Fault>
         ensures ok { IfOk result (TakesLine (source_left R.remaining self.old)
             (source_left R.remaining self.new) into.old.items into.new.items) }
         ensures err { OnErr result (TakesLinePart (source_left R.remaining self.old)
@@ -146,7 +146,7 @@ impl<R: Read> Source for StdSource<R> {
             (IsErrOf result Fault.Failed)) }
         ensures kept { Extends into.old.items into.new.items }
         ensures plain { IfOk result (λ _. ExtendsByLine into.old.items into.new.items) }
-        ensures none { IfOk result (λ line. line ≡ Line.End → into.new.items ≡ into.old.items) }
+        ensures none { IfOk result (λ line. line ≡ LineEnd.End → into.new.items ≡ into.old.items) }
         ensures cause { CountsOnce (⟦<StdSource<R> as Source>⟧.faults self.old)
             (⟦<StdSource<R> as Source>⟧.faults self.new) (IsErrOf result Fault.Failed) }
     {

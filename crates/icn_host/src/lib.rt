@@ -16,11 +16,11 @@ mod sure;
 mod traits;
 
 pub use disk::DiskFiles;
-pub use fault::{Fault, Line, Look};
+pub use fault::{Fault, LineEnd, ReadFailure};
 pub use input::StdSource;
 pub use memory::{MemFiles, MemSink, MemSource};
 pub use output::StdSink;
 pub use put::{put_line, try_put};
-pub use store::Store;
+pub use store::StoredFiles;
 pub use sure::{SureFiles, SureSink, SureSource};
 pub use traits::{Files, Sink, Source};

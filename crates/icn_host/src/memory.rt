@@ -2,14 +2,14 @@
 ghost use Rattle.std.specs.Prelude.{◌≡◌, ◌+◌, ◌≤◌, ◌↔◌, drop, length, Some, OnOk, OnErr, IfOk, IsErrOf, vec_len};
 ghost use Rattle.icn_host.specs.Buffers.{Extends};
 ghost use Rattle.icn_host.specs.Counts.{CountsOnce};
-ghost use Rattle.icn_host.specs.FileMaps.{file_map, Reads, ReadsPart, NotHeld, Sets, SetsPart};
+ghost use Rattle.icn_host.specs.FileMaps.{file_map, Reads, ReadsPart, NotHeld, SetsFile, SetsPart};
 ghost use Rattle.icn_host.specs.Sinks.{Gains, GainsPart, sink_state};
 ghost use Rattle.icn_host.specs.Sources.{ExtendsByLine, TakesLine, TakesLinePart, TakesFirst, TakesFirstPart};
 
 use crate::bytes::{next_line, take_first};
 use crate::failing::FailingCalls;
-use crate::fault::{Fault, Line, Look};
-use crate::store::{Store, look, set};
+use crate::fault::{Fault, LineEnd, ReadFailure};
+use crate::store::{StoredFiles, look, set};
 use crate::traits::{Files, Sink, Source};
 use std::alloc::Global;
 
@@ -125,12 +125,12 @@ impl Source for MemSource {
 
     ghost faults = { λ s. s.faults };
 
-    fn line(&mut self, into: &mut Vec<u8>) -> Result<Line, Fault>
+    fn line(&mut self, into: &mut Vec<u8>) -> Result<LineEnd, Fault>
         ensures ok { IfOk result (TakesLine (⟦<MemSource as Source>⟧.left self.old)
             (⟦<MemSource as Source>⟧.left self.new) into.old.items into.new.items) }
         ensures kept { Extends into.old.items into.new.items }
         ensures plain { IfOk result (λ _. ExtendsByLine into.old.items into.new.items) }
-        ensures none { IfOk result (λ line. line ≡ Line.End → into.new.items ≡ into.old.items) }
+        ensures none { IfOk result (λ line. line ≡ LineEnd.End → into.new.items ≡ into.old.items) }
         ensures same_left { OnErr result
             (⟦<MemSource as Source>⟧.left self.new ≡ ⟦<MemSource as Source>⟧.left self.old) }
         ensures same_into { OnErr result (into.new.items ≡ into.old.items) }
@@ -178,7 +178,7 @@ impl Source for MemSource {
 #[derive(Drop)]
 pub struct MemFiles {
     alloc: Global,
-    files: Store,
+    files: StoredFiles,
     failing: FailingCalls,
     faults: u64,
     absences: u64,
@@ -189,7 +189,7 @@ impl MemFiles {
 
     /// A store of these files. `failing` has the numbers, from 0, of the calls that fail: those of `read` and of
     /// `write` are counted together.
-    pub fn new(alloc: Global, start: Store, failing: Vec<u64>) -> Self
+    pub fn new(alloc: Global, start: StoredFiles, failing: Vec<u64>) -> Self
         ensures held { ⟦<MemFiles as Files>⟧.held result ≡ Some (file_map start) }
         ensures faults { ⟦<MemFiles as Files>⟧.faults result ≡ 0 }
         ensures absences { ⟦<MemFiles as Files>⟧.absences result ≡ 0 }
@@ -205,7 +205,7 @@ impl MemFiles {
     }
 
     /// The files that it holds, by their names.
-    pub fn content(&self) -> &Store
+    pub fn content(&self) -> &StoredFiles
         ensures { ⟦<MemFiles as Files>⟧.held self.now ≡ Some (file_map result.now) }
     {
         &self.files
@@ -221,35 +221,35 @@ impl Files for MemFiles {
 
     ghost absences = { λ s. s.absences };
 
-    fn read(&mut self, name: &str, most: u64, into: &mut Vec<u8>) -> Result<(), Look>
+    fn read(&mut self, name: &str, most: u64, into: &mut Vec<u8>) -> Result<(), ReadFailure>
         ensures ok { OnOk result
             (Reads (⟦<MemFiles as Files>⟧.held self.old) name.now (most + 1) into.old.items into.new.items) }
         ensures within { vec_len into.new ≤ vec_len into.old + (most + 1) }
         ensures kept { Extends into.old.items into.new.items }
         ensures err { OnErr result (into.new.items ≡ into.old.items) }
-        ensures absent { IsErrOf result Look.NotThere
+        ensures absent { IsErrOf result ReadFailure.NotThere
             → NotHeld (⟦<MemFiles as Files>⟧.held self.old) name.now }
         ensures same { ⟦<MemFiles as Files>⟧.held self.new ≡ ⟦<MemFiles as Files>⟧.held self.old }
         ensures cause { CountsOnce (⟦<MemFiles as Files>⟧.faults self.old)
-            (⟦<MemFiles as Files>⟧.faults self.new) (IsErrOf result Look.Failed) }
+            (⟦<MemFiles as Files>⟧.faults self.new) (IsErrOf result ReadFailure.Failed) }
         ensures absence { CountsOnce (⟦<MemFiles as Files>⟧.absences self.old)
-            (⟦<MemFiles as Files>⟧.absences self.new) (IsErrOf result Look.NotThere) }
-        ensures fails { IsErrOf result Look.Failed ↔ FailsNext (files_plan self.old) }
+            (⟦<MemFiles as Files>⟧.absences self.new) (IsErrOf result ReadFailure.NotThere) }
+        ensures fails { IsErrOf result ReadFailure.Failed ↔ FailsNext (files_plan self.old) }
         ensures plan { files_plan self.new ≡ later_plan (files_plan self.old) }
     {
         if self.failing.fails_now() {
             self.faults = self.faults.saturating_add(1);
-            return Err(Look::Failed);
+            return Err(ReadFailure::Failed);
         }
         let result = look(&self.files, name, most, into);
-        if result == Err(Look::NotThere) {
+        if result == Err(ReadFailure::NotThere) {
             self.absences = self.absences.saturating_add(1);
         }
         result
     }
 
     fn write(&mut self, name: &str, bytes: &[u8]) -> Result<(), Fault>
-        ensures ok { OnOk result (Sets (⟦<MemFiles as Files>⟧.held self.old)
+        ensures ok { OnOk result (SetsFile (⟦<MemFiles as Files>⟧.held self.old)
             (⟦<MemFiles as Files>⟧.held self.new) name.now bytes.now) }
         ensures err { OnErr result (SetsPart (⟦<MemFiles as Files>⟧.held self.old)
             (⟦<MemFiles as Files>⟧.held self.new) name.now bytes.now) }

@@ -4,8 +4,8 @@ ghost use Rattle.icn_host.specs.FileMaps.{file_map};
 ghost use Rattle.icn_host.specs.Sinks.{sink_state};
 
 use crate::bytes::{next_line, take_first};
-use crate::fault::{Fault, Line, Look};
-use crate::store::{Store, look, set};
+use crate::fault::{Fault, LineEnd, ReadFailure};
+use crate::store::{StoredFiles, look, set};
 use crate::traits::{Files, Sink, Source};
 use std::alloc::Global;
 
@@ -52,13 +52,13 @@ impl Sink for SureSink {
 #[derive(Drop)]
 pub struct SureFiles {
     alloc: Global,
-    files: Store,
+    files: StoredFiles,
     absences: u64,
 }
 
 impl SureFiles {
     /// A store of these files.
-    pub fn new(alloc: Global, start: Store) -> Self
+    pub fn new(alloc: Global, start: StoredFiles) -> Self
         ensures held { ⟦<SureFiles as Files>⟧.held result ≡ Some (file_map start) }
         ensures absences { ⟦<SureFiles as Files>⟧.absences result ≡ 0 }
     {
@@ -70,7 +70,7 @@ impl SureFiles {
     }
 
     /// The files that it holds, by their names.
-    pub fn content(&self) -> &Store
+    pub fn content(&self) -> &StoredFiles
         ensures { ⟦<SureFiles as Files>⟧.held self.now ≡ Some (file_map result.now) }
     {
         &self.files
@@ -84,9 +84,9 @@ impl Files for SureFiles {
 
     ghost absences = { λ s. s.absences };
 
-    fn read(&mut self, name: &str, most: u64, into: &mut Vec<u8>) -> Result<(), Look> {
+    fn read(&mut self, name: &str, most: u64, into: &mut Vec<u8>) -> Result<(), ReadFailure> {
         let result = look(&self.files, name, most, into);
-        if result == Err(Look::NotThere) {
+        if result == Err(ReadFailure::NotThere) {
             self.absences = self.absences.saturating_add(1);
         }
         result
@@ -129,7 +129,7 @@ impl Source for SureSource {
 
     ghost faults = { λ _. 0 };
 
-    fn line(&mut self, into: &mut Vec<u8>) -> Result<Line, Fault> {
+    fn line(&mut self, into: &mut Vec<u8>) -> Result<LineEnd, Fault> {
         let (count, line) = next_line(&self.bytes[self.at..], into)?;
         self.at += count;
         Ok(line)

@@ -3,10 +3,10 @@ ghost use Rattle.std.specs.Prelude.{◌≡◌, ◌+◌, ◌≤◌, ℕ, List, Op
 ghost use Rattle.icn_host.specs.Buffers.{Extends};
 ghost use Rattle.icn_host.specs.Counts.{CountsOnce};
 ghost use Rattle.icn_host.specs.Sinks.{Gains, GainsPart, SinkState};
-ghost use Rattle.icn_host.specs.FileMaps.{Reads, ReadsPart, NotHeld, Sets, SetsPart, FileMap};
+ghost use Rattle.icn_host.specs.FileMaps.{Reads, ReadsPart, NotHeld, SetsFile, SetsPart, FileMap};
 ghost use Rattle.icn_host.specs.Sources.{ExtendsByLine, TakesLine, TakesLinePart, TakesFirst, TakesFirstPart};
 
-use crate::fault::{Fault, Line, Look};
+use crate::fault::{Fault, LineEnd, ReadFailure};
 
 /// Gives bytes in order.
 pub trait Source {
@@ -17,7 +17,7 @@ pub trait Source {
     ghost faults: { Self → ℕ };
 
     /// Appends the bytes before the next newline, and takes that newline too.
-    fn line(&mut self, into: &mut Vec<u8>) -> Result<Line, Fault>
+    fn line(&mut self, into: &mut Vec<u8>) -> Result<LineEnd, Fault>
         ensures ok { IfOk result (TakesLine (left self.old) (left self.new) into.old.items into.new.items) }
         ensures err { OnErr result
             (TakesLinePart (left self.old) (left self.new) into.old.items into.new.items
@@ -27,7 +27,7 @@ pub trait Source {
         // source tells what it has left, and where there was no line nothing was appended.
         ensures kept { Extends into.old.items into.new.items }
         ensures plain { IfOk result (λ _. ExtendsByLine into.old.items into.new.items) }
-        ensures none { IfOk result (λ line. line ≡ Line.End → into.new.items ≡ into.old.items) }
+        ensures none { IfOk result (λ line. line ≡ LineEnd.End → into.new.items ≡ into.old.items) }
         ensures cause { CountsOnce (faults self.old) (faults self.new) (IsErrOf result Fault.Failed) };
 
     /// Appends and takes the first `n` bytes, or all that are left, and answers how many.
@@ -73,7 +73,7 @@ pub trait Files {
 
     /// Appends the first `most + 1` bytes of a file, or all of it, so that the caller sees by the length whether it is
     /// longer than `most`. After an `Err` a part of them was appended.
-    fn read(&mut self, name: &str, most: u64, into: &mut Vec<u8>) -> Result<(), Look>
+    fn read(&mut self, name: &str, most: u64, into: &mut Vec<u8>) -> Result<(), ReadFailure>
         ensures ok { OnOk result (Reads (held self.old) name.now (most + 1) into.old.items into.new.items) }
         ensures err { OnErr result
             (ReadsPart (held self.old) name.now (most + 1) into.old.items into.new.items) }
@@ -83,16 +83,17 @@ pub trait Files {
         ensures within { vec_len into.new ≤ vec_len into.old + (most + 1) }
 
         // A file that is not there gives nothing.
-        ensures absent { IsErrOf result Look.NotThere → NotHeld (held self.old) name.now }
-        ensures nothing { IsErrOf result Look.NotThere → into.new.items ≡ into.old.items }
+        ensures absent { IsErrOf result ReadFailure.NotThere → NotHeld (held self.old) name.now }
+        ensures nothing { IsErrOf result ReadFailure.NotThere → into.new.items ≡ into.old.items }
         ensures same { held self.new ≡ held self.old }
-        ensures cause { CountsOnce (faults self.old) (faults self.new) (IsErrOf result Look.Failed) }
-        ensures absence { CountsOnce (absences self.old) (absences self.new) (IsErrOf result Look.NotThere) };
+        ensures cause { CountsOnce (faults self.old) (faults self.new) (IsErrOf result ReadFailure.Failed) }
+        ensures absence { CountsOnce (absences self.old) (absences self.new)
+            (IsErrOf result ReadFailure.NotThere) };
 
     /// Sets the whole content of a file. After an `Err` the name is absent, holds what it held, or holds a part of the
     /// new bytes from their start. Each other name stays.
     fn write(&mut self, name: &str, bytes: &[u8]) -> Result<(), Fault>
-        ensures ok { OnOk result (Sets (held self.old) (held self.new) name.now bytes.now) }
+        ensures ok { OnOk result (SetsFile (held self.old) (held self.new) name.now bytes.now) }
         ensures err { OnErr result (SetsPart (held self.old) (held self.new) name.now bytes.now) }
         ensures cause { CountsOnce (faults self.old) (faults self.new) (IsErrOf result Fault.Failed) }
 

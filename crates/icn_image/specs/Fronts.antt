@@ -5,8 +5,8 @@ use Rattle.icn_code.specs.declared.code.Global.{Global}
 use Rattle.icn_code.specs.declared.instr.Instr.{Instr}
 use Rattle.icn_code.specs.Codes.{RecordType, Proc, Tables, records_of}
 use Rattle.icn_image.specs.declared.front.Front.{Front}
-use Rattle.icn_image.specs.declared.head.Head.{Head}
-use Rattle.icn_image.specs.declared.scope.Scope.{Scope}
+use Rattle.icn_image.specs.declared.head.ImageHead.{ImageHead}
+use Rattle.icn_image.specs.declared.scope.TableSizes.{TableSizes}
 
 -- the tables in front of the procedures
 pub record FrontTables : Type 0 where
@@ -39,7 +39,7 @@ with_procs front procs = record {
   procs = procs;
 }
 
-abbrev pub head_of : Proc → Head
+abbrev pub head_of : Proc → ImageHead
 head_of proc = record {
   name = proc.name;
   parameters = proc.parameters;
@@ -49,7 +49,7 @@ head_of proc = record {
   instrs = length proc.instrs;
 }
 
-abbrev pub with_instrs : Head → List Instr → Proc
+abbrev pub with_instrs : ImageHead → List Instr → Proc
 with_instrs head instrs = record {
   name = head.name;
   parameters = head.parameters;
@@ -60,7 +60,7 @@ with_instrs head instrs = record {
 }
 
 -- what an instruction of a procedure may name
-abbrev pub scope_of : FrontTables → Head → Scope
+abbrev pub scope_of : FrontTables → ImageHead → TableSizes
 scope_of front head = record {
   integers = length front.integers;
   strings = length front.strings;

@@ -14,10 +14,10 @@ use Rattle.icn_code.specs.declared.code.Start.TheVariants.{Null, Procedure, Reco
 use Rattle.icn_code.specs.declared.instr.Instr.{Instr}
 use Rattle.icn_code.specs.Codes.{RecordType, Proc, Tables}
 use Rattle.icn_code.specs.Rules.{name_of}
-use Rattle.icn_image.specs.declared.head.Head.{Head}
+use Rattle.icn_image.specs.declared.head.ImageHead.{ImageHead}
 use Rattle.icn_image.specs.declared.operand.Operand.{Operand}
 use Rattle.icn_image.specs.declared.operand.Operand.TheVariants.{Nothing, Number, Label}
-use Rattle.icn_image.specs.declared.scope.Scope.{Scope}
+use Rattle.icn_image.specs.declared.scope.TableSizes.{TableSizes}
 use Rattle.icn_image.specs.Readers.{◌>>=◌, Reader, bytes_at, byte_at, number_at, index_at, times, table_at}
 use Rattle.icn_image.specs.Operands.{operand_of, instr_of}
 use Rattle.icn_image.specs.Scopes.{names_there}
@@ -137,7 +137,7 @@ locals_at width parameters bytes = do
   if nat_le (parameters + locals.0) most_entries then Ok locals else Err I4
 
 -- what an image says of a procedure in front of all instructions
-unfoldable pub head_at : Width → ℕ → Reader Head
+unfoldable pub head_at : Width → ℕ → Reader ImageHead
 head_at width strings bytes = do
   name ← index_at width strings bytes
   parameters ← number_at width name.1
@@ -166,7 +166,7 @@ unfoldable pub have_procs : ℕ → List Global → Bool
 have_procs procs globals = list_all (λ global. has_proc procs global.start) globals
 
 -- that of all procedures, among which are those that globals begin with
-unfoldable pub heads_at : Width → FrontTables → Reader (List Head)
+unfoldable pub heads_at : Width → FrontTables → Reader (List ImageHead)
 heads_at width front bytes = do
   count ← number_at width bytes
   if have_procs count.0 front.globals then times (head_at width (length front.strings)) count.0 count.1
@@ -181,12 +181,12 @@ operand_at width (Some Number) bytes = number_at width bytes
 operand_at width (Some Label) bytes = number_at w32 bytes
 
 -- an instruction that names what is there
-abbrev pub there : Scope → Option Instr → Result Instr Rule
+abbrev pub there : TableSizes → Option Instr → Result Instr Rule
 there scope None = Err I4
 there scope (Some instr) = if names_there scope instr then Ok instr else Err I4
 
 -- an instruction, whose operand is there in these tables and this procedure
-unfoldable pub instr_at : Width → Scope → Reader Instr
+unfoldable pub instr_at : Width → TableSizes → Reader Instr
 instr_at width scope bytes = do
   number ← byte_at bytes
   operand ← operand_at width (operand_of number.0) number.1
@@ -194,13 +194,13 @@ instr_at width scope bytes = do
   Ok (instr, operand.1)
 
 -- the procedure of a head, by its instructions
-unfoldable pub proc_at : Width → FrontTables → Head → Reader Proc
+unfoldable pub proc_at : Width → FrontTables → ImageHead → Reader Proc
 proc_at width front head bytes = do
   instrs ← times (instr_at width (scope_of front head)) head.instrs bytes
   Ok (with_instrs head instrs.0, instrs.1)
 
 -- the procedures of these heads, each with its instructions
-unfoldable pub procs_at : Width → FrontTables → List Head → Reader (List Proc)
+unfoldable pub procs_at : Width → FrontTables → List ImageHead → Reader (List Proc)
 procs_at width front [] bytes = Ok ([], bytes)
 procs_at width front (head ∷ heads) bytes = do
   first ← proc_at width front head bytes

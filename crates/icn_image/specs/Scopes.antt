@@ -4,10 +4,10 @@ use Rattle.icn_code.specs.Rules.{is_count}
 use Rattle.icn_code.specs.declared.instr.Instr.{Instr}
 use Rattle.icn_code.specs.declared.instr.Instr.TheVariants.{Int, Str, Cset, Local, Static, Global, Llist, Field, Invoke, Mark, Chfail, Goto, Loop, Init, Create}
 use Rattle.icn_code.specs.declared.instr.Instr.TheVariants as I
-use Rattle.icn_image.specs.declared.scope.Scope.{Scope}
+use Rattle.icn_image.specs.declared.scope.TableSizes.{TableSizes}
 
 -- places are below what there is, and labels at most the number of instructions
-abbrev pub names_there : Scope → Instr → Bool
+abbrev pub names_there : TableSizes → Instr → Bool
 names_there scope (Int place) = nat_lt place scope.integers
 names_there scope (Str place) = nat_lt place scope.strings
 names_there scope (Cset place) = nat_lt place scope.csets

@@ -9,7 +9,7 @@ use Rattle.icn_code.specs.declared.code.Start.{Start}
 use Rattle.icn_code.specs.declared.code.Start.TheVariants.{Null, Procedure, Record, Function}
 use Rattle.icn_code.specs.declared.instr.Instr.{Instr}
 use Rattle.icn_code.specs.Codes.{RecordType, Proc, Tables}
-use Rattle.icn_image.specs.declared.head.Head.{Head}
+use Rattle.icn_image.specs.declared.head.ImageHead.{ImageHead}
 use Rattle.icn_image.specs.declared.operand.Operand.{Operand}
 use Rattle.icn_image.specs.declared.operand.Operand.TheVariants.{Number, Label}
 use Rattle.icn_image.specs.Fronts.{FrontTables, head_of}
@@ -51,7 +51,7 @@ abbrev pub flag : Bool → ℕ
 flag false = 0
 flag true = 1
 
-abbrev pub head : Width → Head → List ℕ
+abbrev pub head : Width → ImageHead → List ℕ
 head width proc =
     to_le_bytes width proc.name ++ (to_le_bytes width proc.parameters ++ (flag proc.collects
     ∷ (to_le_bytes width proc.locals ++ (to_le_bytes width proc.statics ++ to_le_bytes w32 proc.instrs))))

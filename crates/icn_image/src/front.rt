@@ -7,7 +7,7 @@ ghost use Rattle.icn_image.specs.Reading.{front_at};
 use crate::fault::ImageFault;
 use crate::global::globals_at;
 use crate::table::{csets_at, integers_at, places_at, records_at, strings_at};
-use icn_code::Record;
+use icn_code::LinkedRecord;
 use icn_tree::Bytes;
 use icn_value::Cset;
 use std::alloc::Global;
@@ -19,7 +19,7 @@ pub struct Front {
     pub csets: Vec<Cset>,
     pub integers: Vec<i64>,
     pub fields: Vec<u32>,
-    pub records: Vec<Record>,
+    pub records: Vec<LinkedRecord>,
     pub globals: Vec<icn_code::Global>,
 }
 

@@ -11,7 +11,7 @@ use icn_tree::Rule;
 
 // A procedure without its instructions.
 #[derive(Clone, Copy, Debug)]
-pub struct Head {
+pub struct ImageHead {
     pub name: u32,
     pub parameters: u32,
     pub collects: bool,
@@ -48,7 +48,7 @@ fn locals_at(parameters: u32, bytes: &[u8]) -> Result<(u32, &[u8]), ImageFault>
 
 // The head of a procedure, in a code with so many strings.
 #[tactic(auto, unfolding(crate::specs::Reading::head_at))]
-pub fn head_at(strings: usize, bytes: &[u8]) -> Result<(Head, &[u8]), ImageFault>
+pub fn head_at(strings: usize, bytes: &[u8]) -> Result<(ImageHead, &[u8]), ImageFault>
     ensures { Gives (λ x. (x.0, x.1.now)) result (head_at w16 strings bytes.now) }
 {
     let (name, rest) = place_at(strings, bytes)?;
@@ -57,7 +57,7 @@ pub fn head_at(strings: usize, bytes: &[u8]) -> Result<(Head, &[u8]), ImageFault
     let (locals, rest) = locals_at(parameters, rest)?;
     let (statics, rest) = number_at(rest)?;
     let (instrs, rest) = label_at(rest)?;
-    let head = Head {
+    let head = ImageHead {
         name,
         parameters,
         collects,

@@ -6,7 +6,7 @@ ghost use Rattle.icn_image.specs.Reading.{instr_at, operand_at};
 use crate::fault::ImageFault;
 use crate::number::{byte_at, label_at, number_at};
 use crate::operand::{Operand, instr_of, operand_of};
-use crate::scope::Scope;
+use crate::scope::TableSizes;
 use icn_code::Instr;
 use icn_tree::Rule;
 
@@ -23,7 +23,7 @@ fn operand_at(operand: Option<Operand>, bytes: &[u8]) -> Result<(u32, &[u8]), Im
 
 // An instruction, of what may be named where it stands.
 #[tactic(auto, unfolding(crate::specs::Reading::instr_at))]
-pub fn instr_at<'b>(scope: &Scope, bytes: &'b [u8]) -> Result<(Instr, &'b [u8]), ImageFault>
+pub fn instr_at<'b>(scope: &TableSizes, bytes: &'b [u8]) -> Result<(Instr, &'b [u8]), ImageFault>
     ensures { Gives (λ x. (x.0, x.1.now)) result (instr_at w16 scope.now bytes.now) }
 {
     let (number, rest) = byte_at(bytes)?;

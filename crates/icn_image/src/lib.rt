@@ -6,16 +6,16 @@ mod front;
 mod global;
 mod head;
 mod instr;
-mod laws;
 mod number;
 mod operand;
 mod procs;
 mod reading;
 mod scope;
+mod spelling_laws;
 mod table;
 mod writing;
 
 pub use fault::ImageFault;
-pub use laws::one_spelling;
 pub use reading::read_image;
+pub use spelling_laws::one_spelling;
 pub use writing::write_image;

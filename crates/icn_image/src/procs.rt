@@ -8,11 +8,11 @@ ghost use Rattle.icn_image.specs.Reading.{has_proc, have_procs, head_at, heads_a
 
 use crate::fault::ImageFault;
 use crate::front::Front;
-use crate::head::{Head, head_at};
+use crate::head::{ImageHead, head_at};
 use crate::instr::instr_at;
 use crate::number::number_at;
-use crate::scope::Scope;
-use icn_code::{Instr, Procedure, Start};
+use crate::scope::TableSizes;
+use icn_code::{Instr, LinkedProcedure, Start};
 use icn_tree::Rule;
 use std::alloc::Global;
 
@@ -37,7 +37,7 @@ fn so_many_heads(
     strings: usize,
     count: u32,
     bytes: &[u8],
-) -> Result<(Vec<Head>, &[u8]), ImageFault>
+) -> Result<(Vec<ImageHead>, &[u8]), ImageFault>
     ensures { Gives (λ x. (x.0.items, x.1.now)) result (times (head_at w16 strings) count bytes.now) }
 {
     let mut heads = Vec::new(alloc);
@@ -56,7 +56,7 @@ pub fn heads_at<'b>(
     alloc: Global,
     front: &Front,
     bytes: &'b [u8],
-) -> Result<(Vec<Head>, &'b [u8]), ImageFault>
+) -> Result<(Vec<ImageHead>, &'b [u8]), ImageFault>
     ensures { Gives (λ x. (x.0.items, x.1.now)) result (heads_at w16 (tables_in front.now) bytes.now) }
 {
     let (count, rest) = number_at(bytes)?;
@@ -69,7 +69,7 @@ pub fn heads_at<'b>(
 
 fn instrs_at<'b>(
     alloc: Global,
-    scope: &Scope,
+    scope: &TableSizes,
     count: u32,
     bytes: &'b [u8],
 ) -> Result<(Vec<Instr>, &'b [u8]), ImageFault>
@@ -86,10 +86,10 @@ fn instrs_at<'b>(
 }
 
 // What an instruction of a procedure may name.
-fn scope_of(front: &Front, head: Head) -> Scope
+fn scope_of(front: &Front, head: ImageHead) -> TableSizes
     ensures { result ≡ scope_of (tables_in front.now) head }
 {
-    Scope {
+    TableSizes {
         integers: front.integers.len() as u64,
         strings: front.strings.len() as u64,
         csets: front.csets.len() as u64,
@@ -101,10 +101,10 @@ fn scope_of(front: &Front, head: Head) -> Scope
     }
 }
 
-fn with_instrs(head: Head, instrs: Vec<Instr>) -> Procedure
+fn with_instrs(head: ImageHead, instrs: Vec<Instr>) -> LinkedProcedure
     ensures { proc_of result ≡ with_instrs head instrs.items }
 {
-    Procedure {
+    LinkedProcedure {
         name: head.name,
         parameters: head.parameters,
         collects: head.collects,
@@ -118,9 +118,9 @@ fn with_instrs(head: Head, instrs: Vec<Instr>) -> Procedure
 fn proc_at<'b>(
     alloc: Global,
     front: &Front,
-    head: Head,
+    head: ImageHead,
     bytes: &'b [u8],
-) -> Result<(Procedure, &'b [u8]), ImageFault>
+) -> Result<(LinkedProcedure, &'b [u8]), ImageFault>
     ensures { Gives (λ x. (proc_of x.0, x.1.now)) result (proc_at w16 (tables_in front.now) head bytes.now) }
 {
     let scope = scope_of(front, head);
@@ -132,9 +132,9 @@ fn proc_at<'b>(
 pub fn procs_at<'b>(
     alloc: Global,
     front: &Front,
-    heads: &[Head],
+    heads: &[ImageHead],
     bytes: &'b [u8],
-) -> Result<(Vec<Procedure>, &'b [u8]), ImageFault>
+) -> Result<(Vec<LinkedProcedure>, &'b [u8]), ImageFault>
     ensures { Gives (λ x. (procs_of x.0.items, x.1.now)) result
         (procs_at w16 (tables_in front.now) heads.now bytes.now) }
 {

@@ -1,7 +1,7 @@
 // Reading an image.
 ghost use Rattle.std.specs.Int.{w16};
 ghost use Rattle.icn_code.specs.Codes.{procs_of};
-ghost use Rattle.icn_code.specs.Seen.{tables_of};
+ghost use Rattle.icn_code.specs.CodeTables.{tables_of};
 ghost use Rattle.icn_image.specs.Fronts.{tables_in, with_procs};
 ghost use Rattle.icn_image.specs.Readers.{Gives};
 ghost use Rattle.icn_image.specs.Reading.{behind_head, image_read, tables_at};
@@ -10,7 +10,7 @@ use crate::fault::ImageFault;
 use crate::front::{Front, front_at};
 use crate::procs::{heads_at, procs_at};
 use crate::writing::IMAGE_HEAD;
-use icn_code::{Code, Procedure};
+use icn_code::{Code, LinkedProcedure};
 use icn_tree::Rule;
 use std::alloc::Global;
 
@@ -26,7 +26,10 @@ fn behind_head(bytes: &[u8]) -> Result<&[u8], ImageFault>
 }
 
 #[tactic(auto, unfolding(crate::specs::Reading::tables_at))]
-fn tables_at(alloc: Global, bytes: &[u8]) -> Result<((Front, Vec<Procedure>), &[u8]), ImageFault>
+fn tables_at(
+    alloc: Global,
+    bytes: &[u8],
+) -> Result<((Front, Vec<LinkedProcedure>), &[u8]), ImageFault>
     ensures { Gives (λ x. (with_procs (tables_in x.0.0) (procs_of x.0.1.items), x.1.now)) result
         (tables_at w16 bytes.now) }
 {
@@ -37,7 +40,7 @@ fn tables_at(alloc: Global, bytes: &[u8]) -> Result<((Front, Vec<Procedure>), &[
 }
 
 #[tactic(auto, unfolding(crate::specs::Reading::image_read))]
-fn all_tables(alloc: Global, bytes: &[u8]) -> Result<(Front, Vec<Procedure>), ImageFault>
+fn all_tables(alloc: Global, bytes: &[u8]) -> Result<(Front, Vec<LinkedProcedure>), ImageFault>
     ensures { Gives (λ x. with_procs (tables_in x.0) (procs_of x.1.items)) result (image_read bytes.now) }
 {
     let rest = behind_head(bytes)?;

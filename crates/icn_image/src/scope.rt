@@ -6,7 +6,7 @@ use icn_profile::MOST_ENTRIES;
 
 // How many there are of what an instruction can name.
 #[derive(Clone, Copy, Debug)]
-pub struct Scope {
+pub struct TableSizes {
     pub integers: u64,
     pub strings: u64,
     pub csets: u64,
@@ -19,7 +19,7 @@ pub struct Scope {
     pub labels: u64,
 }
 
-impl Scope {
+impl TableSizes {
     ghost use Rattle.icn_image.specs.Scopes.{names_there};
 
     // Whether what an instruction names is there.

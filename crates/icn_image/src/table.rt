@@ -7,7 +7,7 @@ ghost use Rattle.icn_image.specs.Reading.{cset_at, integer_at, record_at, string
 
 use crate::fault::ImageFault;
 use crate::number::{bytes_at, number_at, place_at};
-use icn_code::Record;
+use icn_code::LinkedRecord;
 use icn_tree::{Bytes, Rule};
 use icn_value::Cset;
 use std::alloc::Global;
@@ -151,12 +151,12 @@ fn record_at(
     strings: usize,
     fields: usize,
     bytes: &[u8],
-) -> Result<(Record, &[u8]), ImageFault>
+) -> Result<(LinkedRecord, &[u8]), ImageFault>
     ensures { Gives (λ x. (record_of x.0, x.1.now)) result (record_at w16 strings fields bytes.now) }
 {
     let (name, rest) = place_at(strings, bytes)?;
     let (fields, rest) = places_at(alloc, fields, rest)?;
-    Ok((Record { name, fields }, rest))
+    Ok((LinkedRecord { name, fields }, rest))
 }
 
 fn so_many_records(
@@ -165,7 +165,7 @@ fn so_many_records(
     fields: usize,
     count: u32,
     bytes: &[u8],
-) -> Result<(Vec<Record>, &[u8]), ImageFault>
+) -> Result<(Vec<LinkedRecord>, &[u8]), ImageFault>
     ensures { Gives (λ x. (records_of x.0.items, x.1.now)) result
         (times (record_at w16 strings fields) count bytes.now) }
 {
@@ -186,7 +186,7 @@ pub fn records_at(
     strings: usize,
     fields: usize,
     bytes: &[u8],
-) -> Result<(Vec<Record>, &[u8]), ImageFault>
+) -> Result<(Vec<LinkedRecord>, &[u8]), ImageFault>
     ensures { Gives (λ x. (records_of x.0.items, x.1.now)) result
         (table_at w16 (record_at w16 strings fields) bytes.now) }
 {

@@ -3,12 +3,12 @@ ghost use Rattle.std.specs.Prelude.{◌≡◌, ◌∷◌, ◌++◌, IfOk, OnOk, 
 ghost use Rattle.std.specs.List.{flat_map};
 ghost use Rattle.std.specs.Int.{to_le_bytes, w16, w32};
 ghost use Rattle.icn_code.specs.Codes.{proc_of, procs_of, record_of, records_of};
-ghost use Rattle.icn_code.specs.Seen.{tables_of};
+ghost use Rattle.icn_code.specs.CodeTables.{tables_of};
 ghost use Rattle.icn_image.specs.Fronts.{head_of};
 ghost use Rattle.icn_image.specs.Spelling.{body, cset, front, front_of, global, head, image_of, instruction, integer, kind_and_number, operand, procs, record_type, string, table};
 
 use crate::operand::{Operand, instr_number, operand_of, operand_value};
-use icn_code::{Code, Instr, Procedure, Record, Start};
+use icn_code::{Code, Instr, LinkedProcedure, LinkedRecord, Start};
 use icn_tree::Bytes;
 use icn_value::Cset;
 use std::alloc::{AllocError, Global};
@@ -73,7 +73,7 @@ fn put_places(out: &mut Vec<u8>, places: &[u32]) -> Result<(), AllocError>
     Ok(())
 }
 
-fn put_records(out: &mut Vec<u8>, records: &[Record]) -> Result<(), AllocError>
+fn put_records(out: &mut Vec<u8>, records: &[LinkedRecord]) -> Result<(), AllocError>
     ensures { OnOk result
         (out.new.items ≡ out.old.items ++ table w16 (record_type w16) (records_of records.now)) }
 {
@@ -114,7 +114,7 @@ fn put_globals(out: &mut Vec<u8>, globals: &[icn_code::Global]) -> Result<(), Al
     Ok(())
 }
 
-fn put_head(out: &mut Vec<u8>, proc: &Procedure) -> Result<(), AllocError>
+fn put_head(out: &mut Vec<u8>, proc: &LinkedProcedure) -> Result<(), AllocError>
     ensures { OnOk result (out.new.items ≡ out.old.items ++ head w16 (head_of (proc_of proc.now))) }
 {
     put_number(out, proc.name as usize)?;
@@ -125,7 +125,7 @@ fn put_head(out: &mut Vec<u8>, proc: &Procedure) -> Result<(), AllocError>
     put_label(out, proc.instrs.len())
 }
 
-fn put_heads(out: &mut Vec<u8>, procs: &[Procedure]) -> Result<(), AllocError>
+fn put_heads(out: &mut Vec<u8>, procs: &[LinkedProcedure]) -> Result<(), AllocError>
     ensures { OnOk result
         (out.new.items ≡ out.old.items ++ table w16 (head w16) (map head_of (procs_of procs.now))) }
 {
@@ -159,7 +159,7 @@ fn put_body(out: &mut Vec<u8>, instrs: &[Instr]) -> Result<(), AllocError>
 }
 
 // The instructions of all procedures.
-fn put_bodies(out: &mut Vec<u8>, procs: &[Procedure]) -> Result<(), AllocError>
+fn put_bodies(out: &mut Vec<u8>, procs: &[LinkedProcedure]) -> Result<(), AllocError>
     ensures { OnOk result (out.new.items ≡ out.old.items ++ flat_map (body w16) (procs_of procs.now)) }
 {
     for proc in procs {

@@ -12,16 +12,17 @@ use Rattle.icn_run.specs.Stacks.{Frames}
 use Rattle.icn_run.specs.Step.{Store, stuck}
 use Rattle.icn_control.specs.Machines.{ComesTo, does}
 use Rattle.icn_control.specs.declared.machine.Machine.{Machine}
-use Rattle.icn_control.specs.declared.machine.Stage.{Stage}
-use Rattle.icn_control.specs.Standing.{instruction_state, GoesOn, GoesOnIn}
-use Rattle.icn_instructions.specs.Doing.{ComesIn, HasMemory}
+use Rattle.icn_control.specs.declared.machine.RunState.{RunState}
+use Rattle.icn_control.specs.StackViews.{instruction_state, GoesOn, GoesOnIn}
+use Rattle.icn_instructions.specs.InstructionEffects.{ComesIn, HasMemory}
 use Rattle.icn_instructions.specs.Groups.{takes_no_memory}
 use Rattle.icn_run.specs.InstructionNeeds.{HasCaseMark}
 
-pub on_ok : {A E : Type 0} (result : Result A E) (P Q : Type 0) → (P → Q) → OnOk result P → OnOk result Q
-on_ok (Ok x) P Q f h = f h
-on_ok (Err e) P Q f h = tt
+pub on_ok_map : {A E : Type 0} (result : Result A E) (P Q : Type 0) → (P → Q) → OnOk result P → OnOk result Q
+on_ok_map (Ok x) P Q f h = f h
+on_ok_map (Err e) P Q f h = tt
 
+-- equal instructions lack the same
 pub lacks_as : (all : Extent) (tables : Tables) (i j : Instr) (m : FlatStack) (st : Store Frames) → i ≡ j → instruction_state all tables i m st ≢ stuck
     → instruction_state all tables j m st ≢ stuck
 lacks_as all tables i j m st e d = λ q. d (ap (λ (x : Instr). instruction_state all tables x m st) e ∙ q)
@@ -39,28 +40,28 @@ case_as i m e h = subst (λ (x : Instr). HasCaseMark x m) e h
 pub may_take : (i j : Instr) → i ≡ j → takes_no_memory j ≡ false → takes_no_memory i ≡ true → ⊥
 may_take i j e f h = cc
 
-pub ok_memory : (stage : Stage) → HasMemory (Ok stage)
-ok_memory stage e = cc
+pub ok_has_memory : (stage : RunState) → HasMemory (Ok stage)
+ok_has_memory stage e = cc
 
-pub ok_all : {A E : Type 0} (result : Result A E) (P : Type 0) → P → OnOk result P
-ok_all (Ok x) P h = h
-ok_all (Err e) P h = tt
+pub on_ok_always : {A E : Type 0} (result : Result A E) (P : Type 0) → P → OnOk result P
+on_ok_always (Ok x) P h = h
+on_ok_always (Err e) P h = tt
 
-pub on_both : {A E : Type 0} (result : Result A E) (P Q R : Type 0) → (P → Q → R) → OnOk result P → OnOk result Q → OnOk result R
-on_both (Ok x) P Q R f h k = f h k
-on_both (Err e) P Q R f h k = tt
+pub on_ok_both : {A E : Type 0} (result : Result A E) (P Q R : Type 0) → (P → Q → R) → OnOk result P → OnOk result Q → OnOk result R
+on_ok_both (Ok x) P Q R f h k = f h k
+on_ok_both (Err e) P Q R f h k = tt
 
-pub no_ok : (A : Type 0) {E : Type 0} (e : E) → (let r : Result A E = Err e in IsOk r) → ⊥
-no_ok A e h = cc
+pub error_is_not_ok : (A : Type 0) {E : Type 0} (e : E) → (let r : Result A E = Err e in IsOk r) → ⊥
+error_is_not_ok A e h = cc
 
 -- On a stack in a world
 
-pub comes_as : (tables : Tables) (i j : Instr) (w : World) (m : FlatStack) (v : World) (n : FlatStack) (result : Result Stage Halt) → i ≡ j
+pub comes_as : (tables : Tables) (i j : Instr) (w : World) (m : FlatStack) (v : World) (n : FlatStack) (result : Result RunState Halt) → i ≡ j
     → ComesIn tables j w m v n result → ComesIn tables i w m v n result
 comes_as tables i j w m v n result e h = subst (λ (x : Instr). ComesIn tables x w m v n result) (sym e) h
 
 -- On a machine
 
-pub comes_to_as : {K : Type 0} (tables : Tables) (outside : Outside) (i j : Instr) (m n : Machine K) (result : Result Stage Halt) → i ≡ j
+pub comes_to_as : {K : Type 0} (tables : Tables) (outside : Outside) (i j : Instr) (m n : Machine K) (result : Result RunState Halt) → i ≡ j
     → ComesTo tables outside (does tables outside j m) n result → ComesTo tables outside (does tables outside i m) n result
 comes_to_as tables outside i j m n result e h = subst (λ (x : Instr). ComesTo tables outside (does tables outside x m) n result) (sym e) h

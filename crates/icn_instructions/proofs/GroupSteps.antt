@@ -5,7 +5,7 @@ use Rattle.icn_text.specs.declared.op.Op.{Op}
 use Rattle.icn_text.specs.declared.op.Op.TheVariants as Ops
 use Rattle.icn_code.specs.declared.instr.Instr.{Instr}
 use Rattle.icn_code.specs.declared.instr.Instr.TheVariants as Instrs
-use Rattle.icn_instructions.specs.declared.groups.Group.TheVariants as Groups
+use Rattle.icn_instructions.specs.declared.groups.InstrGroup.TheVariants as Groups
 use Rattle.icn_instructions.specs.Groups.{group_of, group_of_op}
 
 -- all operations but one apply a row

@@ -14,23 +14,23 @@ use Rattle.icn_frames.specs.declared.layout.Cell.{Cell}
 use Rattle.icn_frames.specs.declared.layout.Cell.TheVariants.{Base, Call, Local, Mark, Limit, Suspension, Operand}
 use Rattle.icn_frames.specs.Stacks as held
 use Rattle.icn_frames.specs.Stacks.{FlatStack}
-use Rattle.icn_frames_laws.specs.Readings.{popped_read, unmarked_read, cell_read}
-use Rattle.icn_frames_laws.proofs.CellsRead.{at_read}
-use Rattle.icn_frames_laws.proofs.CallsRead.{pop_read, taken_pop, below_read, relabel_read, is_base_read}
-use Rattle.icn_frames_laws.proofs.ScansRead.{suspend_mark_read, unmark_read}
+use Rattle.law_frames.specs.ReadStacks.{popped_read, unmarked_read, cell_read}
+use Rattle.law_frames.proofs.CellsRead.{at_read}
+use Rattle.law_frames.proofs.CallsRead.{pop_read, taken_pop, below_read, relabel_read, is_base_read}
+use Rattle.law_frames.proofs.ScansRead.{suspend_mark_read, unmark_read}
 use Rattle.icn_code.specs.declared.instr.Instr.TheVariants as Instrs
 use Rattle.icn_code.specs.Codes.{Tables}
 use Rattle.icn_run.specs.Rows as rows
 use Rattle.icn_run.specs.Stacks as code
 use Rattle.icn_run.specs.Stacks.{Frames, flat}
 use Rattle.icn_run.specs.Step.{State, Store, stuck, on_pair, with_found, with_popped, with_taken, with_exchange, exhaust_active, here, is_main, pair_now, push_item, unmark_then}
-use Rattle.icn_control.specs.Living.{IsFrame, IsRooted, IsLiveStack}
-use Rattle.icn_control.specs.Parts.{FindsValue}
-use Rattle.icn_control.specs.Standing.{instruction_state, reading_of, stack_in}
-use Rattle.icn_control.specs.Taking.{take_operands, taken_onto}
+use Rattle.icn_control.specs.LiveStacks.{IsFrame, IsRooted, IsLiveStack}
+use Rattle.icn_control.specs.StackAndWorld.{FindsValue}
+use Rattle.icn_control.specs.StackViews.{instruction_state, reading_of, stack_in}
+use Rattle.icn_control.specs.TakenOperands.{take_operands, taken_onto}
 use Rattle.icn_control.proofs.LiveCalls.{live_pop}
 use Rattle.icn_control.proofs.LiveCells.{first_cut, live_cut}
-use Rattle.icn_control.proofs.PartSteps.{popped_value}
+use Rattle.icn_control.proofs.StackAndWorldSteps.{popped_value}
 use Rattle.icn_control.proofs.ScanSteps.{pop_registers}
 use Rattle.icn_control.proofs.StackSteps.{popped_runs}
 

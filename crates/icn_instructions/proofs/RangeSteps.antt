@@ -15,7 +15,7 @@ use Rattle.icn_code.specs.declared.instr.Instr.TheVariants as Instrs
 use Rattle.icn_code.specs.Codes.{Tables, Proc}
 use Rattle.icn_code.specs.Rules.{is_instr, is_proc, keeps_rules}
 use Rattle.icn_run.specs.Step.{Store, instrs_of, statics_of, statics_before, static_count}
-use Rattle.icn_control.specs.Living.{IsLiveStack, variables_of}
+use Rattle.icn_control.specs.LiveStacks.{IsLiveStack, variables_of}
 use Rattle.icn_control.specs.Machines.{extent, store_seen, world_reach}
 use Rattle.icn_control.specs.declared.machine.Machine.{Machine}
 use Rattle.icn_control.proofs.LiveFrames.{own_count}

@@ -4,16 +4,16 @@ use Rattle.icn_text.specs.declared.op.Op.{Op}
 use Rattle.icn_text.specs.declared.op.Op.TheVariants as Ops
 use Rattle.icn_code.specs.declared.instr.Instr.{Instr}
 use Rattle.icn_code.specs.declared.instr.Instr.TheVariants as Instrs
-use Rattle.icn_instructions.specs.declared.groups.Group.{Group}
-use Rattle.icn_instructions.specs.declared.groups.Group.TheVariants as Groups
+use Rattle.icn_instructions.specs.declared.groups.InstrGroup.{InstrGroup}
+use Rattle.icn_instructions.specs.declared.groups.InstrGroup.TheVariants as Groups
 
 -- of the operations, the refreshing of a co-expression is no row
-abbrev pub group_of_op : Op → Group
+abbrev pub group_of_op : Op → InstrGroup
 group_of_op Ops.Refresh = Groups.Coexpression
 group_of_op op = Groups.Application
 
 -- what an instruction touches
-abbrev pub group_of : Instr → Group
+abbrev pub group_of : Instr → InstrGroup
 group_of Instrs.Pnull = Groups.Stack
 group_of (Instrs.Int place) = Groups.Stack
 group_of (Instrs.Str place) = Groups.World

@@ -1,3 +1,3 @@
 pub mod Groups
 pub mod Ranges
-pub mod Doing
+pub mod InstructionEffects

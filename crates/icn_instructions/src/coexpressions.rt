@@ -1,16 +1,16 @@
 // The instructions that make, enter or leave a co-expression.
 ghost use Rattle.std.specs.Prelude.{◌≡◌, ◌≢◌, true, IfErr, IfOk, IsSome, OnOk};
-ghost use Rattle.icn_code.specs.Seen.{tables_of};
+ghost use Rattle.icn_code.specs.CodeTables.{tables_of};
 ghost use Rattle.icn_value.specs.Store.{Outside};
 ghost use Rattle.icn_vars.specs.Outcomes.{IsLiveHalt};
 ghost use Rattle.icn_run.specs.Step.{stuck};
-ghost use Rattle.icn_control.specs.Machines.{ComesTo, HasStack, IsSound, does, world_reach};
-ghost use Rattle.icn_instructions.specs.Doing.{HasMemory};
+ghost use Rattle.icn_control.specs.Machines.{ComesTo, HasStack, IsSoundMachine, does, world_reach};
+ghost use Rattle.icn_instructions.specs.InstructionEffects.{HasMemory};
 ghost use Rattle.icn_instructions.specs.Groups.{group_of, takes_no_memory};
-ghost use Rattle.icn_instructions.specs.declared.groups.Group.TheVariants as Groups;
+ghost use Rattle.icn_instructions.specs.declared.groups.InstrGroup.TheVariants as Groups;
 
 use icn_code::{Code, Instr};
-use icn_control::{Machine, Stage, coact, coret, create, exhaust, refresh};
+use icn_control::{Machine, RunState, coact, coret, create, exhaust, refresh};
 use icn_frames::{Cell, Stack};
 use icn_vars::Halt;
 
@@ -22,14 +22,14 @@ pub fn do_with_coexpressions<K: Stack<Cell> + Drop>(
     m: &mut Machine<K>,
     code: &Code,
     instr: Instr,
-) -> Result<Stage, Halt>
+) -> Result<RunState, Halt>
     requires group { group_of instr ≡ Groups.Coexpression }
     requires runs { IsSome m.old.stacks.table.running }
-    requires sound { IsSound (tables_of code.now) m.old }
+    requires sound { IsSoundMachine (tables_of code.now) m.old }
     requires goes_on { (outside : Outside) × (does (tables_of code.now) outside instr m.old ≢ stuck) }
     ensures step { (outside : Outside)
         → ComesTo (tables_of code.now) outside (does (tables_of code.now) outside instr m.old) m.new result }
-    ensures sound { OnOk result (IsSound (tables_of code.now) m.new) }
+    ensures sound { OnOk result (IsSoundMachine (tables_of code.now) m.new) }
     ensures halt { IfErr result (IsLiveHalt (world_reach m.new)) }
     ensures stack { IfOk result (HasStack m.new) }
     ensures limits { m.new.limits ≡ m.old.limits }

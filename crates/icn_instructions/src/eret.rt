@@ -4,9 +4,9 @@ ghost use Rattle.icn_code.specs.Codes.{Tables};
 ghost use Rattle.icn_code.specs.declared.instr.Instr.TheVariants as Instrs;
 ghost use Rattle.icn_vars.specs.Outcomes.{IsLiveHalt};
 ghost use Rattle.icn_vars.specs.Worlds.{reach_of};
-ghost use Rattle.icn_control.specs.Living.{IsLiveStack};
-ghost use Rattle.icn_control.specs.Parts.{DoesWith};
-ghost use Rattle.icn_instructions.specs.Doing.{LacksNothingIn};
+ghost use Rattle.icn_control.specs.LiveStacks.{IsLiveStack};
+ghost use Rattle.icn_control.specs.StackAndWorld.{DoesWith};
+ghost use Rattle.icn_instructions.specs.InstructionEffects.{LacksNothingIn};
 ghost use Rattle.icn_control.specs.Soundness.{KeepsHeap};
 
 use icn_control::{put, restore_pair, value_of};

@@ -7,7 +7,7 @@ use icn_text::Op;
 
 /// What an instruction touches.
 #[derive(Clone, Copy, Debug, PartialEq, Eq)]
-pub enum Group {
+pub enum InstrGroup {
     /// Nothing but the stack that runs.
     Stack,
     /// The stack that runs and the world.
@@ -21,56 +21,56 @@ pub enum Group {
 }
 
 /// What an instruction touches.
-pub fn group_of(instr: Instr) -> Group
+pub fn group_of(instr: Instr) -> InstrGroup
     ensures { result ≡ group_of instr }
 {
     match instr {
-        Instr::Pnull => Group::Stack,
-        Instr::Int(_) => Group::Stack,
-        Instr::Str(_) => Group::World,
-        Instr::Cset(_) => Group::Stack,
-        Instr::Local(_) => Group::Stack,
-        Instr::Static(_) => Group::Stack,
-        Instr::Global(_) => Group::Stack,
-        Instr::Keywd(_) => Group::Machine,
-        Instr::Pop => Group::Stack,
-        Instr::Dup => Group::Stack,
+        Instr::Pnull => InstrGroup::Stack,
+        Instr::Int(_) => InstrGroup::Stack,
+        Instr::Str(_) => InstrGroup::World,
+        Instr::Cset(_) => InstrGroup::Stack,
+        Instr::Local(_) => InstrGroup::Stack,
+        Instr::Static(_) => InstrGroup::Stack,
+        Instr::Global(_) => InstrGroup::Stack,
+        Instr::Keywd(_) => InstrGroup::Machine,
+        Instr::Pop => InstrGroup::Stack,
+        Instr::Dup => InstrGroup::Stack,
         Instr::Op(op) => group_of_op(op),
-        Instr::Llist(_) => Group::Machine,
-        Instr::Field(_) => Group::Application,
-        Instr::Invoke(_) => Group::Application,
-        Instr::Appl => Group::Application,
-        Instr::Mark(_) => Group::Stack,
-        Instr::Mark0 => Group::Stack,
-        Instr::Unmark => Group::Machine,
-        Instr::Eret => Group::World,
-        Instr::Esusp => Group::Stack,
-        Instr::Limit => Group::World,
-        Instr::Lsusp => Group::Machine,
-        Instr::Efail => Group::Machine,
-        Instr::Chfail(_) => Group::Stack,
-        Instr::Goto(_) => Group::Stack,
-        Instr::Loop(_) => Group::Machine,
-        Instr::Bscan => Group::World,
-        Instr::Escan => Group::World,
-        Instr::Ccase => Group::Stack,
-        Instr::Init(_) => Group::Machine,
-        Instr::Psusp => Group::World,
-        Instr::Pret => Group::World,
-        Instr::Pfail => Group::World,
-        Instr::Create(_) => Group::Coexpression,
-        Instr::Coact => Group::Coexpression,
-        Instr::Coret => Group::Coexpression,
-        Instr::Cofail => Group::Coexpression,
+        Instr::Llist(_) => InstrGroup::Machine,
+        Instr::Field(_) => InstrGroup::Application,
+        Instr::Invoke(_) => InstrGroup::Application,
+        Instr::Appl => InstrGroup::Application,
+        Instr::Mark(_) => InstrGroup::Stack,
+        Instr::Mark0 => InstrGroup::Stack,
+        Instr::Unmark => InstrGroup::Machine,
+        Instr::Eret => InstrGroup::World,
+        Instr::Esusp => InstrGroup::Stack,
+        Instr::Limit => InstrGroup::World,
+        Instr::Lsusp => InstrGroup::Machine,
+        Instr::Efail => InstrGroup::Machine,
+        Instr::Chfail(_) => InstrGroup::Stack,
+        Instr::Goto(_) => InstrGroup::Stack,
+        Instr::Loop(_) => InstrGroup::Machine,
+        Instr::Bscan => InstrGroup::World,
+        Instr::Escan => InstrGroup::World,
+        Instr::Ccase => InstrGroup::Stack,
+        Instr::Init(_) => InstrGroup::Machine,
+        Instr::Psusp => InstrGroup::World,
+        Instr::Pret => InstrGroup::World,
+        Instr::Pfail => InstrGroup::World,
+        Instr::Create(_) => InstrGroup::Coexpression,
+        Instr::Coact => InstrGroup::Coexpression,
+        Instr::Coret => InstrGroup::Coexpression,
+        Instr::Cofail => InstrGroup::Coexpression,
     }
 }
 
 // Of the operations, the refreshing of a co-expression is no row.
-fn group_of_op(op: Op) -> Group
+fn group_of_op(op: Op) -> InstrGroup
     ensures { result ≡ group_of_op op }
 {
     match op {
-        Op::Refresh => Group::Coexpression,
-        _ => Group::Application,
+        Op::Refresh => InstrGroup::Coexpression,
+        _ => InstrGroup::Application,
     }
 }

@@ -1,17 +1,17 @@
 // The instructions that touch the stack that runs and the world, and nothing else.
 ghost use Rattle.std.specs.Prelude.{◌≡◌, [], true, OnOk};
-ghost use Rattle.icn_code.specs.Seen.{tables_of};
+ghost use Rattle.icn_code.specs.CodeTables.{tables_of};
 ghost use Rattle.icn_vars.specs.Worlds.{reach_of};
-ghost use Rattle.icn_control.specs.Living.{IsLiveStack};
-ghost use Rattle.icn_instructions.specs.Doing.{ComesIn, HasMemory, LacksNothingIn};
+ghost use Rattle.icn_control.specs.LiveStacks.{IsLiveStack};
+ghost use Rattle.icn_instructions.specs.InstructionEffects.{ComesIn, HasMemory, LacksNothingIn};
 ghost use Rattle.icn_instructions.specs.Groups.{group_of, takes_no_memory};
-ghost use Rattle.icn_instructions.specs.declared.groups.Group.TheVariants as Groups;
+ghost use Rattle.icn_instructions.specs.declared.groups.InstrGroup.TheVariants as Groups;
 ghost use Rattle.icn_control.specs.Soundness.{LeavesWorld};
 
 use crate::eret::give_out;
 use icn_code::{Code, Instr};
 use icn_control::{
-    Stage, fail_procedure, give_back, leave_scan, limit, open_scan, push_string, suspend_with,
+    RunState, fail_procedure, give_back, leave_scan, limit, open_scan, push_string, suspend_with,
 };
 use icn_frames::{Cell, Frames, Stack};
 use icn_vars::{Halt, World};
@@ -24,7 +24,7 @@ pub fn do_in_world<K: Stack<Cell> + Drop>(
     world: &mut World,
     code: &Code,
     instr: Instr,
-) -> Result<Stage, Halt>
+) -> Result<RunState, Halt>
     requires group { group_of instr ≡ Groups.World }
     requires goes_on { LacksNothingIn (tables_of code.now) instr world.old frames.old.flat }
     requires live { IsLiveStack (tables_of code.now) (reach_of world.old []) frames.old.flat }
@@ -36,20 +36,20 @@ pub fn do_in_world<K: Stack<Cell> + Drop>(
 {
     match instr {
         Instr::Str(place) => match push_string(frames, world, code, place) {
-            Ok(()) => Ok(Stage::Runs),
+            Ok(()) => Ok(RunState::Running),
             Err(_) => Err(Halt::NoMemory),
         },
         Instr::Eret => match give_out(frames, world) {
-            Ok(()) => Ok(Stage::Runs),
+            Ok(()) => Ok(RunState::Running),
             Err(halt) => Err(halt),
         },
         Instr::Limit => limit(frames, world),
         Instr::Bscan => match open_scan(frames, world) {
-            Ok(()) => Ok(Stage::Runs),
+            Ok(()) => Ok(RunState::Running),
             Err(halt) => Err(halt),
         },
         Instr::Escan => match leave_scan(frames, world) {
-            Ok(()) => Ok(Stage::Runs),
+            Ok(()) => Ok(RunState::Running),
             Err(_) => Err(Halt::NoMemory),
         },
         Instr::Psusp => suspend_with(frames, world),

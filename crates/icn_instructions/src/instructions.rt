@@ -1,24 +1,24 @@
 // The instructions that perform no row and call nothing.
 ghost use Rattle.std.specs.Prelude.{◌≡◌, ◌≢◌, true, IfErr, IfOk, IsSome, OnOk};
-ghost use Rattle.icn_code.specs.Seen.{tables_of};
+ghost use Rattle.icn_code.specs.CodeTables.{tables_of};
 ghost use Rattle.icn_frames.specs.Stacks as flat;
 ghost use Rattle.icn_value.specs.Store.{Outside};
 ghost use Rattle.icn_vars.specs.Outcomes.{IsLiveHalt};
 ghost use Rattle.icn_run.specs.Step.{stuck};
-ghost use Rattle.icn_control.specs.Machines.{ComesTo, HasStack, IsSound, does, stack_of, stack_seen, store_seen, world_reach};
-ghost use Rattle.icn_instructions.specs.Doing.{HasMemory};
+ghost use Rattle.icn_control.specs.Machines.{ComesTo, HasStack, IsSoundMachine, does, stack_of, stack_seen, store_seen, world_reach};
+ghost use Rattle.icn_instructions.specs.InstructionEffects.{HasMemory};
 ghost use Rattle.icn_instructions.specs.Groups.{group_of, takes_no_memory};
 ghost use Rattle.icn_run.specs.InstructionNeeds.{HasCaseMark, HasVariables};
 ghost use Rattle.icn_instructions.specs.Ranges.{IsInRange};
-ghost use Rattle.icn_instructions.specs.declared.groups.Group.TheVariants as Groups;
+ghost use Rattle.icn_instructions.specs.declared.groups.InstrGroup.TheVariants as Groups;
 
 use crate::coexpressions::do_with_coexpressions;
-use crate::groups::{Group, group_of};
+use crate::groups::{InstrGroup, group_of};
 use crate::in_world::do_in_world;
 use crate::on_machine::do_on_machine;
 use crate::on_stack::do_on_stack;
 use icn_code::{Code, Instr};
-use icn_control::{Machine, Stage};
+use icn_control::{Machine, RunState};
 use icn_frames::{Cell, Stack};
 use icn_value::{Item, Val};
 use icn_vars::Halt;
@@ -34,10 +34,10 @@ pub fn do_instruction<K: Stack<Cell> + Drop>(
     instr: Instr,
     items: &mut Vec<Item>,
     vals: &mut Vec<Val>,
-) -> Result<Stage, Halt>
+) -> Result<RunState, Halt>
     requires kind { group_of instr ≢ Groups.Application }
     requires runs { IsSome m.old.stacks.table.running }
-    requires sound { IsSound (tables_of code.now) m.old }
+    requires sound { IsSoundMachine (tables_of code.now) m.old }
     requires goes_on { (outside : Outside) × (does (tables_of code.now) outside instr m.old ≢ stuck) }
     requires in_range { IsInRange (tables_of code.now) (flat.proc (stack_of m.old)) instr }
     requires case_mark { HasCaseMark instr (stack_seen m.old) }
@@ -45,20 +45,20 @@ pub fn do_instruction<K: Stack<Cell> + Drop>(
         × HasVariables (tables_of code.now) (store_seen (tables_of code.now) outside m.old) }
     ensures step { (outside : Outside)
         → ComesTo (tables_of code.now) outside (does (tables_of code.now) outside instr m.old) m.new result }
-    ensures sound { OnOk result (IsSound (tables_of code.now) m.new) }
+    ensures sound { OnOk result (IsSoundMachine (tables_of code.now) m.new) }
     ensures halt { IfErr result (IsLiveHalt (world_reach m.new)) }
     ensures stack { IfOk result (HasStack m.new) }
     ensures limits { m.new.limits ≡ m.old.limits }
     ensures no_memory { takes_no_memory instr ≡ true → HasMemory result }
 {
     match group_of(instr) {
-        Group::Stack => match do_on_stack(m.stacks.frames(), code, instr) {
-            Ok(()) => Ok(Stage::Runs),
+        InstrGroup::Stack => match do_on_stack(m.stacks.frames(), code, instr) {
+            Ok(()) => Ok(RunState::Running),
             Err(_) => Err(Halt::NoMemory),
         },
-        Group::World => do_in_world(m.stacks.frames(), &mut m.world, code, instr),
-        Group::Machine => do_on_machine(m, code, instr, items, vals),
-        Group::Coexpression => do_with_coexpressions(m, code, instr),
-        Group::Application => unreachable!(),
+        InstrGroup::World => do_in_world(m.stacks.frames(), &mut m.world, code, instr),
+        InstrGroup::Machine => do_on_machine(m, code, instr, items, vals),
+        InstrGroup::Coexpression => do_with_coexpressions(m, code, instr),
+        InstrGroup::Application => unreachable!(),
     }
 }

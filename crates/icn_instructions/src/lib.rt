@@ -10,5 +10,5 @@ mod on_machine;
 mod on_stack;
 mod statics;
 
-pub use groups::{Group, group_of};
+pub use groups::{InstrGroup, group_of};
 pub use instructions::do_instruction;

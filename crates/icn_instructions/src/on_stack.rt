@@ -1,16 +1,16 @@
 // The instructions that touch nothing but the stack that runs.
 ghost use Rattle.std.specs.Prelude.{◌≡◌, true, IsOk, OnOk};
-ghost use Rattle.icn_code.specs.Seen.{tables_of};
+ghost use Rattle.icn_code.specs.CodeTables.{tables_of};
 ghost use Rattle.icn_frames.specs.Stacks as flat;
 ghost use Rattle.icn_heap.specs.Extents.{Extent};
 ghost use Rattle.icn_vars.specs.Worlds.{Reach};
-ghost use Rattle.icn_control.specs.Living.{IsLiveStack};
-ghost use Rattle.icn_control.specs.Standing.{GoesOnIn, stack_in};
-ghost use Rattle.icn_instructions.specs.Doing.{LacksNothing};
+ghost use Rattle.icn_control.specs.LiveStacks.{IsLiveStack};
+ghost use Rattle.icn_control.specs.StackViews.{GoesOnIn, stack_in};
+ghost use Rattle.icn_instructions.specs.InstructionEffects.{LacksNothing};
 ghost use Rattle.icn_instructions.specs.Groups.{group_of, takes_no_memory};
 ghost use Rattle.icn_run.specs.InstructionNeeds.{HasCaseMark};
 ghost use Rattle.icn_instructions.specs.Ranges.{IsInRange, MayName};
-ghost use Rattle.icn_instructions.specs.declared.groups.Group.TheVariants as Groups;
+ghost use Rattle.icn_instructions.specs.declared.groups.InstrGroup.TheVariants as Groups;
 
 use crate::statics::first_static;
 use icn_code::{Code, Instr};

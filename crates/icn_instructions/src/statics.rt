@@ -1,6 +1,6 @@
 // Where the statics of a procedure begin.
 ghost use Rattle.std.specs.Prelude.{◌≡◌, ◌+◌, ◌<◌, ◌≤◌, length};
-ghost use Rattle.icn_code.specs.Seen.{tables_of};
+ghost use Rattle.icn_code.specs.CodeTables.{tables_of};
 ghost use Rattle.icn_run.specs.Step.{statics_before};
 
 use icn_code::Code;

@@ -6,25 +6,25 @@ use Rattle.std.proofs.lemmas.List.Elements.{All-head, All-tail}
 use Rattle.icn_value.specs.declared.val.Val.{Val}
 use Rattle.icn_value.specs.Store.{Setting}
 use Rattle.icn_defs.specs.Calls.{GoesOn}
-use Rattle.icn_defs.specs.InputOutput.{Piece, pieces}
+use Rattle.icn_defs.specs.InputOutput.{WriteArgument, pieces}
 use Rattle.icn_defs.specs.Rows.{Outcome, Row}
 use Rattle.icn_heap.specs.Extents.{Extent, IsLive, value_in}
 use Rattle.icn_vars.specs.declared.stop.Stop.{Stop}
 use Rattle.icn_vars.specs.declared.stop.Stop.TheVariants.{Error as ErrorStop, NoMemory as NoMemoryStop}
 use Rattle.icn_vars.specs.Stops.{IsLiveStop, StopsFinding}
-use Rattle.icn_args.specs.Words.{IsFound}
+use Rattle.icn_args.specs.RowWords.{IsFound}
 use Rattle.icn_iofn.specs.Checks.{one_piece}
-use Rattle.icn_iofn.specs.Putting.{piece_in, pieces_in}
+use Rattle.icn_iofn.specs.PutPieces.{piece_in, pieces_in}
 use Rattle.icn_iofn.proofs.PutSteps.{nothing_left}
 
 -- what comes of checking what is left comes of checking all
 pub record ChecksSo (vals rest : List Val) : Type 0 where
   pub passes : (all : Extent) (setting : Setting)
-      → ((next : List Piece → Row) → pieces (map (value_in all) rest) next setting ≡ next (pieces_in (map (value_in all) rest)) setting)
-      → (next : List Piece → Row) → pieces (map (value_in all) vals) next setting ≡ next (pieces_in (map (value_in all) vals)) setting
+      → ((next : List WriteArgument → Row) → pieces (map (value_in all) rest) next setting ≡ next (pieces_in (map (value_in all) rest)) setting)
+      → (next : List WriteArgument → Row) → pieces (map (value_in all) vals) next setting ≡ next (pieces_in (map (value_in all) vals)) setting
   pub halts : (all : Extent) (setting : Setting) (outcome : Outcome)
-      → ((next : List Piece → Row) → pieces (map (value_in all) rest) next setting ≡ outcome)
-      → (next : List Piece → Row) → pieces (map (value_in all) vals) next setting ≡ outcome
+      → ((next : List WriteArgument → Row) → pieces (map (value_in all) rest) next setting ≡ outcome)
+      → (next : List WriteArgument → Row) → pieces (map (value_in all) vals) next setting ≡ outcome
   pub live : (all : Extent) → All (IsLive all) vals → All (IsLive all) rest
 
 pub checks_begin : (vals : List Val) → ChecksSo vals vals

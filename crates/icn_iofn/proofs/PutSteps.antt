@@ -13,13 +13,13 @@ use Rattle.icn_value.specs.declared.val.Val.TheVariants as Vals
 use Rattle.icn_value.specs.declared.val.File.{File as HeldFile}
 use Rattle.icn_value.specs.Values.{File, Input, Output, Errout}
 use Rattle.icn_value.specs.Store.{Outside}
-use Rattle.icn_defs.specs.InputOutput.{Piece, Puts, Selects, newline, put_on, put_pieces}
+use Rattle.icn_defs.specs.InputOutput.{WriteArgument, Puts, Selects, newline, put_on, put_pieces}
 use Rattle.icn_heap.specs.Extents.{Extent, IsLive, value_in}
-use Rattle.icn_args.specs.Words.{the_text}
-use Rattle.icn_streams.specs.Handed.{KeepsCounts, FailsOnce, WantsOnce}
-use Rattle.icn_streams.proofs.Following.{puts_nothing, puts_then, then_puts_part}
-use Rattle.icn_streams.proofs.Idle.{counts_all}
-use Rattle.icn_iofn.specs.Putting.{Advances, BrokenBy, GainsOutputs, GainedPart, KeepsBoth, Outputs, PutsOn, PutsPartOn, Stops, errors_failed, errors_part, errors_wanted, file_after, line_put, output_failed, output_part, output_wanted, outputs, piece_in, pieces_in, text_of_piece, uncounted, waiting_text}
+use Rattle.icn_args.specs.RowWords.{the_text}
+use Rattle.icn_streams.specs.Handed.{KeepsFaultCounts, FailsOnce, WantsOnce}
+use Rattle.icn_streams.proofs.CallSequences.{puts_nothing, puts_then, then_puts_part}
+use Rattle.icn_streams.proofs.IdleCalls.{keeps_counts_refl}
+use Rattle.icn_iofn.specs.PutPieces.{HasEffect, BrokenBy, GainsOutputs, GainedPart, KeepsBoth, Outputs, PutsOn, PutsPartOn, StopsEffect, errors_failed, errors_part, errors_wanted, file_after, line_put, output_failed, output_part, output_wanted, outputs, piece_in, pieces_in, text_of_piece, uncounted, waiting_text}
 
 -- Puts on a file
 
@@ -63,13 +63,13 @@ grows_on Input text o = grows_all o
 grows_on Output text o = record { output = text; output_is = refl; errors = []; errors_is = sym (append-nil o.errors); left = refl }
 grows_on Errout text o = record { output = []; output_is = sym (append-nil o.output); errors = text; errors_is = refl; left = refl }
 
-pub grows_pieces : (end : List ℕ) (is_first : Bool) (parts : List Piece) (file : File) (o : Outside) → Grows o (put_pieces end is_first parts file o).1
+pub grows_pieces : (end : List ℕ) (is_first : Bool) (parts : List WriteArgument) (file : File) (o : Outside) → Grows o (put_pieces end is_first parts file o).1
 grows_pieces end is_first [] file o = grows_all o
 grows_pieces end is_first (Puts text ∷ parts) file o = grows_then (grows_on file text o) (grows_pieces end false parts file (put_on file text o))
 grows_pieces end is_first (Selects other ∷ parts) file o =
     grows_then (grows_on file (if is_first then [] else end) o) (grows_pieces end false parts other (put_on file (if is_first then [] else end) o))
 
-pub grows_line : (end : List ℕ) (is_first : Bool) (parts : List Piece) (file : File) (o : Outside) → Grows o (line_put end is_first parts file o)
+pub grows_line : (end : List ℕ) (is_first : Bool) (parts : List WriteArgument) (file : File) (o : Outside) → Grows o (line_put end is_first parts file o)
 grows_line end is_first parts file o =
     let past = put_pieces end is_first parts file o in
     grows_then (grows_pieces end is_first parts file o) (grows_on (put_pieces end is_first parts file o).0 end (put_pieces end is_first parts file o).1)
@@ -77,18 +77,18 @@ grows_line end is_first parts file o =
 -- What the outputs gained
 
 pub both_all : (a : Outputs) → KeepsBoth a a
-both_all a = record { output = counts_all a.output; errors = counts_all a.errors }
+both_all a = record { output = keeps_counts_refl a.output; errors = keeps_counts_refl a.errors }
 
-counts_then : {a b c : SinkState} → KeepsCounts a b → KeepsCounts b c → KeepsCounts a c
+counts_then : {a b c : SinkState} → KeepsFaultCounts a b → KeepsFaultCounts b c → KeepsFaultCounts a c
 counts_then first second = record { faults = second.faults ∙ first.faults; wants = second.wants ∙ first.wants }
 
 pub both_then : {a b c : Outputs} → KeepsBoth a b → KeepsBoth b c → KeepsBoth a c
 both_then first second = record { output = counts_then first.output second.output; errors = counts_then first.errors second.errors }
 
-fails_then : {a b c : SinkState} → KeepsCounts a b → FailsOnce b c → FailsOnce a c
+fails_then : {a b c : SinkState} → KeepsFaultCounts a b → FailsOnce b c → FailsOnce a c
 fails_then first second = record { faults = rw (← first.faults) second.faults; wants = second.wants ∙ first.wants }
 
-wants_then : {a b c : SinkState} → KeepsCounts a b → WantsOnce b c → WantsOnce a c
+wants_then : {a b c : SinkState} → KeepsFaultCounts a b → WantsOnce b c → WantsOnce a c
 wants_then first second = record { faults = second.faults ∙ first.faults; wants = rw (← first.wants) second.wants }
 
 pub broken_then : {a b c : Outputs} (fault : Fault) → KeepsBoth a b → BrokenBy b c fault → BrokenBy a c fault
@@ -160,12 +160,12 @@ output_broken (Ok _) a b e file text is gains faults wants = tt
 output_broken (Err Failed) a b e file text is gains faults wants = rw is (record {
   output = gains;
   errors = part_nothing e.held [];
-  cause = output_failed (record { faults = faults.rose refl; wants = wants.stayed (λ h. cc) }) (counts_all e);
+  cause = output_failed (record { faults = faults.rose refl; wants = wants.stayed (λ h. cc) }) (keeps_counts_refl e);
 })
 output_broken (Err NoMemory) a b e file text is gains faults wants = rw is (record {
   output = gains;
   errors = part_nothing e.held [];
-  cause = output_wanted (record { faults = faults.stayed (λ h. cc); wants = wants.rose refl }) (counts_all e);
+  cause = output_wanted (record { faults = faults.stayed (λ h. cc); wants = wants.rose refl }) (keeps_counts_refl e);
 })
 
 pub errors_broken : (r : Result (Unit {0}) Fault) (a b o : SinkState) (file : File) (text : List ℕ) → file ≡ Errout → OnErr r (GainsPart a.held b.held text)
@@ -175,19 +175,19 @@ errors_broken (Ok _) a b o file text is gains faults wants = tt
 errors_broken (Err Failed) a b o file text is gains faults wants = rw is (record {
   output = part_nothing o.held [];
   errors = gains;
-  cause = errors_failed (counts_all o) (record { faults = faults.rose refl; wants = wants.stayed (λ h. cc) });
+  cause = errors_failed (keeps_counts_refl o) (record { faults = faults.rose refl; wants = wants.stayed (λ h. cc) });
 })
 errors_broken (Err NoMemory) a b o file text is gains faults wants = rw is (record {
   output = part_nothing o.held [];
   errors = gains;
-  cause = errors_wanted (counts_all o) (record { faults = faults.stayed (λ h. cc); wants = wants.rose refl });
+  cause = errors_wanted (keeps_counts_refl o) (record { faults = faults.stayed (λ h. cc); wants = wants.rose refl });
 })
 
 -- One piece
 
 -- a text waits with what waits on the file
 pub waits_more : (file now : File) (text more later : List ℕ) (a : Outputs) → now ≡ file → later ≡ text ++ more
-    → Advances (waiting_text file text a) (waiting_text now later a) (put_on file more)
+    → HasEffect (waiting_text file text a) (waiting_text now later a) (put_on file more)
 waits_more file now text more later a same is = record {
   reached = λ was. was;
   gained = λ was. gained_all a was;
@@ -197,7 +197,7 @@ waits_more file now text more later a same is = record {
 
 -- what waits was put, and another file is selected
 pub puts_waiting : (file other : File) (text more whole rest : List ℕ) (a b : Outputs) → PutsOn file whole a b → whole ≡ text ++ more → rest ≡ []
-    → Advances (waiting_text file text a) (waiting_text other rest b) (put_on file more)
+    → HasEffect (waiting_text file text a) (waiting_text other rest b) (put_on file more)
 puts_waiting file other text more whole rest a b puts is empty = record {
   reached = λ was. put_on file whole was;
   gained = λ was. gained_on puts was;
@@ -208,7 +208,7 @@ puts_waiting file other text more whole rest a b puts is empty = record {
 
 -- memory was wanting before anything was put
 pub stops_idle : (file : File) (text more : List ℕ) (a : Outputs) (fault : Fault) → fault ≡ NoMemory
-    → Stops (waiting_text file text a) a (put_on file more) fault
+    → StopsEffect (waiting_text file text a) a (put_on file more) fault
 stops_idle file text more a fault is = record {
   gained = λ was. part_idle a (grows_then (grows_on file text was) (grows_on file more (put_on file text was)));
   cause = subst (BrokenBy a a) (sym is) (uncounted (both_all a));
@@ -230,25 +230,26 @@ text_piece all (Vals.Coexp id) other = refl
 
 -- Results
 
-pub err_is : {T : Type 0} (r : Result T Fault) (P : Fault → Type 0) (fault : Fault) → IsErrAnd r (λ other. other ≡ fault) → P fault → IfErr r P
-err_is (Ok value) P fault same is = tt
-err_is (Err other) P fault same is = subst P (sym same) is
+-- what holds of a known error holds of the result's error
+pub if_err_known : {T : Type 0} (r : Result T Fault) (P : Fault → Type 0) (fault : Fault) → IsErrAnd r (λ other. other ≡ fault) → P fault → IfErr r P
+if_err_known (Ok value) P fault same is = tt
+if_err_known (Err other) P fault same is = subst P (sym same) is
 
-pub no_ok : {T : Type 0} (r : Result T Fault) (P : T → Type 0) (Q : Fault → Type 0) → IsErrAnd r Q → IfOk r P
-no_ok (Ok value) P Q same = absurd same
-no_ok (Err other) P Q same = tt
+pub if_ok_of_error : {T : Type 0} (r : Result T Fault) (P : T → Type 0) (Q : Fault → Type 0) → IsErrAnd r Q → IfOk r P
+if_ok_of_error (Ok value) P Q same = absurd same
+if_ok_of_error (Err other) P Q same = tt
 
-pub on_ok : {P Q : Type 0} (r : Result (Unit {0}) Fault) → OnOk r P → (P → Q) → OnOk r Q
-on_ok (Ok value) is next = next is
-on_ok (Err other) is next = tt
+pub on_ok_map : {P Q : Type 0} (r : Result (Unit {0}) Fault) → OnOk r P → (P → Q) → OnOk r Q
+on_ok_map (Ok value) is next = next is
+on_ok_map (Err other) is next = tt
 
-pub if_err : {P Q : Fault → Type 0} (r : Result (Unit {0}) Fault) → IfErr r P → ((fault : Fault) → P fault → Q fault) → IfErr r Q
-if_err (Ok value) is next = tt
-if_err (Err other) is next = next other is
+pub if_err_map : {P Q : Fault → Type 0} (r : Result (Unit {0}) Fault) → IfErr r P → ((fault : Fault) → P fault → Q fault) → IfErr r Q
+if_err_map (Ok value) is next = tt
+if_err_map (Err other) is next = next other is
 
-pub on_err : {P : Fault → Type 0} {Q : Type 0} (r : Result (Unit {0}) Fault) → IfErr r P → ((fault : Fault) → P fault → Q) → OnErr r Q
-on_err (Ok value) is next = tt
-on_err (Err other) is next = next other is
+pub on_err_map : {P : Fault → Type 0} {Q : Type 0} (r : Result (Unit {0}) Fault) → IfErr r P → ((fault : Fault) → P fault → Q) → OnErr r Q
+on_err_map (Ok value) is next = tt
+on_err_map (Err other) is next = next other is
 
 -- A line
 
@@ -275,14 +276,15 @@ line_begins all vals ends start text a empty live = record {
   live = live;
 }
 
-piece_text : (ends is_first : Bool) (piece : Piece) → text_of_piece newline (not (ends && not is_first)) piece ≡ text_of_piece (end_of ends) is_first piece
+piece_text : (ends is_first : Bool) (piece : WriteArgument)
+    → text_of_piece newline (not (ends && not is_first)) piece ≡ text_of_piece (end_of ends) is_first piece
 piece_text ends is_first (Puts text) = refl
 piece_text true true (Selects other) = refl
 piece_text true false (Selects other) = refl
 piece_text false true (Selects other) = refl
 piece_text false false (Selects other) = refl
 
-line_step : (end : List ℕ) (is_first : Bool) (piece : Piece) (parts : List Piece) (file : File) (o : Outside)
+line_step : (end : List ℕ) (is_first : Bool) (piece : WriteArgument) (parts : List WriteArgument) (file : File) (o : Outside)
     → line_put end is_first (piece ∷ parts) file o ≡ line_put end false parts (file_after file piece) (put_on file (text_of_piece end is_first piece) o)
 line_step end is_first (Puts text) parts file o = refl
 line_step end is_first (Selects other) parts file o = refl
@@ -308,7 +310,7 @@ module _ (all : Extent) (vals : List Val) (first : Val) (others : List Val) (end
       ∙ so.same was)
 
   pub line_goes_on : (later : File) (waits : List ℕ) (after : Outputs)
-      → Advances (waiting_text now text between) (waiting_text later waits after) (put_on now (text_of_piece newline (not b) (piece_in (value_in all first))))
+      → HasEffect (waiting_text now text between) (waiting_text later waits after) (put_on now (text_of_piece newline (not b) (piece_in (value_in all first))))
       → later ≡ file_after now (piece_in (value_in all first)) → LineSo all vals others ends false start later waits before after
   line_goes_on later waits after adv is = record {
     reached = λ was. adv.reached (so.reached was);
@@ -323,7 +325,7 @@ module _ (all : Extent) (vals : List Val) (first : Val) (others : List Val) (end
   }
 
   pub line_stops : (after : Outputs) (fault : Fault)
-      → Stops (waiting_text now text between) after (put_on now (text_of_piece newline (not b) (piece_in (value_in all first)))) fault
+      → StopsEffect (waiting_text now text between) after (put_on now (text_of_piece newline (not b) (piece_in (value_in all first)))) fault
       → (was : Outside) → GainedPart before after was (line_put (end_of ends) true (pieces_in (map (value_in all) vals)) start was)
   line_stops after fault stops was =
       subst (GainedPart before after was) (behind was)
@@ -332,7 +334,7 @@ module _ (all : Extent) (vals : List Val) (first : Val) (others : List Val) (end
       (put_on now (text_of_piece newline (not b) (piece_in (value_in all first))) (put_on now text (so.reached was)))))
 
   pub line_stopped_by : (after : Outputs) (fault : Fault)
-      → Stops (waiting_text now text between) after (put_on now (text_of_piece newline (not b) (piece_in (value_in all first)))) fault
+      → StopsEffect (waiting_text now text between) after (put_on now (text_of_piece newline (not b) (piece_in (value_in all first)))) fault
       → BrokenBy before after fault
   line_stopped_by after fault stops = broken_then fault so.counts stops.cause
 

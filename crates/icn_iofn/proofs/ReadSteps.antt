@@ -8,7 +8,7 @@ use Rattle.icn_heap.specs.Extents.{Extent}
 use Rattle.icn_vars.specs.Stops.{IsLiveStop}
 use Rattle.icn_vars.specs.declared.stop.Stop.{Stop}
 use Rattle.icn_vars.specs.declared.stop.Stop.TheVariants.{Error as ErrorStop, NoMemory as NoMemoryStop}
-use Rattle.icn_args.specs.Words.{IsFound}
+use Rattle.icn_args.specs.RowWords.{IsFound}
 
 -- a thing is found, and what is looked for then is answered so
 pub found_behind : {A B C : Type 0} (all : Extent) (find : Finds A) (thing : A) (rest : A → Finds B) (before between after : Setting) (shown : C → B)

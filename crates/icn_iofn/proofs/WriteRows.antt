@@ -20,9 +20,9 @@ use Rattle.icn_vars.specs.declared.world.World.{World}
 use Rattle.icn_streams.specs.Handed.{Follows, PutsPart, WantsMemory, WritingFails, errors_fail, errors_want, call_streams, output_fails, output_wants, uncounted as nothing_counted}
 use Rattle.icn_streams.specs.Answers.{StopsPutting, call_state, outside_after, putting}
 use Rattle.icn_streams.specs.Applies.{Applies}
-use Rattle.icn_streams.proofs.Idle.{items_all}
-use Rattle.icn_iofn.specs.Putting.{BrokenBy, GainsOutputs, GainedPart, KeepsBoth, errors_failed, errors_wanted, line_put, output_failed, output_wanted, outputs, pieces_in, uncounted}
-use Rattle.icn_iofn.specs.Writing.{lines_then}
+use Rattle.icn_streams.proofs.IdleCalls.{keeps_items_refl}
+use Rattle.icn_iofn.specs.PutPieces.{BrokenBy, GainsOutputs, GainedPart, KeepsBoth, errors_failed, errors_wanted, line_put, output_failed, output_wanted, outputs, pieces_in, uncounted}
+use Rattle.icn_iofn.specs.WriteRows.{lines_then}
 use Rattle.icn_iofn.proofs.PutSteps.{grows_line}
 
 failing_by : (o o' e e' : SinkState) (left : Option (List ℕ)) (faults : ℕ) (fault : Fault) → fault ≡ Failed → BrokenBy (outputs o e) (outputs o' e') fault
@@ -94,7 +94,7 @@ module _ (end : List ℕ) (file : File) (args : List Value) (next : Row) (quiet 
     caused = record { faults = refl; output = counts.output; errors = counts.errors };
     live = live;
     locals = lives;
-    kept = items_all (reach_of w locals);
+    kept = keeps_items_refl (reach_of w locals);
   }
 
   -- the line was put, and the program ends
@@ -121,7 +121,7 @@ module _ (end : List ℕ) (file : File) (args : List Value) (next : Row) (quiet 
     caused = record { faults = refl; output = counts.output; errors = counts.errors };
     live = tt;
     locals = lives;
-    kept = items_all (reach_of w locals);
+    kept = keeps_items_refl (reach_of w locals);
   }
 
   -- an output failed
@@ -135,7 +135,7 @@ module _ (end : List ℕ) (file : File) (args : List Value) (next : Row) (quiet 
     caused = failing_by o o' e e' left faults Failed refl cause;
     live = tt;
     locals = lives;
-    kept = items_all (reach_of w locals);
+    kept = keeps_items_refl (reach_of w locals);
   }
 
   -- memory was wanting
@@ -149,5 +149,5 @@ module _ (end : List ℕ) (file : File) (args : List Value) (next : Row) (quiet 
     caused = wanting_by o o' e e' left faults NoMemoryFault refl cause;
     live = tt;
     locals = lives;
-    kept = items_all (reach_of w locals);
+    kept = keeps_items_refl (reach_of w locals);
   }

@@ -1,5 +1,5 @@
 pub mod OfFiles
-pub mod Putting
+pub mod PutPieces
 pub mod Checks
-pub mod Reading
-pub mod Writing
+pub mod ReadParts
+pub mod WriteRows

@@ -8,8 +8,8 @@ ghost use Rattle.icn_heap.specs.Extents.{Extent, IsLive, value_in};
 ghost use Rattle.icn_heap.specs.Heaps.{extent_of};
 ghost use Rattle.icn_heap.specs.Keys as keys;
 ghost use Rattle.icn_vars.specs.Stops.{IsLiveStop};
-ghost use Rattle.icn_args.specs.Words.{IsFound};
-ghost use Rattle.icn_iofn.specs.Reading.{count_read, positive};
+ghost use Rattle.icn_args.specs.RowWords.{IsFound};
+ghost use Rattle.icn_iofn.specs.ReadParts.{count_read, positive};
 
 use icn_args::{arg, file_of, integer_of, natural_of, value_or};
 use icn_heap::Heap;

@@ -5,8 +5,8 @@ ghost use Rattle.icn_value.specs.Store.{Setting};
 ghost use Rattle.icn_defs.specs.InputOutput.{pieces};
 ghost use Rattle.icn_heap.specs.Extents.{Extent, IsLive, value_in};
 ghost use Rattle.icn_vars.specs.Stops.{IsLiveStop};
-ghost use Rattle.icn_args.specs.Words.{IsFound};
-ghost use Rattle.icn_iofn.specs.Putting.{piece_in, pieces_in};
+ghost use Rattle.icn_args.specs.RowWords.{IsFound};
+ghost use Rattle.icn_iofn.specs.PutPieces.{piece_in, pieces_in};
 ghost use Rattle.icn_iofn.specs.Checks.{one_piece};
 
 use icn_value::{File, Val};

@@ -6,8 +6,8 @@ ghost use Rattle.icn_value.specs.Store.{Outside};
 ghost use Rattle.icn_heap.specs.Extents.{IsLive, value_in};
 ghost use Rattle.icn_heap.specs.Heaps.{extent_of};
 ghost use Rattle.icn_heap.specs.Keys as keys;
-ghost use Rattle.icn_args.specs.Words.{the_text};
-ghost use Rattle.icn_iofn.specs.Putting.{Advances, BrokenBy, GainsOutputs, GainedPart, KeepsBoth, PutsOn, PutsPartOn, Stops, file_after, line_put, outputs, piece_in, pieces_in, text_of_piece, waiting_text};
+ghost use Rattle.icn_args.specs.RowWords.{the_text};
+ghost use Rattle.icn_iofn.specs.PutPieces.{HasEffect, BrokenBy, GainsOutputs, GainedPart, KeepsBoth, PutsOn, PutsPartOn, StopsEffect, file_after, line_put, outputs, piece_in, pieces_in, text_of_piece, waiting_text};
 
 use crate::members::push_members;
 use icn_heap::Heap;
@@ -78,14 +78,14 @@ fn put_piece<O: Sink, E: Sink>(
     err: &mut E,
 ) -> Result<File, Fault>
     requires { IsLive (extent_of heap.now) val }
-    ensures ok { IfOk result (λ now. Advances (waiting_text (keys.file_of file) buffer.old.items
+    ensures ok { IfOk result (λ now. HasEffect (waiting_text (keys.file_of file) buffer.old.items
         (outputs (O.state out.old) (E.state err.old)))
         (waiting_text (keys.file_of now) buffer.new.items (outputs (O.state out.new) (E.state err.new)))
         (put_on (keys.file_of file)
         (text_of_piece newline (not ends) (piece_in (value_in (extent_of heap.now) val))))) }
     ensures file { IfOk result (λ now. keys.file_of now
         ≡ file_after (keys.file_of file) (piece_in (value_in (extent_of heap.now) val))) }
-    ensures err { IfErr result (Stops (waiting_text (keys.file_of file) buffer.old.items
+    ensures err { IfErr result (StopsEffect (waiting_text (keys.file_of file) buffer.old.items
         (outputs (O.state out.old) (E.state err.old))) (outputs (O.state out.new) (E.state err.new))
         (put_on (keys.file_of file)
         (text_of_piece newline (not ends) (piece_in (value_in (extent_of heap.now) val))))) }
@@ -108,12 +108,12 @@ fn select<O: Sink, E: Sink>(
     out: &mut O,
     err: &mut E,
 ) -> Result<File, Fault>
-    ensures ok { IfOk result (λ now. Advances (waiting_text (keys.file_of file) buffer.old.items
+    ensures ok { IfOk result (λ now. HasEffect (waiting_text (keys.file_of file) buffer.old.items
         (outputs (O.state out.old) (E.state err.old)))
         (waiting_text (keys.file_of now) buffer.new.items (outputs (O.state out.new) (E.state err.new)))
         (put_on (keys.file_of file) (if ends then newline else []))) }
     ensures file { IfOk result (λ now. now ≡ other) }
-    ensures err { IfErr result (Stops (waiting_text (keys.file_of file) buffer.old.items
+    ensures err { IfErr result (StopsEffect (waiting_text (keys.file_of file) buffer.old.items
         (outputs (O.state out.old) (E.state err.old))) (outputs (O.state out.new) (E.state err.new))
         (put_on (keys.file_of file) (if ends then newline else []))) }
 {

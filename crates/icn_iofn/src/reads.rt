@@ -10,7 +10,7 @@ ghost use Rattle.icn_streams.specs.Answers.{call_state};
 ghost use Rattle.icn_streams.specs.Applies.{Applies};
 ghost use Rattle.icn_streams.specs.Handed.{call_streams};
 ghost use Rattle.icn_streams.specs.Readings.{asked_in};
-ghost use Rattle.icn_iofn.specs.Reading.{read_from, reads_from};
+ghost use Rattle.icn_iofn.specs.ReadParts.{read_from, reads_from};
 
 use crate::arguments::{count_arg, file_arg};
 use icn_args::arg;

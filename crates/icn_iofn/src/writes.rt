@@ -7,7 +7,7 @@ ghost use Rattle.icn_heap.specs.Heaps.{extent_of};
 ghost use Rattle.icn_streams.specs.Answers.{call_state};
 ghost use Rattle.icn_streams.specs.Applies.{Applies};
 ghost use Rattle.icn_streams.specs.Handed.{call_streams};
-ghost use Rattle.icn_iofn.specs.Writing.{write_by};
+ghost use Rattle.icn_iofn.specs.WriteRows.{write_by};
 
 use crate::pieces::check_pieces;
 use crate::putting::put_line;

@@ -1,6 +1,6 @@
-pub mod Firsts
-pub mod Insides
-pub mod Lines
-pub mod Places
-pub mod Texts
-pub mod Values
+pub mod LongestFronts
+pub mod InsideLiterals
+pub mod ScannedLines
+pub mod ReadSoFar
+pub mod OutsideLiterals
+pub mod DigitValues

@@ -6,22 +6,22 @@ use Rattle.icn_tree.specs.declared.rule.Rule.{Rule}
 use Rattle.icn_tree.specs.declared.token.Kind.{Kind}
 use Rattle.icn_tree.specs.declared.token.Token.{Token}
 use Rattle.icn_tree.specs.Characters.{is_space, begins_comment, is_quote}
-use Rattle.icn_tree.specs.Literals.{Literal}
-use Rattle.icn_tree.specs.Semicolons.{Piece, with_semicolons}
-use Rattle.icn_tree.specs.Tokens.{Scan, Found, Broken, Outcome, Scanned, Fault, Between, Inside as InsideLiteral, bytes_from, closed_then, before}
+use Rattle.icn_tree.specs.Literals.{OpenLiteral}
+use Rattle.icn_tree.specs.Semicolons.{LineToken, with_semicolons}
+use Rattle.icn_tree.specs.Tokens.{Scan, Found, Broken, Tokenized, Scanned, Fault, Between, Inside as InsideLiteral, bytes_from, closed_then, before}
 use Rattle.icn_lex.specs.Literals.{Later, literal_of}
 use Rattle.icn_lex.specs.declared.fault.LexFault.{LexFault}
 use Rattle.icn_lex.specs.declared.fault.LexFault.TheVariants.{Broken as BrokenFault, NoMemory}
-use Rattle.icn_lex.specs.declared.literals.Literal.{Literal as LiteralRead}
-use Rattle.icn_lex.specs.declared.literals.Part.{Part}
-use Rattle.icn_lex.specs.declared.literals.Part.TheVariants.{Closed as ClosedPart, Continued as ContinuedPart}
+use Rattle.icn_lex.specs.declared.literals.OpenLiteral.{OpenLiteral as LiteralRead}
+use Rattle.icn_lex.specs.declared.literals.LiteralEnd.{LiteralEnd}
+use Rattle.icn_lex.specs.declared.literals.LiteralEnd.TheVariants.{Closed as ClosedPart, Continued as ContinuedPart}
 use Rattle.icn_lex.specs.declared.literals.Step.{Step}
 use Rattle.icn_lex.specs.declared.literals.Step.TheVariants.{Closed, Continued, More}
 use Rattle.icn_lex.specs.declared.scanner.Next.{Next}
 use Rattle.icn_lex.specs.declared.scanner.Next.TheVariants.{Behind, Inside}
 
 -- the outcome that an answer tells: none where memory ran out
-abbrev pub outcome_of : {Z : Type 0} → Result (Vec Token Z) LexFault → Option Outcome
+abbrev pub outcome_of : {Z : Type 0} → Result (Vec Token Z) LexFault → Option Tokenized
 outcome_of (Ok tokens) = Some (Scanned tokens.items)
 outcome_of (Err (BrokenFault rule file line)) = Some (Fault rule file line)
 outcome_of (Err NoMemory) = None
@@ -39,7 +39,7 @@ FaultIs NoMemory here = Unit {0}
 FaultIs (BrokenFault rule file line) here = here ≡ Broken rule line file
 
 -- a step inside a literal leads from the one place to the other, whatever lines follow
-abbrev pub StepIs : SourceLine → Result Step LexFault → Literal → (Later → Scan) → Type 0
+abbrev pub StepIs : SourceLine → Result Step LexFault → OpenLiteral → (Later → Scan) → Type 0
 StepIs line (Ok (Closed behind)) literal here =
     (later : Later) → here later ≡ closed_then literal (bytes_from later line (Between false) zero behind.now)
 StepIs line (Ok Continued) literal here = (later : Later) → here later ≡ later (Some literal)
@@ -54,29 +54,29 @@ IsNoLonger (Ok Continued) text = Unit {0}
 IsNoLonger (Err fault) text = Unit {0}
 
 -- a part of a literal up to its closing quote, or up to the end of a line that continues it; or the rule it breaks
-abbrev pub PartIs : SourceLine → Result Part LexFault → Literal → (Later → Scan) → Type 0
+abbrev pub PartIs : SourceLine → Result LiteralEnd LexFault → OpenLiteral → (Later → Scan) → Type 0
 PartIs line (Ok (ClosedPart behind)) literal here =
     (later : Later) → here later ≡ closed_then literal (bytes_from later line (Between false) zero behind.now)
 PartIs line (Ok ContinuedPart) literal here = (later : Later) → here later ≡ later (Some literal)
 PartIs line (Err fault) literal here = (later : Later) → FaultIs fault (here later)
 
 -- the token of a closed literal, which may be too long
-abbrev pub ClosesAs : Result Token LexFault → Literal → Type 0
+abbrev pub ClosesAs : Result Token LexFault → OpenLiteral → Type 0
 ClosesAs (Ok token) literal = (later : Scan)
     → closed_then literal later ≡ before (record { token = token; is_first = literal.is_first }) later
 ClosesAs (Err fault) literal = (later : Scan) → FaultIs fault (closed_then literal later)
 
-abbrev pub all_before : List Piece → Scan → Scan
+abbrev pub all_before : List LineToken → Scan → Scan
 all_before pieces (Found more) = Found (pieces ++ more)
 all_before pieces (Broken rule line file) = Broken rule line file
 
 -- the tokens found so far, in front of what stands here, are all
 pub record Reads (all : Scan) (found : List Token) (here : Scan) : Type 0 where
-  pub done : List Piece
+  pub done : List LineToken
   pub separated : found ≡ with_semicolons done
   pub reads : all_before done here ≡ all
 
-abbrev pub literal_read : LiteralRead → Literal
+abbrev pub literal_read : LiteralRead → OpenLiteral
 literal_read literal = literal_of literal.opening literal.bytes.items
 
 -- what was added leads from the one place to the other, whatever lines follow
@@ -109,7 +109,7 @@ IsNoLongerNext (Ok (Inside literal)) text = Unit {0}
 IsNoLongerNext (Err fault) text = Unit {0}
 
 -- what is left behind a closing quote is no longer than the text that was read
-abbrev pub IsNoLongerPart : Result Part LexFault → List ℕ → Type 0
+abbrev pub IsNoLongerPart : Result LiteralEnd LexFault → List ℕ → Type 0
 IsNoLongerPart (Ok (ClosedPart rest)) text = length rest.now ≤ length text
 IsNoLongerPart (Ok ContinuedPart) text = Unit {0}
 IsNoLongerPart (Err fault) text = Unit {0}

@@ -12,8 +12,8 @@ use Rattle.icn_tree.specs.declared.token.Operator.TheVariants.{Dot}
 use Rattle.icn_tree.specs.declared.token.Punctuation.TheVariants.{Semicolon}
 use Rattle.icn_tree.specs.declared.token.Token.{Token}
 use Rattle.icn_tree.specs.Characters.{begins_identifier, is_digit, continues_identifier, is_alphanumeric}
-use Rattle.icn_tree.specs.Numbers.{number_in, is_radix_mark, is_real_mark, integer}
-use Rattle.icn_tree.specs.Semicolons.{Piece, between}
+use Rattle.icn_tree.specs.IntegerLiterals.{number_in, is_radix_mark, is_real_mark, integer}
+use Rattle.icn_tree.specs.Semicolons.{LineToken, between}
 use Rattle.icn_tree.specs.Spellings.{lookup_text, words_of, marks_of}
 
 -- the first spelling that the bytes start with: what it stands for, and how many bytes it has
@@ -82,7 +82,7 @@ first_read [] = Err L1
 first_read (b ∷ rest) = if begins_identifier b then name_read b rest else bare_read b (b ∷ rest) rest
 
 -- what stands between the last of the tokens and a further one
-abbrev pub with_piece : List Token → Piece → List Token
+abbrev pub with_piece : List Token → LineToken → List Token
 with_piece tokens next = option_map_or (λ last. between last next) (slice_get tokens (length tokens - 1)) []
 
 -- the semicolon of a place, a line and a file, if there is one

@@ -1,6 +1,6 @@
 // String and cset literals, which may go on over lines.
 ghost use Rattle.std.specs.Prelude.{◌==◌, ◌≡◌, ◌∷◌, ◌&&◌};
-ghost use Rattle.icn_tree.specs.Numbers.{is_nothing};
+ghost use Rattle.icn_tree.specs.IntegerLiterals.{is_nothing};
 ghost use Rattle.icn_lex.specs.Outcomes.{ClosesAs, IsNoLonger, IsNoLongerPart, PartIs, StepIs};
 ghost use Rattle.icn_lex.specs.Literals.{literal_of, scan_escape, scan_inside};
 
@@ -30,7 +30,7 @@ impl Opening {
         }
     }
 
-    pub fn unclosed(self) -> LexFault
+    pub fn unclosed_fault(self) -> LexFault
         ensures { result ≡ LexFault.Broken Rule.L2 self.file self.line }
     {
         self.fault(Rule::L2)
@@ -39,13 +39,13 @@ impl Opening {
 
 // A literal that is not closed yet, with the bytes that it stands for so far.
 #[derive(Drop)]
-pub struct Literal {
+pub struct OpenLiteral {
     pub opening: Opening,
     pub bytes: Vec<u8>,
 }
 
 // What a line has of a literal.
-pub enum Part<'a> {
+pub enum LiteralEnd<'a> {
     // Its end, before these bytes.
     Closed(&'a [u8]),
     // All of the line, and it goes on on the next one.
@@ -64,7 +64,7 @@ pub fn read_part<'a>(
     bytes: &mut Vec<u8>,
     line: &SourceLine,
     text: &'a [u8],
-) -> Result<Part<'a>, LexFault>
+) -> Result<LiteralEnd<'a>, LexFault>
     ensures exact { PartIs line.now result (literal_of opening bytes.new.items)
         (scan_inside line.now (literal_of opening bytes.old.items) text.now) }
     ensures within { IsNoLongerPart result text.now }
@@ -72,12 +72,12 @@ pub fn read_part<'a>(
     let mut rest = text;
     while let Some((first, others)) = rest.split_first() {
         match read_step(opening, bytes, line, *first, others)? {
-            Step::Closed(behind) => return Ok(Part::Closed(behind)),
-            Step::Continued => return Ok(Part::Continued),
+            Step::Closed(behind) => return Ok(LiteralEnd::Closed(behind)),
+            Step::Continued => return Ok(LiteralEnd::Continued),
             Step::More(more) => rest = more,
         }
     }
-    Err(opening.unclosed())
+    Err(opening.unclosed_fault())
 }
 
 // Reads one byte of a literal, or one escape.
@@ -129,7 +129,7 @@ fn escape_step<'a>(
     ensures within { IsNoLonger result text.now }
 {
     if text.is_empty() {
-        return Err(opening.unclosed());
+        return Err(opening.unclosed_fault());
     }
     let Some((byte, count)) = escape(text) else {
         return Err(LexFault::on(line, Rule::L3));

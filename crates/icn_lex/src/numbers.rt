@@ -3,7 +3,7 @@ ghost use Rattle.std.specs.Prelude.{◌≡◌, ◌≤◌, ◌*◌, ◌+◌, IfSo
 ghost use Rattle.std.specs.List.{list_all};
 ghost use Rattle.icn_profile.specs.Numbers.{greatest_integer};
 ghost use Rattle.icn_tree.specs.Characters.{digit_value};
-ghost use Rattle.icn_tree.specs.Numbers.{are_digits, integer, number_in};
+ghost use Rattle.icn_tree.specs.IntegerLiterals.{are_digits, integer, number_in};
 ghost use Rattle.icn_lex.specs.Reading.{bounded_by, with_length, within_limit, number_read, value_in};
 
 use icn_profile::{GREATEST_INTEGER, MOST_BYTES_OF_NAME};
@@ -22,15 +22,15 @@ pub fn integer_literal(bytes: &[u8]) -> Result<(Kind, usize), Rule>
         Some((b'r' | b'R', written)) => {
             let written_len = alphanumeric_len(written);
             let written = written.split_at(written_len).0;
-            counted(count + 1 + written_len, radix_integer(digits, written))
+            limit_length(count + 1 + written_len, radix_integer(digits, written))
         }
         Some((b'.' | b'e' | b'E', _)) => Err(Rule::L6),
-        _ => counted(count, bounded(value(10, digits))),
+        _ => limit_length(count, integer_kind(value(10, digits))),
     }
 }
 
 // What a literal of so many bytes is, which may be too long.
-fn counted(count: usize, sense: Result<Kind, Rule>) -> Result<(Kind, usize), Rule>
+fn limit_length(count: usize, sense: Result<Kind, Rule>) -> Result<(Kind, usize), Rule>
     ensures { result ≡ with_length count sense }
 {
     if count <= MOST_BYTES_OF_NAME as usize {
@@ -40,7 +40,7 @@ fn counted(count: usize, sense: Result<Kind, Rule>) -> Result<(Kind, usize), Rul
     }
 }
 
-fn bounded(value: Option<u64>) -> Result<Kind, Rule>
+fn integer_kind(value: Option<u64>) -> Result<Kind, Rule>
     requires { IfSome value (λ n. n ≤ greatest_integer) }
     ensures { result ≡ bounded_by value }
 {
@@ -56,7 +56,7 @@ fn radix_integer(radix: &[u8], digits: &[u8]) -> Result<Kind, Rule>
 {
     match value(10, radix) {
         Some(radix) if (2..=36).contains(&radix) && are_digits(radix, digits) => {
-            bounded(value(radix, digits))
+            integer_kind(value(radix, digits))
         }
         _ => Err(Rule::L5),
     }

@@ -7,7 +7,7 @@ ghost use Rattle.icn_lex.specs.Literals.{scan_inside, scan_line, scan_text};
 ghost use Rattle.icn_lex.specs.Outcomes.{IsNoLongerNext, LineIs, NextIs, ShortensTo, begins_bare, literal_read, outcome_of};
 
 use crate::fault::LexFault;
-use crate::literals::{Literal, Opening, Part, close, read_part};
+use crate::literals::{LiteralEnd, OpenLiteral, Opening, close, read_part};
 use crate::semicolons::push;
 use crate::token::first_token;
 use icn_tree::characters::{begins_comment, blanks_len, is_quote, is_space};
@@ -27,7 +27,7 @@ pub fn tokens(alloc: Global, lines: &Lines) -> Result<Vec<Token>, LexFault>
         begun = line_tokens(alloc, line, begun, &mut tokens)?;
     }
     match begun {
-        Some(literal) => Err(literal.opening.unclosed()),
+        Some(literal) => Err(literal.opening.unclosed_fault()),
         None => Ok(tokens),
     }
 }
@@ -37,9 +37,9 @@ pub fn tokens(alloc: Global, lines: &Lines) -> Result<Vec<Token>, LexFault>
 fn line_tokens(
     alloc: Global,
     line: &SourceLine,
-    begun: Option<Literal>,
+    begun: Option<OpenLiteral>,
     tokens: &mut Vec<Token>,
-) -> Result<Option<Literal>, LexFault>
+) -> Result<Option<OpenLiteral>, LexFault>
     ensures { LineIs tokens.old.items tokens.new.items
         (scan_line line.now (option_map literal_read begun)) result }
 {
@@ -63,7 +63,7 @@ fn text_tokens(
     is_first: bool,
     text: &[u8],
     tokens: &mut Vec<Token>,
-) -> Result<Option<Literal>, LexFault>
+) -> Result<Option<OpenLiteral>, LexFault>
     ensures { LineIs tokens.old.items tokens.new.items (scan_text line.now is_first text.now) result }
 {
     let mut is_first = is_first;
@@ -91,7 +91,7 @@ enum Next<'a> {
     // The token ends before these bytes.
     Behind(&'a [u8]),
     // It is a literal that goes on on the next line.
-    Inside(Literal),
+    Inside(OpenLiteral),
 }
 
 // Adds the token that begins with the first byte.
@@ -118,7 +118,7 @@ fn add_token<'a>(
             file: line.file,
             is_first,
         };
-        let literal = Literal {
+        let literal = OpenLiteral {
             opening,
             bytes: Vec::new(alloc),
         };
@@ -155,7 +155,7 @@ fn bare_token<'a>(
 fn rest_of_literal<'a>(
     alloc: Global,
     line: &SourceLine,
-    literal: Literal,
+    literal: OpenLiteral,
     text: &'a [u8],
     tokens: &mut Vec<Token>,
 ) -> Result<Next<'a>, LexFault>
@@ -163,13 +163,13 @@ fn rest_of_literal<'a>(
         (scan_inside line.now (literal_read literal) text.now) result }
     ensures no_longer { IsNoLongerNext result text.now }
 {
-    let Literal { opening, mut bytes } = literal;
+    let OpenLiteral { opening, mut bytes } = literal;
     match read_part(opening, &mut bytes, line, text)? {
-        Part::Closed(behind) => {
+        LiteralEnd::Closed(behind) => {
             let token = close(alloc, opening, bytes)?;
             push(tokens, opening.is_first, token)?;
             Ok(Next::Behind(behind))
         }
-        Part::Continued => Ok(Next::Inside(Literal { opening, bytes })),
+        LiteralEnd::Continued => Ok(Next::Inside(OpenLiteral { opening, bytes })),
     }
 }

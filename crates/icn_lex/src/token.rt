@@ -26,12 +26,15 @@ pub fn first_token(
     if begins_identifier(*first) {
         name(alloc, line, *first, bytes, rest)
     } else {
-        located(line, bare_token(*first, bytes, rest))
+        locate_fault(line, bare_token(*first, bytes, rest))
     }
 }
 
 // A rule that a token breaks, with its place.
-fn located(line: &SourceLine, found: Result<(Kind, usize), Rule>) -> Result<(Kind, usize), LexFault>
+fn locate_fault(
+    line: &SourceLine,
+    found: Result<(Kind, usize), Rule>,
+) -> Result<(Kind, usize), LexFault>
     ensures { FirstIs line.now result found }
 {
     match found {

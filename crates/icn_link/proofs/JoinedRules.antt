@@ -14,15 +14,15 @@ use Rattle.icn_code.specs.Codes.{Tables}
 use Rattle.icn_code.specs.Rules as Rules
 use Rattle.icn_code.specs.Rules.{keeps_rules}
 use Rattle.icn_unit.specs.declared.unit.UnitInstr.{UnitInstr}
-use Rattle.icn_unit.specs.PlainUnits.{Proc, Decl, Global as GlobalDecl, Procedure, Link, Record, proc_names}
+use Rattle.icn_unit.specs.PlainUnits.{PlainProc, PlainDecl, Global as GlobalDecl, Procedure, Link, Record, proc_names}
 use Rattle.icn_unit.specs.UnitRules.{is_integer}
-use Rattle.icn_link.specs.Gathering.{with_text, with_texts, text_index}
+use Rattle.icn_link.specs.FirstMentions.{with_text, with_texts, text_index}
 use Rattle.icn_link.specs.Joined.{cset_of, global_entry, is_among, joined_of, index_of, proc_entry, records_in, start_by}
 use Rattle.icn_link.specs.JoinableUnits.{is_joinable_proc}
 use Rattle.icn_link.specs.LinkFaults.{over, count_fault, field_counts, record_sizes, size_of, local_counts, static_counts}
 use Rattle.icn_link.specs.Mentions.{Mention, NoMention, AnInteger, AText, ASet, AField, Operands, AllMentions, declared_names, field_in, fields, fields_in, function_named, functions_in, global_in, globals, integer_in, mention_of, all_mentions, mentioned_by, mentioned_in, operands_in, record_name_in, record_names, set_in, string_mentions, strings, text_in}
 use Rattle.icn_link.specs.Views.{Joinable}
-use Rattle.icn_link.proofs.Each.{all_in_flat, all_mapped, all_then, both, has_integer, has_integer_index, has_index, has_text, integer_placed, integers_there, text_at, text_placed, texts_there}
+use Rattle.icn_link.proofs.EachOnce.{all_in_flat, all_mapped, all_then, and_intro, has_integer, has_integer_index, has_index, has_text, integer_placed, integers_there, text_at, text_placed, texts_there}
 use Rattle.icn_link.proofs.KeptCsets.{cset_kept}
 use Rattle.icn_link.proofs.KeptMentions.{integers_kept, strings_kept}
 use Rattle.icn_link.proofs.KeptProcs.{Long, has_mention, proc_fits}
@@ -39,14 +39,14 @@ within most n counts h = no_fault most n (nat_lt most n) (find (λ count. nat_lt
 
 pub all_within : (most : ℕ) (counts : List ℕ) → over most counts ≡ None → list_all (λ n. nat_le n most) counts ≡ true
 all_within most [] h = refl
-all_within most (n ∷ counts) h = let t = within most n counts h in both (le-leb _ _ t.0) (all_within most counts t.1)
+all_within most (n ∷ counts) h = let t = within most n counts h in and_intro (le-leb _ _ t.0) (all_within most counts t.1)
 
 -- a part of a sum
-pub sizes_within : (most : ℕ) (procs : List Proc) → sum_by size_of procs ≤ most → list_all (λ proc. nat_le (size_of proc) most) procs ≡ true
+pub sizes_within : (most : ℕ) (procs : List PlainProc) → sum_by size_of procs ≤ most → list_all (λ proc. nat_le (size_of proc) most) procs ≡ true
 sizes_within most [] h = refl
 sizes_within most (proc ∷ procs) h =
     let sum = sum_by-cons size_of proc procs in
-    both (le-leb _ _ (omega (arith, sum, h))) (sizes_within most procs (omega (arith, sum, h)))
+    and_intro (le-leb _ _ (omega (arith, sum, h))) (sizes_within most procs (omega (arith, sum, h)))
 
 -- Names that differ
 
@@ -68,7 +68,7 @@ differ_last [] name h k = refl
 differ_last (other ∷ names) name h k =
     let t = and_parts (not (Rules.has_name names other)) (Rules.names_differ names) h in
     let u = parts_false (bytes_eq name other) (list_any (bytes_eq name) names) k in
-    both (ap not (list_any-append (λ x. bytes_eq x other) names (name ∷ [])
+    and_intro (ap not (list_any-append (λ x. bytes_eq x other) names (name ∷ [])
     ∙ both_false _ _ (not_true (Rules.has_name names other) t.0) (both_false (bytes_eq name other) false u.0 refl)))
     (differ_last names name t.1 u.1)
 
@@ -120,14 +120,14 @@ place_within (other ∷ names) name n e = place_by name other names (bytes_eq na
 
 -- Records, by the declarations
 
-pub records_long : (M : AllMentions) (decls : List Decl) → length (flat_map (records_in M) decls) ≡ length (record_sizes decls)
+pub records_long : (M : AllMentions) (decls : List PlainDecl) → length (flat_map (records_in M) decls) ≡ length (record_sizes decls)
 records_long M [] = refl
 records_long M (GlobalDecl name ∷ decls) = records_long M decls
 records_long M (Procedure name ∷ decls) = records_long M decls
 records_long M (Link text ∷ decls) = records_long M decls
 records_long M (Record name fields ∷ decls) = ap suc (records_long M decls)
 
-pub names_long : (M : AllMentions) (decls : List Decl) → length (flat_map (records_in M) decls) ≡ length (record_names decls)
+pub names_long : (M : AllMentions) (decls : List PlainDecl) → length (flat_map (records_in M) decls) ≡ length (record_names decls)
 names_long M [] = refl
 names_long M (GlobalDecl name ∷ decls) = names_long M decls
 names_long M (Procedure name ∷ decls) = names_long M decls
@@ -138,9 +138,9 @@ field_fits : (M : AllMentions) (strings : ℕ) (fields : ℕ) → fields ≡ len
     → list_all (has_index M.fields) names ≡ true → list_all (λ field. nat_lt field fields) (map (text_index M.fields) names) ≡ true
 field_fits M strings fields e [] h = refl
 field_fits M strings fields e (name ∷ names) h =
-    let t = and_parts _ _ h in both (ap (nat_lt (text_index M.fields name)) e ∙ t.0) (field_fits M strings fields e names t.1)
+    let t = and_parts _ _ h in and_intro (ap (nat_lt (text_index M.fields name)) e ∙ t.0) (field_fits M strings fields e names t.1)
 
-record_fits : (M : AllMentions) (fields : ℕ) → fields ≡ length M.fields → (decl : Decl)
+record_fits : (M : AllMentions) (fields : ℕ) → fields ≡ length M.fields → (decl : PlainDecl)
     → list_all (has_index M.strings) (record_name_in decl) ≡ true → list_all (has_index M.fields) (fields_in decl) ≡ true
     → list_all (λ n. nat_le n 65535) (field_counts decl) ≡ true
     → list_all (Rules.is_record (length M.strings) fields) (records_in M decl) ≡ true
@@ -148,7 +148,7 @@ record_fits M fields e (GlobalDecl name) a b c = refl
 record_fits M fields e (Procedure name) a b c = refl
 record_fits M fields e (Link text) a b c = refl
 record_fits M fields e (Record name names) a b c =
-    both (both (both (and_parts _ _ a).0 (ap (λ n. nat_le n 65535) (length-map names (text_index M.fields)) ∙ (and_parts _ _ c).0))
+    and_intro (and_intro (and_intro (and_parts _ _ a).0 (ap (λ n. nat_le n 65535) (length-map names (text_index M.fields)) ∙ (and_parts _ _ c).0))
     (field_fits M (length M.strings) fields e names b)) refl
 
 -- What instructions mention is in the tables
@@ -175,26 +175,26 @@ instrs_mention : (M : AllMentions) (instrs : List UnitInstr)
 instrs_mention M [] a b c d e = refl
 instrs_mention M (i ∷ instrs) a b c d e =
     let p = and_parts _ _ a in let q = and_parts _ _ b in let r = and_parts _ _ c in let s = and_parts _ _ d in let t = and_parts _ _ e in
-    both (one_mention M (mention_of i) p.0 q.0 r.0 s.0 t.0) (instrs_mention M instrs p.1 q.1 r.1 s.1 t.1)
+    and_intro (one_mention M (mention_of i) p.0 q.0 r.0 s.0 t.0) (instrs_mention M instrs p.1 q.1 r.1 s.1 t.1)
 
-procs_mention : (M : AllMentions) (procs : List Proc)
+procs_mention : (M : AllMentions) (procs : List PlainProc)
     → list_all (λ proc. list_all (has_integer_index M.integers) (mentioned_in integer_in proc)) procs ≡ true
     → list_all (λ proc. list_all (has_index M.strings) (mentioned_in text_in proc)) procs ≡ true
     → list_all (λ proc. list_all (has_index M.sets) (mentioned_in set_in proc)) procs ≡ true
     → list_all (λ proc. list_all (has_index M.fields) (mentioned_in field_in proc)) procs ≡ true
     → list_all (λ proc. list_all (λ n. nat_le n 65535) (mentioned_in operands_in proc)) procs ≡ true
-    → list_all (λ (proc : Proc). list_all (λ i. has_mention M (mention_of i)) proc.instrs) procs ≡ true
+    → list_all (λ (proc : PlainProc). list_all (λ i. has_mention M (mention_of i)) proc.instrs) procs ≡ true
 procs_mention M [] a b c d e = refl
 procs_mention M (proc ∷ procs) a b c d e =
     let p = and_parts _ _ a in let q = and_parts _ _ b in let r = and_parts _ _ c in let s = and_parts _ _ d in let t = and_parts _ _ e in
-    both (instrs_mention M proc.instrs
+    and_intro (instrs_mention M proc.instrs
     (all_in_flat _ (λ i. integer_in (mention_of i)) proc.instrs p.0) (all_in_flat _ (λ i. text_in (mention_of i)) proc.instrs q.0)
     (all_in_flat _ (λ i. set_in (mention_of i)) proc.instrs r.0) (all_in_flat _ (λ i. field_in (mention_of i)) proc.instrs s.0)
     (all_in_flat _ (λ i. operands_in (mention_of i)) proc.instrs t.0))
     (procs_mention M procs p.1 q.1 r.1 s.1 t.1)
 
-procs_fit : (M : AllMentions) (T : Tables) → Long M T → (procs : List Proc) → list_all is_joinable_proc procs ≡ true
-    → list_all (λ (proc : Proc). list_all (λ i. has_mention M (mention_of i)) proc.instrs) procs ≡ true
+procs_fit : (M : AllMentions) (T : Tables) → Long M T → (procs : List PlainProc) → list_all is_joinable_proc procs ≡ true
+    → list_all (λ (proc : PlainProc). list_all (λ i. has_mention M (mention_of i)) proc.instrs) procs ≡ true
     → list_all (has_index M.strings) (proc_names procs) ≡ true
     → list_all (λ n. nat_le n 65535) (local_counts M.globals procs) ≡ true
     → list_all (λ n. nat_le n 65535) (static_counts M.globals procs) ≡ true
@@ -204,10 +204,10 @@ procs_fit M T F [] a b c d e f = refl
 procs_fit M T F (proc ∷ procs) a b c d e f =
     let p = and_parts _ _ a in let q = and_parts _ _ b in let r = and_parts _ _ c in
     let s = and_parts _ _ d in let t = and_parts _ _ e in let u = and_parts _ _ f in
-    both (proc_fits M T F proc p.0 q.0 r.0 (leb-true _ _ s.0) (leb-true _ _ t.0) (leb-true _ _ u.0))
+    and_intro (proc_fits M T F proc p.0 q.0 r.0 (leb-true _ _ s.0) (leb-true _ _ t.0) (leb-true _ _ u.0))
     (procs_fit M T F procs p.1 q.1 r.1 s.1 t.1 u.1)
 
-records_fit : (M : AllMentions) (fields : ℕ) → fields ≡ length M.fields → (decls : List Decl)
+records_fit : (M : AllMentions) (fields : ℕ) → fields ≡ length M.fields → (decls : List PlainDecl)
     → list_all (λ decl. list_all (has_index M.strings) (record_name_in decl)) decls ≡ true
     → list_all (λ decl. list_all (has_index M.fields) (fields_in decl)) decls ≡ true
     → list_all (λ decl. list_all (λ n. nat_le n 65535) (field_counts decl)) decls ≡ true
@@ -216,7 +216,7 @@ records_fit M fields e [] a b c = refl
 records_fit M fields e (decl ∷ decls) a b c =
     let p = and_parts _ _ a in let q = and_parts _ _ b in let r = and_parts _ _ c in
     list_all-append (Rules.is_record (length M.strings) fields) (records_in M decl) (flat_map (records_in M) decls)
-    ∙ both (record_fits M fields e decl p.0 q.0 r.0) (records_fit M fields e decls p.1 q.1 r.1)
+    ∙ and_intro (record_fits M fields e decl p.0 q.0 r.0) (records_fit M fields e decls p.1 q.1 r.1)
 
 -- Globals
 
@@ -224,7 +224,7 @@ global_fits : (M : AllMentions) (ps rs : List (List ℕ)) (procs records : ℕ) 
     → (name : List ℕ) → has_index M.strings name ≡ true
     → Rules.is_global (length M.strings) records procs (global_entry M ps rs name) ≡ true
 global_fits M ps rs procs records a b name h =
-    both h (started procs records (index_of ps name) (index_of rs name) (is_among M.declared name) (function_named name)
+    and_intro h (started procs records (index_of ps name) (index_of rs name) (is_among M.declared name) (function_named name)
     (λ n e. ap (λ k. nat_lt n k) a ∙ place_within ps name n e) (λ n e. ap (λ k. nat_lt n k) b ∙ place_within rs name n e))
 
 names_back : (M : AllMentions) (ps rs : List (List ℕ)) (names : List (List ℕ)) → list_all (has_text M.strings) names ≡ true
@@ -237,7 +237,7 @@ names_back M ps rs (name ∷ names) h =
 
 -- All tables
 
-pub joined_kept : (decls : List Decl) (procs : List Proc) → Joinable decls procs → keeps_rules (joined_of decls procs) ≡ true
+pub joined_kept : (decls : List PlainDecl) (procs : List PlainProc) → Joinable decls procs → keeps_rules (joined_of decls procs) ≡ true
 unfolding keeps_rules
 joined_kept decls procs J =
     let M : AllMentions = all_mentions decls procs in
@@ -282,7 +282,8 @@ joined_kept decls procs J =
     let fielded : (names : List (List ℕ)) → list_all (has_text M.fields) names ≡ true → list_all (has_index M.fields) names ≡ true =
     λ names h. all_then (has_text M.fields) (has_index M.fields) (text_placed M.fields) names h in
     let counts : Rules.are_counts T ≡ true =
-    both (both (both (both (both (both (le-leb _ _ s1.0) (le-leb _ _ (omega (arith, n2, s2.0)))) (le-leb _ _ s3.0)) (le-leb _ _ (omega (arith, n4, s4.0))))
+    and_intro (and_intro (and_intro (and_intro (and_intro (and_intro (le-leb _ _ s1.0) (le-leb _ _ (omega (arith, n2, s2.0)))) (le-leb _ _ s3.0))
+    (le-leb _ _ (omega (arith, n4, s4.0))))
     (le-leb _ _ (omega (arith, n5, s5.0)))) (le-leb _ _ (omega (arith, n6, s6.0)))) (le-leb _ _ (omega (arith, n7, s7.0))) in
     let mention = procs_mention M procs
     (all_in_flat (has_integer_index M.integers) (mentioned_in integer_in) procs (all_then (has_integer M.integers) (has_integer_index M.integers)
@@ -307,7 +308,7 @@ joined_kept decls procs J =
     all_mapped is_global (global_entry M (proc_names procs) (record_names decls)) M.globals
     (all_then (has_index M.strings) (λ name. is_global (global_entry M (proc_names procs) (record_names decls) name))
     (global_fits M (proc_names procs) (record_names decls) (length T.procs) (length T.records)
-    (n7 ∙ sym (length-map procs (λ (proc : Proc). proc.name))) (names_long M decls)) M.globals (placed M.globals t3.0)) in
+    (n7 ∙ sym (length-map procs (λ (proc : PlainProc). proc.name))) (names_long M decls)) M.globals (placed M.globals t3.0)) in
     let differ : Rules.names_differ (map (Rules.name_of T.strings) T.globals) ≡ true =
     ap Rules.names_differ (names_back M (proc_names procs) (record_names decls) M.globals t3.0)
     ∙ texts_differ (declared_names decls) (flat_map functions_in procs) (texts_differ [] (flat_map global_in decls) refl) in
@@ -315,5 +316,6 @@ joined_kept decls procs J =
     procs_fit M T long procs J.joinable_procs mention (placed (proc_names procs) t4.0)
     (all_within 65535 (local_counts (globals decls procs) procs) J.locals) (all_within 65535 (static_counts (globals decls procs) procs) J.statics)
     (sizes_within 16777216 procs (within 16777216 (sum_by size_of procs) [] J.instrs).0) in
-    both (both (both (both (both (both (both (both counts (strings_kept decls procs J.joinable_decls J.joinable_procs)) csets) integers) named) records)
+    and_intro (and_intro (and_intro
+    (and_intro (and_intro (and_intro (and_intro (and_intro counts (strings_kept decls procs J.joinable_decls J.joinable_procs)) csets) integers) named) records)
     entries) differ) fit

@@ -5,17 +5,17 @@ use Rattle.std.specs.List.{flat_map, list_all, sum_by}
 use Rattle.std.proofs.lemmas.List.{length-map}
 use Rattle.icn_code.specs.Codes.{Tables}
 use Rattle.icn_code.specs.Rules.{keeps_rules}
-use Rattle.icn_unit.specs.PlainUnits.{Proc, Decl, proc_names}
-use Rattle.icn_link.specs.Gathering.{text_index}
+use Rattle.icn_unit.specs.PlainUnits.{PlainProc, PlainDecl, proc_names}
+use Rattle.icn_link.specs.FirstMentions.{text_index}
 use Rattle.icn_link.specs.Joined.{cset_of, global_entry, joined_of, locals_in, proc_entry, records_in, statics_in, tables_with}
 use Rattle.icn_link.specs.LinkFaults.{local_counts, record_sizes, size_of, static_counts}
 use Rattle.icn_link.specs.Mentions.{AllMentions, globals, all_mentions, record_names}
 use Rattle.icn_link.specs.Views.{AreFew, Joinable}
-use Rattle.icn_link.proofs.Each.{all_unmapped}
+use Rattle.icn_link.proofs.EachOnce.{all_unmapped}
 use Rattle.icn_link.proofs.JoinedRules.{all_within, joined_kept, names_long, records_long, sizes_within, within}
 
 -- what is found of each part
-pub record Parts (M : AllMentions) (decls : List Decl) (procs : List Proc) (T : Tables) : Type 0 where
+pub record Parts (M : AllMentions) (decls : List PlainDecl) (procs : List PlainProc) (T : Tables) : Type 0 where
   pub strings : T.strings ≡ M.strings
   pub csets : T.csets ≡ map cset_of M.sets
   pub integers : T.integers ≡ M.integers
@@ -24,7 +24,7 @@ pub record Parts (M : AllMentions) (decls : List Decl) (procs : List Proc) (T : 
   pub globals : T.globals ≡ map (global_entry M (proc_names procs) (record_names decls)) M.globals
   pub entries : T.procs ≡ map (proc_entry M) procs
 
-pub tables_made : (M : AllMentions) (decls : List Decl) (procs : List Proc) (T : Tables) → M ≡ all_mentions decls procs
+pub tables_made : (M : AllMentions) (decls : List PlainDecl) (procs : List PlainProc) (T : Tables) → M ≡ all_mentions decls procs
     → Parts M decls procs T → T ≡ joined_of decls procs
 tables_made M decls procs T is p =
     (λ i. record {
@@ -37,17 +37,17 @@ tables_made M decls procs T is p =
       procs = p.entries i;
     }) ∙ ap (λ N. tables_with N decls procs) is
 
-pub tables_kept : (M : AllMentions) (decls : List Decl) (procs : List Proc) (T : Tables) → M ≡ all_mentions decls procs
+pub tables_kept : (M : AllMentions) (decls : List PlainDecl) (procs : List PlainProc) (T : Tables) → M ≡ all_mentions decls procs
     → Joinable decls procs → Parts M decls procs T → keeps_rules T ≡ true
 tables_kept M decls procs T is J p = ap keeps_rules (tables_made M decls procs T is p) ∙ joined_kept decls procs J
 
 -- how many entries there are
-record Bounds (M : AllMentions) (D : List Decl) (P : List Proc) : Type 0 where
+record Bounds (M : AllMentions) (D : List PlainDecl) (P : List PlainProc) : Type 0 where
   tables : AreFew M
   records : length (record_names D) ≤ 65535
   procs : length (proc_names P) ≤ 65535
 
-bounds : (decls : List Decl) (procs : List Proc) → Joinable decls procs → Bounds (all_mentions decls procs) decls procs
+bounds : (decls : List PlainDecl) (procs : List PlainProc) → Joinable decls procs → Bounds (all_mentions decls procs) decls procs
 bounds decls procs J =
     let M : AllMentions = all_mentions decls procs in
     let k7 : List ℕ = length procs ∷ [] in
@@ -66,31 +66,32 @@ bounds decls procs J =
     record {
       tables = record { strings = s1.0; sets = s2.0; integers = s3.0; fields = s4.0; globals = s6.0 };
       records = omega (arith, s5.0, records_long M decls, names_long M decls);
-      procs = omega (arith, s7.0, length-map procs (λ (proc : Proc). proc.name));
+      procs = omega (arith, s7.0, length-map procs (λ (proc : PlainProc). proc.name));
     }
 
-pub are_few : (M : AllMentions) (decls : List Decl) (procs : List Proc) → M ≡ all_mentions decls procs → Joinable decls procs → AreFew M
+pub are_few : (M : AllMentions) (decls : List PlainDecl) (procs : List PlainProc) → M ≡ all_mentions decls procs → Joinable decls procs → AreFew M
 are_few M decls procs is J = subst AreFew (sym is) (bounds decls procs J).tables
 
-pub few_records : (decls : List Decl) (procs : List Proc) → Joinable decls procs → length (record_names decls) ≤ 65535
+pub few_records : (decls : List PlainDecl) (procs : List PlainProc) → Joinable decls procs → length (record_names decls) ≤ 65535
 few_records decls procs J = (bounds decls procs J).records
 
-pub few_procs : (decls : List Decl) (procs : List Proc) → Joinable decls procs → length (proc_names procs) ≤ 65535
+pub few_procs : (decls : List PlainDecl) (procs : List PlainProc) → Joinable decls procs → length (proc_names procs) ≤ 65535
 few_procs decls procs J = (bounds decls procs J).procs
 
-pub few_instrs : (decls : List Decl) (procs : List Proc) → Joinable decls procs → list_all (λ (proc : Proc). nat_le (size_of proc) 16777216) procs ≡ true
+pub few_instrs : (decls : List PlainDecl) (procs : List PlainProc) → Joinable decls procs
+    → list_all (λ (proc : PlainProc). nat_le (size_of proc) 16777216) procs ≡ true
 few_instrs decls procs J = sizes_within 16777216 procs (within 16777216 (sum_by size_of procs) [] J.instrs).0
 
-pub few_locals : (M : AllMentions) (decls : List Decl) (procs : List Proc) → M ≡ all_mentions decls procs → Joinable decls procs
-    → list_all (λ (proc : Proc). nat_le (locals_in M.globals proc.names) 65535) procs ≡ true
+pub few_locals : (M : AllMentions) (decls : List PlainDecl) (procs : List PlainProc) → M ≡ all_mentions decls procs → Joinable decls procs
+    → list_all (λ (proc : PlainProc). nat_le (locals_in M.globals proc.names) 65535) procs ≡ true
 few_locals M decls procs is J =
-    ap (λ (N : AllMentions). list_all (λ (proc : Proc). nat_le (locals_in N.globals proc.names) 65535) procs) is
-    ∙ all_unmapped (λ n. nat_le n 65535) (λ (proc : Proc). locals_in (globals decls procs) proc.names) procs
+    ap (λ (N : AllMentions). list_all (λ (proc : PlainProc). nat_le (locals_in N.globals proc.names) 65535) procs) is
+    ∙ all_unmapped (λ n. nat_le n 65535) (λ (proc : PlainProc). locals_in (globals decls procs) proc.names) procs
     (all_within 65535 (local_counts (globals decls procs) procs) J.locals)
 
-pub few_statics : (M : AllMentions) (decls : List Decl) (procs : List Proc) → M ≡ all_mentions decls procs → Joinable decls procs
-    → list_all (λ (proc : Proc). nat_le (statics_in M.globals proc.names) 65535) procs ≡ true
+pub few_statics : (M : AllMentions) (decls : List PlainDecl) (procs : List PlainProc) → M ≡ all_mentions decls procs → Joinable decls procs
+    → list_all (λ (proc : PlainProc). nat_le (statics_in M.globals proc.names) 65535) procs ≡ true
 few_statics M decls procs is J =
-    ap (λ (N : AllMentions). list_all (λ (proc : Proc). nat_le (statics_in N.globals proc.names) 65535) procs) is
-    ∙ all_unmapped (λ n. nat_le n 65535) (λ (proc : Proc). statics_in (globals decls procs) proc.names) procs
+    ap (λ (N : AllMentions). list_all (λ (proc : PlainProc). nat_le (statics_in N.globals proc.names) 65535) procs) is
+    ∙ all_unmapped (λ n. nat_le n 65535) (λ (proc : PlainProc). statics_in (globals decls procs) proc.names) procs
     (all_within 65535 (static_counts (globals decls procs) procs) J.statics)

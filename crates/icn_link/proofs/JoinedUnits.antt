@@ -5,7 +5,7 @@ use Rattle.std.specs.Option.{option_or}
 use Rattle.std.proofs.lemmas.Option.{none-some}
 use Rattle.icn_code.specs.Rules.{keeps_rules}
 use Rattle.icn_image.specs.Spelling.{image_of}
-use Rattle.icn_unit.specs.PlainUnits.{Proc, Decl, UnitRead}
+use Rattle.icn_unit.specs.PlainUnits.{PlainProc, PlainDecl, UnitRead}
 use Rattle.icn_unit.specs.UnitRules.{keeps_rules as keeps_unit_rules}
 use Rattle.icn_link.specs.declared.fault.LinkFault.{LinkFault}
 use Rattle.icn_link.specs.Joined.{joined_code, joined_of}
@@ -14,7 +14,7 @@ use Rattle.icn_link.specs.LinkFaults.{first_fault, local_counts, missing, over, 
 use Rattle.icn_link.specs.Mentions.{globals, all_mentions, mentioned_by, operands_in}
 use Rattle.icn_link.specs.Units.{all_decls, all_procs}
 use Rattle.icn_link.specs.Views.{Joinable}
-use Rattle.icn_link.proofs.Each.{all_then}
+use Rattle.icn_link.proofs.EachOnce.{all_then}
 use Rattle.icn_link.proofs.JoinedRules.{joined_kept}
 use Rattle.icn_link.proofs.KeptUnits.{unit_joinable, units_decls, units_procs}
 
@@ -23,7 +23,7 @@ neither None b h = (refl, h)
 neither (Some fault) b h = absurd (none-some fault (sym h))
 
 -- not too large: each bound is kept
-joinable : (D : List Decl) (P : List Proc) → list_all is_joinable_decl D ≡ true → list_all is_joinable_proc P ≡ true
+joinable : (D : List PlainDecl) (P : List PlainProc) → list_all is_joinable_decl D ≡ true → list_all is_joinable_proc P ≡ true
     → too_large_of D P ≡ None → Joinable D P
 joinable D P d p h =
     let instrs = over 16777216 (sum_by size_of P ∷ []) in

@@ -9,12 +9,12 @@ use Rattle.std.proofs.lemmas.Nat.{or_lt}
 use Rattle.icn_code.specs.Rules as Rules
 use Rattle.icn_unit.specs.UnitRules.{is_byte}
 use Rattle.icn_link.specs.Joined.{cset_of, with_bits}
-use Rattle.icn_link.proofs.Each.{both}
+use Rattle.icn_link.proofs.EachOnce.{and_intro}
 
 all_set : (p : ℕ → Bool) (xs : List ℕ) (i x : ℕ) → list_all p xs ≡ true → p x ≡ true → list_all p (slice_set xs i x) ≡ true
 all_set p [] i x h k = refl
-all_set p (y ∷ ys) zero x h k = both k (and_parts _ _ h).1
-all_set p (y ∷ ys) (suc i) x h k = let t = and_parts _ _ h in both t.0 (all_set p ys i x t.1 k)
+all_set p (y ∷ ys) zero x h k = and_intro k (and_parts _ _ h).1
+all_set p (y ∷ ys) (suc i) x h k = let t = and_parts _ _ h in and_intro t.0 (all_set p ys i x t.1 k)
 
 byte_at : (xs : List ℕ) (i : ℕ) → list_all is_byte xs ≡ true → slice_index xs i < 256
 byte_at [] i h = omega arith
@@ -41,4 +41,4 @@ bits_kept bits (b ∷ bytes) l h =
     bits_kept (slice_set bits (b / 8) x) bytes (length-set bits (b / 8) x ∙ l) (all_set is_byte bits (b / 8) x h (lt-ltb _ _ small))
 
 pub cset_kept : (bytes : List ℕ) → Rules.is_cset (cset_of bytes) ≡ true
-cset_kept bytes = let t = bits_kept (replicate 32 0) bytes refl refl in both (eq-eqb _ _ t.0) t.1
+cset_kept bytes = let t = bits_kept (replicate 32 0) bytes refl refl in and_intro (eq-eqb _ _ t.0) t.1

@@ -11,12 +11,12 @@ use Rattle.icn_unit.specs.declared.unit.UnitInstr.{UnitInstr}
 use Rattle.icn_unit.specs.declared.unit.UnitInstr.TheVariants as U
 use Rattle.icn_unit.specs.declared.unit.NameKind.{NameKind}
 use Rattle.icn_unit.specs.declared.unit.NameKind.TheVariants as Kinds
-use Rattle.icn_unit.specs.PlainUnits.{Proc, Decl, Global as GlobalDecl, Procedure, Link, Record, proc_names}
+use Rattle.icn_unit.specs.PlainUnits.{PlainProc, PlainDecl, Global as GlobalDecl, Procedure, Link, Record, proc_names}
 use Rattle.icn_unit.specs.UnitOperands.{is_name}
 use Rattle.icn_unit.specs.UnitRules.{is_byte, is_byte_text, is_integer}
 use Rattle.icn_link.specs.JoinableUnits.{is_joinable_decl, is_joinable_instr, is_joinable_proc}
 use Rattle.icn_link.specs.Mentions.{Mention, NoMention, AnInteger, AText, ASet, AField, Operands, mention_of, mentioned_in, mentioned_by, integer_in, text_in, field_in, global_in, fields_in, record_name_in, record_names, function_by, function_in, function_named, functions_in, declared_names, globals, fields, strings, string_mentions, integers}
-use Rattle.icn_link.proofs.Each.{both, all_of_flat, all_then, all_mapped, all_unmapped, texts_keep, integers_keep}
+use Rattle.icn_link.proofs.EachOnce.{and_intro, all_of_flat, all_then, all_mapped, all_unmapped, texts_keep, integers_keep}
 
 -- Names and byte texts are strings
 
@@ -43,11 +43,11 @@ name_string [] h = refl
 name_string (b ∷ rest) h =
     let t = and_parts _ _ h in
     let u = and_parts _ _ t.0 in
-    both (le-leb _ _ (omega (arith, leb-true _ _ t.1)))
-    (both (letter_byte b u.0) (all_then continues_identifier is_byte name_byte rest u.1))
+    and_intro (le-leb _ _ (omega (arith, leb-true _ _ t.1)))
+    (and_intro (letter_byte b u.0) (all_then continues_identifier is_byte name_byte rest u.1))
 
 pub text_string : (bytes : List ℕ) → is_byte_text bytes ≡ true → Rules.is_string bytes ≡ true
-text_string bytes h = let t = and_parts (list_all is_byte bytes) (nat_le (length bytes) 65535) h in both t.1 t.0
+text_string bytes h = let t = and_parts (list_all is_byte bytes) (nat_le (length bytes) 65535) h in and_intro t.1 t.0
 
 -- What instructions mention keeps the rules of operands
 
@@ -98,20 +98,20 @@ mention_kept names U.Coret h = refl
 mention_kept names U.Cofail h = refl
 mention_kept names (U.Lab label) h = refl
 
-instrs_kept : (proc : Proc) → is_joinable_proc proc ≡ true → list_all (λ instr. keeps_mention (mention_of instr)) proc.instrs ≡ true
+instrs_kept : (proc : PlainProc) → is_joinable_proc proc ≡ true → list_all (λ instr. keeps_mention (mention_of instr)) proc.instrs ≡ true
 instrs_kept proc h =
     all_then _ _ (mention_kept (length proc.names)) proc.instrs (and_parts _ _ h).1
 
 -- of one kind, in a procedure and in all
 mentions_in : {A : Type 0} (p : A → Bool) (kind : Mention → List A)
-    → ((m : Mention) → keeps_mention m ≡ true → list_all p (kind m) ≡ true) → (proc : Proc) → is_joinable_proc proc ≡ true
+    → ((m : Mention) → keeps_mention m ≡ true → list_all p (kind m) ≡ true) → (proc : PlainProc) → is_joinable_proc proc ≡ true
     → list_all p (mentioned_in kind proc) ≡ true
 mentions_in p kind leads proc h =
     all_of_flat p (λ instr. kind (mention_of instr)) proc.instrs
     (all_then _ _ (λ instr. leads (mention_of instr)) proc.instrs (instrs_kept proc h))
 
 mentions_keep : {A : Type 0} (p : A → Bool) (kind : Mention → List A)
-    → ((m : Mention) → keeps_mention m ≡ true → list_all p (kind m) ≡ true) → (procs : List Proc)
+    → ((m : Mention) → keeps_mention m ≡ true → list_all p (kind m) ≡ true) → (procs : List PlainProc)
     → list_all is_joinable_proc procs ≡ true → list_all p (mentioned_by kind procs) ≡ true
 mentions_keep p kind leads procs h =
     all_of_flat p (mentioned_in kind) procs (all_then _ _ (mentions_in p kind leads) procs h)
@@ -119,7 +119,7 @@ mentions_keep p kind leads procs h =
 integer_kept : (m : Mention) → keeps_mention m ≡ true → list_all is_integer (integer_in m) ≡ true
 unfolding keeps_mention
 integer_kept NoMention h = refl
-integer_kept (AnInteger n) h = both h refl
+integer_kept (AnInteger n) h = and_intro h refl
 integer_kept (AText bytes) h = refl
 integer_kept (ASet members) h = refl
 integer_kept (AField name) h = refl
@@ -129,7 +129,7 @@ text_kept : (m : Mention) → keeps_mention m ≡ true → list_all Rules.is_str
 unfolding keeps_mention
 text_kept NoMention h = refl
 text_kept (AnInteger n) h = refl
-text_kept (AText bytes) h = both (text_string bytes h) refl
+text_kept (AText bytes) h = and_intro (text_string bytes h) refl
 text_kept (ASet members) h = refl
 text_kept (AField name) h = refl
 text_kept (Operands count) h = refl
@@ -140,31 +140,31 @@ field_kept NoMention h = refl
 field_kept (AnInteger n) h = refl
 field_kept (AText bytes) h = refl
 field_kept (ASet members) h = refl
-field_kept (AField name) h = both h refl
+field_kept (AField name) h = and_intro h refl
 field_kept (Operands count) h = refl
 
 -- Declarations and names
 
-decl_fields : (decl : Decl) → is_joinable_decl decl ≡ true → list_all is_name (fields_in decl) ≡ true
+decl_fields : (decl : PlainDecl) → is_joinable_decl decl ≡ true → list_all is_name (fields_in decl) ≡ true
 decl_fields (GlobalDecl name) h = refl
 decl_fields (Procedure name) h = refl
 decl_fields (Link text) h = refl
 decl_fields (Record name fields) h = (and_parts _ _ h).1
 
-decl_global : (decl : Decl) → is_joinable_decl decl ≡ true → list_all is_name (global_in decl) ≡ true
-decl_global (GlobalDecl name) h = both h refl
-decl_global (Procedure name) h = both h refl
+decl_global : (decl : PlainDecl) → is_joinable_decl decl ≡ true → list_all is_name (global_in decl) ≡ true
+decl_global (GlobalDecl name) h = and_intro h refl
+decl_global (Procedure name) h = and_intro h refl
 decl_global (Link text) h = refl
-decl_global (Record name fields) h = both (and_parts _ _ h).0 refl
+decl_global (Record name fields) h = and_intro (and_parts _ _ h).0 refl
 
-decl_record : (decl : Decl) → is_joinable_decl decl ≡ true → list_all is_name (record_name_in decl) ≡ true
+decl_record : (decl : PlainDecl) → is_joinable_decl decl ≡ true → list_all is_name (record_name_in decl) ≡ true
 decl_record (GlobalDecl name) h = refl
 decl_record (Procedure name) h = refl
 decl_record (Link text) h = refl
-decl_record (Record name fields) h = both (and_parts _ _ h).0 refl
+decl_record (Record name fields) h = and_intro (and_parts _ _ h).0 refl
 
 function_name : (test : Bool) (name : List ℕ) → is_name name ≡ true → list_all is_name (if test then name ∷ [] else []) ≡ true
-function_name true name h = both h refl
+function_name true name h = and_intro h refl
 function_name false name h = refl
 
 function_kept : (kind : NameKind) (name : List ℕ) → is_name name ≡ true → list_all is_name (function_by kind name) ≡ true
@@ -173,23 +173,23 @@ function_kept Kinds.Parameter name h = refl
 function_kept Kinds.Local name h = refl
 function_kept Kinds.Static name h = refl
 
-functions_kept : (proc : Proc) → is_joinable_proc proc ≡ true → list_all is_name (functions_in proc) ≡ true
+functions_kept : (proc : PlainProc) → is_joinable_proc proc ≡ true → list_all is_name (functions_in proc) ≡ true
 functions_kept proc h =
     let entries = (and_parts _ _ (and_parts _ _ h).0).1 in
     all_of_flat is_name function_in proc.names
     (all_then _ _ (λ entry. function_kept entry.kind entry.name) proc.names (all_unmapped is_name (λ entry. entry.name) proc.names entries))
 
-proc_named : (proc : Proc) → is_joinable_proc proc ≡ true → is_name proc.name ≡ true
+proc_named : (proc : PlainProc) → is_joinable_proc proc ≡ true → is_name proc.name ≡ true
 proc_named proc h = (and_parts _ _ (and_parts _ _ (and_parts _ _ h).0).0).0
 
 -- The tables
 
-module _ (decls : List Decl) (procs : List Proc) (joinable_decls : list_all is_joinable_decl decls ≡ true)
+module _ (decls : List PlainDecl) (procs : List PlainProc) (joinable_decls : list_all is_joinable_decl decls ≡ true)
     (joinable_procs : list_all is_joinable_proc procs ≡ true) where
   fields_named : list_all is_name (fields decls procs) ≡ true
   fields_named = texts_keep is_name [] (flat_map fields_in decls ++ mentioned_by field_in procs) refl
       (list_all-append is_name (flat_map fields_in decls) (mentioned_by field_in procs)
-      ∙ both (all_of_flat is_name fields_in decls (all_then _ _ decl_fields decls joinable_decls))
+      ∙ and_intro (all_of_flat is_name fields_in decls (all_then _ _ decl_fields decls joinable_decls))
       (mentions_keep is_name field_in field_kept procs joinable_procs))
 
   records_named : list_all is_name (record_names decls) ≡ true
@@ -213,10 +213,10 @@ module _ (decls : List Decl) (procs : List Proc) (joinable_decls : list_all is_j
       let r2 : List (List ℕ) = globals decls procs ++ r3 in
       let r1 : List (List ℕ) = record_names decls ++ r2 in
       texts_keep Rules.is_string [] (string_mentions decls procs) refl
-      (list_all-append Rules.is_string (fields decls procs) r1 ∙ both (named (fields decls procs) fields_named)
-      (list_all-append Rules.is_string (record_names decls) r2 ∙ both (named (record_names decls) records_named)
-      (list_all-append Rules.is_string (globals decls procs) r3 ∙ both (named (globals decls procs) globals_named)
-      (list_all-append Rules.is_string (proc_names procs) r4 ∙ both (named (proc_names procs) procs_named)
+      (list_all-append Rules.is_string (fields decls procs) r1 ∙ and_intro (named (fields decls procs) fields_named)
+      (list_all-append Rules.is_string (record_names decls) r2 ∙ and_intro (named (record_names decls) records_named)
+      (list_all-append Rules.is_string (globals decls procs) r3 ∙ and_intro (named (globals decls procs) globals_named)
+      (list_all-append Rules.is_string (proc_names procs) r4 ∙ and_intro (named (proc_names procs) procs_named)
       (mentions_keep Rules.is_string text_in text_kept procs joinable_procs)))))
 
   pub integers_kept : list_all is_integer (integers procs) ≡ true

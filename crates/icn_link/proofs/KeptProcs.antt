@@ -15,20 +15,20 @@ use Rattle.icn_unit.specs.declared.unit.ProcCode.{ProcCode}
 use Rattle.icn_unit.specs.declared.unit.UnitInstr.{UnitInstr}
 use Rattle.icn_unit.specs.declared.unit.UnitInstr.TheVariants as U
 use Rattle.icn_unit.specs.declared.unit.UnitName.{UnitName}
-use Rattle.icn_unit.specs.PlainUnits.{Proc, entry_names, is_parameter, params_in}
+use Rattle.icn_unit.specs.PlainUnits.{PlainProc, entry_names, is_parameter, params_in}
 use Rattle.icn_unit.specs.UnitOperands.{is_name}
 use Rattle.icn_unit.specs.UnitRules.{own_label}
 use Rattle.icn_unit.specs.UnitViews.{proc_seen}
-use Rattle.icn_link.specs.declared.variable.Variable.{Variable}
-use Rattle.icn_link.specs.declared.variable.Variable.TheVariants.{Local, Static, Global}
+use Rattle.icn_link.specs.declared.variable.VariableKind.{VariableKind}
+use Rattle.icn_link.specs.declared.variable.VariableKind.TheVariants.{Local, Static, Global}
 use Rattle.icn_link.specs.Joined.{entry_of, proc_entry, scope_of, scope_with, variable_by, variable_of, variable_instr, locals_behind, statics_behind, variables, variable_at, is_local, is_static, locals_in, statics_in}
 use Rattle.icn_link.specs.JoinableUnits.{is_joinable_instr, is_joinable_proc}
 use Rattle.icn_link.specs.LinkFaults.{is_instruction, size_of}
-use Rattle.icn_link.specs.Gathering.{integer_index, text_index}
+use Rattle.icn_link.specs.FirstMentions.{integer_index, text_index}
 use Rattle.icn_link.specs.Mentions.{Mention, NoMention, AnInteger, AText, ASet, AField, Operands, AllMentions, mention_of}
 use Rattle.icn_link.specs.Resolving.{Scope, resolve, resolved_one, label_address, label_address_by}
 use Rattle.icn_link.specs.Views.{procs_seen}
-use Rattle.icn_link.proofs.Each.{both, has_text, has_index, has_integer_index, text_placed, all_of_flat, all_with}
+use Rattle.icn_link.proofs.EachOnce.{and_intro, has_text, has_index, has_integer_index, text_placed, all_of_flat, all_with}
 
 -- Variables
 
@@ -55,7 +55,7 @@ count_more : {A : Type 0} (test : A → Bool) (x : A) (xs : List A) (b : Bool) �
 count_more test x xs b e = sum_by-cons (λ y. cond (test y) 1 0) x xs ∙ ap (λ t. cond t 1 0 + count_by test xs) e
 
 module _ (globals : List (List ℕ)) (L S : ℕ) where
-  rest_fits : (l s : ℕ) (entry : UnitName) (entries : List UnitName) (v : Variable) → variable_of globals entry ≡ v
+  rest_fits : (l s : ℕ) (entry : UnitName) (entries : List UnitName) (v : VariableKind) → variable_of globals entry ≡ v
       → l + locals_in globals (entry ∷ entries) ≤ L → s + statics_in globals (entry ∷ entries) ≤ S
       → ((l' s' : ℕ) → l' + locals_in globals entries ≤ L → s' + statics_in globals entries ≤ S
       → list_all (fits_variable (length globals) L S) (variables globals l' s' entries) ≡ true)
@@ -65,15 +65,15 @@ module _ (globals : List (List ℕ)) (L S : ℕ) where
   rest_fits l s entry entries Local e h k next =
       let a = count_more (λ other. is_local (variable_of globals other)) entry entries true (ap is_local e) in
       let b = count_more (λ other. is_static (variable_of globals other)) entry entries false (ap is_static e) in
-      both (lt-ltb _ _ (omega (arith, a))) (next (suc l) s (omega (arith, a)) (omega (arith, b)))
+      and_intro (lt-ltb _ _ (omega (arith, a))) (next (suc l) s (omega (arith, a)) (omega (arith, b)))
   rest_fits l s entry entries Static e h k next =
       let a = count_more (λ other. is_local (variable_of globals other)) entry entries false (ap is_local e) in
       let b = count_more (λ other. is_static (variable_of globals other)) entry entries true (ap is_static e) in
-      both (lt-ltb _ _ (omega (arith, b))) (next l (suc s) (omega (arith, a)) (omega (arith, b)))
+      and_intro (lt-ltb _ _ (omega (arith, b))) (next l (suc s) (omega (arith, a)) (omega (arith, b)))
   rest_fits l s entry entries Global e h k next =
       let a = count_more (λ other. is_local (variable_of globals other)) entry entries false (ap is_local e) in
       let b = count_more (λ other. is_static (variable_of globals other)) entry entries false (ap is_static e) in
-      both (text_placed globals entry.name (is_held globals entry.kind entry.name e)) (next l s (omega (arith, a)) (omega (arith, b)))
+      and_intro (text_placed globals entry.name (is_held globals entry.kind entry.name e)) (next l s (omega (arith, a)) (omega (arith, b)))
 
   pub variables_fit : (l s : ℕ) (names : List UnitName) → l + locals_in globals names ≤ L → s + statics_in globals names ≤ S
       → list_all (fits_variable (length globals) L S) (variables globals l s names) ≡ true
@@ -236,41 +236,41 @@ instr_fits : (M : AllMentions) (T : Tables) (proc : ProcEntry) (V : List Instr) 
     → There T proc V L names → (instr : UnitInstr) → has_mention M (mention_of instr) ≡ true → is_joinable_instr names instr ≡ true
     → list_all (Rules.is_instr T proc) (resolved_one (scope_with M V L) instr) ≡ true
 unfolding has_mention
-instr_fits M T proc V L names F G U.Pnull m o = both refl refl
-instr_fits M T proc V L names F G (U.Int n) m o = both (ap (nat_lt (integer_index M.integers n)) F.integers ∙ m) refl
-instr_fits M T proc V L names F G (U.Str bytes) m o = both (ap (nat_lt (text_index M.strings bytes)) F.strings ∙ m) refl
-instr_fits M T proc V L names F G (U.Cset members) m o = both (ap (nat_lt (text_index M.sets members)) F.sets ∙ m) refl
-instr_fits M T proc V L names F G (U.Var k) m o = both (G.variable k o) refl
-instr_fits M T proc V L names F G (U.Keywd keyword) m o = both refl refl
-instr_fits M T proc V L names F G U.Pop m o = both refl refl
-instr_fits M T proc V L names F G U.Dup m o = both refl refl
-instr_fits M T proc V L names F G (U.Op op) m o = both refl refl
-instr_fits M T proc V L names F G (U.Llist n) m o = both m refl
-instr_fits M T proc V L names F G (U.Field name) m o = both (ap (nat_lt (text_index M.fields name)) F.fields ∙ m) refl
-instr_fits M T proc V L names F G (U.Invoke n) m o = both m refl
-instr_fits M T proc V L names F G U.Appl m o = both refl refl
-instr_fits M T proc V L names F G (U.Mark label) m o = both (G.label label) refl
-instr_fits M T proc V L names F G U.Mark0 m o = both refl refl
-instr_fits M T proc V L names F G U.Unmark m o = both refl refl
-instr_fits M T proc V L names F G U.Eret m o = both refl refl
-instr_fits M T proc V L names F G U.Esusp m o = both refl refl
-instr_fits M T proc V L names F G U.Limit m o = both refl refl
-instr_fits M T proc V L names F G U.Lsusp m o = both refl refl
-instr_fits M T proc V L names F G U.Efail m o = both refl refl
-instr_fits M T proc V L names F G (U.Chfail label) m o = both (G.label label) refl
-instr_fits M T proc V L names F G (U.Goto label) m o = both (G.label label) refl
-instr_fits M T proc V L names F G (U.Loop label) m o = both (G.label label) refl
-instr_fits M T proc V L names F G U.Bscan m o = both refl refl
-instr_fits M T proc V L names F G U.Escan m o = both refl refl
-instr_fits M T proc V L names F G U.Ccase m o = both refl refl
-instr_fits M T proc V L names F G (U.Init label) m o = both (G.label label) refl
-instr_fits M T proc V L names F G U.Psusp m o = both refl refl
-instr_fits M T proc V L names F G U.Pret m o = both refl refl
-instr_fits M T proc V L names F G U.Pfail m o = both refl refl
-instr_fits M T proc V L names F G (U.Create label) m o = both (G.label label) refl
-instr_fits M T proc V L names F G U.Coact m o = both refl refl
-instr_fits M T proc V L names F G U.Coret m o = both refl refl
-instr_fits M T proc V L names F G U.Cofail m o = both refl refl
+instr_fits M T proc V L names F G U.Pnull m o = and_intro refl refl
+instr_fits M T proc V L names F G (U.Int n) m o = and_intro (ap (nat_lt (integer_index M.integers n)) F.integers ∙ m) refl
+instr_fits M T proc V L names F G (U.Str bytes) m o = and_intro (ap (nat_lt (text_index M.strings bytes)) F.strings ∙ m) refl
+instr_fits M T proc V L names F G (U.Cset members) m o = and_intro (ap (nat_lt (text_index M.sets members)) F.sets ∙ m) refl
+instr_fits M T proc V L names F G (U.Var k) m o = and_intro (G.variable k o) refl
+instr_fits M T proc V L names F G (U.Keywd keyword) m o = and_intro refl refl
+instr_fits M T proc V L names F G U.Pop m o = and_intro refl refl
+instr_fits M T proc V L names F G U.Dup m o = and_intro refl refl
+instr_fits M T proc V L names F G (U.Op op) m o = and_intro refl refl
+instr_fits M T proc V L names F G (U.Llist n) m o = and_intro m refl
+instr_fits M T proc V L names F G (U.Field name) m o = and_intro (ap (nat_lt (text_index M.fields name)) F.fields ∙ m) refl
+instr_fits M T proc V L names F G (U.Invoke n) m o = and_intro m refl
+instr_fits M T proc V L names F G U.Appl m o = and_intro refl refl
+instr_fits M T proc V L names F G (U.Mark label) m o = and_intro (G.label label) refl
+instr_fits M T proc V L names F G U.Mark0 m o = and_intro refl refl
+instr_fits M T proc V L names F G U.Unmark m o = and_intro refl refl
+instr_fits M T proc V L names F G U.Eret m o = and_intro refl refl
+instr_fits M T proc V L names F G U.Esusp m o = and_intro refl refl
+instr_fits M T proc V L names F G U.Limit m o = and_intro refl refl
+instr_fits M T proc V L names F G U.Lsusp m o = and_intro refl refl
+instr_fits M T proc V L names F G U.Efail m o = and_intro refl refl
+instr_fits M T proc V L names F G (U.Chfail label) m o = and_intro (G.label label) refl
+instr_fits M T proc V L names F G (U.Goto label) m o = and_intro (G.label label) refl
+instr_fits M T proc V L names F G (U.Loop label) m o = and_intro (G.label label) refl
+instr_fits M T proc V L names F G U.Bscan m o = and_intro refl refl
+instr_fits M T proc V L names F G U.Escan m o = and_intro refl refl
+instr_fits M T proc V L names F G U.Ccase m o = and_intro refl refl
+instr_fits M T proc V L names F G (U.Init label) m o = and_intro (G.label label) refl
+instr_fits M T proc V L names F G U.Psusp m o = and_intro refl refl
+instr_fits M T proc V L names F G U.Pret m o = and_intro refl refl
+instr_fits M T proc V L names F G U.Pfail m o = and_intro refl refl
+instr_fits M T proc V L names F G (U.Create label) m o = and_intro (G.label label) refl
+instr_fits M T proc V L names F G U.Coact m o = and_intro refl refl
+instr_fits M T proc V L names F G U.Coret m o = and_intro refl refl
+instr_fits M T proc V L names F G U.Cofail m o = and_intro refl refl
 instr_fits M T proc V L names F G (U.Lab label) m o = refl
 
 -- Procedures
@@ -291,7 +291,7 @@ params_local globals (entry ∷ entries) =
     let rest = params_local globals entries in
     omega (arith, a, b, one, rest)
 
-pub proc_fits : (M : AllMentions) (T : Tables) → Long M T → (proc : Proc) → is_joinable_proc proc ≡ true
+pub proc_fits : (M : AllMentions) (T : Tables) → Long M T → (proc : PlainProc) → is_joinable_proc proc ≡ true
     → list_all (λ instr. has_mention M (mention_of instr)) proc.instrs ≡ true → has_index M.strings proc.name ≡ true
     → locals_in M.globals proc.names ≤ 65535 → statics_in M.globals proc.names ≤ 65535 → size_of proc ≤ 16777216
     → Rules.is_proc T (proc_entry M proc) ≡ true
@@ -309,8 +309,8 @@ proc_fits M T F proc kept mentions name locals statics size =
       variable = λ k. variable_there T entry M.globals proc.names k F.globals (omega (arith, few)) (omega arith);
       label = λ l. le-leb _ _ (let w = label_within l proc.instrs in omega (arith, w, long));
     } in
-    both
-    (both (both (both (both (ap (λ n. nat_lt (text_index M.strings proc.name) n) F.strings ∙ name)
+    and_intro
+    (and_intro (and_intro (and_intro (and_intro (ap (λ n. nat_lt (text_index M.strings proc.name) n) F.strings ∙ name)
     (and_parts (is_name proc.name) collects head).1)
     (le-leb _ _ (omega (arith, few, locals)))) (le-leb _ _ statics)) (lt-ltb _ _ (omega (arith, long, size))))
     (all_of_flat (Rules.is_instr T entry) (resolved_one (scope_of M proc)) proc.instrs
@@ -318,7 +318,7 @@ proc_fits M T F proc kept mentions name locals statics size =
 
 -- The entry of a procedure
 
-pub entry_made : (M : AllMentions) (proc : Proc) (V : List Instr) (L : ℕ → ℕ) (locals statics : ℕ) (instrs : List Instr)
+pub entry_made : (M : AllMentions) (proc : PlainProc) (V : List Instr) (L : ℕ → ℕ) (locals statics : ℕ) (instrs : List Instr)
     → V ≡ variables M.globals 0 0 proc.names → ((label : ℕ) → L label ≡ label_address label proc.instrs)
     → locals ≡ locals_in M.globals proc.names → statics ≡ statics_in M.globals proc.names → instrs ≡ resolve (scope_with M V L) proc.instrs
     → entry_of M proc locals statics instrs ≡ proc_entry M proc
@@ -330,7 +330,7 @@ entry_made M proc V L locals statics instrs v l a b is =
     ∙ ap (entry_of M proc (locals_in M.globals proc.names) (statics_in M.globals proc.names)) same
 
 -- what holds of all procedures, at one of them
-pub at_item : (p : Proc → Bool) (procs : List (Bor ProcCode)) (i : ℕ) (x : Bor ProcCode) → i < length procs → x ≡ get_or procs i x
+pub at_item : (p : PlainProc → Bool) (procs : List (Bor ProcCode)) (i : ℕ) (x : Bor ProcCode) → i < length procs → x ≡ get_or procs i x
     → list_all p (procs_seen procs) ≡ true → p (proc_seen x.now) ≡ true
 at_item p [] i x w is h = absurd (omega arith)
 at_item p (y ∷ ys) zero x w is h = ap (λ (z : Bor ProcCode). p (proc_seen z.now)) is ∙ (and_parts _ _ h).0

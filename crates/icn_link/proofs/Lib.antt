@@ -1,5 +1,5 @@
-pub mod Each
-pub mod Exits
+pub mod EachOnce
+pub mod RuleByRule
 pub mod FunctionNames
 pub mod ImageLengths
 pub mod JoinedUnits
@@ -10,9 +10,9 @@ pub mod KeptProcs
 pub mod KeptUnits
 pub mod LinkTexts
 pub mod JoinedTables
-pub mod Maps
-pub mod Indices
-pub mod Repeating
-pub mod Stages
-pub mod Steps
+pub mod NameMaps
+pub mod ReferenceTables
+pub mod RepeatedNames
+pub mod LinkRules
+pub mod GatheringLoops
 pub mod ToldCounts

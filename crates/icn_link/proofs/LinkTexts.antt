@@ -7,14 +7,14 @@ use Rattle.std.proofs.lemmas.List.Folds.{list_any-append}
 use Rattle.std.proofs.lemmas.Slice.Eq.{bytes_eq-Decides}
 use Rattle.icn_unit.specs.declared.unit.UnitDecl.{UnitDecl}
 use Rattle.icn_unit.specs.declared.unit.UnitDecl.TheVariants as Kept
-use Rattle.icn_unit.specs.PlainUnits.{Decl, Global, Procedure, Link, Record, UnitRead}
+use Rattle.icn_unit.specs.PlainUnits.{PlainDecl, Global, Procedure, Link, Record, UnitRead}
 use Rattle.icn_unit.specs.UnitViews.{decl_seen}
 use Rattle.icn_link.specs.declared.fault.LinkFault.{LinkFault}
 use Rattle.icn_link.specs.declared.fault.LinkFault.TheVariants.{K2, NoMemory}
-use Rattle.icn_link.specs.Gathering.{with_text, with_texts}
+use Rattle.icn_link.specs.FirstMentions.{with_text, with_texts}
 use Rattle.icn_link.specs.LinkFaults.{base_of, missing, missing_by, missing_fault, missing_from, missing_in, unit_names, IsFault}
 use Rattle.icn_link.specs.Views.{texts_seen}
-use Rattle.icn_link.proofs.Indices.{held_text}
+use Rattle.icn_link.proofs.ReferenceTables.{held_text}
 
 -- what is missing, by whether the name is there
 missing_as : (keys : List (Bor (List ℕ))) (decl : UnitDecl) (text : List ℕ) (slice base : Bor (List ℕ)) (found : Bool) → decl ≡ Kept.Link text
@@ -80,13 +80,13 @@ among known (text ∷ texts) name =
     ∙ or_or (list_any (bytes_eq name) known) (bytes_eq name text) (list_any (bytes_eq name) texts)
 
 module _ (names others : List (List ℕ)) (same : (name : List ℕ) → list_any (bytes_eq name) names ≡ list_any (bytes_eq name) others) where
-  by_same : (decl : Decl) → missing_by names decl ≡ missing_by others decl
+  by_same : (decl : PlainDecl) → missing_by names decl ≡ missing_by others decl
   by_same (Link text) = ap (λ t. if t then None else Some (base_of text)) (same (base_of text))
   by_same (Global name) = refl
   by_same (Procedure name) = refl
   by_same (Record name fields) = refl
 
-  in_same : (decls : List Decl) → missing_in names decls ≡ missing_in others decls
+  in_same : (decls : List PlainDecl) → missing_in names decls ≡ missing_in others decls
   in_same [] = refl
   in_same (decl ∷ decls) =
       ap (λ m. option_or m (missing_in names decls)) (by_same decl) ∙ ap (option_or (missing_by others decl)) (in_same decls)

@@ -4,7 +4,7 @@ use Rattle.std.specs.Prelude.{ℕ, Bool, true, ◌&&◌, ◌||◌, not, nat_lt, 
 use Rattle.std.specs.List.{list_all}
 use Rattle.icn_unit.specs.declared.unit.UnitInstr.{UnitInstr}
 use Rattle.icn_unit.specs.declared.unit.UnitInstr.TheVariants.{Int, Str, Var, Field}
-use Rattle.icn_unit.specs.PlainUnits.{Proc, Decl, Global, Procedure, Link, Record, UnitRead, params_in, entry_names}
+use Rattle.icn_unit.specs.PlainUnits.{PlainProc, PlainDecl, Global, Procedure, Link, Record, UnitRead, params_in, entry_names}
 use Rattle.icn_unit.specs.UnitOperands.{is_name}
 use Rattle.icn_unit.specs.UnitRules.{is_byte_text, is_integer}
 
@@ -17,14 +17,14 @@ is_joinable_instr names (Field name) = is_name name
 is_joinable_instr names _ = true
 
 -- its names are such, and the last parameter collects only where there is one
-abbrev pub is_joinable_proc : Proc → Bool
+abbrev pub is_joinable_proc : PlainProc → Bool
 is_joinable_proc proc =
     is_name proc.name && (not proc.collects || nat_lt 0 (params_in proc.names))
     && list_all is_name (entry_names proc.names)
     && list_all (λ instr. is_joinable_instr (length proc.names) instr) proc.instrs
 
 -- each name of the declaration is one that linked code can have
-abbrev pub is_joinable_decl : Decl → Bool
+abbrev pub is_joinable_decl : PlainDecl → Bool
 is_joinable_decl (Global name) = is_name name
 is_joinable_decl (Procedure name) = is_name name
 is_joinable_decl (Link text) = true

@@ -14,11 +14,11 @@ use Rattle.icn_code.specs.declared.instr.Instr.TheVariants as Instrs
 use Rattle.icn_code.specs.Codes.{RecordType, Proc as ProcEntry, Tables}
 use Rattle.icn_unit.specs.declared.unit.NameKind.{NameKind}
 use Rattle.icn_unit.specs.declared.unit.NameKind.TheVariants as Kinds
-use Rattle.icn_link.specs.declared.variable.Variable.{Variable}
-use Rattle.icn_link.specs.declared.variable.Variable.TheVariants.{Local, Static, Global}
+use Rattle.icn_link.specs.declared.variable.VariableKind.{VariableKind}
+use Rattle.icn_link.specs.declared.variable.VariableKind.TheVariants.{Local, Static, Global}
 use Rattle.icn_unit.specs.declared.unit.UnitName.{UnitName}
-use Rattle.icn_unit.specs.PlainUnits.{Proc, Decl, Global as GlobalDecl, Procedure, Link, Record, UnitRead, params_in, proc_names}
-use Rattle.icn_link.specs.Gathering.{text_index, integer_index}
+use Rattle.icn_unit.specs.PlainUnits.{PlainProc, PlainDecl, Global as GlobalDecl, Procedure, Link, Record, UnitRead, params_in, proc_names}
+use Rattle.icn_link.specs.FirstMentions.{text_index, integer_index}
 use Rattle.icn_link.specs.Mentions.{AllMentions, all_mentions, function_named, record_names}
 use Rattle.icn_link.specs.Resolving.{Scope, resolve, label_address}
 use Rattle.icn_link.specs.Units.{all_decls, all_procs}
@@ -30,30 +30,30 @@ abbrev pub is_among : List (List ℕ) → List ℕ → Bool
 is_among names name = list_any (bytes_eq name) names
 
 -- what a name of a procedure is: an undeclared one is global where the globals have it, and else a local
-abbrev pub variable_by : List (List ℕ) → NameKind → List ℕ → Variable
+abbrev pub variable_by : List (List ℕ) → NameKind → List ℕ → VariableKind
 variable_by globals Kinds.Parameter name = Local
 variable_by globals Kinds.Local name = Local
 variable_by globals Kinds.Static name = Static
 variable_by globals Kinds.Undeclared name = if is_among globals name then Global else Local
 
 -- which variable a name of a procedure is, by the names of the globals
-abbrev pub variable_of : List (List ℕ) → UnitName → Variable
+abbrev pub variable_of : List (List ℕ) → UnitName → VariableKind
 variable_of globals entry = variable_by globals entry.kind entry.name
 
 -- The instruction of each name in its order. Locals are numbered from 0, and so are statics; so many of both were before.
-abbrev pub variable_instr : Variable → ℕ → ℕ → ℕ → Instr
+abbrev pub variable_instr : VariableKind → ℕ → ℕ → ℕ → Instr
 variable_instr Local locals statics global = Instrs.Local locals
 variable_instr Static locals statics global = Instrs.Static statics
 variable_instr Global locals statics global = Instrs.Global global
 
 -- how many locals there are behind a variable
-abbrev pub locals_behind : Variable → ℕ → ℕ
+abbrev pub locals_behind : VariableKind → ℕ → ℕ
 locals_behind Local locals = suc locals
 locals_behind Static locals = locals
 locals_behind Global locals = locals
 
 -- how many statics there are behind a variable
-abbrev pub statics_behind : Variable → ℕ → ℕ
+abbrev pub statics_behind : VariableKind → ℕ → ℕ
 statics_behind Local statics = statics
 statics_behind Static statics = suc statics
 statics_behind Global statics = statics
@@ -67,13 +67,13 @@ variables globals locals statics (entry ∷ entries) =
     (statics_behind (variable_of globals entry) statics) entries
 
 -- how many locals and statics there are among names
-abbrev pub is_local : Variable → Bool
+abbrev pub is_local : VariableKind → Bool
 is_local Local = true
 is_local Static = false
 is_local Global = false
 
 -- a static
-abbrev pub is_static : Variable → Bool
+abbrev pub is_static : VariableKind → Bool
 is_static Local = false
 is_static Static = true
 is_static Global = false
@@ -108,12 +108,12 @@ scope_with tables variables label = record {
 }
 
 -- what the instructions of a procedure are resolved by: the tables, its variables and its labels
-abbrev pub scope_of : AllMentions → Proc → Scope
+abbrev pub scope_of : AllMentions → PlainProc → Scope
 scope_of tables proc =
     scope_with tables (variables tables.globals 0 0 proc.names) (λ label. label_address label proc.instrs)
 
 -- where so many names are locals, parameters among them, and so many statics
-abbrev pub entry_of : AllMentions → Proc → ℕ → ℕ → List Instr → ProcEntry
+abbrev pub entry_of : AllMentions → PlainProc → ℕ → ℕ → List Instr → ProcEntry
 entry_of tables proc locals statics instrs = record {
   name = text_index tables.strings proc.name;
   parameters = params_in proc.names;
@@ -124,7 +124,7 @@ entry_of tables proc locals statics instrs = record {
 }
 
 -- a procedure of linked code
-abbrev pub proc_entry : AllMentions → Proc → ProcEntry
+abbrev pub proc_entry : AllMentions → PlainProc → ProcEntry
 proc_entry tables proc =
     entry_of tables proc (locals_in tables.globals proc.names) (statics_in tables.globals proc.names)
     (resolve (scope_of tables proc) proc.instrs)
@@ -139,7 +139,7 @@ record_entry tables name fields = record {
 }
 
 -- the record type that a declaration is, if it is one
-abbrev pub records_in : AllMentions → Decl → List RecordType
+abbrev pub records_in : AllMentions → PlainDecl → List RecordType
 records_in tables (Record name fields) = record_entry tables name fields ∷ []
 records_in tables (GlobalDecl name) = []
 records_in tables (Procedure name) = []
@@ -188,7 +188,7 @@ cset_of bytes = record { bits = with_bits (replicate 32 0) bytes }
 -- The code
 
 -- the tables of linked code, by what is mentioned
-abbrev pub tables_with : AllMentions → List Decl → List Proc → Tables
+abbrev pub tables_with : AllMentions → List PlainDecl → List PlainProc → Tables
 tables_with tables decls procs = record {
   strings = tables.strings;
   csets = map cset_of tables.sets;
@@ -200,7 +200,7 @@ tables_with tables decls procs = record {
 }
 
 -- the joined code of declarations and procedures
-abbrev pub joined_of : List Decl → List Proc → Tables
+abbrev pub joined_of : List PlainDecl → List PlainProc → Tables
 joined_of decls procs = tables_with (all_mentions decls procs) decls procs
 
 -- the joined code of units

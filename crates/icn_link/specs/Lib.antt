@@ -1,5 +1,5 @@
 pub mod Units
-pub mod Gathering
+pub mod FirstMentions
 pub mod Mentions
 pub mod Resolving
 pub mod Joined

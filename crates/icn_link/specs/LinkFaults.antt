@@ -6,7 +6,7 @@ use Rattle.std.specs.Str.{bytes_eq}
 use Rattle.icn_profile.specs.Numbers.{most_bytes_of_image, most_entries, most_instructions}
 use Rattle.icn_image.specs.Spelling.{image_of}
 use Rattle.icn_unit.specs.declared.unit.UnitInstr.{UnitInstr}
-use Rattle.icn_unit.specs.PlainUnits.{Proc, Decl, Global, Procedure, Link, Record, UnitRead}
+use Rattle.icn_unit.specs.PlainUnits.{PlainProc, PlainDecl, Global, Procedure, Link, Record, UnitRead}
 use Rattle.icn_unit.specs.UnitRules.{own_label}
 use Rattle.icn_link.specs.declared.fault.DeclPlace.{DeclPlace}
 use Rattle.icn_link.specs.declared.fault.LinkFault.{LinkFault}
@@ -23,14 +23,14 @@ base_of text = if ends_with nat_eq text (codes ".u1") then take (length text - 3
     else (if ends_with nat_eq text (codes ".u2") then take (length text - 3) text else text)
 
 -- the unit that a declaration links, where no unit has that name
-abbrev pub missing_by : List (List ℕ) → Decl → Option (List ℕ)
+abbrev pub missing_by : List (List ℕ) → PlainDecl → Option (List ℕ)
 missing_by names (Link text) = if list_any (bytes_eq (base_of text)) names then None else Some (base_of text)
 missing_by names (Global name) = None
 missing_by names (Procedure name) = None
 missing_by names (Record name fields) = None
 
 -- the first unit that these declarations link and no unit is
-abbrev pub missing_in : List (List ℕ) → List Decl → Option (List ℕ)
+abbrev pub missing_in : List (List ℕ) → List PlainDecl → Option (List ℕ)
 missing_in names [] = None
 missing_in names (decl ∷ decls) = option_or (missing_by names decl) (missing_in names decls)
 
@@ -69,14 +69,14 @@ abbrev pub owner : List ℕ → ℕ → ℕ → Owner
 owner name unit decl = record { name = name; place = place_at unit decl }
 
 -- the procedure or the record that a declaration is, if it is one
-abbrev pub owner_in : ℕ → ℕ → Decl → List Owner
+abbrev pub owner_in : ℕ → ℕ → PlainDecl → List Owner
 owner_in unit place (Procedure name) = owner name unit place ∷ []
 owner_in unit place (Record name fields) = owner name unit place ∷ []
 owner_in unit place (Global name) = []
 owner_in unit place (Link text) = []
 
 -- the procedures and records of a unit, from this declaration on
-abbrev pub owners_in : ℕ → ℕ → List Decl → List Owner
+abbrev pub owners_in : ℕ → ℕ → List PlainDecl → List Owner
 owners_in unit place [] = []
 owners_in unit place (decl ∷ decls) = owner_in unit place decl ++ owners_in unit (suc place) decls
 
@@ -122,32 +122,32 @@ abbrev pub is_instruction : UnitInstr → Bool
 is_instruction instr = not (is_some (own_label instr))
 
 -- how many instructions a procedure has, without the places of labels
-abbrev pub size_of : Proc → ℕ
+abbrev pub size_of : PlainProc → ℕ
 size_of proc = count_by is_instruction proc.instrs
 
 -- how many entries each table has, in the order in which an image has them
-abbrev pub field_counts : Decl → List ℕ
+abbrev pub field_counts : PlainDecl → List ℕ
 field_counts (Record name fields) = length fields ∷ []
 field_counts (Global name) = []
 field_counts (Procedure name) = []
 field_counts (Link text) = []
 
 -- how many fields each record has
-abbrev pub record_sizes : List Decl → List ℕ
+abbrev pub record_sizes : List PlainDecl → List ℕ
 record_sizes decls = flat_map field_counts decls
 
 -- how many entries each table has
-abbrev pub table_sizes : AllMentions → List Decl → List Proc → List ℕ
+abbrev pub table_sizes : AllMentions → List PlainDecl → List PlainProc → List ℕ
 table_sizes tables decls procs =
     length tables.strings ∷ length tables.sets ∷ length tables.integers ∷ length tables.fields
     ∷ length (record_sizes decls) ∷ length tables.globals ∷ length procs ∷ []
 
 -- how many parameters and other locals each procedure has
-abbrev pub local_counts : List (List ℕ) → List Proc → List ℕ
+abbrev pub local_counts : List (List ℕ) → List PlainProc → List ℕ
 local_counts globals procs = map (λ proc. locals_in globals proc.names) procs
 
 -- how many statics each procedure has
-abbrev pub static_counts : List (List ℕ) → List Proc → List ℕ
+abbrev pub static_counts : List (List ℕ) → List PlainProc → List ℕ
 static_counts globals procs = map (λ proc. statics_in globals proc.names) procs
 
 -- the first fault, where there is one, else the second
@@ -157,7 +157,7 @@ a orelse b = option_or a b
 
 -- In this order: all instructions; the entries of each table; the operands of a call or a list; the fields of a record; the
 -- parameters and other locals of a procedure together; its statics; and the bytes of the image.
-abbrev pub too_large_of : List Decl → List Proc → Option LinkFault
+abbrev pub too_large_of : List PlainDecl → List PlainProc → Option LinkFault
 too_large_of decls procs =
     over most_instructions (sum_by size_of procs ∷ [])
     orelse over most_entries (table_sizes (all_mentions decls procs) decls procs)

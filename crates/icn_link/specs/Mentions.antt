@@ -10,8 +10,8 @@ use Rattle.icn_unit.specs.declared.unit.NameKind.TheVariants as Kinds
 use Rattle.icn_unit.specs.declared.unit.UnitInstr.{UnitInstr}
 use Rattle.icn_unit.specs.declared.unit.UnitInstr.TheVariants as Unit
 use Rattle.icn_unit.specs.declared.unit.UnitName.{UnitName}
-use Rattle.icn_unit.specs.PlainUnits.{Proc, Decl, Global, Procedure, Link, Record, proc_names}
-use Rattle.icn_link.specs.Gathering.{with_texts, with_integers}
+use Rattle.icn_unit.specs.PlainUnits.{PlainProc, PlainDecl, Global, Procedure, Link, Record, proc_names}
+use Rattle.icn_link.specs.FirstMentions.{with_texts, with_integers}
 
 -- Instructions
 
@@ -109,38 +109,38 @@ operands_in (ASet members) = []
 operands_in (AField name) = []
 
 -- what is mentioned by the instructions of a procedure
-abbrev pub mentioned_in : {A : Type 0} → (Mention → List A) → Proc → List A
+abbrev pub mentioned_in : {A : Type 0} → (Mention → List A) → PlainProc → List A
 mentioned_in mentioned proc = flat_map (λ instr. mentioned (mention_of instr)) proc.instrs
 
 -- and of all
-abbrev pub mentioned_by : {A : Type 0} → (Mention → List A) → List Proc → List A
+abbrev pub mentioned_by : {A : Type 0} → (Mention → List A) → List PlainProc → List A
 mentioned_by mentioned procs = flat_map (mentioned_in mentioned) procs
 
 -- Names
 
 -- the global name that a declaration declares
-abbrev pub global_in : Decl → List (List ℕ)
+abbrev pub global_in : PlainDecl → List (List ℕ)
 global_in (Global name) = name ∷ []
 global_in (Procedure name) = name ∷ []
 global_in (Link text) = []
 global_in (Record name fields) = name ∷ []
 
 -- the fields of a record
-abbrev pub fields_in : Decl → List (List ℕ)
+abbrev pub fields_in : PlainDecl → List (List ℕ)
 fields_in (Record name fields) = fields
 fields_in (Global name) = []
 fields_in (Procedure name) = []
 fields_in (Link text) = []
 
 -- the name of a record
-abbrev pub record_name_in : Decl → List (List ℕ)
+abbrev pub record_name_in : PlainDecl → List (List ℕ)
 record_name_in (Record name fields) = name ∷ []
 record_name_in (Global name) = []
 record_name_in (Procedure name) = []
 record_name_in (Link text) = []
 
 -- the names of all records
-abbrev pub record_names : List Decl → List (List ℕ)
+abbrev pub record_names : List PlainDecl → List (List ℕ)
 record_names decls = flat_map record_name_in decls
 
 -- the built-in function of a name
@@ -159,39 +159,39 @@ abbrev pub function_in : UnitName → List (List ℕ)
 function_in entry = function_by entry.kind entry.name
 
 -- the built-in functions that the names of a procedure may be
-abbrev pub functions_in : Proc → List (List ℕ)
+abbrev pub functions_in : PlainProc → List (List ℕ)
 functions_in proc = flat_map function_in proc.names
 
 -- The tables
 
 -- what declarations declare global, each name once
-abbrev pub declared_names : List Decl → List (List ℕ)
+abbrev pub declared_names : List PlainDecl → List (List ℕ)
 declared_names decls = with_texts [] (flat_map global_in decls)
 
 -- the globals by their names: what is declared, and then the functions that are used and not declared
-abbrev pub globals : List Decl → List Proc → List (List ℕ)
+abbrev pub globals : List PlainDecl → List PlainProc → List (List ℕ)
 globals decls procs = with_texts (declared_names decls) (flat_map functions_in procs)
 
 -- the fields by their names: those of records first
-abbrev pub fields : List Decl → List Proc → List (List ℕ)
+abbrev pub fields : List PlainDecl → List PlainProc → List (List ℕ)
 fields decls procs = with_texts [] (flat_map fields_in decls ++ mentioned_by field_in procs)
 
 -- the strings: the names of fields, records, globals and procedures, and then the literals
-abbrev pub string_mentions : List Decl → List Proc → List (List ℕ)
+abbrev pub string_mentions : List PlainDecl → List PlainProc → List (List ℕ)
 string_mentions decls procs =
     fields decls procs ++ (record_names decls ++ (globals decls procs ++ (proc_names procs
     ++ mentioned_by text_in procs)))
 
 -- all texts that are mentioned, each once
-abbrev pub strings : List Decl → List Proc → List (List ℕ)
+abbrev pub strings : List PlainDecl → List PlainProc → List (List ℕ)
 strings decls procs = with_texts [] (string_mentions decls procs)
 
 -- the csets, each by its members in ascending order
-abbrev pub sets : List Proc → List (List ℕ)
+abbrev pub sets : List PlainProc → List (List ℕ)
 sets procs = with_texts [] (mentioned_by set_in procs)
 
 -- the integers that the procedures mention, each once
-abbrev pub integers : List Proc → List ℤ
+abbrev pub integers : List PlainProc → List ℤ
 integers procs = with_integers [] (mentioned_by integer_in procs)
 
 -- all of these
@@ -204,7 +204,7 @@ pub record AllMentions : Type 0 where
   pub globals : List (List ℕ)
 
 -- all that declarations and procedures mention, each once, in a table for each kind
-abbrev pub all_mentions : List Decl → List Proc → AllMentions
+abbrev pub all_mentions : List PlainDecl → List PlainProc → AllMentions
 all_mentions decls procs = record {
   strings = strings decls procs;
   sets = sets procs;

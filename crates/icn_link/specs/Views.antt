@@ -9,10 +9,10 @@ use Rattle.icn_profile.specs.Numbers.{most_entries, most_instructions}
 use Rattle.icn_unit.specs.declared.unit.ProcCode.{ProcCode}
 use Rattle.icn_unit.specs.declared.unit.UnitDecl.{UnitDecl}
 use Rattle.icn_unit.specs.declared.unit.UnitInstr.{UnitInstr}
-use Rattle.icn_unit.specs.PlainUnits.{Proc, Decl}
+use Rattle.icn_unit.specs.PlainUnits.{PlainProc, PlainDecl}
 use Rattle.icn_unit.specs.UnitViews.{decl_seen, proc_seen}
-use Rattle.icn_link.specs.declared.gathered.Gathered.{Gathered}
-use Rattle.icn_link.specs.declared.labels.Labels.{Labels}
+use Rattle.icn_link.specs.declared.gathered.GatheredMentions.{GatheredMentions}
+use Rattle.icn_link.specs.declared.labels.LabelAddresses.{LabelAddresses}
 use Rattle.icn_link.specs.declared.mention.Mention.{Mention as KeptMention}
 use Rattle.icn_link.specs.declared.mention.Mention.TheVariants as Kept
 use Rattle.icn_link.specs.declared.repeats.Owner.{Owner as KeptOwner}
@@ -22,11 +22,11 @@ use Rattle.icn_link.specs.Resolving.{label_address}
 use Rattle.icn_link.specs.Mentions.{AllMentions, all_mentions, mentioned_by, operands_in, globals, Mention, NoMention, AnInteger, AText, ASet, AField, Operands}
 
 -- the declarations that are kept, as plain lists
-abbrev pub decls_seen : List (Bor UnitDecl) → List Decl
+abbrev pub decls_seen : List (Bor UnitDecl) → List PlainDecl
 decls_seen decls = map (λ decl. decl_seen decl.now) decls
 
 -- the procedures that are kept, as plain lists
-abbrev pub procs_seen : List (Bor ProcCode) → List Proc
+abbrev pub procs_seen : List (Bor ProcCode) → List PlainProc
 procs_seen procs = map (λ proc. proc_seen proc.now) procs
 
 -- the texts that are kept
@@ -47,7 +47,7 @@ abbrev pub owner_seen : KeptOwner → Owner
 owner_seen owner = record { name = owner.name.now; place = owner.place }
 
 -- the tables that are gathered, as plain lists
-abbrev pub gathered_seen : Gathered → AllMentions
+abbrev pub gathered_seen : GatheredMentions → AllMentions
 gathered_seen tables = record {
   strings = texts_seen tables.strings.keys;
   sets = texts_seen tables.sets.keys;
@@ -62,11 +62,11 @@ abbrev pub entry_in : {X S : Type 0} → IndexMap (Bor (List ℕ)) X S → List 
 entry_in map name = get_by (λ key. bytes_eq name key.now) map
 
 -- the address of a label
-abbrev pub address_in : Labels → ℕ → ℕ
+abbrev pub address_in : LabelAddresses → ℕ → ℕ
 address_in labels label = unwrap_or (get nat_eq labels.addresses label) labels.end
 
 -- the same, where these instructions are still to come
-abbrev pub address_from : Labels → ℕ → List UnitInstr → ℕ
+abbrev pub address_from : LabelAddresses → ℕ → List UnitInstr → ℕ
 address_from labels label rest =
     unwrap_or (get nat_eq labels.addresses label) (labels.end + label_address label rest)
 
@@ -79,7 +79,7 @@ pub record AreFew (tables : AllMentions) : Type 0 where
   pub globals : length tables.globals ≤ most_entries
 
 -- Declarations and procedures of units that can be joined, and that are not too large but for the bytes of the image.
-pub record Joinable (decls : List Decl) (procs : List Proc) : Type 0 where
+pub record Joinable (decls : List PlainDecl) (procs : List PlainProc) : Type 0 where
   pub joinable_decls : list_all is_joinable_decl decls ≡ true
   pub joinable_procs : list_all is_joinable_proc procs ≡ true
   pub instrs : over most_instructions (sum_by size_of procs ∷ []) ≡ None

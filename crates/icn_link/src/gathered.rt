@@ -4,9 +4,9 @@ ghost use Rattle.std.specs.List.{flat_map};
 ghost use Rattle.icn_profile.specs.Numbers.{most_entries};
 ghost use Rattle.icn_unit.specs.declared.unit.UnitInstr.{UnitInstr};
 ghost use Rattle.icn_unit.specs.declared.unit.UnitName.{UnitName};
-ghost use Rattle.icn_unit.specs.PlainUnits.{Decl, Proc, proc_names};
+ghost use Rattle.icn_unit.specs.PlainUnits.{PlainDecl, PlainProc, proc_names};
 ghost use Rattle.icn_unit.specs.UnitViews.{decl_seen, proc_seen};
-ghost use Rattle.icn_link.specs.Gathering.{integer_index, text_index, with_integer, with_integers, with_text, with_texts};
+ghost use Rattle.icn_link.specs.FirstMentions.{integer_index, text_index, with_integer, with_integers, with_text, with_texts};
 ghost use Rattle.icn_link.specs.Mentions.{declared_names, field_in, fields, fields_in, function_in, functions_in, function_named, global_in, globals, integer_in, integers, mention_of, all_mentions, mentioned_by, mentioned_in, record_name_in, record_names, set_in, sets, string_mentions, strings, text_in};
 ghost use Rattle.icn_link.specs.Views.{decls_seen, gathered_seen, procs_seen, texts_seen};
 
@@ -19,7 +19,7 @@ use std::alloc::{AllocError, Global};
 
 /// What the declarations and the instructions of units mention, each once, in the order in which it is first mentioned.
 #[derive(Drop)]
-pub struct Gathered<'a> {
+pub struct GatheredMentions<'a> {
     /// The names of fields, records, globals and procedures, and the string literals.
     pub strings: IndexSet<&'a [u8]>,
     /// The members of csets.
@@ -38,17 +38,17 @@ pub fn gather<'a>(
     alloc: Global,
     decls: &[&'a UnitDecl],
     procs: &[&'a ProcCode],
-) -> Result<Gathered<'a>, AllocError>
+) -> Result<GatheredMentions<'a>, AllocError>
     ensures { IfOk result
         (λ tables. gathered_seen tables ≡ all_mentions (decls_seen decls.now) (procs_seen procs.now)) }
 {
-    let declared = declared(alloc, decls)?;
+    let declared = collect_declared(alloc, decls)?;
     let globals = globals(alloc, decls, procs)?;
     let fields = fields(alloc, decls, procs)?;
     let strings = strings(alloc, &fields, &globals, decls, procs)?;
     let sets = sets(alloc, procs)?;
     let integers = integers(alloc, procs)?;
-    Ok(Gathered {
+    Ok(GatheredMentions {
         strings,
         sets,
         integers,
@@ -60,7 +60,10 @@ pub fn gather<'a>(
 
 // Globals
 
-fn declared<'a>(alloc: Global, decls: &[&'a UnitDecl]) -> Result<IndexSet<&'a [u8]>, AllocError>
+fn collect_declared<'a>(
+    alloc: Global,
+    decls: &[&'a UnitDecl],
+) -> Result<IndexSet<&'a [u8]>, AllocError>
     ensures { IfOk result (λ names. texts_seen names.keys ≡ declared_names (decls_seen decls.now)) }
 {
     let mut names = IndexSet::new(alloc);
@@ -71,7 +74,7 @@ fn declared<'a>(alloc: Global, decls: &[&'a UnitDecl]) -> Result<IndexSet<&'a [u
 }
 
 fn enter_global<'a>(names: &mut IndexSet<&'a [u8]>, decl: &'a UnitDecl) -> Result<(), AllocError>
-    ensures { OnOk result ((rest : List Decl)
+    ensures { OnOk result ((rest : List PlainDecl)
         → with_texts (texts_seen names.new.keys) (flat_map global_in rest)
         ≡ with_texts (texts_seen names.old.keys) (flat_map global_in (decl_seen decl.now ∷ rest))) }
 {
@@ -91,7 +94,7 @@ fn globals<'a>(
     ensures { IfOk result
         (λ names. texts_seen names.keys ≡ globals (decls_seen decls.now) (procs_seen procs.now)) }
 {
-    let mut names = declared(alloc, decls)?;
+    let mut names = collect_declared(alloc, decls)?;
     for proc in procs {
         enter_functions(&mut names, &proc.names)?;
     }
@@ -273,7 +276,7 @@ fn enter_record_name<'a>(
     texts: &mut IndexSet<&'a [u8]>,
     decl: &'a UnitDecl,
 ) -> Result<(), AllocError>
-    ensures { OnOk result ((rest : List Decl)
+    ensures { OnOk result ((rest : List PlainDecl)
         → with_texts (texts_seen texts.new.keys) (flat_map record_name_in rest)
         ≡ with_texts (texts_seen texts.old.keys) (flat_map record_name_in (decl_seen decl.now ∷ rest))) }
 {

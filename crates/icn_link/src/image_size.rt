@@ -1,12 +1,12 @@
 // How many bytes the image of a code has.
 ghost use Rattle.std.specs.Prelude.{◌≡◌, ◌+◌, ◌*◌, length};
 ghost use Rattle.icn_code.specs.Codes.{proc_of, procs_of, record_of, records_of};
-ghost use Rattle.icn_code.specs.Seen.{tables_of};
+ghost use Rattle.icn_code.specs.CodeTables.{tables_of};
 ghost use Rattle.icn_image.specs.Spelling.{image_of};
 ghost use Rattle.icn_link.specs.ImageSizes.{body_size, bodies_size, instr_size, records_size, strings_size};
 ghost use Rattle.icn_link.specs.LinkFaults.{count_told};
 
-use icn_code::{Code, Instr, Procedure, Record};
+use icn_code::{Code, Instr, LinkedProcedure, LinkedRecord};
 use icn_tree::Bytes;
 
 /// How many bytes the image of a code has, as far as 64 bits can tell it.
@@ -48,7 +48,7 @@ fn string_size(string: &[u8]) -> u64
 }
 
 // Records, each with its name and the count of its fields.
-fn records_size(records: &[Record]) -> u64
+fn records_size(records: &[LinkedRecord]) -> u64
     ensures { result ≡ count_told (records_size (records_of records.now)) }
 {
     let mut size: u64 = 0;
@@ -66,7 +66,7 @@ fn record_size(fields: &[u32]) -> u64
 }
 
 // The instructions of procedures.
-fn bodies_size(procs: &[Procedure]) -> u64
+fn bodies_size(procs: &[LinkedProcedure]) -> u64
     ensures { result ≡ count_told (bodies_size (procs_of procs.now)) }
 {
     let mut size: u64 = 0;

@@ -13,18 +13,18 @@ use std::alloc::{AllocError, Global};
 
 /// The address of each label of a procedure: how many instructions stand before it.
 #[derive(Drop)]
-pub struct Labels {
+pub struct LabelAddresses {
     pub addresses: IndexMap<u32, u32>,
     // how many instructions there are
     pub end: u32,
 }
 
 /// The addresses of the labels among instructions.
-pub fn labels_of(alloc: Global, instrs: &[UnitInstr]) -> Result<Labels, AllocError>
+pub fn labels_of(alloc: Global, instrs: &[UnitInstr]) -> Result<LabelAddresses, AllocError>
     requires few { count_by is_instruction instrs.now ≤ most_instructions }
     ensures { IfOk result (λ labels. (label : ℕ) → address_in labels label ≡ label_address label instrs.now) }
 {
-    let mut labels = Labels {
+    let mut labels = LabelAddresses {
         addresses: IndexMap::new(alloc),
         end: 0,
     };
@@ -35,7 +35,7 @@ pub fn labels_of(alloc: Global, instrs: &[UnitInstr]) -> Result<Labels, AllocErr
 }
 
 // Goes on over an instruction. A label has its first address.
-fn pass(labels: &mut Labels, instr: &UnitInstr) -> Result<(), AllocError>
+fn pass(labels: &mut LabelAddresses, instr: &UnitInstr) -> Result<(), AllocError>
     requires few { labels.now.end ≤ most_instructions }
     ensures addresses { OnOk result ((label : ℕ) (rest : List UnitInstr) →
         address_from labels.new label rest ≡ address_from labels.old label (instr.now ∷ rest)) }
@@ -102,7 +102,7 @@ pub fn own_label(instr: &UnitInstr) -> Option<u32>
 }
 
 /// The address of a label.
-pub fn address_in(labels: &Labels, label: u32) -> u32
+pub fn address_in(labels: &LabelAddresses, label: u32) -> u32
     ensures { result ≡ address_in labels.now label }
 {
     match labels.addresses.get(&label) {

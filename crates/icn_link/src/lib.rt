@@ -4,8 +4,8 @@
 mod fault;
 mod gathered;
 mod image_size;
+mod joining_laws;
 mod labels;
-mod laws;
 mod linking;
 mod lists;
 mod mention;
@@ -16,6 +16,6 @@ mod sizes;
 mod variable;
 
 pub use fault::{DeclPlace, LinkFault};
-pub use laws::{joined_keeps_rules, units_are_joinable};
+pub use joining_laws::{joined_keeps_rules, units_are_joinable};
 pub use linking::link;
 pub use missing::base_of;

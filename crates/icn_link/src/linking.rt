@@ -5,11 +5,11 @@ ghost use Rattle.std.specs.Option.{option_or};
 ghost use Rattle.std.specs.Str.{bytes_eq};
 ghost use Rattle.icn_profile.specs.Numbers.{most_bytes_of_image, most_entries, most_instructions};
 ghost use Rattle.icn_code.specs.Codes.{proc_of, procs_of, record_of, records_of};
-ghost use Rattle.icn_code.specs.Seen.{tables_of};
+ghost use Rattle.icn_code.specs.CodeTables.{tables_of};
 ghost use Rattle.icn_image.specs.Spelling.{image_of};
 ghost use Rattle.icn_unit.specs.PlainUnits.{params_in, proc_names};
 ghost use Rattle.icn_unit.specs.UnitViews.{decl_seen, proc_seen};
-ghost use Rattle.icn_link.specs.Gathering.{text_index};
+ghost use Rattle.icn_link.specs.FirstMentions.{text_index};
 ghost use Rattle.icn_link.specs.Joined.{cset_of, entry_of, global_entry, global_with, is_among, joined_code, joined_of, locals_in, index_of, proc_entry, record_entry, records_in, start_by, statics_in, tables_with, with_bit, with_bits};
 ghost use Rattle.icn_link.specs.JoinableUnits.{is_joinable_decl, is_joinable_proc};
 ghost use Rattle.icn_link.specs.LinkFaults.{first_fault, is_instruction, over, size_of, too_large_of, IsFault};
@@ -18,19 +18,19 @@ ghost use Rattle.icn_link.specs.Units.{units_seen};
 ghost use Rattle.icn_link.specs.Views.{decls_seen, gathered_seen, procs_seen, entry_in, texts_seen, AreFew, Joinable};
 
 use crate::fault::LinkFault;
-use crate::gathered::{Gathered, function_named, gather, text_index};
+use crate::gathered::{GatheredMentions, function_named, gather, text_index};
 use crate::image_size::image_size;
 use crate::labels::labels_of;
 use crate::lists::{decls_of, procs_of};
 use crate::missing::check_links;
 use crate::repeats::check_owners;
-use crate::resolve::resolved;
+use crate::resolve::resolve_instrs;
 use crate::sizes::{
     check_count, check_instrs, check_locals, check_operands, check_records, check_statics,
     check_tables,
 };
 use crate::variable::{locals_in, statics_in, variables};
-use icn_code::{Code, Global as Variable, Instr, Procedure, Record, Start};
+use icn_code::{Code, Global as Variable, Instr, LinkedProcedure, LinkedRecord, Start};
 use icn_profile::MOST_BYTES_OF_IMAGE;
 use icn_tree::Bytes;
 use icn_unit::{ProcCode, Unit, UnitDecl, params_in};
@@ -79,7 +79,7 @@ fn join(alloc: Global, decls: &[&UnitDecl], procs: &[&ProcCode]) -> Result<Code,
 // The same, where these are the tables.
 fn join_with(
     alloc: Global,
-    tables: &Gathered<'_>,
+    tables: &GatheredMentions<'_>,
     decls: &[&UnitDecl],
     procs: &[&ProcCode],
 ) -> Result<Code, LinkFault>
@@ -115,7 +115,7 @@ fn check_image(code: &Code) -> Result<(), LinkFault>
 // The code of declarations and procedures that are not too large.
 fn code_of(
     alloc: Global,
-    tables: &Gathered<'_>,
+    tables: &GatheredMentions<'_>,
     decls: &[&UnitDecl],
     procs: &[&ProcCode],
 ) -> Result<Code, AllocError>
@@ -201,9 +201,9 @@ fn text_indices(
 
 fn records(
     alloc: Global,
-    tables: &Gathered<'_>,
+    tables: &GatheredMentions<'_>,
     decls: &[&UnitDecl],
-) -> Result<Vec<Record>, AllocError>
+) -> Result<Vec<LinkedRecord>, AllocError>
     requires few { AreFew (gathered_seen tables.now) }
     ensures { IfOk result (λ records. records_of records.items
         ≡ flat_map (records_in (gathered_seen tables.now)) (decls_seen decls.now)) }
@@ -216,9 +216,9 @@ fn records(
 }
 
 fn put_record(
-    records: &mut Vec<Record>,
+    records: &mut Vec<LinkedRecord>,
     alloc: Global,
-    tables: &Gathered<'_>,
+    tables: &GatheredMentions<'_>,
     decl: &UnitDecl,
 ) -> Result<(), AllocError>
     requires few { AreFew (gathered_seen tables.now) }
@@ -238,16 +238,16 @@ fn put_record(
 
 fn record_with(
     alloc: Global,
-    tables: &Gathered<'_>,
+    tables: &GatheredMentions<'_>,
     name: &[u8],
     fields: &[Bytes],
-) -> Result<Record, AllocError>
+) -> Result<LinkedRecord, AllocError>
     requires few { AreFew (gathered_seen tables.now) }
     ensures { IfOk result
         (λ kind. record_of kind ≡ record_entry (gathered_seen tables.now) name.now fields.now) }
 {
     let indices = field_indices(alloc, &tables.fields, fields)?;
-    Ok(Record {
+    Ok(LinkedRecord {
         name: text_index(&tables.strings, name),
         fields: indices,
     })
@@ -273,7 +273,7 @@ fn field_indices(
 
 fn globals(
     alloc: Global,
-    tables: &Gathered<'_>,
+    tables: &GatheredMentions<'_>,
     decls: &[&UnitDecl],
     procs: &[&ProcCode],
 ) -> Result<Vec<Variable>, AllocError>
@@ -291,7 +291,7 @@ fn globals(
 // The globals, where procedures and records have these numbers.
 fn globals_with(
     alloc: Global,
-    tables: &Gathered<'_>,
+    tables: &GatheredMentions<'_>,
     procs: &IndexMap<&[u8], u32>,
     records: &IndexMap<&[u8], u32>,
 ) -> Result<Vec<Variable>, AllocError>
@@ -308,7 +308,7 @@ fn globals_with(
 }
 
 fn global(
-    tables: &Gathered<'_>,
+    tables: &GatheredMentions<'_>,
     procs: &IndexMap<&[u8], u32>,
     records: &IndexMap<&[u8], u32>,
     name: &[u8],
@@ -425,9 +425,9 @@ fn undeclared_start(declared: &IndexSet<&[u8]>, name: &[u8]) -> Start
 
 fn entries(
     alloc: Global,
-    tables: &Gathered<'_>,
+    tables: &GatheredMentions<'_>,
     procs: &[&ProcCode],
-) -> Result<Vec<Procedure>, AllocError>
+) -> Result<Vec<LinkedProcedure>, AllocError>
     requires few { AreFew (gathered_seen tables.now) }
     requires sizes { list_all (λ proc. nat_le (size_of proc) most_instructions) (procs_seen procs.now)
         ≡ true }
@@ -446,9 +446,9 @@ fn entries(
 }
 
 fn put_entry(
-    entries: &mut Vec<Procedure>,
+    entries: &mut Vec<LinkedProcedure>,
     alloc: Global,
-    tables: &Gathered<'_>,
+    tables: &GatheredMentions<'_>,
     proc: &ProcCode,
 ) -> Result<(), AllocError>
     requires few { AreFew (gathered_seen tables.now) }
@@ -463,7 +463,11 @@ fn put_entry(
     Ok(())
 }
 
-fn entry(alloc: Global, tables: &Gathered<'_>, proc: &ProcCode) -> Result<Procedure, AllocError>
+fn entry(
+    alloc: Global,
+    tables: &GatheredMentions<'_>,
+    proc: &ProcCode,
+) -> Result<LinkedProcedure, AllocError>
     requires few { AreFew (gathered_seen tables.now) }
     requires size { count_by is_instruction proc.now.instrs.items ≤ most_instructions }
     requires locals { locals_in (gathered_seen tables.now).globals proc.now.names.items ≤ most_entries }
@@ -473,7 +477,7 @@ fn entry(alloc: Global, tables: &Gathered<'_>, proc: &ProcCode) -> Result<Proced
 {
     let names = variables(alloc, &tables.globals, &proc.names)?;
     let labels = labels_of(alloc, &proc.instrs)?;
-    let instrs = resolved(alloc, tables, &names, &labels, &proc.instrs)?;
+    let instrs = resolve_instrs(alloc, tables, &names, &labels, &proc.instrs)?;
     let locals = locals_in(&tables.globals, &proc.names);
     let statics = statics_in(&tables.globals, &proc.names);
     Ok(entry_with(tables, proc, locals as u32, statics as u32, instrs))
@@ -481,19 +485,19 @@ fn entry(alloc: Global, tables: &Gathered<'_>, proc: &ProcCode) -> Result<Proced
 
 // The entry of a procedure with so many locals, its parameters among them, and so many statics.
 fn entry_with(
-    tables: &Gathered<'_>,
+    tables: &GatheredMentions<'_>,
     proc: &ProcCode,
     locals: u32,
     statics: u32,
     instrs: Vec<Instr>,
-) -> Procedure
+) -> LinkedProcedure
     requires few { AreFew (gathered_seen tables.now) }
     requires params { params_in proc.now.names.items ≤ locals }
     ensures { proc_of result
         ≡ entry_of (gathered_seen tables.now) (proc_seen proc.now) locals statics instrs.items }
 {
     let parameters = params_in(&proc.names) as u32;
-    Procedure {
+    LinkedProcedure {
         name: text_index(&tables.strings, proc.name.as_slice()),
         parameters,
         collects: proc.collects,

@@ -3,7 +3,7 @@ ghost use Rattle.std.specs.Prelude.{◌≡◌, ◌⊎◌, [], map, None, IfErr, 
 ghost use Rattle.std.specs.Option.{option_map};
 ghost use Rattle.icn_unit.specs.UnitViews.{decl_seen};
 ghost use Rattle.icn_link.specs.declared.fault.LinkFault.TheVariants.{K2, NoMemory};
-ghost use Rattle.icn_link.specs.Gathering.{with_text, with_texts};
+ghost use Rattle.icn_link.specs.FirstMentions.{with_text, with_texts};
 ghost use Rattle.icn_link.specs.LinkFaults.{base_of, missing, missing_by, missing_fault, missing_from, missing_in, unit_names, IsFault};
 ghost use Rattle.icn_link.specs.Units.{units_seen};
 ghost use Rattle.icn_link.specs.Views.{texts_seen};
@@ -81,14 +81,14 @@ fn check_decl(
             if names.contains(base) {
                 Ok(())
             } else {
-                Err(missing(alloc, index, base))
+                Err(missing_name(alloc, index, base))
             }
         }
         UnitDecl::Global(_) | UnitDecl::Proc(_) | UnitDecl::Record(_, _) => Ok(()),
     }
 }
 
-fn missing(alloc: Global, index: u64, name: &[u8]) -> LinkFault
+fn missing_name(alloc: Global, index: u64, name: &[u8]) -> LinkFault
     ensures { (result ≡ NoMemory) ⊎ (result ≡ K2 index name.now) }
 {
     match Bytes::from_slice(alloc, name) {

@@ -1,6 +1,6 @@
 // Names that are procedure or record in two units.
 ghost use Rattle.std.specs.Prelude.{◌≡◌, ◌⊎◌, ◌++◌, [], List, map, None, IfErr, IfOk, OnOk};
-ghost use Rattle.icn_unit.specs.PlainUnits.{Decl};
+ghost use Rattle.icn_unit.specs.PlainUnits.{PlainDecl};
 ghost use Rattle.icn_unit.specs.UnitViews.{decl_seen};
 ghost use Rattle.icn_link.specs.declared.fault.LinkFault.TheVariants.{K1, NoMemory};
 ghost use Rattle.icn_link.specs.LinkFaults.{owner_in, owners_from, owners_in, repeat_of, repeated_name, repeated_from, IsFault, Owner};

@@ -4,18 +4,18 @@ ghost use Rattle.icn_link.specs.Joined.{scope_with, variable_at};
 ghost use Rattle.icn_link.specs.Resolving.{instr_in, instr_list, resolve, resolved_one};
 ghost use Rattle.icn_link.specs.Views.{gathered_seen, address_in, AreFew};
 
-use crate::gathered::{Gathered, integer_index, text_index};
-use crate::labels::{Labels, address_in};
+use crate::gathered::{GatheredMentions, integer_index, text_index};
+use crate::labels::{LabelAddresses, address_in};
 use icn_code::Instr;
 use icn_unit::UnitInstr;
 use std::alloc::{AllocError, Global};
 
 /// The instructions of a procedure, where its names are these variables.
-pub fn resolved(
+pub fn resolve_instrs(
     alloc: Global,
-    tables: &Gathered<'_>,
+    tables: &GatheredMentions<'_>,
     variables: &[Instr],
-    labels: &Labels,
+    labels: &LabelAddresses,
     instrs: &[UnitInstr],
 ) -> Result<Vec<Instr>, AllocError>
     requires few { AreFew (gathered_seen tables.now) }
@@ -43,9 +43,9 @@ fn put(code: &mut Vec<Instr>, instr: Option<Instr>) -> Result<(), AllocError>
 
 // What an instruction is in linked code. That of a label is none.
 fn instr_in(
-    tables: &Gathered<'_>,
+    tables: &GatheredMentions<'_>,
     variables: &[Instr],
-    labels: &Labels,
+    labels: &LabelAddresses,
     instr: &UnitInstr,
 ) -> Option<Instr>
     requires few { AreFew (gathered_seen tables.now) }

@@ -2,7 +2,7 @@
 ghost use Rattle.std.specs.Prelude.{◌≡◌, ◌≤◌, ◌∷◌, ◌++◌, [], List, ℕ, None, IfErr, IfOk, OnOk, length, map, count_by};
 ghost use Rattle.std.specs.List.{flat_map, sum_by};
 ghost use Rattle.icn_profile.specs.Numbers.{most_entries, most_instructions};
-ghost use Rattle.icn_unit.specs.PlainUnits.{Decl};
+ghost use Rattle.icn_unit.specs.PlainUnits.{PlainDecl};
 ghost use Rattle.icn_unit.specs.UnitViews.{decl_seen, proc_seen};
 ghost use Rattle.icn_link.specs.declared.fault.LinkFault.TheVariants.{K3};
 ghost use Rattle.icn_link.specs.LinkFaults.{count_told, field_counts, is_instruction, local_counts, over, record_sizes, size_of, static_counts, table_sizes};
@@ -10,7 +10,7 @@ ghost use Rattle.icn_link.specs.Mentions.{mention_of, mentioned_by, operands_in}
 ghost use Rattle.icn_link.specs.Views.{decls_seen, gathered_seen, procs_seen, texts_seen};
 
 use crate::fault::LinkFault;
-use crate::gathered::Gathered;
+use crate::gathered::GatheredMentions;
 use crate::labels::own_label;
 use crate::mention::{Mention, mention_of};
 use crate::variable::{locals_in, statics_in};
@@ -62,7 +62,7 @@ fn size_of(instrs: &[UnitInstr]) -> u64
 
 /// Refuses tables of too many entries.
 pub fn check_tables(
-    tables: &Gathered<'_>,
+    tables: &GatheredMentions<'_>,
     decls: &[&UnitDecl],
     procs: &[&ProcCode],
 ) -> Result<(), LinkFault>

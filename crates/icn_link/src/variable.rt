@@ -13,25 +13,25 @@ use std::alloc::{AllocError, Global};
 
 /// What a name of a procedure is.
 #[derive(Clone, Copy, Debug, PartialEq, Eq)]
-pub enum Variable {
+pub enum VariableKind {
     Local,
     Static,
     Global,
 }
 
 /// What a name of a procedure is, where these are the globals.
-pub fn variable_of(globals: &IndexSet<&[u8]>, entry: &UnitName) -> Variable
+pub fn variable_of(globals: &IndexSet<&[u8]>, entry: &UnitName) -> VariableKind
     ensures { result ≡ variable_of (texts_seen globals.now.keys) entry.now }
 {
     match entry.kind {
-        NameKind::Parameter => Variable::Local,
-        NameKind::Local => Variable::Local,
-        NameKind::Static => Variable::Static,
+        NameKind::Parameter => VariableKind::Local,
+        NameKind::Local => VariableKind::Local,
+        NameKind::Static => VariableKind::Static,
         NameKind::Undeclared => {
             if globals.contains(entry.name.as_slice()) {
-                Variable::Global
+                VariableKind::Global
             } else {
-                Variable::Local
+                VariableKind::Local
             }
         }
     }
@@ -80,17 +80,17 @@ fn put_variable(
         ++ variables (texts_seen globals.now.keys) locals.old statics.old (entry.now ∷ rest)) }
 {
     match variable_of(globals, entry) {
-        Variable::Local => {
+        VariableKind::Local => {
             instrs.push(Instr::Local(*locals))?;
             *locals += 1;
             Ok(())
         }
-        Variable::Static => {
+        VariableKind::Static => {
             instrs.push(Instr::Static(*statics))?;
             *statics += 1;
             Ok(())
         }
-        Variable::Global => {
+        VariableKind::Global => {
             instrs.push(Instr::Global(text_index(globals, entry.name.as_slice())))?;
             Ok(())
         }
@@ -103,7 +103,7 @@ pub fn locals_in(globals: &IndexSet<&[u8]>, names: &[UnitName]) -> u64
 {
     names
         .iter()
-        .filter(|entry| matches!(variable_of(globals, entry), Variable::Local))
+        .filter(|entry| matches!(variable_of(globals, entry), VariableKind::Local))
         .count() as u64
 }
 
@@ -113,6 +113,6 @@ pub fn statics_in(globals: &IndexSet<&[u8]>, names: &[UnitName]) -> u64
 {
     names
         .iter()
-        .filter(|entry| matches!(variable_of(globals, entry), Variable::Static))
+        .filter(|entry| matches!(variable_of(globals, entry), VariableKind::Static))
         .count() as u64
 }

@@ -9,60 +9,60 @@ use Rattle.icn_run.specs.Stacks.{Frames, flat}
 use Rattle.icn_run.specs.Step.{State, running, failing, hopping, step, steps}
 use Rattle.icn_run.specs.AnyOutside.{over_outside, run_over}
 use Rattle.icn_streams.specs.Handed.{CallStreams, Follows, KeepsAllCounts, WantsMemory, WritingFails, uncounted, output_wants, errors_want, output_fails as writing_output, errors_fail as writing_errors}
-use Rattle.icn_streams.proofs.Idle.{all_counts}
-use Rattle.icn_streams.proofs.Following.{follows_all, follows_then}
+use Rattle.icn_streams.proofs.IdleCalls.{keeps_all_counts_refl}
+use Rattle.icn_streams.proofs.CallSequences.{follows_all, follows_then}
 use Rattle.icn_control.specs.Machines.{ComesTo, StandsAt, stack_seen, store_seen}
 use Rattle.icn_control.specs.declared.machine.Machine.{Machine}
-use Rattle.icn_control.specs.declared.machine.Stage.{Stage}
-use Rattle.icn_control.specs.declared.machine.Stage.TheVariants as Stages
-use Rattle.icn_machine.specs.Answering.{AnswersStep, IsCause, with_left, idle}
+use Rattle.icn_control.specs.declared.machine.RunState.{RunState}
+use Rattle.icn_control.specs.declared.machine.RunState.TheVariants as RunStates
+use Rattle.icn_machine.specs.InstructionAnswers.{AnswersStep, IsCause, with_left, idle}
 use Rattle.icn_machine.specs.Performing.{PerformsOn}
 use Rattle.icn_machine.specs.Stepping.{Advances, IsAt, IsFirstFault, Leads, OutputFails, StandsBy, errors_fail, goes_on, output_fails, outside_at}
 
 -- Where a machine stands
 
 -- the state has the outside over which the machine stands for it
-pub at_own : {K : Type 0} (tables : Tables) (was : Outside) (state : State Frames Frames) (m : Machine K) (stage : Stage)
+pub at_own : {K : Type 0} (tables : Tables) (was : Outside) (state : State Frames Frames) (m : Machine K) (stage : RunState)
     → IsAt tables was state m stage → outside_at state ≡ was
-at_own tables was state m Stages.Runs e = ap outside_at e
-at_own tables was state m Stages.Fails e = ap outside_at e
-at_own tables was state m Stages.HopDue e = ap outside_at e.1
-at_own tables was state m Stages.Over e = absurd e
-at_own tables was state m Stages.AtBound e = absurd e
+at_own tables was state m RunStates.Running e = ap outside_at e
+at_own tables was state m RunStates.Failing e = ap outside_at e
+at_own tables was state m RunStates.Hopping e = ap outside_at e.1
+at_own tables was state m RunStates.Over e = absurd e
+at_own tables was state m RunStates.AtBound e = absurd e
 
 -- over another outside it stands for the state with that
-pub at_elsewhere : {K : Type 0} (tables : Tables) (was now : Outside) (state : State Frames Frames) (m : Machine K) (stage : Stage)
+pub at_elsewhere : {K : Type 0} (tables : Tables) (was now : Outside) (state : State Frames Frames) (m : Machine K) (stage : RunState)
     → IsAt tables was state m stage → IsAt tables now (over_outside now state) m stage
-at_elsewhere tables was now state m Stages.Runs e = ap (over_outside now) e
-at_elsewhere tables was now state m Stages.Fails e = ap (over_outside now) e
-at_elsewhere tables was now state m Stages.HopDue e = (e.0, ap (over_outside now) e.1)
-at_elsewhere tables was now state m Stages.Over e = absurd e
-at_elsewhere tables was now state m Stages.AtBound e = absurd e
+at_elsewhere tables was now state m RunStates.Running e = ap (over_outside now) e
+at_elsewhere tables was now state m RunStates.Failing e = ap (over_outside now) e
+at_elsewhere tables was now state m RunStates.Hopping e = (e.0, ap (over_outside now) e.1)
+at_elsewhere tables was now state m RunStates.Over e = absurd e
+at_elsewhere tables was now state m RunStates.AtBound e = absurd e
 
-pub at_same : {K : Type 0} (tables : Tables) (was : Outside) (state : State Frames Frames) (m : Machine K) (stage : Stage)
+pub at_same : {K : Type 0} (tables : Tables) (was : Outside) (state : State Frames Frames) (m : Machine K) (stage : RunState)
     → IsAt tables was state m stage → over_outside was state ≡ state
-at_same tables was state m Stages.Runs e = ap (over_outside was) e ∙ sym e
-at_same tables was state m Stages.Fails e = ap (over_outside was) e ∙ sym e
-at_same tables was state m Stages.HopDue e = ap (over_outside was) e.1 ∙ sym e.1
-at_same tables was state m Stages.Over e = absurd e
-at_same tables was state m Stages.AtBound e = absurd e
+at_same tables was state m RunStates.Running e = ap (over_outside was) e ∙ sym e
+at_same tables was state m RunStates.Failing e = ap (over_outside was) e ∙ sym e
+at_same tables was state m RunStates.Hopping e = ap (over_outside was) e.1 ∙ sym e.1
+at_same tables was state m RunStates.Over e = absurd e
+at_same tables was state m RunStates.AtBound e = absurd e
 
 -- where the run goes on, the machine stands for some state
-pub some_state : {K : Type 0} (tables : Tables) (was : Outside) (m : Machine K) (stage : Stage) → goes_on stage ≡ true
+pub some_state : {K : Type 0} (tables : Tables) (was : Outside) (m : Machine K) (stage : RunState) → goes_on stage ≡ true
     → (state : State Frames Frames) × IsAt tables was state m stage
-some_state tables was m Stages.Runs e = (running (stack_seen m) (store_seen tables was m), refl)
-some_state tables was m Stages.Fails e = (failing (stack_seen m) (store_seen tables was m), refl)
-some_state tables was m Stages.HopDue e = (hopping (stack_seen m) (store_seen tables was m), (stack_seen m, refl))
-some_state tables was m Stages.Over e = cc
-some_state tables was m Stages.AtBound e = cc
+some_state tables was m RunStates.Running e = (running (stack_seen m) (store_seen tables was m), refl)
+some_state tables was m RunStates.Failing e = (failing (stack_seen m) (store_seen tables was m), refl)
+some_state tables was m RunStates.Hopping e = (hopping (stack_seen m) (store_seen tables was m), (stack_seen m, refl))
+some_state tables was m RunStates.Over e = cc
+some_state tables was m RunStates.AtBound e = cc
 
-pub is_at : {K : Type 0} (tables : Tables) (was : Outside) (state : State Frames Frames) (m : Machine K) (stage : Stage) → goes_on stage ≡ true
+pub is_at : {K : Type 0} (tables : Tables) (was : Outside) (state : State Frames Frames) (m : Machine K) (stage : RunState) → goes_on stage ≡ true
     → StandsAt tables was state m stage → IsAt tables was state m stage
-is_at tables was state m Stages.Runs e h = h
-is_at tables was state m Stages.Fails e h = h
-is_at tables was state m Stages.HopDue e h = h
-is_at tables was state m Stages.Over e h = cc
-is_at tables was state m Stages.AtBound e h = cc
+is_at tables was state m RunStates.Running e h = h
+is_at tables was state m RunStates.Failing e h = h
+is_at tables was state m RunStates.Hopping e h = h
+is_at tables was state m RunStates.Over e h = cc
+is_at tables was state m RunStates.AtBound e h = cc
 
 -- Steps
 
@@ -134,7 +134,7 @@ first_fault a b (Err Halts.NoMemory) k = k
 
 -- One step
 
-stands_by : {K : Type 0} (tables : Tables) (now : Outside) (state : State Frames Frames) (n : Machine K) (result : Result Stage Halt)
+stands_by : {K : Type 0} (tables : Tables) (now : Outside) (state : State Frames Frames) (n : Machine K) (result : Result RunState Halt)
     → ComesTo tables now state n result → StandsBy tables now state n result
 stands_by tables now state n (Ok stage) h = h
 stands_by tables now state n (Err (Halts.Error number offending)) h = h
@@ -144,7 +144,7 @@ stands_by tables now state n (Err Halts.WriteFault) h = tt
 stands_by tables now state n (Err Halts.NoMemory) h = tt
 
 -- what neither reads nor puts answers no fault
-quiet_answer : {K : Type 0} (tables : Tables) (state : State Frames Frames) (n : Machine K) (h : CallStreams) (was : Outside) (result : Result Stage Halt)
+quiet_answer : {K : Type 0} (tables : Tables) (state : State Frames Frames) (n : Machine K) (h : CallStreams) (was : Outside) (result : Result RunState Halt)
     → h.left ≡ Some was.left
     → ComesTo tables was state n result → AnswersStep (λ now answer. ComesTo tables now state n answer) state was h h result
 quiet_answer tables state n h was (Ok stage) told k = record { now = was; follows = follows_all h was told; is = k }
@@ -154,18 +154,18 @@ quiet_answer tables state n h was (Err Halts.ReadFault) told k = absurd k
 quiet_answer tables state n h was (Err Halts.WriteFault) told k = absurd k
 quiet_answer tables state n h was (Err Halts.NoMemory) told k = idle refl
 
-quiet_cause : {K : Type 0} (tables : Tables) (state : State Frames Frames) (n : Machine K) (h : CallStreams) (was : Outside) (result : Result Stage Halt)
+quiet_cause : {K : Type 0} (tables : Tables) (state : State Frames Frames) (n : Machine K) (h : CallStreams) (was : Outside) (result : Result RunState Halt)
     → ComesTo tables was state n result → IsFirstFault result h h
-quiet_cause tables state n h was (Ok stage) k = all_counts h
-quiet_cause tables state n h was (Err (Halts.Error number offending)) k = all_counts h
-quiet_cause tables state n h was (Err (Halts.Ends status)) k = all_counts h
+quiet_cause tables state n h was (Ok stage) k = keeps_all_counts_refl h
+quiet_cause tables state n h was (Err (Halts.Error number offending)) k = keeps_all_counts_refl h
+quiet_cause tables state n h was (Err (Halts.Ends status)) k = keeps_all_counts_refl h
 quiet_cause tables state n h was (Err Halts.ReadFault) k = absurd k
 quiet_cause tables state n h was (Err Halts.WriteFault) k = absurd k
-quiet_cause tables state n h was (Err Halts.NoMemory) k = uncounted (all_counts h)
+quiet_cause tables state n h was (Err Halts.NoMemory) k = uncounted (keeps_all_counts_refl h)
 
 -- a step is answered from the state's own outside on
-own_step : {K : Type 0} (tables : Tables) (m : Machine K) (stage : Stage) (n : Machine K) (was : Outside) (state : State Frames Frames)
-    (before after : CallStreams) (result : Result Stage Halt)
+own_step : {K : Type 0} (tables : Tables) (m : Machine K) (stage : RunState) (n : Machine K) (was : Outside) (state : State Frames Frames)
+    (before after : CallStreams) (result : Result RunState Halt)
     → IsAt tables was state m stage → before.left ≡ Some was.left
     → AnswersStep (λ now answer. ComesTo tables now (step flat tables state) n answer) (step flat tables state) was before after result
     → Leads tables state was before n after result
@@ -181,7 +181,7 @@ own_step tables m stage n was state before after result at told last =
     }
 
 -- a step that neither reads nor puts
-pub quiet_step : {K : Type 0} (tables : Tables) (m : Machine K) (stage : Stage) (h : CallStreams) (n : Machine K) (result : Result Stage Halt)
+pub quiet_step : {K : Type 0} (tables : Tables) (m : Machine K) (stage : RunState) (h : CallStreams) (n : Machine K) (result : Result RunState Halt)
     → goes_on stage ≡ true
     → ((was : Outside) (state : State Frames Frames) → IsAt tables was state m stage → ComesTo tables was (step flat tables state) n result)
     → Advances tables m stage h n h result
@@ -203,7 +203,7 @@ quiet_step tables m stage h n result goes comes = record {
 
 -- where the machine stands over the input that the answer is meant for
 meant_at : {K : Type 0} (tables : Tables) (state : State Frames Frames) (n : Machine K) (was : Outside) (before after : CallStreams)
-    (result : Result Stage Halt)
+    (result : Result RunState Halt)
     → AnswersStep (λ now answer. ComesTo tables now state n answer) state was before after result → (now : Outside) × StandsBy tables now state n result
 meant_at tables state n was before after (Ok stage) h = (h.now, h.is)
 meant_at tables state n was before after (Err (Halts.Error number offending)) h = (h.now, h.is)
@@ -213,8 +213,8 @@ meant_at tables state n was before after (Err Halts.WriteFault) h = (was, tt)
 meant_at tables state n was before after (Err Halts.NoMemory) h = (was, tt)
 
 -- a step that performs a row
-pub performed_step : {K : Type 0} (tables : Tables) (leads : Outside → State Frames Frames) (m : Machine K) (stage : Stage) (before : CallStreams)
-    (n : Machine K) (after : CallStreams) (result : Result Stage Halt)
+pub performed_step : {K : Type 0} (tables : Tables) (leads : Outside → State Frames Frames) (m : Machine K) (stage : RunState) (before : CallStreams)
+    (n : Machine K) (after : CallStreams) (result : Result RunState Halt)
     → ((was : Outside) (state : State Frames Frames) → IsAt tables was state m stage → step flat tables state ≡ leads was)
     → PerformsOn tables leads n before after result → Advances tables m stage before n after result
 performed_step tables leads m stage before n after result is p = record {
@@ -236,8 +236,8 @@ performed_step tables leads m stage before n after result is p = record {
 }
 
 -- Some steps after others
-pub advances_then : {K : Type 0} (tables : Tables) (m : Machine K) (stage : Stage) (a : CallStreams) (n : Machine K) (next : Stage) (b : CallStreams)
-    (k : Machine K) (c : CallStreams) (result : Result Stage Halt)
+pub advances_then : {K : Type 0} (tables : Tables) (m : Machine K) (stage : RunState) (a : CallStreams) (n : Machine K) (next : RunState) (b : CallStreams)
+    (k : Machine K) (c : CallStreams) (result : Result RunState Halt)
     → goes_on next ≡ true
     → Advances tables m stage a n b (Ok next) → Advances tables n next b k c result → Advances tables m stage a k c result
 advances_then tables m stage a n next b k c result goes first second = record {
@@ -281,17 +281,17 @@ advances_then tables m stage a n next b k c result goes first second = record {
   caused = fault_then a b c result first.caused second.caused;
 }
 
-quiet_so : {K : Type 0} (tables : Tables) (state : State Frames Frames) (n : Machine K) (h : CallStreams) (was : Outside) (result : Result Stage Halt)
+quiet_so : {K : Type 0} (tables : Tables) (state : State Frames Frames) (n : Machine K) (h : CallStreams) (was : Outside) (result : Result RunState Halt)
     → ComesTo tables was state n result → IsCause result h h
-quiet_so tables state n h was (Ok stage) k = all_counts h
-quiet_so tables state n h was (Err (Halts.Error number offending)) k = all_counts h
-quiet_so tables state n h was (Err (Halts.Ends status)) k = all_counts h
+quiet_so tables state n h was (Ok stage) k = keeps_all_counts_refl h
+quiet_so tables state n h was (Err (Halts.Error number offending)) k = keeps_all_counts_refl h
+quiet_so tables state n h was (Err (Halts.Ends status)) k = keeps_all_counts_refl h
 quiet_so tables state n h was (Err Halts.ReadFault) k = absurd k
 quiet_so tables state n h was (Err Halts.WriteFault) k = absurd k
-quiet_so tables state n h was (Err Halts.NoMemory) k = uncounted (all_counts h)
+quiet_so tables state n h was (Err Halts.NoMemory) k = uncounted (keeps_all_counts_refl h)
 
 -- an instruction that neither reads nor puts, as one that may
-pub quietly_performs : {K : Type 0} (tables : Tables) (leads : Outside → State Frames Frames) (n : Machine K) (h : CallStreams) (result : Result Stage Halt)
+pub quietly_performs : {K : Type 0} (tables : Tables) (leads : Outside → State Frames Frames) (n : Machine K) (h : CallStreams) (result : Result RunState Halt)
     → ((outside : Outside) → ComesTo tables outside (leads outside) n result) → PerformsOn tables leads n h h result
 quietly_performs tables leads n h result comes = record {
   answers = λ was told. quiet_answer tables (leads was) n h was result told (comes was);

@@ -10,33 +10,33 @@ use Rattle.icn_vars.specs.declared.world.World.{World}
 use Rattle.icn_vars.specs.Worlds.{reach_of, world_of}
 use Rattle.icn_frames.specs.Stacks as held
 use Rattle.icn_frames.specs.Stacks.{FlatStack}
-use Rattle.icn_coexp.specs.Transfers.{Table}
+use Rattle.icn_coexp.specs.Transfers.{CoexpTable}
 use Rattle.icn_code.specs.Codes.{Tables}
 use Rattle.icn_code.specs.Rules.{keeps_rules}
 use Rattle.icn_code.specs.declared.instr.Instr.{Instr}
 use Rattle.icn_code.specs.declared.instr.Instr.TheVariants as Instrs
 use Rattle.icn_run.specs.Stacks.{Frames, flat}
 use Rattle.icn_run.specs.Step.{State, Store, running, failing, hopping, over, stuck, step, all_names, initial_if, instruction, instruction_at, instrs_of, turn_if, with_found}
-use Rattle.icn_run_named.specs.StateNames.{StackNamed, StoreNamed}
-use Rattle.icn_run_named.specs.KeepingNames.{MayCall}
-use Rattle.icn_run_named.specs.KeepingSizes.{StoreFits}
+use Rattle.law_steps.specs.StateNames.{StackNamed, StoreNamed}
+use Rattle.law_steps.specs.KeepingNames.{MayCall}
+use Rattle.law_steps.specs.KeepingSizes.{StoreFits}
 use Rattle.icn_streams.specs.Handed.{CallStreams}
-use Rattle.icn_control.specs.Counting.{EnterOthers, FitTurns}
-use Rattle.icn_control.specs.Machines.{AreLiveStacks, ComesTo, IsSound, StandsAt, does, running_of, stack_of, stack_seen, store_in, store_seen}
-use Rattle.icn_control.specs.Standing.{stack_in}
+use Rattle.icn_control.specs.ResultCounts.{EnterOthers, FitTurns}
+use Rattle.icn_control.specs.Machines.{AreLiveStacks, ComesTo, IsSoundMachine, StandsAt, does, running_of, stack_of, stack_seen, store_in, store_seen}
+use Rattle.icn_control.specs.StackViews.{stack_in}
 use Rattle.icn_control.specs.declared.machine.Machine.{Machine}
-use Rattle.icn_control.specs.declared.machine.Stage.{Stage}
-use Rattle.icn_control.specs.declared.machine.Stage.TheVariants as Stages
+use Rattle.icn_control.specs.declared.machine.RunState.{RunState}
+use Rattle.icn_control.specs.declared.machine.RunState.TheVariants as RunStates
 use Rattle.icn_control.proofs.LiveCalls.{live_go}
 use Rattle.icn_control.proofs.MachineSteps.{stacks_on}
 use Rattle.icn_instructions.proofs.RangeSteps.{instr_in_range}
-use Rattle.icn_instructions.specs.Doing.{HasMemory}
+use Rattle.icn_instructions.specs.InstructionEffects.{HasMemory}
 use Rattle.icn_instructions.specs.Groups.{takes_no_memory}
 use Rattle.icn_run.specs.InstructionNeeds.{HasCaseMark, HasVariables}
 use Rattle.icn_instructions.specs.Ranges.{IsInRange}
 use Rattle.icn_machine.specs.Performing.{PerformsOn}
-use Rattle.icn_machine.specs.Steps.{stage_result}
-use Rattle.icn_machine.specs.declared.stepping.Stepped.{Stepped}
+use Rattle.icn_machine.specs.AfterInstruction.{stage_result}
+use Rattle.icn_machine.specs.declared.stepping.AfterStep.{AfterStep}
 use Rattle.icn_machine.specs.Stepping.{Advances, AlwaysOver, EndsWhole, GoesOn, IsDoing, IsReady, LacksNothing, advances, goes_on, is_failing, is_whole, stays}
 use Rattle.icn_machine.proofs.AdvanceSteps.{advances_then}
 use Rattle.icn_machine.proofs.NextSteps.{always_doing, kept_running, read_instr, step_does}
@@ -60,7 +60,7 @@ module _ {K : Type 0} (m n : Machine K) (f : FlatStack) (moves : Moves m n f) wh
   was_stack = ap (λ (o : Option FlatStack). stack_in (extent_of m.world.heap) (running_of o)) moves.runs
 
   now_stack : stack_of n ≡ there
-  now_stack = ap (λ (t : Table). running_of t.running) moves.table
+  now_stack = ap (λ (t : CoexpTable). running_of t.running) moves.table
 
   pub moved_stack : stack_seen n ≡ flat.go (suc (flat.address (stack_seen m))) (stack_seen m)
   moved_stack =
@@ -73,20 +73,20 @@ module _ {K : Type 0} (m n : Machine K) (f : FlatStack) (moves : Moves m n f) wh
       ap (λ (w : World). store_in (all_names tables) outside (world_of w) n.turns n.begun.items (extent_of w.heap) n.stacks.table) moves.world
       ∙ ap (λ (t : ℕ). store_in (all_names tables) outside (world_of m.world) t n.begun.items (extent_of m.world.heap) n.stacks.table) moves.turns
       ∙ ap (λ (b : List Bool). store_in (all_names tables) outside (world_of m.world) m.turns b (extent_of m.world.heap) n.stacks.table) moves.begun
-      ∙ ap (λ (t : Table). store_in (all_names tables) outside (world_of m.world) m.turns m.begun.items (extent_of m.world.heap) t) moves.table
+      ∙ ap (λ (t : CoexpTable). store_in (all_names tables) outside (world_of m.world) m.turns m.begun.items (extent_of m.world.heap) t) moves.table
 
-  moved_sound : (tables : Tables) → IsSound tables m → IsSound tables n
+  moved_sound : (tables : Tables) → IsSoundMachine tables m → IsSoundMachine tables n
   moved_sound tables k = record {
     stacks = subst (λ (w : World). AreLiveStacks tables (reach_of w []) n.stacks.table) (sym moves.world)
-        (subst (λ (t : Table). AreLiveStacks tables (reach_of m.world []) t) (sym moves.table)
+        (subst (λ (t : CoexpTable). AreLiveStacks tables (reach_of m.world []) t) (sym moves.table)
         (stacks_on tables (reach_of m.world []) m.stacks.table f there moves.runs (λ l. live_go tables (reach_of m.world []) f (suc f.address) l) k.stacks));
     bounds = ap (λ (w : World). (heap_of w.heap).bounds) moves.world ∙ k.bounds ∙ sym (ap limits_of moves.limits);
-    counts = ap (λ (w : World). length (heap_of w.heap).coexps) moves.world ∙ k.counts ∙ sym (ap (λ (t : Table). length t.coexps) moves.table);
+    counts = ap (λ (w : World). length (heap_of w.heap).coexps) moves.world ∙ k.counts ∙ sym (ap (λ (t : CoexpTable). length t.coexps) moves.table);
     counted = record {
       results = subst (λ (w : World). FitTurns n.turns n.stacks.table.active (heap_of w.heap).coexps) (sym moves.world)
           (subst (λ (t : ℕ). FitTurns t n.stacks.table.active (heap_of m.world.heap).coexps) (sym moves.turns)
-          (subst (λ (t : Table). FitTurns m.turns t.active (heap_of m.world.heap).coexps) (sym moves.table) k.counted.results));
-      activators = subst (λ (t : Table). EnterOthers t.coexps) (sym moves.table) k.counted.activators;
+          (subst (λ (t : CoexpTable). FitTurns m.turns t.active (heap_of m.world.heap).coexps) (sym moves.table) k.counted.results));
+      activators = subst (λ (t : CoexpTable). EnterOthers t.coexps) (sym moves.table) k.counted.activators;
     };
   }
 
@@ -101,10 +101,10 @@ module _ {K : Type 0} (m n : Machine K) (f : FlatStack) (moves : Moves m n f) wh
         ∙ ap (λ (st : Store Frames). instruction flat tables instr (flat.go (suc (flat.address (stack_seen m))) (stack_seen m)) st)
         (moved_store tables outside))
 
-    pub doing_here : keeps_rules tables ≡ true → IsReady tables m Stages.Runs → IsDoing tables n instr
+    pub doing_here : keeps_rules tables ≡ true → IsReady tables m RunStates.Running → IsDoing tables n instr
     doing_here rules ready = record {
       sound = moved_sound tables ready.sound;
-      runs = subst (λ (t : Table). IsSome t.running) (sym moves.table) refl;
+      runs = subst (λ (t : CoexpTable). IsSome t.running) (sym moves.table) refl;
       always = λ outside. subst (λ (s : State Frames Frames). AlwaysOver tables (LacksNothing tables) s)
           (sym (step_does tables (stack_seen m) instr (store_seen tables outside m) instr_here) ∙ step_here outside)
           (always_doing tables (stack_seen m) instr (store_seen tables outside m) instr_here (kept_running tables m ready.kept outside));
@@ -154,13 +154,13 @@ whole_state tables (Instrs.Loop label) m st e = turn_whole (nat_lt st.turns st.w
 whole_state tables (Instrs.Init label) m st e = initial_whole (slice_index_or st.begun (flat.proc m) true) label m st
 whole_state tables _ m st e = cc
 
-whole_stands : {K : Type 0} (tables : Tables) (outside : Outside) (state : State Frames Frames) (n : Machine K) (stage : Stage) → NeverFails state
+whole_stands : {K : Type 0} (tables : Tables) (outside : Outside) (state : State Frames Frames) (n : Machine K) (stage : RunState) → NeverFails state
     → StandsAt tables outside state n stage → is_failing stage ≡ false
-whole_stands tables outside state n Stages.Runs h e = refl
-whole_stands tables outside state n Stages.Over h e = refl
-whole_stands tables outside state n Stages.AtBound h e = refl
-whole_stands tables outside state n Stages.Fails h e = absurd (subst NeverFails e h)
-whole_stands tables outside state n Stages.HopDue h e = absurd (subst NeverFails e.1 h)
+whole_stands tables outside state n RunStates.Running h e = refl
+whole_stands tables outside state n RunStates.Over h e = refl
+whole_stands tables outside state n RunStates.AtBound h e = refl
+whole_stands tables outside state n RunStates.Failing h e = absurd (subst NeverFails e h)
+whole_stands tables outside state n RunStates.Hopping h e = absurd (subst NeverFails e.1 h)
 
 whole_memory : (instr : Instr) → is_whole instr ≡ true → takes_no_memory instr ≡ true
 whole_memory Instrs.Pop e = refl
@@ -171,7 +171,7 @@ whole_memory (Instrs.Loop label) e = refl
 whole_memory (Instrs.Init label) e = refl
 whole_memory _ e = cc
 
-pub whole_done : {K : Type 0} (tables : Tables) (m n : Machine K) (instr : Instr) (result : Result Stage Halt) → is_whole instr ≡ true
+pub whole_done : {K : Type 0} (tables : Tables) (m n : Machine K) (instr : Instr) (result : Result RunState Halt) → is_whole instr ≡ true
     → ((outside : Outside) → ComesTo tables outside (does tables outside instr m) n result)
     → (takes_no_memory instr ≡ true → HasMemory result) → EndsWhole result
 whole_done tables m n instr (Ok stage) w comes memory =
@@ -185,32 +185,33 @@ whole_done tables m n instr (Err Halts.NoMemory) w comes memory = absurd (memory
 
 -- Answers
 
-pub applied_performs : {K : Type 0} (tables : Tables) (m n : Machine K) (instr j : Instr) (before after : CallStreams) (result : Result Stage Halt) → instr ≡ j
+pub applied_performs : {K : Type 0} (tables : Tables) (m n : Machine K) (instr j : Instr) (before after : CallStreams) (result : Result RunState Halt)
+    → instr ≡ j
     → PerformsOn tables (λ o. does tables o j m) n before after result → PerformsOn tables (λ o. does tables o instr m) n before after result
 applied_performs tables m n instr j before after result e p = subst (λ (x : Instr). PerformsOn tables (λ o. does tables o x m) n before after result) (sym e) p
 
 pub calls_as : (instr j : Instr) → instr ≡ j → (MayCall j → ⊥) → MayCall instr → ⊥
 calls_as instr j e h k = h (subst MayCall e k)
 
-pub staged_err : {K : Type 0} (tables : Tables) (m : Machine K) (stage : Stage) (a : CallStreams) (n : Machine K) (b : CallStreams) (halt : Halt)
-    (result : Result Stepped Halt)
+pub staged_err : {K : Type 0} (tables : Tables) (m : Machine K) (stage : RunState) (a : CallStreams) (n : Machine K) (b : CallStreams) (halt : Halt)
+    (result : Result AfterStep Halt)
     → IsErrAnd result (λ h. h ≡ halt) → GoesOn tables m stage a n b (Err halt)
     → GoesOn tables m stage a n b (stage_result result)
 staged_err tables m stage a n b halt (Err h) e p = subst (λ (x : Halt). GoesOn tables m stage a n b (Err x)) (sym e) p
 staged_err tables m stage a n b halt (Ok s) e p = absurd e
 
-pub advanced_err : {K : Type 0} (tables : Tables) (m : Machine K) (stage : Stage) (a : CallStreams) (n : Machine K) (b : CallStreams) (halt : Halt)
-    (result : Result Stepped Halt)
+pub advanced_err : {K : Type 0} (tables : Tables) (m : Machine K) (stage : RunState) (a : CallStreams) (n : Machine K) (b : CallStreams) (halt : Halt)
+    (result : Result AfterStep Halt)
     → IsErrAnd result (λ h. h ≡ halt) → Advances tables m stage a n b (Err halt)
     → Advances tables m stage a n b (stage_result result)
 advanced_err tables m stage a n b halt (Err h) e p = subst (λ (x : Halt). Advances tables m stage a n b (Err x)) (sym e) p
 advanced_err tables m stage a n b halt (Ok s) e p = absurd e
 
-pub err_memory : (halt : Halt) (result : Result Stepped Halt) → IsErrAnd result (λ h. h ≡ halt) → EndsWhole (Err halt) → result ≢ Err Halts.NoMemory
+pub err_memory : (halt : Halt) (result : Result AfterStep Halt) → IsErrAnd result (λ h. h ≡ halt) → EndsWhole (Err halt) → result ≢ Err Halts.NoMemory
 err_memory halt (Ok s) e w = absurd e
 err_memory halt (Err h) e w = by h (subst (λ (x : Halt). EndsWhole (Err x)) (sym e) w)
   where
-    by : (x : Halt) → EndsWhole (Err x) → ◌≢◌ {A = Result Stepped Halt} (Err x) (Err Halts.NoMemory)
+    by : (x : Halt) → EndsWhole (Err x) → ◌≢◌ {A = Result AfterStep Halt} (Err x) (Err Halts.NoMemory)
     by (Halts.Error number offending) q = λ r. absurd (cc)
     by (Halts.Ends status) q = λ r. absurd (cc)
     by Halts.ReadFault q = λ r. absurd (cc)
@@ -218,12 +219,12 @@ err_memory halt (Err h) e w = by h (subst (λ (x : Halt). EndsWhole (Err x)) (sy
     by Halts.NoMemory q = absurd q
 
 -- failing behind an instruction
-pub then_fails : {K : Type 0} (tables : Tables) (m : Machine K) (stage : Stage) (a : CallStreams) (n : Machine K) (next : Stage) (b : CallStreams)
-    (k : Machine K) (c : CallStreams) (result : Result Stage Halt)
+pub then_fails : {K : Type 0} (tables : Tables) (m : Machine K) (stage : RunState) (a : CallStreams) (n : Machine K) (next : RunState) (b : CallStreams)
+    (k : Machine K) (c : CallStreams) (result : Result RunState Halt)
     → goes_on next ≡ true
     → Advances tables m stage a n b (Ok next) → GoesOn tables n next b k c result → Advances tables m stage a k c result
 then_fails tables m stage a n next b k c result goes p (advances q) = advances_then tables m stage a n next b k c result goes p q
 then_fails {K} tables m stage a n next b k c result goes p (stays e h f) =
     subst (λ (x : Machine K). Advances tables m stage a x c result) (sym e)
     (subst (λ (x : CallStreams). Advances tables m stage a n x result) (sym h)
-    (subst (λ (x : Result Stage Halt). Advances tables m stage a n b x) (sym f) p))
+    (subst (λ (x : Result RunState Halt). Advances tables m stage a n b x) (sym f) p))

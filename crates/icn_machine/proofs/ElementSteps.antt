@@ -14,7 +14,7 @@ use Rattle.icn_value.specs.Values.{Value}
 use Rattle.icn_value.specs.Store.{Names, Record, World as StoreWorld, list_at, new_list, record_at}
 use Rattle.icn_heap.specs.Extents.{Extent, IsLive, value_in}
 use Rattle.icn_heap.specs.Heaps.{extent_of, heap_of}
-use Rattle.icn_named.specs.Named.{HeapNamed, ItemNamed, ListNamed, RecordNamed, ValueNamed}
+use Rattle.law_names.specs.NamedSettings.{HeapNamed, ItemNamed, ListNamed, RecordNamed, ValueNamed}
 use Rattle.icn_vars.specs.declared.outcome.Halt.{Halt}
 use Rattle.icn_vars.specs.declared.outcome.Halt.TheVariants as Halts
 use Rattle.icn_vars.specs.declared.stop.Stop.{Stop}
@@ -28,14 +28,14 @@ use Rattle.icn_code.specs.Codes.{Tables}
 use Rattle.icn_run.specs.Rows as rows
 use Rattle.icn_run.specs.Stacks.{Frames, flat}
 use Rattle.icn_run.specs.Step.{State, Store, applied_to_elements, elements_called, errs, invoke_value, plain, with_value}
-use Rattle.icn_run_named.proofs.CallsNamed.{Maybe, each_get, each_of}
+use Rattle.law_steps.proofs.CallsNamed.{IfThere, each_get, each_of}
 use Rattle.icn_streams.specs.Handed.{CallStreams}
-use Rattle.icn_control.specs.Parts.{HaltsWith, StandsWith}
-use Rattle.icn_control.specs.Standing.{stack_in}
-use Rattle.icn_control.specs.Taking.{take_operands, taken_onto}
-use Rattle.icn_control.specs.declared.machine.Stage.{Stage}
-use Rattle.icn_control.proofs.PartSteps.{at_halt, same_world, value_goes, value_halts}
-use Rattle.icn_control.proofs.TakeSteps.{FindsItem}
+use Rattle.icn_control.specs.StackAndWorld.{HaltsWith, StandsWith}
+use Rattle.icn_control.specs.StackViews.{stack_in}
+use Rattle.icn_control.specs.TakenOperands.{take_operands, taken_onto}
+use Rattle.icn_control.specs.declared.machine.RunState.{RunState}
+use Rattle.icn_control.proofs.StackAndWorldSteps.{match_halt, same_world, value_goes, value_halts}
+use Rattle.icn_control.proofs.TakenOperandSteps.{FindsItem}
 use Rattle.icn_machine.specs.Invoking.{FindsElements, PerformsEvent}
 use Rattle.icn_machine.proofs.PerformEvents.{event_as, still_event}
 
@@ -64,11 +64,11 @@ plain_named names (value ∷ values) are =
     All-cons (ItemNamed names) (plain value) (map plain values) (record { named = All-head (ValueNamed names) value values are })
     (plain_named names values (All-tail (ValueNamed names) value values are))
 
-list_named : (names : Names) (o : Option (NumberedList Value)) → Maybe (ListNamed names) o → All (ValueNamed names) (unwrap_or o (new_list [])).items
+list_named : (names : Names) (o : Option (NumberedList Value)) → IfThere (ListNamed names) o → All (ValueNamed names) (unwrap_or o (new_list [])).items
 list_named names None h = All-nil (ValueNamed names)
 list_named names (Some list) h = h
 
-record_named : (names : Names) (o : Option Record) → Maybe (RecordNamed names) o → All (ValueNamed names) (unwrap_or o (record {
+record_named : (names : Names) (o : Option Record) → IfThere (RecordNamed names) o → All (ValueNamed names) (unwrap_or o (record {
   kind =
       0;
   fields = [];
@@ -172,7 +172,7 @@ both_go tables w m callee from value other st same f k =
     ∙ value_goes all (item_in all from) M st other (λ x. elements_called flat tables (value_in all value) x M st) (k st same)
 
 pub elements_event : (tables : Tables) (names : Names) (w v : World) (m k n : FlatStack) (callee from : Item) (value other : Val)
-    (items xs : List Item) (before after : CallStreams) (result : Result Stage Halt)
+    (items xs : List Item) (before after : CallStreams) (result : Result RunState Halt)
     → FindsItem w m callee (Ok value) → FindsItem w m from (Ok other) → FindsElements {A = Unit} w other items (Ok tt) → k ≡ m → xs ≡ items
     → PerformsEvent names (λ st. invoke_value flat tables (value_in (extent_of w.heap) value) (map (item_in (extent_of w.heap)) xs)
     (stack_in (extent_of w.heap) k) st) w before v n after result
@@ -188,17 +188,17 @@ elements_event tables names w v m k n callee from value other items xs before af
     p
 
 stops_event : (tables : Tables) (names : Names) (w : World) (m n : FlatStack) (callee from : Item) (halt : Halt) (before : CallStreams)
-    (result : Result Stage Halt)
+    (result : Result RunState Halt)
     → IsErrAnd result (λ h. h ≡ halt)
     → ((st : Store Frames) → st.world ≡ world_of w → HaltsWith (applied_on tables w m callee from st) st w halt)
     → PerformsEvent names (applied_on tables w m callee from) w before w n before result
 stops_event tables names w m n callee from halt before result err h =
     still_event names (applied_on tables w m callee from) w w n before result
-    (λ st same. at_halt result halt (StandsWith (applied_on tables w m callee from st) st w n) (HaltsWith (applied_on tables w m callee from st) st w)
+    (λ st same. match_halt result halt (StandsWith (applied_on tables w m callee from st) st w n) (HaltsWith (applied_on tables w m callee from st) st w)
     err (h st same))
 
 pub callee_stops : (tables : Tables) (names : Names) (w : World) (m n : FlatStack) (callee from : Item) (stop : Stop) (before : CallStreams)
-    (result : Result Stage Halt)
+    (result : Result RunState Halt)
     → IsErrAnd result (λ h. h ≡ halt_of stop)
     → FindsItem w m callee (Err stop) → PerformsEvent names (applied_on tables w m callee from) w before w n before result
 callee_stops tables names w m n callee from stop before result err f =
@@ -209,7 +209,7 @@ callee_stops tables names w m n callee from stop before result err f =
     (λ called. with_value flat (item_in all from) M st (λ x. elements_called flat tables called x M st)) same (f st same))
 
 pub from_stops : (tables : Tables) (names : Names) (w : World) (m n : FlatStack) (callee from : Item) (value : Val) (stop : Stop) (before : CallStreams)
-    (result : Result Stage Halt)
+    (result : Result RunState Halt)
     → IsErrAnd result (λ h. h ≡ halt_of stop)
     → FindsItem w m callee (Ok value) → FindsItem w m from (Err stop) → PerformsEvent names (applied_on tables w m callee from) w before w n before result
 from_stops tables names w m n callee from value stop before result err f g =
@@ -220,7 +220,7 @@ from_stops tables names w m n callee from value stop before result err f g =
     (value_halts w (item_in all from) M st stop (λ x. elements_called flat tables (value_in all value) x M st) same (g st same)))
 
 pub elements_stop : (tables : Tables) (names : Names) (w : World) (m n : FlatStack) (callee from : Item) (value other : Val) (items : List Item)
-    (halt : Halt) (before : CallStreams) (result : Result Stage Halt)
+    (halt : Halt) (before : CallStreams) (result : Result RunState Halt)
     → IsErrAnd result (λ h. h ≡ halt)
     → FindsItem w m callee (Ok value) → FindsItem w m from (Ok other) → FindsElements {A = Unit} w other items (Err halt)
     → PerformsEvent names (applied_on tables w m callee from) w before w n before result

@@ -8,16 +8,16 @@ use Rattle.icn_vars.specs.declared.outcome.Halt.{Halt}
 use Rattle.icn_code.specs.Codes.{Tables}
 use Rattle.icn_run.specs.Stacks.{Frames, flat}
 use Rattle.icn_run.specs.Step.{State, failing, hopping, stuck, step, fails, hop}
-use Rattle.icn_run_named.specs.KeepingNames.{StepsKeepNames}
-use Rattle.icn_run_named.specs.KeepingSizes.{StepsKeepSizes}
+use Rattle.law_steps.specs.KeepingNames.{StepsKeepNames}
+use Rattle.law_steps.specs.KeepingSizes.{StepsKeepSizes}
 use Rattle.icn_streams.specs.Handed.{CallStreams}
-use Rattle.icn_control.specs.Failing.{DueAt}
-use Rattle.icn_control.specs.Falls.{DueNamed}
+use Rattle.icn_control.specs.FailingMachines.{DueAt}
+use Rattle.icn_control.specs.FailingStacks.{DueNamed}
 use Rattle.icn_control.specs.Machines.{StandsAt, extent, stack_seen, store_seen}
-use Rattle.icn_control.specs.declared.failing.Due.{Due}
+use Rattle.icn_control.specs.declared.failing.AfterFailure.{AfterFailure}
 use Rattle.icn_control.specs.declared.machine.Machine.{Machine}
-use Rattle.icn_control.specs.declared.machine.Stage.{Stage}
-use Rattle.icn_control.specs.declared.machine.Stage.TheVariants as Stages
+use Rattle.icn_control.specs.declared.machine.RunState.{RunState}
+use Rattle.icn_control.specs.declared.machine.RunState.TheVariants as RunStates
 use Rattle.icn_machine.specs.Performing.{PerformsOn}
 use Rattle.icn_machine.specs.Stepping.{Advances, FailsFurther, IsKept, IsKeptAt, IsTurn, KeepsState, MakesTurn}
 use Rattle.icn_machine.proofs.AdvanceSteps.{quiet_step, performed_step}
@@ -33,26 +33,28 @@ abbrev pub failed : {K : Type 0} → Tables → Machine K → Outside → State 
 failed tables m outside = fails flat tables (stack_seen m) (store_seen tables outside m)
 
 -- the state is kept over every outside
-pub kept_seen : {K : Type 0} (tables : Tables) (m : Machine K) → KeepsState tables m Stages.Fails → (outside : Outside) → IsKept tables (seen tables m outside)
+pub kept_seen : {K : Type 0} (tables : Tables) (m : Machine K) → KeepsState tables m RunStates.Failing → (outside : Outside)
+    → IsKept tables (seen tables m outside)
 kept_seen tables m k outside = kept_over tables outside (seen tables m k.0) (subst (λ (s : State Frames Frames). IsKept tables s) k.1.1.0 k.1.1.1)
 
-pub never_failed : {K : Type 0} (tables : Tables) (m : Machine K) → KeepsState tables m Stages.Fails → (outside : Outside) → failed tables m outside ≢ stuck
+pub never_failed : {K : Type 0} (tables : Tables) (m : Machine K) → KeepsState tables m RunStates.Failing → (outside : Outside)
+    → failed tables m outside ≢ stuck
 never_failed tables m k outside = next_lacks_nothing tables (seen tables m outside) (kept_seen tables m k outside)
 
 -- what is due, once it is told
-pub at_due : {K : Type 0} (tables : Tables) (outside : Outside) (state : State Frames Frames) (n : Machine K) (due d : Due) → due ≡ d
+pub at_due : {K : Type 0} (tables : Tables) (outside : Outside) (state : State Frames Frames) (n : Machine K) (due d : AfterFailure) → due ≡ d
     → DueAt tables outside state n due → DueAt tables outside state n d
-at_due tables outside state n due d e h = subst (λ (x : Due). DueAt tables outside state n x) e h
+at_due tables outside state n due d e h = subst (λ (x : AfterFailure). DueAt tables outside state n x) e h
 
-pub due_named : {K : Type 0} (names : Names) (n : Machine K) (due d : Due) → due ≡ d → DueNamed names (extent n) due → DueNamed names (extent n) d
-due_named names n due d e h = subst (λ (x : Due). DueNamed names (extent n) x) e h
+pub due_named : {K : Type 0} (names : Names) (n : Machine K) (due d : AfterFailure) → due ≡ d → DueNamed names (extent n) due → DueNamed names (extent n) d
+due_named names n due d e h = subst (λ (x : AfterFailure). DueNamed names (extent n) x) e h
 
 -- over some outside it leads to where a machine stands
-abbrev pub Lands : {K : Type 0} → Tables → Machine K → Machine K → Stage → Type 0
+abbrev pub Lands : {K : Type 0} → Tables → Machine K → Machine K → RunState → Type 0
 Lands tables m n stage = (was : Outside) × ((now : Outside) × StandsAt tables now (failed tables m was) n stage)
 
-pub failed_kept : {K : Type 0} (tables : Tables) → StepsKeepNames → StepsKeepSizes → (m n : Machine K) (stage : Stage)
-    → KeepsState tables m Stages.Fails → Lands tables m n stage → IsKeptAt tables n stage
+pub failed_kept : {K : Type 0} (tables : Tables) → StepsKeepNames → StepsKeepSizes → (m n : Machine K) (stage : RunState)
+    → KeepsState tables m RunStates.Failing → Lands tables m n stage → IsKeptAt tables n stage
 failed_kept tables names sizes m n stage k l =
     kept_at tables l.1.0 (failed tables m l.0) n stage l.1.1
     (kept_failing tables names sizes (stack_seen m) (store_seen tables l.0 m) (kept_seen tables m k l.0))
@@ -61,18 +63,18 @@ failed_kept tables names sizes m n stage k l =
 turns_bound : (bounds : Bounds) (limits : Limits) → bounds ≡ limits_of limits → bounds.turns ≡ limits.turns
 turns_bound bounds limits e = ap (λ (b : Bounds). b.turns) e
 
-pub failed_further : {K : Type 0} (tables : Tables) (m n : Machine K) (stage : Stage) → (heap_of m.world.heap).bounds ≡ limits_of m.limits
+pub failed_further : {K : Type 0} (tables : Tables) (m n : Machine K) (stage : RunState) → (heap_of m.world.heap).bounds ≡ limits_of m.limits
     → Lands tables m n stage → FailsFurther m n stage
-failed_further tables m n Stages.Runs b l = tt
-failed_further tables m n Stages.Over b l = tt
-failed_further tables m n Stages.AtBound b l = tt
-failed_further tables m n Stages.HopDue b l =
+failed_further tables m n RunStates.Running b l = tt
+failed_further tables m n RunStates.Over b l = tt
+failed_further tables m n RunStates.AtBound b l = tt
+failed_further tables m n RunStates.Hopping b l =
     let bound : (heap_of m.world.heap).bounds.turns ≡ m.limits.turns = turns_bound (heap_of m.world.heap).bounds m.limits b in
     let there : Further m.turns (heap_of m.world.heap).bounds.turns (length (stack_seen m).cells) (hopping l.1.1.0 (store_seen tables l.1.0 n)) =
     subst (λ (s : State Frames Frames). Further m.turns (heap_of m.world.heap).bounds.turns (length (stack_seen m).cells) s) l.1.1.1
     (fails_further tables (stack_seen m) (store_seen tables l.0 m)) in
     record { more = there.0; within = subst (λ (x : ℕ). m.turns < x) bound there.1 }
-failed_further tables m n Stages.Fails b l =
+failed_further tables m n RunStates.Failing b l =
     let there : Further m.turns (heap_of m.world.heap).bounds.turns (length (stack_seen m).cells) (failing (stack_seen n) (store_seen tables l.1.0 n)) =
     subst (λ (s : State Frames Frames). Further m.turns (heap_of m.world.heap).bounds.turns (length (stack_seen m).cells) s) l.1.1
     (fails_further tables (stack_seen m) (store_seen tables l.0 m)) in
@@ -80,35 +82,36 @@ failed_further tables m n Stages.Fails b l =
   where
     by : ((n.turns ≡ suc m.turns) × (m.turns < (heap_of m.world.heap).bounds.turns))
         ⊎ ((n.turns ≡ m.turns) × (length (stack_seen n).cells < length (stack_seen m).cells))
-        → FailsFurther m n Stages.Fails
+        → FailsFurther m n RunStates.Failing
     by (inl x) = inl (record { more = x.0; within = subst (λ (t : ℕ). m.turns < t) (turns_bound (heap_of m.world.heap).bounds m.limits b) x.1 })
     by (inr x) = inr x
 
 -- where it neither reads nor puts
-pub failed_quietly : {K : Type 0} (tables : Tables) (m n : Machine K) (h : CallStreams) (stage : Stage)
-    → ((outside : Outside) → StandsAt tables outside (failed tables m outside) n stage) → Advances tables m Stages.Fails h n h (Ok stage)
+pub failed_quietly : {K : Type 0} (tables : Tables) (m n : Machine K) (h : CallStreams) (stage : RunState)
+    → ((outside : Outside) → StandsAt tables outside (failed tables m outside) n stage) → Advances tables m RunStates.Failing h n h (Ok stage)
 failed_quietly tables m n h stage f =
-    quiet_step tables m Stages.Fails h n (Ok stage) refl
+    quiet_step tables m RunStates.Failing h n (Ok stage) refl
     (λ was state at. subst (λ (s : State Frames Frames). StandsAt tables was (step flat tables s) n stage) (sym at) (f was))
 
-pub lands_quietly : {K : Type 0} (tables : Tables) (m n : Machine K) (stage : Stage)
+pub lands_quietly : {K : Type 0} (tables : Tables) (m n : Machine K) (stage : RunState)
     → ((outside : Outside) → StandsAt tables outside (failed tables m outside) n stage) → Lands tables m n stage
 lands_quietly tables m n stage f = (outside_of [], (outside_of [], f (outside_of [])))
 
 -- a turn and what comes behind it
-pub by_due : {K : Type 0} (tables : Tables) (outside : Outside) (state due : State Frames Frames) (n : Machine K) (stage : Stage) → state ≡ due
+pub by_due : {K : Type 0} (tables : Tables) (outside : Outside) (state due : State Frames Frames) (n : Machine K) (stage : RunState) → state ≡ due
     → StandsAt tables outside due n stage → StandsAt tables outside state n stage
 by_due tables outside state due n stage e h = subst (λ (s : State Frames Frames). StandsAt tables outside s n stage) (sym e) h
 
 -- where a row is resumed
 pub failed_performing : {K : Type 0} (tables : Tables) (leads : Outside → State Frames Frames) (m : Machine K) (before : CallStreams) (n : Machine K)
-    (after : CallStreams) (result : Result Stage Halt)
-    → ((was : Outside) → failed tables m was ≡ leads was) → PerformsOn tables leads n before after result → Advances tables m Stages.Fails before n after result
+    (after : CallStreams) (result : Result RunState Halt)
+    → ((was : Outside) → failed tables m was ≡ leads was) → PerformsOn tables leads n before after result
+    → Advances tables m RunStates.Failing before n after result
 failed_performing tables leads m before n after result e p =
-    performed_step tables leads m Stages.Fails before n after result (λ was state at. ap (step flat tables) at ∙ e was) p
+    performed_step tables leads m RunStates.Failing before n after result (λ was state at. ap (step flat tables) at ∙ e was) p
 
 pub lands_performing : {K : Type 0} (tables : Tables) (leads : Outside → State Frames Frames) (m : Machine K) (before : CallStreams) (n : Machine K)
-    (after : CallStreams) (result : Result Stage Halt)
+    (after : CallStreams) (result : Result RunState Halt)
     → ((was : Outside) → failed tables m was ≡ leads was) → PerformsOn tables leads n before after result → IfOk result (Lands tables m n)
 lands_performing tables leads m before n after (Ok stage) e p =
     let first : Outside = outside_of p.had in let told = p.meant first refl in
@@ -134,34 +137,34 @@ if_so (Err e) Q R f q = tt
 abbrev pub hopped : {K : Type 0} → Tables → Machine K → Outside → Frames → State Frames Frames
 hopped tables m outside old = hop flat tables old (store_seen tables outside m)
 
-pub hopped_quietly : {K : Type 0} (tables : Tables) (m n : Machine K) (h : CallStreams) (stage : Stage)
+pub hopped_quietly : {K : Type 0} (tables : Tables) (m n : Machine K) (h : CallStreams) (stage : RunState)
     → ((outside : Outside) (old : Frames) → StandsAt tables outside (hopped tables m outside old) n stage)
-    → Advances tables m Stages.HopDue h n h (Ok stage)
+    → Advances tables m RunStates.Hopping h n h (Ok stage)
 hopped_quietly tables m n h stage f =
-    quiet_step tables m Stages.HopDue h n (Ok stage) refl
+    quiet_step tables m RunStates.Hopping h n (Ok stage) refl
     (λ was state at. subst (λ (s : State Frames Frames). StandsAt tables was (step flat tables s) n stage) (sym at.1) (f was at.0))
 
-pub hopped_kept : {K : Type 0} (tables : Tables) → StepsKeepNames → StepsKeepSizes → (m n : Machine K) (stage : Stage)
-    → KeepsState tables m Stages.HopDue → ((outside : Outside) (old : Frames) → StandsAt tables outside (hopped tables m outside old) n stage)
+pub hopped_kept : {K : Type 0} (tables : Tables) → StepsKeepNames → StepsKeepSizes → (m n : Machine K) (stage : RunState)
+    → KeepsState tables m RunStates.Hopping → ((outside : Outside) (old : Frames) → StandsAt tables outside (hopped tables m outside old) n stage)
     → IsKeptAt tables n stage
 hopped_kept tables names sizes m n stage k f =
     let old = k.1.1.0.0 in
     kept_at tables k.0 (hopped tables m k.0 old) n stage (f k.0 old)
     (kept_hopping tables names sizes old (store_seen tables k.0 m) (subst (λ (s : State Frames Frames). IsKept tables s) k.1.1.0.1 k.1.1.1))
 
-pub hopped_turn : {K : Type 0} (tables : Tables) (m n : Machine K) (stage : Stage) → (heap_of m.world.heap).bounds ≡ limits_of m.limits
+pub hopped_turn : {K : Type 0} (tables : Tables) (m n : Machine K) (stage : RunState) → (heap_of m.world.heap).bounds ≡ limits_of m.limits
     → ((outside : Outside) (old : Frames) → StandsAt tables outside (hopped tables m outside old) n stage) → MakesTurn m n stage
-hopped_turn tables m n Stages.Runs b f = tt
-hopped_turn tables m n Stages.Over b f = tt
-hopped_turn tables m n Stages.AtBound b f = tt
-hopped_turn tables m n Stages.HopDue b f =
+hopped_turn tables m n RunStates.Running b f = tt
+hopped_turn tables m n RunStates.Over b f = tt
+hopped_turn tables m n RunStates.AtBound b f = tt
+hopped_turn tables m n RunStates.Hopping b f =
     let o : Outside = outside_of [] in
     let l = f o (stack_seen m) in
     let there : Further m.turns (heap_of m.world.heap).bounds.turns 0 (hopping l.0 (store_seen tables o n)) =
     subst (λ (s : State Frames Frames). Further m.turns (heap_of m.world.heap).bounds.turns 0 s) l.1
     (hops_further tables (stack_seen m) (store_seen tables o m) 0) in
     record { more = there.0; within = subst (λ (t : ℕ). m.turns < t) (turns_bound (heap_of m.world.heap).bounds m.limits b) there.1 }
-hopped_turn tables m n Stages.Fails b f =
+hopped_turn tables m n RunStates.Failing b f =
     let o : Outside = outside_of [] in
     let there : Further m.turns (heap_of m.world.heap).bounds.turns 0 (failing (stack_seen n) (store_seen tables o n)) =
     subst (λ (s : State Frames Frames). Further m.turns (heap_of m.world.heap).bounds.turns 0 s) (f o (stack_seen m))

@@ -19,17 +19,17 @@ use Rattle.icn_run.specs.Rows as rows
 use Rattle.icn_run.specs.Stacks.{Frames, flat}
 use Rattle.icn_run.specs.Step.{State, Store, all_names, here, invoke_value, invoked_with, outcome}
 use Rattle.icn_streams.specs.Handed.{CallStreams}
-use Rattle.icn_control.specs.Parts.{FindsValue, HaltsWith, StandsWith}
-use Rattle.icn_control.specs.Standing.{stack_in}
-use Rattle.icn_control.specs.declared.machine.Stage.{Stage}
-use Rattle.icn_control.proofs.PartSteps.{at_halt, value_goes, value_halts}
+use Rattle.icn_control.specs.StackAndWorld.{FindsValue, HaltsWith, StandsWith}
+use Rattle.icn_control.specs.StackViews.{stack_in}
+use Rattle.icn_control.specs.declared.machine.RunState.{RunState}
+use Rattle.icn_control.proofs.StackAndWorldSteps.{match_halt, value_goes, value_halts}
 use Rattle.icn_machine.specs.Invoking.{PerformsEvent}
 use Rattle.icn_machine.specs.Performing.{PerformsRow, row_on}
 use Rattle.icn_machine.proofs.PerformEvents.{event_as, row_event, still_event}
 
 -- a function is performed
 pub function_event : (tables : Tables) (names : Names) (func : Func) (callee : Val) (w v : World) (m n : FlatStack) (items : List rows.Item)
-    (before after : CallStreams) (result : Result Stage Halt)
+    (before after : CallStreams) (result : Result RunState Halt)
     → names ≡ all_names tables
     → ((all : Extent) (xs : List rows.Item) (a : Frames) (st : Store Frames)
     → invoke_value flat tables (value_in all callee) xs a st ≡ outcome flat (step_rows.apply st.names (step_rows.Function func) xs (here flat a st)) a st)
@@ -48,7 +48,7 @@ function_event tables names func callee w v m n items before after result known 
 
 -- the value of the first item is called with the others
 pub first_event : (tables : Tables) (names : Names) (w v : World) (m k n : FlatStack) (items others : List Item) (first : Item) (callee : Val)
-    (before after : CallStreams) (result : Result Stage Halt)
+    (before after : CallStreams) (result : Result RunState Halt)
     → items ≡ first ∷ others → k ≡ m
     → ((st : Store Frames) → st.world ≡ world_of w
     → FindsValue (extent_of w.heap) (item_in (extent_of w.heap) first) (here flat (stack_in (extent_of w.heap) m) st) (Ok callee))
@@ -69,7 +69,7 @@ first_event tables names w v m k n items others first callee before after result
 
 -- the first item has no value
 pub first_stops : (tables : Tables) (names : Names) (w : World) (m n : FlatStack) (items : List Item) (first : Item) (others : List Item) (stop : Stop)
-    (before : CallStreams) (result : Result Stage Halt)
+    (before : CallStreams) (result : Result RunState Halt)
     → items ≡ first ∷ others
     → IsErrAnd result (λ h. h ≡ halt_of stop)
     → ((st : Store Frames) → st.world ≡ world_of w
@@ -81,7 +81,7 @@ first_stops tables names w m n items first others stop before result is err foun
     let event : Store Frames → State Frames Frames = λ st. invoked_with flat tables (map (item_in all) items) (stack_in all m) st in
     still_event names event w w n before result
     (λ st same.
-    at_halt result (halt_of stop) (StandsWith (event st) st w n) (HaltsWith (event st) st w) err
+    match_halt result (halt_of stop) (StandsWith (event st) st w n) (HaltsWith (event st) st w) err
     (subst (λ (s : State Frames Frames). HaltsWith s st w (halt_of stop))
     (sym (ap (λ (xs : List Item). invoked_with flat tables (map (item_in all) xs) (stack_in all m) st) is))
     (value_halts w (item_in all first) (stack_in all m) st stop (λ value. invoke_value flat tables value (map (item_in all) others) (stack_in all m) st)

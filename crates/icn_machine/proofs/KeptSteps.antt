@@ -4,14 +4,14 @@ use Rattle.icn_value.specs.Store.{Names, Outside}
 use Rattle.icn_code.specs.Codes.{Tables}
 use Rattle.icn_run.specs.Stacks.{Frames, flat}
 use Rattle.icn_run.specs.Step.{State, Store, running, failing, hopping, over, stuck, step, all_names}
-use Rattle.icn_run_named.specs.StateNames.{StateNamed}
-use Rattle.icn_run_named.specs.KeepingNames.{StepsKeepNames}
-use Rattle.icn_run_named.specs.KeepingSizes.{StateFits, StepsKeepSizes}
+use Rattle.law_steps.specs.StateNames.{StateNamed}
+use Rattle.law_steps.specs.KeepingNames.{StepsKeepNames}
+use Rattle.law_steps.specs.KeepingSizes.{StateFits, StepsKeepSizes}
 use Rattle.icn_run.specs.AnyOutside.{over_outside, run_over}
 use Rattle.icn_control.specs.Machines.{StandsAt}
 use Rattle.icn_control.specs.declared.machine.Machine.{Machine}
-use Rattle.icn_control.specs.declared.machine.Stage.{Stage}
-use Rattle.icn_control.specs.declared.machine.Stage.TheVariants as Stages
+use Rattle.icn_control.specs.declared.machine.RunState.{RunState}
+use Rattle.icn_control.specs.declared.machine.RunState.TheVariants as RunStates
 use Rattle.icn_machine.specs.Stepping.{AlwaysOver, IsKept, IsKeptAt, LacksNothing, outside_at}
 
 over_same : (state : State Frames Frames) → over_outside (outside_at state) state ≡ state
@@ -45,13 +45,13 @@ kept_hopping tables names sizes m st k = record {
 }
 
 -- the machine stands for the state that is kept
-pub kept_at : {K : Type 0} (tables : Tables) (now : Outside) (state : State Frames Frames) (n : Machine K) (stage : Stage)
+pub kept_at : {K : Type 0} (tables : Tables) (now : Outside) (state : State Frames Frames) (n : Machine K) (stage : RunState)
     → StandsAt tables now state n stage → IsKept tables state → IsKeptAt tables n stage
-kept_at tables now state n Stages.Runs h k = (now, (state, (h, k)))
-kept_at tables now state n Stages.Fails h k = (now, (state, (h, k)))
-kept_at tables now state n Stages.HopDue h k = (now, (state, (h, k)))
-kept_at tables now state n Stages.Over h k = tt
-kept_at tables now state n Stages.AtBound h k = tt
+kept_at tables now state n RunStates.Running h k = (now, (state, (h, k)))
+kept_at tables now state n RunStates.Failing h k = (now, (state, (h, k)))
+kept_at tables now state n RunStates.Hopping h k = (now, (state, (h, k)))
+kept_at tables now state n RunStates.Over h k = tt
+kept_at tables now state n RunStates.AtBound h k = tt
 
 -- it is not stuck after the next step
 pub next_lacks_nothing : (tables : Tables) (state : State Frames Frames) → IsKept tables state → step flat tables state ≢ stuck

@@ -8,31 +8,31 @@ use Rattle.icn_defs.specs.Arities.{arity}
 use Rattle.icn_value.specs.Store.{Names, Outside, outside_of}
 use Rattle.icn_heap.specs.Extents.{Extent}
 use Rattle.icn_heap.specs.Heaps.{heap_of}
-use Rattle.icn_named.specs.Named.{WorldNamed}
-use Rattle.icn_named.specs.Sizes.{FitSizes}
+use Rattle.law_names.specs.NamedSettings.{WorldNamed}
+use Rattle.law_names.specs.RowSizes.{FitSizes}
 use Rattle.icn_vars.specs.declared.outcome.Halt.{Halt}
 use Rattle.icn_vars.specs.declared.outcome.Halt.TheVariants as Halts
 use Rattle.icn_vars.specs.Worlds.{world_of}
 use Rattle.icn_frames.specs.Stacks as held
 use Rattle.icn_frames.specs.Stacks.{FlatStack}
-use Rattle.icn_frames_laws.proofs.CallsRead.{proc_read}
+use Rattle.law_frames.proofs.CallsRead.{proc_read}
 use Rattle.icn_code.specs.Codes.{Tables}
 use Rattle.icn_code.specs.declared.instr.Instr.{Instr}
 use Rattle.icn_code.specs.declared.instr.Instr.TheVariants as Instrs
 use Rattle.icn_run.specs.Stacks.{Frames, flat}
 use Rattle.icn_run.specs.Step.{State, Store, running, stuck, step, all_names, instruction, instruction_at, instrs_of, with_found}
-use Rattle.icn_run_named.specs.StateNames.{StackNamed, StateNamed, StoreNamed}
-use Rattle.icn_run_named.specs.KeepingNames.{MayCall, StepsKeepNames}
-use Rattle.icn_run_named.specs.KeepingSizes.{StateFits, StepsKeepSizes, StoreFits, field_count}
+use Rattle.law_steps.specs.StateNames.{StackNamed, StateNamed, StoreNamed}
+use Rattle.law_steps.specs.KeepingNames.{MayCall, StepsKeepNames}
+use Rattle.law_steps.specs.KeepingSizes.{StateFits, StepsKeepSizes, StoreFits, field_count}
 use Rattle.icn_streams.specs.Handed.{CallStreams}
-use Rattle.icn_control.specs.Machines.{ComesTo, HasStack, IsSound, StandsAt, does, extent, stack_of, stack_seen, store_seen}
-use Rattle.icn_control.specs.Standing.{reading_of, stack_in}
-use Rattle.icn_control.specs.Taking.{take_operands}
+use Rattle.icn_control.specs.Machines.{ComesTo, HasStack, IsSoundMachine, StandsAt, does, extent, stack_of, stack_seen, store_seen}
+use Rattle.icn_control.specs.StackViews.{reading_of, stack_in}
+use Rattle.icn_control.specs.TakenOperands.{take_operands}
 use Rattle.icn_control.specs.declared.machine.Machine.{Machine}
-use Rattle.icn_control.specs.declared.machine.Stage.{Stage}
-use Rattle.icn_control.specs.declared.machine.Stage.TheVariants as Stages
+use Rattle.icn_control.specs.declared.machine.RunState.{RunState}
+use Rattle.icn_control.specs.declared.machine.RunState.TheVariants as RunStates
 use Rattle.icn_instructions.specs.Groups.{group_of, group_of_op}
-use Rattle.icn_instructions.specs.declared.groups.Group.TheVariants as Groups
+use Rattle.icn_instructions.specs.declared.groups.InstrGroup.TheVariants as Groups
 use Rattle.icn_instructions.proofs.LackSteps.{one_there, take_there}
 use Rattle.icn_machine.specs.Performing.{LeavesNamed, PerformsOn}
 use Rattle.icn_machine.specs.Stepping.{Advances, AlwaysOver, IsDoing, IsKept, IsReady, KeepsState, LacksNothing, applies_op, is_applied, is_whole}
@@ -64,12 +64,12 @@ pub step_does : (tables : Tables) (m : Frames) (instr : Instr) (st : Store Frame
 step_does tables m instr st e = ap (λ (o : Option Instr). with_found o (λ instr. instruction flat tables instr (flat.go (suc m.address) m) st)) e
 
 -- the state is kept over every outside
-pub kept_running : {K : Type 0} (tables : Tables) (m : Machine K) → KeepsState tables m Stages.Runs → (outside : Outside)
+pub kept_running : {K : Type 0} (tables : Tables) (m : Machine K) → KeepsState tables m RunStates.Running → (outside : Outside)
     → IsKept tables (running (stack_seen m) (store_seen tables outside m))
 kept_running tables m k outside =
     kept_over tables outside (running (stack_seen m) (store_seen tables k.0 m)) (subst (λ (s : State Frames Frames). IsKept tables s) k.1.1.0 k.1.1.1)
 
-pub never_running : {K : Type 0} (tables : Tables) (m : Machine K) → KeepsState tables m Stages.Runs → (outside : Outside)
+pub never_running : {K : Type 0} (tables : Tables) (m : Machine K) → KeepsState tables m RunStates.Running → (outside : Outside)
     → step flat tables (running (stack_seen m) (store_seen tables outside m)) ≢ stuck
 never_running tables m k outside = next_lacks_nothing tables (running (stack_seen m) (store_seen tables outside m)) (kept_running tables m k outside)
 
@@ -146,24 +146,25 @@ pub world_names_as : {K : Type 0} (names : Names) (tables : Tables) (m : Machine
 world_names_as names tables m instr e d = subst (λ (n : Names). WorldNamed n (world_of m.world)) (sym e) (d.store_named (outside_of [])).world
 
 -- where a machine stands over some outside
-abbrev pub LandsBy : {K : Type 0} → Tables → (Outside → State Frames Frames) → Machine K → Stage → Type 0
+abbrev pub LandsBy : {K : Type 0} → Tables → (Outside → State Frames Frames) → Machine K → RunState → Type 0
 LandsBy tables leads n stage = (was : Outside) × ((now : Outside) × StandsAt tables now (leads was) n stage)
 
 pub lands_by : {K : Type 0} (tables : Tables) (leads : Outside → State Frames Frames) (before : CallStreams) (n : Machine K) (after : CallStreams)
-    (result : Result Stage Halt)
+    (result : Result RunState Halt)
     → PerformsOn tables leads n before after result → IfOk result (LandsBy tables leads n)
 lands_by tables leads before n after (Ok stage) p = let first : Outside = outside_of p.had in let told = p.meant first refl in (first, (told.now, told.is))
 lands_by tables leads before n after (Err halt) p = tt
 
-pub lands_quietly_by : {K : Type 0} (tables : Tables) (leads : Outside → State Frames Frames) (n : Machine K) (result : Result Stage Halt)
+pub lands_quietly_by : {K : Type 0} (tables : Tables) (leads : Outside → State Frames Frames) (n : Machine K) (result : Result RunState Halt)
     → ((outside : Outside) → ComesTo tables outside (leads outside) n result) → IfOk result (LandsBy tables leads n)
 lands_quietly_by tables leads n (Ok stage) f = let o : Outside = outside_of [] in (o, (o, f o))
 lands_quietly_by tables leads n (Err halt) f = tt
 
 -- by the laws of names and sizes
-pub done_ready : {K : Type 0} (tables : Tables) → StepsKeepNames → StepsKeepSizes → (m n : Machine K) (instr : Instr) (result : Result Stage Halt)
+pub done_ready : {K : Type 0} (tables : Tables) → StepsKeepNames → StepsKeepSizes → (m n : Machine K) (instr : Instr) (result : Result RunState Halt)
     → (MayCall instr → ⊥) → IsDoing tables m instr
-    → IfOk result (LandsBy tables (λ o. does tables o instr m) n) → OnOk result (IsSound tables n) → IfOk result (HasStack n) → IfOk result (IsReady tables n)
+    → IfOk result (LandsBy tables (λ o. does tables o instr m) n) → OnOk result (IsSoundMachine tables n) → IfOk result (HasStack n)
+    → IfOk result (IsReady tables n)
 done_ready tables names sizes m n instr (Err halt) calls d l sound stack = tt
 done_ready tables names sizes m n instr (Ok stage) calls d l sound stack = record {
   sound = sound;
@@ -176,25 +177,25 @@ done_ready tables names sizes m n instr (Ok stage) calls d l sound stack = recor
 }
 
 -- where the call says it itself
-named_by : {K : Type 0} (names : Names) (tables : Tables) (now : Outside) (state : State Frames Frames) (n : Machine K) (stage : Stage)
+named_by : {K : Type 0} (names : Names) (tables : Tables) (now : Outside) (state : State Frames Frames) (n : Machine K) (stage : RunState)
     → StandsAt tables now state n stage → StackNamed names (stack_seen n) → StoreNamed names (store_seen tables now n) → StateNamed names state
-named_by names tables now state n Stages.Runs e h k = subst (λ (s : State Frames Frames). StateNamed names s) (sym e) (h, k)
-named_by names tables now state n Stages.Fails e h k = subst (λ (s : State Frames Frames). StateNamed names s) (sym e) (h, k)
-named_by names tables now state n Stages.HopDue e h k = subst (λ (s : State Frames Frames). StateNamed names s) (sym e.1) k
-named_by names tables now state n Stages.Over e h k = subst (λ (s : State Frames Frames). StateNamed names s) (sym e) tt
-named_by names tables now state n Stages.AtBound e h k = subst (λ (s : State Frames Frames). StateNamed names s) (sym e) tt
+named_by names tables now state n RunStates.Running e h k = subst (λ (s : State Frames Frames). StateNamed names s) (sym e) (h, k)
+named_by names tables now state n RunStates.Failing e h k = subst (λ (s : State Frames Frames). StateNamed names s) (sym e) (h, k)
+named_by names tables now state n RunStates.Hopping e h k = subst (λ (s : State Frames Frames). StateNamed names s) (sym e.1) k
+named_by names tables now state n RunStates.Over e h k = subst (λ (s : State Frames Frames). StateNamed names s) (sym e) tt
+named_by names tables now state n RunStates.AtBound e h k = subst (λ (s : State Frames Frames). StateNamed names s) (sym e) tt
 
-fits_by : {K : Type 0} (tables : Tables) (now : Outside) (state : State Frames Frames) (n : Machine K) (stage : Stage)
+fits_by : {K : Type 0} (tables : Tables) (now : Outside) (state : State Frames Frames) (n : Machine K) (stage : RunState)
     → StandsAt tables now state n stage → StoreFits tables (store_seen tables now n) → StateFits tables state
-fits_by tables now state n Stages.Runs e h = subst (λ (s : State Frames Frames). StateFits tables s) (sym e) h
-fits_by tables now state n Stages.Fails e h = subst (λ (s : State Frames Frames). StateFits tables s) (sym e) h
-fits_by tables now state n Stages.HopDue e h = subst (λ (s : State Frames Frames). StateFits tables s) (sym e.1) h
-fits_by tables now state n Stages.Over e h = subst (λ (s : State Frames Frames). StateFits tables s) (sym e) tt
-fits_by tables now state n Stages.AtBound e h = subst (λ (s : State Frames Frames). StateFits tables s) (sym e) tt
+fits_by tables now state n RunStates.Running e h = subst (λ (s : State Frames Frames). StateFits tables s) (sym e) h
+fits_by tables now state n RunStates.Failing e h = subst (λ (s : State Frames Frames). StateFits tables s) (sym e) h
+fits_by tables now state n RunStates.Hopping e h = subst (λ (s : State Frames Frames). StateFits tables s) (sym e.1) h
+fits_by tables now state n RunStates.Over e h = subst (λ (s : State Frames Frames). StateFits tables s) (sym e) tt
+fits_by tables now state n RunStates.AtBound e h = subst (λ (s : State Frames Frames). StateFits tables s) (sym e) tt
 
-pub called_ready : {K : Type 0} (names : Names) (tables : Tables) (m n : Machine K) (instr j : Instr) (result : Result Stage Halt)
+pub called_ready : {K : Type 0} (names : Names) (tables : Tables) (m n : Machine K) (instr j : Instr) (result : Result RunState Halt)
     → names ≡ all_names tables → instr ≡ j → IsDoing tables m instr
-    → IfOk result (LandsBy tables (λ o. does tables o j m) n) → OnOk result (IsSound tables n) → IfOk result (HasStack n)
+    → IfOk result (LandsBy tables (λ o. does tables o j m) n) → OnOk result (IsSoundMachine tables n) → IfOk result (HasStack n)
     → LeavesNamed names n.world (stack_of n) result
     → ((outside : Outside) → StoreNamed names (store_seen tables outside m) → OnOk result (StoreNamed names (store_seen tables outside n)))
     → (FitSizes (field_count tables) (heap_of m.world.heap) → OnOk result (FitSizes (field_count tables) (heap_of n.world.heap)))
@@ -215,11 +216,11 @@ called_ready names tables m n instr j (Ok stage) e i d l sound stack named store
 
 -- the step of the run
 pub next_step : {K : Type 0} (tables : Tables) (m k : Machine K) (instr : Instr) (before : CallStreams) (n : Machine K) (after : CallStreams)
-    (result : Result Stage Halt)
+    (result : Result RunState Halt)
     → ((outside : Outside) → step flat tables (running (stack_seen m) (store_seen tables outside m)) ≡ does tables outside instr k)
-    → PerformsOn tables (λ o. does tables o instr k) n before after result → Advances tables m Stages.Runs before n after result
+    → PerformsOn tables (λ o. does tables o instr k) n before after result → Advances tables m RunStates.Running before n after result
 next_step tables m k instr before n after result e p =
-    performed_step tables (λ o. does tables o instr k) m Stages.Runs before n after result (λ was state at. ap (step flat tables) at ∙ e was) p
+    performed_step tables (λ o. does tables o instr k) m RunStates.Running before n after result (λ was state at. ap (step flat tables) at ∙ e was) p
 
 -- an instruction that is done whole performs no row
 pub whole_applies_none : (instr : Instr) → is_whole instr ≡ true → is_applied instr ≡ true → ⊥

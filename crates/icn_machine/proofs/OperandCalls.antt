@@ -9,7 +9,7 @@ use Rattle.icn_value.specs.declared.item.Item.{Item}
 use Rattle.icn_value.specs.Store.{Names, Outside}
 use Rattle.icn_heap.specs.Extents.{Extent}
 use Rattle.icn_heap.specs.Heaps.{extent_of, heap_of}
-use Rattle.icn_named.specs.Named.{ItemNamed}
+use Rattle.law_names.specs.NamedSettings.{ItemNamed}
 use Rattle.icn_vars.specs.declared.outcome.Halt.{Halt}
 use Rattle.icn_vars.specs.declared.outcome.Halt.TheVariants as Halts
 use Rattle.icn_value.specs.Limited.{limits_of}
@@ -17,31 +17,31 @@ use Rattle.icn_vars.specs.declared.world.World.{World}
 use Rattle.icn_vars.specs.Worlds.{KeepsItems, item_in, reach_of, world_of}
 use Rattle.icn_frames.specs.Stacks as held
 use Rattle.icn_frames.specs.Stacks.{FlatStack}
-use Rattle.icn_frames_laws.specs.Readings.{popped_read}
-use Rattle.icn_frames_laws.proofs.CallsRead.{pop_read}
-use Rattle.icn_coexp.specs.Transfers.{Coexp, Table}
+use Rattle.law_frames.specs.ReadStacks.{popped_read}
+use Rattle.law_frames.proofs.CallsRead.{pop_read}
+use Rattle.icn_coexp.specs.Transfers.{Coexp, CoexpTable}
 use Rattle.icn_code.specs.Codes.{Tables}
 use Rattle.icn_code.specs.declared.instr.Instr.{Instr}
 use Rattle.icn_run.specs.Rows as rows
 use Rattle.icn_run.specs.Stacks.{Frames, flat}
 use Rattle.icn_run.specs.Step.{State, Store, all_names, at_bound, instruction, on_pair, turn, turn_if, with_found}
-use Rattle.icn_run_named.specs.StateNames.{StackNamed, StoreNamed}
-use Rattle.icn_run_named.proofs.CallsNamed as C
-use Rattle.icn_run_named.proofs.CallsNamed.{Maybe}
+use Rattle.law_steps.specs.StateNames.{StackNamed, StoreNamed}
+use Rattle.law_steps.proofs.CallsNamed as C
+use Rattle.law_steps.proofs.CallsNamed.{IfThere}
 use Rattle.icn_streams.specs.Handed.{CallStreams}
-use Rattle.icn_control.specs.Counting.{EnterOthers, FitTurns}
-use Rattle.icn_control.specs.Living.{IsLiveStack}
-use Rattle.icn_control.specs.Machines.{AreLiveStacks, ComesTo, HasStack, IsSound, does, running_of, store_in, store_seen}
-use Rattle.icn_control.specs.Parts.{HaltsWith, StandsWith}
-use Rattle.icn_control.specs.Standing.{reading_of, stack_in}
-use Rattle.icn_control.specs.Taking.{KeepsCounts, take_operands, taken_onto}
+use Rattle.icn_control.specs.ResultCounts.{EnterOthers, FitTurns}
+use Rattle.icn_control.specs.LiveStacks.{IsLiveStack}
+use Rattle.icn_control.specs.Machines.{AreLiveStacks, ComesTo, HasStack, IsSoundMachine, does, running_of, store_in, store_seen}
+use Rattle.icn_control.specs.StackAndWorld.{HaltsWith, StandsWith}
+use Rattle.icn_control.specs.StackViews.{reading_of, stack_in}
+use Rattle.icn_control.specs.TakenOperands.{KeepsCounts, take_operands, taken_onto}
 use Rattle.icn_control.specs.declared.machine.Machine.{Machine}
-use Rattle.icn_control.specs.declared.machine.Stage.{Stage}
-use Rattle.icn_control.specs.declared.machine.Stage.TheVariants as Stages
-use Rattle.icn_control.proofs.GrowthSteps.{grown, stacks_grow}
+use Rattle.icn_control.specs.declared.machine.RunState.{RunState}
+use Rattle.icn_control.specs.declared.machine.RunState.TheVariants as RunStates
+use Rattle.icn_control.proofs.GrowthSteps.{grown_store, stacks_grow}
 use Rattle.icn_control.proofs.CountedSteps.{list_counts, turn_more}
 use Rattle.icn_control.proofs.ListSteps.{turn_bound}
-use Rattle.icn_control.proofs.TakeSteps.{taken_runs}
+use Rattle.icn_control.proofs.TakenOperandSteps.{taken_runs}
 use Rattle.icn_calls.specs.Calling.{IsGoing}
 use Rattle.icn_machine.specs.Invoking.{PerformsEvent}
 use Rattle.icn_machine.specs.Performing.{LeavesNamed, PerformsOn}
@@ -68,7 +68,7 @@ pop_named : (names : Names) (all : Extent) (m n : FlatStack) (item : Item) → h
     → ItemNamed names (item_in all item) × StackNamed names (stack_in all n)
 pop_named names all m n item e h =
     let same = pop_read (reading_of all) m ∙ ap (option_map (popped_read (reading_of all))) e in
-    let back = subst (Maybe (C.Two names (C.I names))) same (C.pop names (stack_in all m) (C.stack_in names (stack_in all m) h)) in
+    let back = subst (IfThere (C.NamedAndStack names (C.NamedItem names))) same (C.pop names (stack_in all m) (C.stack_in names (stack_in all m) h)) in
     (back.0, C.stack_out names (stack_in all n) back.1)
 
 onto_named : (names : Names) (all : Extent) (n : ℕ) (m k : FlatStack) (xs items : List Item) → taken_onto n m xs ≡ Some (items, k)
@@ -116,7 +116,7 @@ takes_turn all tables instr n next running m k items st is e p =
 
 pub operands_perform : {K : Type 0} (m after : Machine K) (t tables : Tables) (instr : Instr) (n : ℕ)
     (next : List rows.Item → Frames → Store Frames → State Frames Frames) (f k g l : FlatStack) (items xs : List Item)
-    (before now : CallStreams) (result : Result Stage Halt) → TakesTurn tables instr n next → m.stacks.table.running ≡ Some f
+    (before now : CallStreams) (result : Result RunState Halt) → TakesTurn tables instr n next → m.stacks.table.running ≡ Some f
     → take_operands n f ≡ Some (items, k) → k ≡
     g → xs ≡ items
     → nat_lt m.turns (heap_of m.world.heap).bounds.turns ≡ true → KeepsItems (reach_of m.world []) (reach_of after.world [])
@@ -139,7 +139,7 @@ operands_perform m after t tables instr n next f k g l items xs before now resul
 -- the same of what neither reads nor puts anything
 pub operands_come : {K : Type 0} (m after : Machine K) (t tables : Tables) (instr : Instr) (n : ℕ)
     (next : List rows.Item → Frames → Store Frames → State Frames Frames) (f k g l : FlatStack) (items xs : List Item)
-    (result : Result Stage Halt) → TakesTurn tables instr n next → m.stacks.table.running ≡ Some f → take_operands n f ≡ Some (items, k) → k ≡ g → xs ≡ items
+    (result : Result RunState Halt) → TakesTurn tables instr n next → m.stacks.table.running ≡ Some f → take_operands n f ≡ Some (items, k) → k ≡ g → xs ≡ items
     → nat_lt m.turns (heap_of m.world.heap).bounds.turns ≡ true → KeepsItems (reach_of m.world []) (reach_of after.world [])
     → AreLiveStacks t (reach_of m.world []) m.stacks.table
     → after.turns ≡ suc m.turns → after.begun.items ≡ m.begun.items → after.stacks.table ≡ record m.stacks.table { running = Some l } → IfOk result IsGoing
@@ -169,7 +169,7 @@ pub bound_comes : {K : Type 0} (m after : Machine K) (tables : Tables) (instr : 
     → TakesTurn tables instr n next → m.stacks.table.running ≡ Some f → take_operands n f ≡ Some (items, k)
     → nat_lt m.turns (heap_of m.world.heap).bounds.turns ≡ false
     → ((outside : Outside) → at_bound {K = Frames} {M = Frames} (store_seen tables outside m) ≡ at_bound (store_seen tables outside after))
-    → (outside : Outside) → ComesTo tables outside (does tables outside instr m) after (Ok Stages.AtBound)
+    → (outside : Outside) → ComesTo tables outside (does tables outside instr m) after (Ok RunStates.AtBound)
 bound_comes m after tables instr n next f k items is e p b same outside =
     let all : Extent = extent_of m.world.heap in
     takes_turn all tables instr n next m.stacks.table.running f k items (store_seen tables outside m) is e p
@@ -181,9 +181,9 @@ pub bound_performs : {K : Type 0} (m after : Machine K) (tables : Tables) (instr
     → TakesTurn tables instr n next → m.stacks.table.running ≡ Some f → take_operands n f ≡ Some (items, k)
     → nat_lt m.turns (heap_of m.world.heap).bounds.turns ≡ false
     → ((outside : Outside) → at_bound {K = Frames} {M = Frames} (store_seen tables outside m) ≡ at_bound (store_seen tables outside after))
-    → PerformsOn tables (λ outside. does tables outside instr m) after before before (Ok Stages.AtBound)
+    → PerformsOn tables (λ outside. does tables outside instr m) after before before (Ok RunStates.AtBound)
 bound_performs m after tables instr n next f k items before is e p b same =
-    comes_performs tables (λ outside. does tables outside instr m) after before (Ok Stages.AtBound)
+    comes_performs tables (λ outside. does tables outside instr m) after before (Ok RunStates.AtBound)
     (bound_comes m after tables instr n next f k items is e p b same)
 
 pub lacks_memory : {K : Type 0} (tables : Tables) (leads : Outside → State Frames Frames) (m : Machine K) (before : CallStreams)
@@ -196,23 +196,24 @@ pub both_on : {A : Type 0} (result : Result A Halt) (P Q R : Type 0) → OnOk re
 both_on (Ok a) P Q R p q f = f p q
 both_on (Err halt) P Q R p q f = tt
 
-pub going_has_stack : {K : Type 0} (m : Machine K) (result : Result Stage Halt) → IfOk result IsGoing → IsSome m.stacks.table.running → IfOk result (HasStack m)
-going_has_stack m (Ok Stages.Runs) g r = r
-going_has_stack m (Ok Stages.Fails) g r = r
-going_has_stack m (Ok Stages.HopDue) g r = absurd g
-going_has_stack m (Ok Stages.Over) g r = absurd g
-going_has_stack m (Ok Stages.AtBound) g r = absurd g
+pub going_has_stack : {K : Type 0} (m : Machine K) (result : Result RunState Halt) → IfOk result IsGoing → IsSome m.stacks.table.running
+    → IfOk result (HasStack m)
+going_has_stack m (Ok RunStates.Running) g r = r
+going_has_stack m (Ok RunStates.Failing) g r = r
+going_has_stack m (Ok RunStates.Hopping) g r = absurd g
+going_has_stack m (Ok RunStates.Over) g r = absurd g
+going_has_stack m (Ok RunStates.AtBound) g r = absurd g
 going_has_stack m (Err halt) g r = tt
 
 -- the store after names only what has a name, where the world after does and the co-expressions did
-pub store_left : (t : Tables) (names ns : Names) (outside : Outside) (w v : World) (turns more : ℕ) (begun : List _) (table : Table) (n : FlatStack)
-    (result : Result Stage Halt)
+pub store_left : (t : Tables) (names ns : Names) (outside : Outside) (w v : World) (turns more : ℕ) (begun : List _) (table : CoexpTable) (n : FlatStack)
+    (result : Result RunState Halt)
     → KeepsItems (reach_of w []) (reach_of v []) → AreLiveStacks t (reach_of w []) table → LeavesNamed names v n result
     → StoreNamed names (store_in ns outside (world_of w) turns begun (extent_of w.heap) table)
     → OnOk result (StoreNamed names (store_in ns outside (world_of v) more begun (extent_of v.heap) (record table { running = Some n })))
 store_left t names ns outside w v turns more begun table n (Ok stage) kept live left h =
     let here : StoreNamed names (store_in ns outside (world_of v) more begun (extent_of w.heap) table) = record { world = left.1; coexps = h.coexps } in
-    subst (λ (st : Store Frames). StoreNamed names st) (grown t ns outside w v more begun table (Some n) kept live) here
+    subst (λ (st : Store Frames). StoreNamed names st) (grown_store t ns outside w v more begun table (Some n) kept live) here
 store_left t names ns outside w v turns more begun table n (Err halt) kept live left h = tt
 
 -- a machine on which a turn was counted, and whose world has grown, is sound
@@ -221,13 +222,14 @@ pub sound_after : {K : Type 0} (m after : Machine K) (t : Tables) (n : FlatStack
       running =
           Some n;
     }
-    → KeepsItems (reach_of m.world []) (reach_of after.world []) → IsLiveStack t (reach_of after.world []) n → KeepsCounts m.world after.world → IsSound t m
-    → IsSound t after
+    → KeepsItems (reach_of m.world []) (reach_of after.world []) → IsLiveStack t (reach_of after.world []) n → KeepsCounts m.world after.world
+    → IsSoundMachine t m
+    → IsSoundMachine t after
 sound_after m after t n turns limits table kept live counts k =
     let cs = (heap_of m.world.heap).coexps in
     let ds = (heap_of after.world.heap).coexps in
-    let F : Table → Type 0 = λ u. AreLiveStacks t (reach_of after.world []) u in
-    let same : after.stacks.table.coexps ≡ m.stacks.table.coexps = ap (λ (u : Table). u.coexps) table in
+    let F : CoexpTable → Type 0 = λ u. AreLiveStacks t (reach_of after.world []) u in
+    let same : after.stacks.table.coexps ≡ m.stacks.table.coexps = ap (λ (u : CoexpTable). u.coexps) table in
     let fits : FitTurns after.turns m.stacks.table.active ds
     = subst (λ (x : ℕ). FitTurns x m.stacks.table.active ds) (sym turns)
     (list_counts (m.turns + 1) m.stacks.table.active cs ds counts.coexps (turn_more m.turns m.stacks.table.active cs k.counted.results)) in
@@ -236,7 +238,7 @@ sound_after m after t n turns limits table kept live counts k =
       bounds = counts.bounds ∙ k.bounds ∙ ap limits_of (sym limits);
       counts = ap (λ (xs : List ℕ). length xs) counts.coexps ∙ k.counts ∙ ap (λ (xs : List Coexp). length xs) (sym same);
       counted = record {
-        results = subst (λ (x : ℕ). FitTurns after.turns x ds) (ap (λ (u : Table). u.active) (sym table)) fits;
+        results = subst (λ (x : ℕ). FitTurns after.turns x ds) (ap (λ (u : CoexpTable). u.active) (sym table)) fits;
         activators = subst (λ (xs : List Coexp). EnterOthers xs) (sym same) k.counted.activators;
       };
     }
@@ -245,6 +247,6 @@ sound_after m after t n turns limits table kept live counts k =
 pub one_taken : (m n : FlatStack) (item : Item) → held.pop m ≡ Some (item, n) → take_operands 1 m ≡ Some (item ∷ [], n)
 one_taken m n item e = ap (option_and_then (λ (popped : Item × FlatStack). taken_onto 0 popped.1 (popped.0 ∷ []))) e
 
-pub not_going : (result : Result Stage Halt) (halt : Halt) → IsErrAnd result (λ h. h ≡ halt) → IfOk result IsGoing
+pub not_going : (result : Result RunState Halt) (halt : Halt) → IsErrAnd result (λ h. h ≡ halt) → IfOk result IsGoing
 not_going (Ok stage) halt e = absurd e
 not_going (Err other) halt e = tt

@@ -18,7 +18,7 @@ use Rattle.icn_defs.specs.StepRows as step_rows
 use Rattle.icn_defs.specs.StepRows.{Operation}
 use Rattle.icn_heap.specs.Extents.{Extent}
 use Rattle.icn_heap.specs.Heaps.{extent_of, heap_of}
-use Rattle.icn_named.specs.Named.{ItemNamed}
+use Rattle.law_names.specs.NamedSettings.{ItemNamed}
 use Rattle.icn_vars.specs.declared.outcome.Halt.{Halt}
 use Rattle.icn_vars.specs.declared.outcome.Halt.TheVariants as Halts
 use Rattle.icn_vars.specs.declared.world.World.{World}
@@ -26,32 +26,32 @@ use Rattle.icn_vars.specs.Outcomes.{IsLiveResidual}
 use Rattle.icn_vars.specs.Worlds.{KeepsItems, Reach, item_in, reach_of, world_of}
 use Rattle.icn_frames.specs.Stacks as held
 use Rattle.icn_frames.specs.Stacks.{FlatStack}
-use Rattle.icn_coexp.specs.Transfers.{Table}
-use Rattle.icn_frames_laws.proofs.CallsRead.{pop_read}
+use Rattle.icn_coexp.specs.Transfers.{CoexpTable}
+use Rattle.law_frames.proofs.CallsRead.{pop_read}
 use Rattle.icn_code.specs.declared.instr.Instr.TheVariants as Instrs
 use Rattle.icn_code.specs.Codes.{Tables}
-use Rattle.icn_streams.specs.Handed.{CallStreams, Follows, KeepsAllCounts, Puts, uncounted}
+use Rattle.icn_streams.specs.Handed.{CallStreams, Follows, KeepsAllCounts, PutsAdded, uncounted}
 use Rattle.icn_run.specs.Calls as calls
 use Rattle.icn_run.specs.Rows as run_rows
 use Rattle.icn_run.specs.Stacks.{Frames, flat}
 use Rattle.icn_run.specs.Step.{State, Store, running, failing, over, stuck, all_names, finish_run, here, instruction, is_main, operate, outcome, resume_by, turn, turn_if, with_world}
-use Rattle.icn_run_named.specs.StateNames.{StackNamed}
-use Rattle.icn_run_named.proofs.CallsNamed as named
-use Rattle.icn_control.specs.Machines.{AreLiveStacks, ComesTo, HasStack, IsSound, running_of, store_in}
-use Rattle.icn_control.specs.Standing.{reading_of, stack_in}
-use Rattle.icn_control.specs.Counting.{EnterOthers, FitTurns}
-use Rattle.icn_control.specs.Living.{IsLiveStack, with_locals}
-use Rattle.icn_control.specs.Taking as counting
-use Rattle.icn_control.specs.Taking.{take_operands, taken_onto}
+use Rattle.law_steps.specs.StateNames.{StackNamed}
+use Rattle.law_steps.proofs.CallsNamed as named
+use Rattle.icn_control.specs.Machines.{AreLiveStacks, ComesTo, HasStack, IsSoundMachine, running_of, store_in}
+use Rattle.icn_control.specs.StackViews.{reading_of, stack_in}
+use Rattle.icn_control.specs.ResultCounts.{EnterOthers, FitTurns}
+use Rattle.icn_control.specs.LiveStacks.{IsLiveStack, with_locals}
+use Rattle.icn_control.specs.TakenOperands as counting
+use Rattle.icn_control.specs.TakenOperands.{take_operands, taken_onto}
 use Rattle.icn_control.specs.declared.machine.Machine.{Machine}
-use Rattle.icn_control.specs.declared.machine.Stage.{Stage}
-use Rattle.icn_control.specs.declared.machine.Stage.TheVariants as Stages
+use Rattle.icn_control.specs.declared.machine.RunState.{RunState}
+use Rattle.icn_control.specs.declared.machine.RunState.TheVariants as RunStates
 use Rattle.icn_control.proofs.CountedSteps.{list_counts, turn_more}
-use Rattle.icn_control.proofs.GrowthSteps.{grown, stacks_grow}
+use Rattle.icn_control.proofs.GrowthSteps.{grown_store, stacks_grow}
 use Rattle.icn_control.proofs.ListSteps.{on_running}
-use Rattle.icn_control.proofs.TakeSteps.{taken_runs}
-use Rattle.icn_machine.specs.Answering as answering
-use Rattle.icn_machine.specs.Answering.{Performs, with_left}
+use Rattle.icn_control.proofs.TakenOperandSteps.{taken_runs}
+use Rattle.icn_machine.specs.InstructionAnswers as answering
+use Rattle.icn_machine.specs.InstructionAnswers.{Performs, with_left}
 use Rattle.icn_machine.specs.Performing.{PerformsRow, StandsOver, row_on}
 use Rattle.icn_machine.proofs.PerformEvents.{performs_as}
 
@@ -61,7 +61,7 @@ nothing_more : (xs : List ℕ) → xs ≡ xs ++ []
 nothing_more [] = refl
 nothing_more (x ∷ xs) = ap (λ (s : List ℕ). x ∷ s) (nothing_more xs)
 
-puts_nothing : (sink : SinkState) (was : List ℕ) → Puts sink sink was was
+puts_nothing : (sink : SinkState) (was : List ℕ) → PutsAdded sink sink was was
 puts_nothing sink was = record { text = []; is = nothing_more was; gains = gains_nothing sink.held }
 
 follows_same : (b : CallStreams) (was : Outside) → b.left ≡ Some was.left → Follows b b was was
@@ -122,29 +122,29 @@ unfinished oc m st other e = by_test (sym (goes_on oc m st) ∙ ap is_finished e
     by_test q = cc
 
 -- where the machine stands with the stack and the world that a row left, a turn more
-comes_to : {K : Type 0} (m : Machine K) (t tables : Tables) (w : World) (turns : ℕ) (table : Table) (n : FlatStack) (oc : Outcome) (a : Frames)
-    (st : Store Frames) (was now : Outside) (result : Result Stage Halt)
+comes_to : {K : Type 0} (m : Machine K) (t tables : Tables) (w : World) (turns : ℕ) (table : CoexpTable) (n : FlatStack) (oc : Outcome) (a : Frames)
+    (st : Store Frames) (was now : Outside) (result : Result RunState Halt)
     → KeepsItems (reach_of w []) (reach_of m.world []) → AreLiveStacks t (reach_of w []) table → m.stacks.table ≡ record table { running = Some n }
     → m.turns ≡ suc turns
     → StandsOver (outcome flat oc a st) (store_in (all_names tables) was (world_of w) (suc turns) m.begun.items (extent_of w.heap) table) m.world n now result
     → ComesTo tables now (outcome flat oc a st) m result
-comes_to m t tables w turns table n oc a st was now (Ok Stages.Runs) k l e f h =
-    let F : Table → ℕ → State Frames Frames
+comes_to m t tables w turns table n oc a st was now (Ok RunStates.Running) k l e f h =
+    let F : CoexpTable → ℕ → State Frames Frames
     = λ x y. running (stack_in (extent_of m.world.heap) (running_of x.running))
     (store_in (all_names tables) now (world_of m.world) y m.begun.items (extent_of m.world.heap) x) in
-    h ∙ ap (running (stack_in (extent_of m.world.heap) n)) (grown t (all_names tables) now w m.world (suc turns) m.begun.items table (Some n) k l)
-    ∙ ap (λ (x : Table). F x (suc turns)) (sym e) ∙ ap (F m.stacks.table) (sym f)
-comes_to m t tables w turns table n oc a st was now (Ok Stages.Fails) k l e f h =
-    let F : Table → ℕ → State Frames Frames
+    h ∙ ap (running (stack_in (extent_of m.world.heap) n)) (grown_store t (all_names tables) now w m.world (suc turns) m.begun.items table (Some n) k l)
+    ∙ ap (λ (x : CoexpTable). F x (suc turns)) (sym e) ∙ ap (F m.stacks.table) (sym f)
+comes_to m t tables w turns table n oc a st was now (Ok RunStates.Failing) k l e f h =
+    let F : CoexpTable → ℕ → State Frames Frames
     = λ x y. failing (stack_in (extent_of m.world.heap) (running_of x.running))
     (store_in (all_names tables) now (world_of m.world) y m.begun.items (extent_of m.world.heap) x) in
-    h ∙ ap (failing (stack_in (extent_of m.world.heap) n)) (grown t (all_names tables) now w m.world (suc turns) m.begun.items table (Some n) k l)
-    ∙ ap (λ (x : Table). F x (suc turns)) (sym e) ∙ ap (F m.stacks.table) (sym f)
-comes_to m t tables w turns table n oc a st was now (Ok Stages.HopDue) k l e f h = absurd h
-comes_to m t tables w turns table n oc a st was now (Ok Stages.Over) k l e f h =
+    h ∙ ap (failing (stack_in (extent_of m.world.heap) n)) (grown_store t (all_names tables) now w m.world (suc turns) m.begun.items table (Some n) k l)
+    ∙ ap (λ (x : CoexpTable). F x (suc turns)) (sym e) ∙ ap (F m.stacks.table) (sym f)
+comes_to m t tables w turns table n oc a st was now (Ok RunStates.Hopping) k l e f h = absurd h
+comes_to m t tables w turns table n oc a st was now (Ok RunStates.Over) k l e f h =
     absurd (unfinished oc a st
     (with_world (world_of m.world) (store_in (all_names tables) now (world_of w) (suc turns) m.begun.items (extent_of w.heap) table)) h)
-comes_to m t tables w turns table n oc a st was now (Ok Stages.AtBound) k l e f h = absurd h
+comes_to m t tables w turns table n oc a st was now (Ok RunStates.AtBound) k l e f h = absurd h
 comes_to m t tables w turns table n oc a st was now (Err (Halts.Error number offending)) k l e f h = h
 comes_to m t tables w turns table n oc a st was now (Err (Halts.Ends status)) k l e f h = h
 comes_to m t tables w turns table n oc a st was now (Err Halts.ReadFault) k l e f h = absurd h
@@ -152,12 +152,12 @@ comes_to m t tables w turns table n oc a st was now (Err Halts.WriteFault) k l e
 comes_to m t tables w turns table n oc a st was now (Err Halts.NoMemory) k l e f h = tt
 
 -- the store of a machine in a turn
-abbrev pub store_in_turn : {K : Type 0} → Tables → World → ℕ → Table → Machine K → Outside → Store Frames
+abbrev pub store_in_turn : {K : Type 0} → Tables → World → ℕ → CoexpTable → Machine K → Outside → Store Frames
 store_in_turn tables w turns table m was = store_in (all_names tables) was (world_of w) (suc turns) m.begun.items (extent_of w.heap) table
 
 -- what a call said of a row on the stack that runs, said of the machine for any states that are the row's
-pub performs_on : {K : Type 0} (m : Machine K) (t tables : Tables) (w : World) (turns : ℕ) (table : Table) (k n : FlatStack) (row : Row)
-    (leads : Outside → State Frames Frames) (b a : CallStreams) (result : Result Stage Halt)
+pub performs_on : {K : Type 0} (m : Machine K) (t tables : Tables) (w : World) (turns : ℕ) (table : CoexpTable) (k n : FlatStack) (row : Row)
+    (leads : Outside → State Frames Frames) (b a : CallStreams) (result : Result RunState Halt)
     → KeepsItems (reach_of w []) (reach_of m.world []) → AreLiveStacks t (reach_of w []) table → m.stacks.table ≡ record table { running = Some n }
     → m.turns ≡ suc turns
     → ((was : Outside) → leads was ≡ row_on row w k (store_in_turn tables w turns table m was) was) → PerformsRow row w k b m.world n a result
@@ -178,13 +178,13 @@ store_of w =
     record { world = world_of w; outside = outside_of []; turns = 0; begun = []; coexps = []; active = 0; names = record { procedures = []; records = [] } }
 
 -- a stack runs where a row was answered, which never comes to a hop
-pub has_stack : {K : Type 0} (m : Machine K) (w : World) (k n : FlatStack) (row : Row) (b a : CallStreams) (result : Result Stage Halt)
+pub has_stack : {K : Type 0} (m : Machine K) (w : World) (k n : FlatStack) (row : Row) (b a : CallStreams) (result : Result RunState Halt)
     → m.stacks.table.running ≡ Some n → PerformsRow row w k b m.world n a result → IfOk result (HasStack m)
-has_stack m w k n row b a (Ok Stages.Runs) e p = subst (λ (o : Option FlatStack). IsSome o) (sym e) refl
-has_stack m w k n row b a (Ok Stages.Fails) e p = subst (λ (o : Option FlatStack). IsSome o) (sym e) refl
-has_stack m w k n row b a (Ok Stages.HopDue) e p = let said = p (store_of w) refl in absurd (said.meant (outside_of said.had) refl).is
-has_stack m w k n row b a (Ok Stages.Over) e p = tt
-has_stack m w k n row b a (Ok Stages.AtBound) e p = tt
+has_stack m w k n row b a (Ok RunStates.Running) e p = subst (λ (o : Option FlatStack). IsSome o) (sym e) refl
+has_stack m w k n row b a (Ok RunStates.Failing) e p = subst (λ (o : Option FlatStack). IsSome o) (sym e) refl
+has_stack m w k n row b a (Ok RunStates.Hopping) e p = let said = p (store_of w) refl in absurd (said.meant (outside_of said.had) refl).is
+has_stack m w k n row b a (Ok RunStates.Over) e p = tt
+has_stack m w k n row b a (Ok RunStates.AtBound) e p = tt
 has_stack m w k n row b a (Err halt) e p = tt
 
 -- Operations
@@ -201,7 +201,7 @@ in_turn : (tables : Tables) (st : Store Frames) (event : Store Frames → State 
 in_turn tables st event b = ap (λ (x : Bool). turn_if x st event) b
 
 -- what the instruction is once its operands are taken
-pub op_is : (all : Extent) (tables : Tables) (table : Table) (m k : FlatStack) (items : List Item) (op : Op) (st : Store Frames)
+pub op_is : (all : Extent) (tables : Tables) (table : CoexpTable) (m k : FlatStack) (items : List Item) (op : Op) (st : Store Frames)
     → table.running ≡ Some m → take_operands (arity op) m ≡ Some (items, k)
     → instruction flat tables (Instrs.Op op) (stack_in all (running_of table.running)) st
     ≡ turn tables st (operate flat op (map (item_in all) items) (stack_in all k))
@@ -209,7 +209,7 @@ op_is all tables table m k items op st e p =
     on_running table m (λ x. instruction flat tables (Instrs.Op op) (stack_in all x) st) e ∙ taken_runs all (arity op) m k items
     (λ xs a. turn tables st (operate flat op xs a)) p
 
-pub operates : {K : Type 0} (tables : Tables) (names : Names) (w : World) (table : Table) (m k : FlatStack) (items : List Item) (op : Op)
+pub operates : {K : Type 0} (tables : Tables) (names : Names) (w : World) (table : CoexpTable) (m k : FlatStack) (items : List Item) (op : Op)
     (after : Machine K) (turns : ℕ) (was : Outside)
     → (op ≡ Ops.Refresh → ⊥)
     → table.running ≡ Some m → take_operands (arity op) m ≡ Some (items, k) → nat_lt turns (heap_of w.heap).bounds.turns ≡ true → all_names tables ≡ names
@@ -224,7 +224,7 @@ operates tables names w table m k items op after turns was d e p b n =
     (store_in_turn tables w turns table after was) d
     ∙ ap (λ (ns : Names). row_on (step_rows.apply ns (Operation op) xs) w k (store_in_turn tables w turns table after was) was) n
 
-pub resumes : {K : Type 0} (tables : Tables) (w : World) (table : Table) (m : FlatStack) (rest : run_rows.Residual) (after : Machine K) (turns : ℕ)
+pub resumes : {K : Type 0} (tables : Tables) (w : World) (table : CoexpTable) (m : FlatStack) (rest : run_rows.Residual) (after : Machine K) (turns : ℕ)
     (was : Outside)
     → table.running ≡ Some m
     → nat_lt turns (heap_of w.heap).bounds.turns ≡ true
@@ -269,17 +269,17 @@ taken_as n o m k l items xs e same kept value =
 -- what is taken, and the stack without it, name only what has a name
 pub record TakesNamed (names : Names) (all : Extent) (items : List Item) (k : FlatStack) : Type 0 where
   pub items_named : named.Each (ItemNamed names) (map (item_in all) items)
-  pub rest : named.M names (stack_in all k)
+  pub rest : named.NamedStack names (stack_in all k)
 
-popped_named : (names : Names) (all : Extent) (m : FlatStack) (popped : Item × FlatStack) → held.pop m ≡ Some popped → named.M names (stack_in all m)
-    → ItemNamed names (item_in all popped.0) × named.M names (stack_in all popped.1)
+popped_named : (names : Names) (all : Extent) (m : FlatStack) (popped : Item × FlatStack) → held.pop m ≡ Some popped → named.NamedStack names (stack_in all m)
+    → ItemNamed names (item_in all popped.0) × named.NamedStack names (stack_in all popped.1)
 popped_named names all m popped e h =
-    let P : Option (run_rows.Item × Frames) → Type 0 = λ o. named.Maybe (named.Two names (ItemNamed names)) o in
+    let P : Option (run_rows.Item × Frames) → Type 0 = λ o. named.IfThere (named.NamedAndStack names (ItemNamed names)) o in
     subst P (pop_read (reading_of all) m ∙ ap (option_map (λ (x : Item × FlatStack). (item_in all x.0, stack_in all x.1))) e)
     (named.pop names (stack_in all m) h)
 
 named_onto : (names : Names) (all : Extent) (n : ℕ) (m k : FlatStack) (onto items : List Item) → taken_onto n m onto ≡ Some (items, k)
-    → named.Each (ItemNamed names) (map (item_in all) onto) → named.M names (stack_in all m) → TakesNamed names all items k
+    → named.Each (ItemNamed names) (map (item_in all) onto) → named.NamedStack names (stack_in all m) → TakesNamed names all items k
 named_onto names all zero m k onto items e xs h =
     let here : List Item × FlatStack = (onto, m) in
     let there : TakesNamed names all onto m = record { items_named = xs; rest = h } in
@@ -289,7 +289,7 @@ named_onto names all (suc n) m k onto items e xs h = by_pop (held.pop m) refl e 
     by_pop : (o : Option (Item × FlatStack)) → held.pop m ≡ o
         → option_and_then (λ (popped : Item × FlatStack). taken_onto n popped.1 (popped.0 ∷ onto)) o ≡ Some (items, k)
         → ((m k : FlatStack) (onto items : List Item) → taken_onto n m onto ≡ Some (items, k) → named.Each (ItemNamed names) (map (item_in all) onto)
-        → named.M names (stack_in all m) → TakesNamed names all items k)
+        → named.NamedStack names (stack_in all m) → TakesNamed names all items k)
         → TakesNamed names all items k
     by_pop None p q f = cc
     by_pop (Some popped) p q f =
@@ -302,33 +302,35 @@ named_taken names all n m k items e h = named_onto names all n m k [] items e tt
 
 -- what is said of the stack of a machine, said of the one that runs
 
-pub named_running : (names : Names) (all : Extent) (table : Table) (m : FlatStack) → table.running ≡ Some m
+pub named_running : (names : Names) (all : Extent) (table : CoexpTable) (m : FlatStack) → table.running ≡ Some m
     → StackNamed names (stack_in all (running_of table.running)) → StackNamed names (stack_in all m)
 named_running names all table m e h = subst (λ (o : Option FlatStack). StackNamed names (stack_in all (running_of o))) e h
 
-pub rest_running : (reach : Reach) (table : Table) (m : FlatStack) (rest : Residual) → table.running ≡ Some m
+pub rest_running : (reach : Reach) (table : CoexpTable) (m : FlatStack) (rest : Residual) → table.running ≡ Some m
     → IsLiveResidual (with_locals (held.local_count (running_of table.running)) reach) rest
     → IsLiveResidual (with_locals (held.local_count m) reach) rest
 rest_running reach table m rest e h = subst (λ (o : Option FlatStack). IsLiveResidual (with_locals (held.local_count (running_of o)) reach) rest) e h
 
 -- what is kept by a row that is answered
 
-pub both_ok : {A E : Type 0} (result : Result A E) (P Q R : Type 0) → OnOk result P → OnOk result Q → (P → Q → R) → OnOk result R
-both_ok (Ok x) P Q R p q f = f p q
-both_ok (Err e) P Q R p q f = tt
+pub on_ok_both : {A E : Type 0} (result : Result A E) (P Q R : Type 0) → OnOk result P → OnOk result Q → (P → Q → R) → OnOk result R
+on_ok_both (Ok x) P Q R p q f = f p q
+on_ok_both (Err e) P Q R p q f = tt
 
 pub sound_after : {K : Type 0} (m after : Machine K) (t : Tables) (n : FlatStack) → KeepsItems (reach_of m.world []) (reach_of after.world [])
     → after.stacks.table ≡ record m.stacks.table { running = Some n } → after.turns ≡ m.turns + 1
-    → after.limits ≡ m.limits → IsSound t m → IsLiveStack t (reach_of after.world []) n → counting.KeepsCounts m.world after.world → IsSound t after
+    → after.limits ≡ m.limits → IsSoundMachine t m → IsLiveStack t (reach_of after.world []) n → counting.KeepsCounts m.world after.world
+    → IsSoundMachine t after
 sound_after m after t n kept table turns limits s l c = record {
-  stacks = subst (λ (x : Table). AreLiveStacks t (reach_of after.world []) x) (sym table) (stacks_grow t m.world after.world m.stacks.table n kept l s.stacks);
+  stacks = subst (λ (x : CoexpTable). AreLiveStacks t (reach_of after.world []) x) (sym table)
+      (stacks_grow t m.world after.world m.stacks.table n kept l s.stacks);
   bounds = c.bounds ∙ s.bounds ∙ ap limits_of (sym limits);
-  counts = ap length c.coexps ∙ s.counts ∙ ap (λ (x : Table). length x.coexps) (sym table);
+  counts = ap length c.coexps ∙ s.counts ∙ ap (λ (x : CoexpTable). length x.coexps) (sym table);
   counted = record {
     results = subst (λ (x : ℕ). FitTurns x after.stacks.table.active (heap_of after.world.heap).coexps) (sym turns)
-        (subst (λ (x : Table). FitTurns (m.turns + 1) x.active (heap_of after.world.heap).coexps) (sym table)
+        (subst (λ (x : CoexpTable). FitTurns (m.turns + 1) x.active (heap_of after.world.heap).coexps) (sym table)
         (list_counts (m.turns + 1) m.stacks.table.active (heap_of m.world.heap).coexps (heap_of after.world.heap).coexps c.coexps
         (turn_more m.turns m.stacks.table.active (heap_of m.world.heap).coexps s.counted.results)));
-    activators = subst (λ (x : Table). EnterOthers x.coexps) (sym table) s.counted.activators;
+    activators = subst (λ (x : CoexpTable). EnterOthers x.coexps) (sym table) s.counted.activators;
   };
 }

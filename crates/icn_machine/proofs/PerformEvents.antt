@@ -9,22 +9,22 @@ use Rattle.icn_vars.specs.declared.outcome.Halt.TheVariants as Halts
 use Rattle.icn_vars.specs.declared.world.World.{World}
 use Rattle.icn_vars.specs.Worlds.{KeepsItems, reach_of, world_of}
 use Rattle.icn_frames.specs.Stacks.{FlatStack}
-use Rattle.icn_coexp.specs.Transfers.{Table}
+use Rattle.icn_coexp.specs.Transfers.{CoexpTable}
 use Rattle.icn_code.specs.Codes.{Tables}
 use Rattle.icn_run.specs.Rows.{Done}
 use Rattle.icn_run.specs.Stacks.{Frames, flat}
 use Rattle.icn_run.specs.Step.{State, Store, running, failing, over, all_names, finish_run, is_main, outcome, stuck, with_world, turn, turn_if}
 use Rattle.icn_streams.specs.Handed.{CallStreams, uncounted}
-use Rattle.icn_streams.proofs.Following.{follows_all}
+use Rattle.icn_streams.proofs.CallSequences.{follows_all}
 use Rattle.icn_control.specs.Machines.{AreLiveStacks, ComesTo, running_of, stack_seen, store_in, store_seen}
-use Rattle.icn_control.specs.Parts.{HaltsWith, StandsWith}
-use Rattle.icn_control.specs.Standing.{stack_in}
+use Rattle.icn_control.specs.StackAndWorld.{HaltsWith, StandsWith}
+use Rattle.icn_control.specs.StackViews.{stack_in}
 use Rattle.icn_control.specs.declared.machine.Machine.{Machine}
-use Rattle.icn_control.specs.declared.machine.Stage.{Stage}
-use Rattle.icn_control.specs.declared.machine.Stage.TheVariants as Stages
-use Rattle.icn_control.proofs.GrowthSteps.{grown}
+use Rattle.icn_control.specs.declared.machine.RunState.{RunState}
+use Rattle.icn_control.specs.declared.machine.RunState.TheVariants as RunStates
+use Rattle.icn_control.proofs.GrowthSteps.{grown_store}
 use Rattle.icn_calls.specs.Calling.{IsGoing}
-use Rattle.icn_machine.specs.Answering.{AnswersStep, BreaksOff, BreaksPutting, BreaksReading, IsCause, Performs, with_left, idle}
+use Rattle.icn_machine.specs.InstructionAnswers.{AnswersStep, BreaksOff, BreaksPutting, BreaksReading, IsCause, Performs, with_left, idle}
 use Rattle.icn_machine.specs.Invoking.{PerformsEvent}
 use Rattle.icn_machine.specs.Performing.{PerformsOn, PerformsRow, StandsOver, over_outside, row_on}
 
@@ -100,7 +100,7 @@ still_performs leads Comes before result f h = record {
   caused = still_caused before result f;
 }
 
-comes_faultless : {K : Type 0} (tables : Tables) (outside : Outside) (state : State Frames Frames) (m : Machine K) (result : Result Stage Halt)
+comes_faultless : {K : Type 0} (tables : Tables) (outside : Outside) (state : State Frames Frames) (m : Machine K) (result : Result RunState Halt)
     → ComesTo tables outside state m result → IsFaultless result
 comes_faultless tables outside state m (Ok stage) h = tt
 comes_faultless tables outside state m (Err (Halts.Error number offending)) h = tt
@@ -110,7 +110,8 @@ comes_faultless tables outside state m (Err Halts.WriteFault) h = absurd h
 comes_faultless tables outside state m (Err Halts.NoMemory) h = tt
 
 -- an instruction over a machine that neither reads nor puts anything
-pub comes_performs : {K : Type 0} (tables : Tables) (leads : Outside → State Frames Frames) (m : Machine K) (before : CallStreams) (result : Result Stage Halt)
+pub comes_performs : {K : Type 0} (tables : Tables) (leads : Outside → State Frames Frames) (m : Machine K) (before : CallStreams)
+    (result : Result RunState Halt)
     → ((outside : Outside) → ComesTo tables outside (leads outside) m result) → PerformsOn tables leads m before before result
 comes_performs tables leads m before result h =
     still_performs leads (λ was now answer. ComesTo tables now (leads was) m answer) before result
@@ -126,12 +127,12 @@ halts_over state st w m was Halts.ReadFault h = h
 halts_over state st w m was Halts.WriteFault h = h
 halts_over state st w m was Halts.NoMemory h = tt
 
-pub stands_over : (state : State Frames Frames) (st : Store Frames) (w : World) (m : FlatStack) (was : Outside) (result : Result Stage Halt)
+pub stands_over : (state : State Frames Frames) (st : Store Frames) (w : World) (m : FlatStack) (was : Outside) (result : Result RunState Halt)
     → MatchResult result (StandsWith state (over_outside was st) w m) (HaltsWith state (over_outside was st) w) → StandsOver state st w m was result
 stands_over state st w m was (Ok stage) h = h
 stands_over state st w m was (Err halt) h = halts_over state st w m was halt h
 
-with_faultless : (state : State Frames Frames) (st : Store Frames) (w : World) (m : FlatStack) (result : Result Stage Halt)
+with_faultless : (state : State Frames Frames) (st : Store Frames) (w : World) (m : FlatStack) (result : Result RunState Halt)
     → MatchResult result (StandsWith state st w m) (HaltsWith state st w) → IsFaultless result
 with_faultless state st w m (Ok stage) h = tt
 with_faultless state st w m (Err (Halts.Error number offending)) h = tt
@@ -140,7 +141,8 @@ with_faultless state st w m (Err Halts.ReadFault) h = absurd h
 with_faultless state st w m (Err Halts.WriteFault) h = absurd h
 with_faultless state st w m (Err Halts.NoMemory) h = tt
 
-pub still_event : (names : Names) (event : Store Frames → State Frames Frames) (w v : World) (n : FlatStack) (before : CallStreams) (result : Result Stage Halt)
+pub still_event : (names : Names) (event : Store Frames → State Frames Frames) (w v : World) (n : FlatStack) (before : CallStreams)
+    (result : Result RunState Halt)
     → ((st : Store Frames) → st.world ≡ world_of w → MatchResult result (StandsWith (event st) st v n) (HaltsWith (event st) st v))
     → PerformsEvent names event w before v n before result
 still_event names event w v n before result h st same names_same =
@@ -149,7 +151,7 @@ still_event names event w v n before result h st same names_same =
 
 -- an event that is another one, over whatever outside
 pub event_as : (names : Names) (event other : Store Frames → State Frames Frames) (w v : World) (n : FlatStack) (before after : CallStreams)
-    (result : Result Stage Halt)
+    (result : Result RunState Halt)
     → ((st : Store Frames) → st.world ≡ world_of w → st.names ≡ names → event st ≡ other st)
     → PerformsEvent names other w before v n after result → PerformsEvent names event w before v n after result
 event_as names event other w v n before after result e p st same names_same =
@@ -159,7 +161,7 @@ event_as names event other w v n before after result e p st same names_same =
     (λ was now h. subst (λ (s : State Frames Frames). StandsOver s st v n now result) (sym (e (over_outside was st) same names_same)) h) (p st same names_same)
 
 -- a row is performed as an event
-pub row_event : (names : Names) (row : Row) (w v : World) (m n : FlatStack) (before after : CallStreams) (result : Result Stage Halt)
+pub row_event : (names : Names) (row : Row) (w v : World) (m n : FlatStack) (before after : CallStreams) (result : Result RunState Halt)
     → PerformsRow row w m before v n after result
     → PerformsEvent names (λ st. row_on row w m st st.outside) w before v n after result
 row_event names row w v m n before after result p st same names_same = p st same
@@ -181,24 +183,24 @@ never_finished o m st other e = by_main (is_main other.active) o e
     by_main false (Error number value seen) e = cc
     by_main false (Ends status seen) e = cc
 
-pub row_going : (row : Row) (w v : World) (m n : FlatStack) (before after : CallStreams) (result : Result Stage Halt) (st : Store Frames)
+pub row_going : (row : Row) (w v : World) (m n : FlatStack) (before after : CallStreams) (result : Result RunState Halt) (st : Store Frames)
     → st.world ≡ world_of w
     → PerformsRow row w m before v n after result → IfOk result IsGoing
-row_going row w v m n before after (Ok Stages.Runs) st same p = tt
-row_going row w v m n before after (Ok Stages.Fails) st same p = tt
-row_going row w v m n before after (Ok Stages.HopDue) st same p = let q = p st same in (q.meant (outside_of q.had) refl).is
-row_going row w v m n before after (Ok Stages.Over) st same p =
+row_going row w v m n before after (Ok RunStates.Running) st same p = tt
+row_going row w v m n before after (Ok RunStates.Failing) st same p = tt
+row_going row w v m n before after (Ok RunStates.Hopping) st same p = let q = p st same in (q.meant (outside_of q.had) refl).is
+row_going row w v m n before after (Ok RunStates.Over) st same p =
     let q = p st same in
     let was : Outside = outside_of q.had in
     let t = q.meant was refl in
     never_finished (row _) (stack_in (extent_of w.heap) m) (over_outside was st) (with_world (world_of v) (over_outside t.now st)) t.is
-row_going row w v m n before after (Ok Stages.AtBound) st same p = let q = p st same in (q.meant (outside_of q.had) refl).is
+row_going row w v m n before after (Ok RunStates.AtBound) st same p = let q = p st same in (q.meant (outside_of q.had) refl).is
 row_going row w v m n before after (Err halt) st same p = tt
 
 -- On a machine
 
-pub stands_on : {K : Type 0} (m : Machine K) (t tables : Tables) (was now : Outside) (w : World) (turns : ℕ) (table : Table) (n : FlatStack)
-    (state : State Frames Frames) (result : Result Stage Halt)
+pub stands_on : {K : Type 0} (m : Machine K) (t tables : Tables) (was now : Outside) (w : World) (turns : ℕ) (table : CoexpTable) (n : FlatStack)
+    (state : State Frames Frames) (result : Result RunState Halt)
     → KeepsItems (reach_of w []) (reach_of m.world []) → AreLiveStacks t (reach_of w []) table → m.turns ≡ suc turns
     → m.stacks.table ≡ record table { running = Some n } → IfOk result IsGoing
     → StandsOver state (store_in (all_names tables) was (world_of w) (suc turns) m.begun.items (extent_of w.heap) table) m.world n now result
@@ -208,24 +210,24 @@ stands_on {K} m t tables was now w turns table n state result k l e f g h = by_r
     st : Store Frames
     st = store_in (all_names tables) was (world_of w) (suc turns) m.begun.items (extent_of w.heap) table
 
-    after : ℕ → Table → Store Frames
+    after : ℕ → CoexpTable → Store Frames
     after count u = store_in (all_names tables) now (world_of m.world) count m.begun.items (extent_of m.world.heap) u
 
     seen : (next : Frames → Store Frames → State Frames Frames)
         → next (stack_in (extent_of m.world.heap) n) (store_in (all_names tables) now (world_of m.world) (suc turns) m.begun.items (extent_of w.heap) table)
         ≡ next (stack_seen m) (store_seen tables now m)
     seen next =
-        let F : Table → ℕ → State Frames Frames = λ u count. next (stack_in (extent_of m.world.heap) (running_of u.running)) (after count u) in
-        ap (next (stack_in (extent_of m.world.heap) n)) (grown t (all_names tables) now w m.world (suc turns) m.begun.items table (Some n) k l)
+        let F : CoexpTable → ℕ → State Frames Frames = λ u count. next (stack_in (extent_of m.world.heap) (running_of u.running)) (after count u) in
+        ap (next (stack_in (extent_of m.world.heap) n)) (grown_store t (all_names tables) now w m.world (suc turns) m.begun.items table (Some n) k l)
         ∙ ap (λ (count : ℕ). F (record table { running = Some n }) count) (sym e)
-        ∙ ap (λ (u : Table). F u m.turns) (sym f)
+        ∙ ap (λ (u : CoexpTable). F u m.turns) (sym f)
 
-    by_result : (result : Result Stage Halt) → IfOk result IsGoing → StandsOver state st m.world n now result → ComesTo tables now state m result
-    by_result (Ok Stages.Runs) g h = h ∙ seen running
-    by_result (Ok Stages.Fails) g h = h ∙ seen failing
-    by_result (Ok Stages.HopDue) g h = absurd g
-    by_result (Ok Stages.Over) g h = absurd g
-    by_result (Ok Stages.AtBound) g h = absurd g
+    by_result : (result : Result RunState Halt) → IfOk result IsGoing → StandsOver state st m.world n now result → ComesTo tables now state m result
+    by_result (Ok RunStates.Running) g h = h ∙ seen running
+    by_result (Ok RunStates.Failing) g h = h ∙ seen failing
+    by_result (Ok RunStates.Hopping) g h = absurd g
+    by_result (Ok RunStates.Over) g h = absurd g
+    by_result (Ok RunStates.AtBound) g h = absurd g
     by_result (Err (Halts.Error number offending)) g h = h
     by_result (Err (Halts.Ends status)) g h = h
     by_result (Err Halts.ReadFault) g h = absurd h
@@ -233,9 +235,10 @@ stands_on {K} m t tables was now w turns table n state result k l e f g h = by_r
     by_result (Err Halts.NoMemory) g h = tt
 
 -- an event behind a turn, on the machine that is left
-pub turn_performs : {K : Type 0} (m : Machine K) (t tables : Tables) (leads : Outside → State Frames Frames) (w : World) (turns : ℕ) (table : Table)
+pub turn_performs : {K : Type 0} (m : Machine K) (t tables : Tables) (leads : Outside → State Frames Frames) (w : World) (turns : ℕ) (table : CoexpTable)
     (n : FlatStack)
-    (event : Store Frames → State Frames Frames) (before after : CallStreams) (result : Result Stage Halt) → nat_lt turns (heap_of w.heap).bounds.turns ≡ true
+    (event : Store Frames → State Frames Frames) (before after : CallStreams) (result : Result RunState Halt)
+    → nat_lt turns (heap_of w.heap).bounds.turns ≡ true
     → KeepsItems (reach_of w []) (reach_of m.world []) → AreLiveStacks t (reach_of w []) table → m.turns ≡ suc turns
     → m.stacks.table ≡ record table { running = Some n } → IfOk result IsGoing
     → ((was : Outside) → leads was ≡ turn tables (store_in (all_names tables) was (world_of w) turns m.begun.items (extent_of w.heap) table) event)

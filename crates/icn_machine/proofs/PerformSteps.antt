@@ -13,9 +13,9 @@ use Rattle.icn_defs.specs.Applying.{function_of}
 use Rattle.icn_defs.specs.StepRows as step_rows
 use Rattle.icn_heap.specs.Extents.{Extent, IsLive, value_in}
 use Rattle.icn_heap.specs.Heaps.{extent_of}
-use Rattle.icn_named.specs.Keeping.{OutcomeNamed}
-use Rattle.icn_named.specs.Named.{SettingNamed, ValueNamed, WorldNamed}
-use Rattle.icn_named.specs.Sizes.{heap_after}
+use Rattle.law_names.specs.RowsNamed.{OutcomeNamed}
+use Rattle.law_names.specs.NamedSettings.{SettingNamed, ValueNamed, WorldNamed}
+use Rattle.law_names.specs.RowSizes.{heap_after}
 use Rattle.icn_vars.specs.declared.outcome.Outcome.{Outcome as HeldOutcome}
 use Rattle.icn_vars.specs.declared.outcome.Outcome.TheVariants.{Fails as HeldFails, Gives as HeldGives, Suspends as HeldSuspends}
 use Rattle.icn_vars.specs.declared.outcome.Halt.{Halt}
@@ -28,7 +28,7 @@ use Rattle.icn_frames.specs.declared.layout.Cell.TheVariants.{Base, Call, Local,
 use Rattle.icn_frames.specs.Stacks as held
 use Rattle.icn_frames.specs.Stacks.{FlatStack, set_from, set_local}
 use Rattle.icn_frames.specs.Heights.{cell_at}
-use Rattle.icn_frames_laws.proofs.CallsRead.{locals_read, set_locals_read}
+use Rattle.law_frames.proofs.CallsRead.{locals_read, set_locals_read}
 use Rattle.icn_code.specs.Codes.{Tables}
 use Rattle.icn_streams.specs.Answers.{Answers, CausedBy, Comes, Stops, StopsReading, StopsPutting, call_state, outside_after, idle, reading, putting}
 use Rattle.icn_streams.specs.Applies.{Applies}
@@ -39,19 +39,19 @@ use Rattle.icn_apply.specs.declared.applied.Applied.{Applied as HeldApplied}
 use Rattle.icn_apply.specs.declared.applied.Applied.TheVariants.{Op, Func}
 use Rattle.icn_run.specs.Stacks.{Frames, flat}
 use Rattle.icn_run.specs.Step.{State, Store, here, outcome}
-use Rattle.icn_run_named.specs.KeepingCounts.{KeepCounts}
-use Rattle.icn_run_named.specs.StateNames.{StackNamed}
-use Rattle.icn_run_named.proofs.CallsNamed as named
-use Rattle.icn_run_named.proofs.RowCounts.{rows_keep_counts}
-use Rattle.icn_control.specs.Living.{IsLiveStack, with_locals}
-use Rattle.icn_control.specs.Standing.{reading_of, stack_in}
-use Rattle.icn_control.specs.Taking.{KeepsCounts}
-use Rattle.icn_control.specs.declared.machine.Stage.{Stage}
-use Rattle.icn_control.specs.declared.machine.Stage.TheVariants as Stages
+use Rattle.law_steps.specs.KeepingCounts.{KeepCounts}
+use Rattle.law_steps.specs.StateNames.{StackNamed}
+use Rattle.law_steps.proofs.CallsNamed as named
+use Rattle.law_steps.proofs.RowCounts.{rows_keep_counts}
+use Rattle.icn_control.specs.LiveStacks.{IsLiveStack, with_locals}
+use Rattle.icn_control.specs.StackViews.{reading_of, stack_in}
+use Rattle.icn_control.specs.TakenOperands.{KeepsCounts}
+use Rattle.icn_control.specs.declared.machine.RunState.{RunState}
+use Rattle.icn_control.specs.declared.machine.RunState.TheVariants as RunStates
 use Rattle.icn_control.proofs.KeptItems.{stack_same, stack_stays}
 use Rattle.icn_control.proofs.LiveSets.{live_replace}
-use Rattle.icn_machine.specs.Answering as answering
-use Rattle.icn_machine.specs.Answering.{AnswersStep, BreaksOff, BreaksPutting, BreaksReading, IsCause, Tells, behind, with_left, outside_in}
+use Rattle.icn_machine.specs.InstructionAnswers as answering
+use Rattle.icn_machine.specs.InstructionAnswers.{AnswersStep, BreaksOff, BreaksPutting, BreaksReading, IsCause, Tells, behind, with_left, outside_in}
 use Rattle.icn_machine.specs.Giving.{GivesOutcome, StandsAs}
 use Rattle.icn_machine.specs.Performing.{LeavesNamed, PerformsRow, StandsOver, over_outside, row_on}
 
@@ -178,17 +178,17 @@ state_is row w m st was same = ap (λ (s : Setting). outcome_on w m st was (row 
 pub record Sets (w v : World) (m k : FlatStack) : Type 0 where
   pub same : flat.set_locals (map (value_in (extent_of v.heap)) (held.locals k)) (stack_in (extent_of w.heap) m) ≡ stack_in (extent_of v.heap) k
 
-stands : (w v : World) (m n : FlatStack) (row : Row) (st : Store Frames) (was now : Outside) (stage : Stage) (x : State Frames Frames)
+stands : (w v : World) (m n : FlatStack) (row : Row) (st : Store Frames) (was now : Outside) (stage : RunState) (x : State Frames Frames)
     → row_on row w m st was ≡ x
     → StandsAs x (stack_in (extent_of v.heap) n) (record st { world = world_of v; outside = now }) stage
     → StandsOver (row_on row w m st was) st v n now (Ok stage)
-stands w v m n row st was now Stages.Runs x e g = e ∙ g
-stands w v m n row st was now Stages.Fails x e g = e ∙ g
-stands w v m n row st was now Stages.HopDue x e g = absurd g
-stands w v m n row st was now Stages.Over x e g = absurd g
-stands w v m n row st was now Stages.AtBound x e g = absurd g
+stands w v m n row st was now RunStates.Running x e g = e ∙ g
+stands w v m n row st was now RunStates.Failing x e g = e ∙ g
+stands w v m n row st was now RunStates.Hopping x e g = absurd g
+stands w v m n row st was now RunStates.Over x e g = absurd g
+stands w v m n row st was now RunStates.AtBound x e g = absurd g
 
-tells_ok : (w v : World) (m k n : FlatStack) (row : Row) (st : Store Frames) (was : Outside) (b a : CallStreams) (oc : HeldOutcome) (stage : Stage)
+tells_ok : (w v : World) (m k n : FlatStack) (row : Row) (st : Store Frames) (was : Outside) (b a : CallStreams) (oc : HeldOutcome) (stage : RunState)
     → st.world ≡ world_of w → Sets w v m k → GivesOutcome oc k n stage
     → Comes row was (call_state w (held.locals m) b) (call_state v (held.locals k) a) (Ok oc)
     → Tells (λ now answer. StandsOver (row_on row w m st was) st v n now answer) was b a (Ok stage)
@@ -265,7 +265,7 @@ halts w v m k n row st was b a Halts.ReadFault same c = reads_part w v m row st 
 halts w v m k n row st was b a Halts.WriteFault same c = puts_part w v m row st was b a same c
 halts w v m k n row st was b a Halts.NoMemory same c = breaks w v m row st was b a same c
 
-cause : (b a : CallStreams) (halt : Halt) → CausedBy (Err halt) b a → IsCause {A = Stage} (Err halt) b a
+cause : (b a : CallStreams) (halt : Halt) → CausedBy (Err halt) b a → IsCause {A = RunState} (Err halt) b a
 cause b a (Halts.Error number offending) c = c
 cause b a (Halts.Ends status) c = c
 cause b a Halts.ReadFault c = c
@@ -274,7 +274,7 @@ cause b a Halts.NoMemory c = c
 
 -- What is performed
 
-pub performs_ok : (w v : World) (m k n : FlatStack) (row : Row) (b a : CallStreams) (oc : HeldOutcome) (stage : Stage) → Sets w v m k
+pub performs_ok : (w v : World) (m k n : FlatStack) (row : Row) (b a : CallStreams) (oc : HeldOutcome) (stage : RunState) → Sets w v m k
     → GivesOutcome oc k n stage
     → Applies row (call_state w (held.locals m) b) (call_state v (held.locals k) a) (Ok oc) → PerformsRow row w m b v n a (Ok stage)
 performs_ok w v m k n row b a oc stage s g r st same = record {
@@ -305,7 +305,7 @@ performs_halt w v m k n row b a halt r st same = record {
   caused = cause b a halt r.caused;
 }
 
-pub performs_err : (result : Result Stage Halt) (w v : World) (m k n : FlatStack) (row : Row) (b a : CallStreams) (halt : Halt)
+pub performs_err : (result : Result RunState Halt) (w v : World) (m k n : FlatStack) (row : Row) (b a : CallStreams) (halt : Halt)
     → IsErrAnd result (λ h. h ≡ halt)
     → Applies row (call_state w (held.locals m) b) (call_state v (held.locals k) a) (Err halt) → PerformsRow row w m b v n a result
 performs_err (Ok stage) w v m k n row b a halt e r = absurd e
@@ -354,7 +354,7 @@ set_named names w v m k oc s h o =
       seen.world,
     )
 
-pub names_left : (result : Result Stage Halt) (names : Names) (v : World) (n : FlatStack) (halt : Halt) → IsErrAnd result (λ h. h ≡ halt)
+pub names_left : (result : Result RunState Halt) (names : Names) (v : World) (n : FlatStack) (halt : Halt) → IsErrAnd result (λ h. h ≡ halt)
     → LeavesNamed names v n result
 names_left (Ok stage) names v n halt e = absurd e
 names_left (Err other) names v n halt e = tt
@@ -374,7 +374,7 @@ sets_in : (t : Tables) (w v : World) (m k : FlatStack) (row : Row) (b a : CallSt
     → IsLiveStack t (reach_of w []) m → Sets w v m k
 sets_in t w v m k row b a answer r s l = record { same = set_is t w v m k (kept_after w v m k row b a answer r) l s }
 
-pub given_row : (t : Tables) (w v : World) (m k n : FlatStack) (row : Row) (b a : CallStreams) (oc : HeldOutcome) (stage : Stage)
+pub given_row : (t : Tables) (w v : World) (m k n : FlatStack) (row : Row) (b a : CallStreams) (oc : HeldOutcome) (stage : RunState)
     → AppliesOn row w m b v k a (Ok oc) → held.set_locals (held.locals k) m ≡ k
     → IsLiveStack t (reach_of w []) m → GivesOutcome oc k n stage → PerformsRow row w m b v n a (Ok stage)
 given_row t w v m k n row b a oc stage r s l g = performs_ok w v m k n row b a oc stage (sets_in t w v m k row b a (Ok oc) r s l) g r
@@ -386,7 +386,7 @@ without_locals v locals Halts.ReadFault l = l
 without_locals v locals Halts.WriteFault l = l
 without_locals v locals Halts.NoMemory l = l
 
-pub halt_live : (result : Result Stage Halt) (w v : World) (m k : FlatStack) (row : Row) (b a : CallStreams) (halt : Halt) → IsErrAnd result (λ h. h ≡ halt)
+pub halt_live : (result : Result RunState Halt) (w v : World) (m k : FlatStack) (row : Row) (b a : CallStreams) (halt : Halt) → IsErrAnd result (λ h. h ≡ halt)
     → AppliesOn row w m b v k a (Err halt)
     → IfErr result (IsLiveHalt (reach_of v []))
 halt_live (Ok stage) w v m k row b a halt e r = absurd e

@@ -14,7 +14,7 @@ use Rattle.icn_value.specs.Limited.{Bounds}
 use Rattle.icn_value.specs.Store.{Heap, World}
 use Rattle.icn_value.specs.Values.{Value, Text}
 use Rattle.icn_defs.specs.Running.{first_heap, text_values}
-use Rattle.icn_heap.specs.Extents.{Extent, IsLive, Keeps, text_in, value_in}
+use Rattle.icn_heap.specs.Extents.{Extent, IsLive, KeepsValues, text_in, value_in}
 use Rattle.icn_heap.specs.declared.heap.Heap.{Heap as HeldHeap}
 use Rattle.icn_heap.specs.Heaps.{extent_of, heap_of}
 use Rattle.icn_vars.specs.Worlds.{new_world}
@@ -22,7 +22,7 @@ use Rattle.icn_vars.specs.declared.stop.Stop.{Stop}
 use Rattle.icn_vars.specs.declared.stop.Stop.TheVariants as Stops
 use Rattle.icn_vars.specs.Stops.{stop_of}
 use Rattle.icn_code.specs.declared.code.Global.{Global}
-use Rattle.icn_code.specs.declared.code.Procedure.{Procedure}
+use Rattle.icn_code.specs.declared.code.LinkedProcedure.{LinkedProcedure}
 use Rattle.icn_code.specs.Codes.{Tables, proc_of}
 use Rattle.icn_run.specs.Step.{first_globals, global_value, start_value, static_count, statics_of}
 use Rattle.icn_control.proofs.GrowthSteps.{values_same}
@@ -75,7 +75,7 @@ all_globals tables all vals rest none so =
 
 -- Statics
 
-pub one_static : (tables : Tables) (vals more : List Val) (first : Procedure) (others rest : List Procedure) → rest ≡ first ∷ others
+pub one_static : (tables : Tables) (vals more : List Val) (first : LinkedProcedure) (others rest : List LinkedProcedure) → rest ≡ first ∷ others
     → more ≡ vals ++ replicate first.statics Vals.Null
     → vals ++ replicate (sum_by statics_of (map proc_of rest)) Vals.Null ≡ replicate (sum_by statics_of tables.procs) Vals.Null
     → more ++ replicate (sum_by statics_of (map proc_of others)) Vals.Null ≡ replicate (sum_by statics_of tables.procs) Vals.Null
@@ -88,14 +88,15 @@ one_static tables vals more first others rest e p so =
     ∙ joined
     ∙ ap (λ (xs : List Val). vals ++ xs) (replicate-append-replicate first.statics rest_sum Vals.Null)
     ∙ ap (λ (n : ℕ). vals ++ replicate n Vals.Null) (sym (sum_by-cons statics_of (proc_of first) (map proc_of others)))
-    ∙ ap (λ (xs : List Procedure). vals ++ replicate (sum_by statics_of (map proc_of xs)) Vals.Null) (sym e)
+    ∙ ap (λ (xs : List LinkedProcedure). vals ++ replicate (sum_by statics_of (map proc_of xs)) Vals.Null) (sym e)
     ∙ so
 
-pub all_statics : (tables : Tables) (vals : List Val) (rest : List Procedure) → length rest ≡ 0
+pub all_statics : (tables : Tables) (vals : List Val) (rest : List LinkedProcedure) → length rest ≡ 0
     → vals ++ replicate (sum_by statics_of (map proc_of rest)) Vals.Null ≡ replicate (sum_by statics_of tables.procs) Vals.Null
     → vals ≡ replicate (sum_by statics_of tables.procs) Vals.Null
 all_statics tables vals rest none so =
-    sym (append-nil vals) ∙ ap (λ (xs : List Procedure). vals ++ replicate (sum_by statics_of (map proc_of xs)) Vals.Null) (sym (nothing_left rest none)) ∙ so
+    sym (append-nil vals) ∙ ap (λ (xs : List LinkedProcedure). vals ++ replicate (sum_by statics_of (map proc_of xs)) Vals.Null) (sym (nothing_left rest none))
+    ∙ so
 
 -- Words
 
@@ -194,7 +195,7 @@ words_lack {A} (Ok a) first now words err = absurd err
 words_lack {A} (Err s) first now words err = subst (λ (x : Stop). ChargesWords {A = A} first words now (Err x)) (sym err) tt
 
 pub one_word : (old new : Extent) (vals more : List Val) (span : _) (word : List ℕ) (others rest words : List (List ℕ)) → rest ≡ word ∷ others
-    → more ≡ vals ++ Vals.Text span ∷ [] → Keeps old new → All (IsLive old) vals → text_in new span ≡ word
+    → more ≡ vals ++ Vals.Text span ∷ [] → KeepsValues old new → All (IsLive old) vals → text_in new span ≡ word
     → map (value_in old) vals ++ text_values rest ≡ text_values words → map (value_in new) more ++ text_values others ≡ text_values words
 one_word old new vals more span word others rest words e p keeps live t so =
     let joined : (map (value_in new) vals ++ value_in new (Vals.Text span) ∷ []) ++ text_values others

@@ -25,8 +25,8 @@ use Rattle.icn_vars.specs.declared.world.World.{World}
 use Rattle.icn_vars.specs.Worlds.{Reach, reach_of, world_of}
 use Rattle.icn_frames.specs.Stacks as held
 use Rattle.icn_frames.specs.Stacks.{FlatStack}
-use Rattle.icn_coexp.specs.Transfers.{Coexp, Table, activator_in, first_table, main_coexp}
-use Rattle.icn_frames_laws.proofs.CallsRead.{begin_read}
+use Rattle.icn_coexp.specs.Transfers.{Coexp, CoexpTable, activator_in, first_table, main_coexp}
+use Rattle.law_frames.proofs.CallsRead.{begin_read}
 use Rattle.icn_code.specs.declared.code.Global.{Global}
 use Rattle.icn_code.specs.declared.code.Start.{Start}
 use Rattle.icn_code.specs.declared.code.Start.TheVariants as Starts
@@ -36,13 +36,13 @@ use Rattle.icn_run.specs.FlatStep.{start}
 use Rattle.icn_run.specs.Rows as rows
 use Rattle.icn_run.specs.Stacks.{Frames, empty, flat}
 use Rattle.icn_run.specs.Step.{State, Store, all_names, begun_if, collect_rest, errs, first_store, here, with_made, main_of, procedure_at, running, start_of, stuck, with_at, with_found, with_world}
-use Rattle.icn_control.specs.Counting.{EnterOthers, FitTurns}
-use Rattle.icn_control.specs.Living.{IsLiveStack, variable_count}
-use Rattle.icn_control.specs.Machines.{AreLiveStacks, IsLiveCoexp, IsSound, running_of, store_in}
+use Rattle.icn_control.specs.ResultCounts.{EnterOthers, FitTurns}
+use Rattle.icn_control.specs.LiveStacks.{IsLiveStack, variable_count}
+use Rattle.icn_control.specs.Machines.{AreLiveStacks, IsLiveCoexp, IsSoundMachine, running_of, store_in}
 use Rattle.icn_control.specs.declared.machine.Machine.{Machine}
 use Rattle.icn_control.proofs.LiveFrames.{live_begin}
-use Rattle.icn_control.specs.Standing.{reading_of, stack_in}
-use Rattle.icn_control.specs.Taking.{KeepsCounts, MakesValue, made_in}
+use Rattle.icn_control.specs.StackViews.{reading_of, stack_in}
+use Rattle.icn_control.specs.TakenOperands.{KeepsCounts, MakesValue, made_in}
 use Rattle.icn_calls.specs.Calling.{FindsParameters}
 use Rattle.icn_machine.specs.Starting.{BeginsWith, StartsAs, WordsFit, about_nothing, bare, begun_with, world_charged}
 
@@ -366,12 +366,12 @@ pub starts_as : {K : Type 0} (m : Machine K) (tables : Tables) (launch : Launch)
 starts_as m tables launch main entry w vals locals f e g paid world values begins stack table turns begun =
     let st : Store Frames = first tables launch in
     let all : Extent = extent_of m.world.heap in
-    let F : Table → ℕ → List Bool → State Frames Frames
+    let F : CoexpTable → ℕ → List Bool → State Frames Frames
     = λ t n bs. running (stack_in all (running_of t.running)) (store_in (all_names tables) launch.outside (world_of m.world) n bs all t) in
     start_in tables launch main entry w vals e g paid world values
     ∙ begins main (with_world (world_of w) st) refl
     ∙ ap (λ (x : FlatStack). F (first_table x) 0 (replicate (length tables.procs) false)) (sym stack)
-    ∙ ap (λ (t : Table). F t 0 (replicate (length tables.procs) false)) (sym table)
+    ∙ ap (λ (t : CoexpTable). F t 0 (replicate (length tables.procs) false)) (sym table)
     ∙ ap (λ (n : ℕ). F m.stacks.table n (replicate (length tables.procs) false)) (sym turns)
     ∙ ap (λ (bs : List Bool). F m.stacks.table m.turns bs) (sym begun)
 
@@ -407,7 +407,8 @@ first_counts (suc n) p = omega arith
 
 pub start_sound : {K : Type 0} (m : Machine K) (t : Tables) (main : ℕ) (locals : List Val) (f : FlatStack) → f ≡ held.begin main locals 0
     → m.stacks.table ≡ first_table f → m.turns ≡ 0 → length locals ≡ variable_count t main
-    → All (IsLive (extent_of m.world.heap)) locals → (heap_of m.world.heap).bounds ≡ limits_of m.limits → (heap_of m.world.heap).coexps ≡ 0 ∷ [] → IsSound t m
+    → All (IsLive (extent_of m.world.heap)) locals → (heap_of m.world.heap).bounds ≡ limits_of m.limits → (heap_of m.world.heap).coexps ≡ 0 ∷ []
+    → IsSoundMachine t m
 start_sound m t main locals f stack table turns count live bounds coexps =
     let reach : Reach = reach_of m.world [] in
     let stacks : AreLiveStacks t reach (first_table f) =
@@ -419,13 +420,13 @@ start_sound m t main locals f stack table turns count live bounds coexps =
     let fits : FitTurns m.turns m.stacks.table.active (heap_of m.world.heap).coexps =
     subst (λ (n : ℕ). FitTurns n m.stacks.table.active (heap_of m.world.heap).coexps) (sym turns)
     (subst (λ (cs : List ℕ). FitTurns 0 m.stacks.table.active cs) (sym coexps)
-    (subst (λ (u : Table). FitTurns 0 u.active (0 ∷ [])) (sym table) (record { all = first_counts; entered = λ p. absurd (omega (arith, p)) })))
+    (subst (λ (u : CoexpTable). FitTurns 0 u.active (0 ∷ [])) (sym table) (record { all = first_counts; entered = λ p. absurd (omega (arith, p)) })))
     in
     record {
-      stacks = subst (λ (u : Table). AreLiveStacks t reach u) (sym table) stacks;
+      stacks = subst (λ (u : CoexpTable). AreLiveStacks t reach u) (sym table) stacks;
       bounds = bounds;
-      counts = ap (λ (cs : List ℕ). length cs) coexps ∙ ap (λ (u : Table). length u.coexps) (sym table);
-      counted = record { results = fits; activators = subst (λ (u : Table). EnterOthers u.coexps) (sym table) first_activators };
+      counts = ap (λ (cs : List ℕ). length cs) coexps ∙ ap (λ (u : CoexpTable). length u.coexps) (sym table);
+      counted = record { results = fits; activators = subst (λ (u : CoexpTable). EnterOthers u.coexps) (sym table) first_activators };
     }
 
 -- the list of values that are read in a slice

@@ -14,14 +14,14 @@ use Rattle.icn_code.specs.Codes.{Tables}
 use Rattle.icn_run.specs.Stacks.{Frames, flat}
 use Rattle.icn_run.specs.Step.{State, Store, elements_called, invoke_value}
 use Rattle.icn_streams.specs.Handed.{CallStreams}
-use Rattle.icn_control.specs.Parts.{HaltsWith}
-use Rattle.icn_control.specs.declared.machine.Stage.{Stage}
-use Rattle.icn_machine.specs.Answering.{Performs}
+use Rattle.icn_control.specs.StackAndWorld.{HaltsWith}
+use Rattle.icn_control.specs.declared.machine.RunState.{RunState}
+use Rattle.icn_machine.specs.InstructionAnswers.{Performs}
 use Rattle.icn_machine.specs.Performing.{StandsOver, over_outside}
 
 -- What comes of a store with these names is performed on a stack in a world.
 abbrev pub PerformsEvent : Names → (Store Frames → State Frames Frames) → World → CallStreams → World
-    → FlatStack → CallStreams → Result Stage Halt → Type 0
+    → FlatStack → CallStreams → Result RunState Halt → Type 0
 PerformsEvent names event w before v n after result =
     (st : Store Frames) → st.world ≡ world_of w → st.names ≡ names
     → Performs (λ was. event (over_outside was st))

@@ -1,8 +1,8 @@
-pub mod Answering
+pub mod InstructionAnswers
 pub mod Giving
 pub mod Invoking
-pub mod Naming
+pub mod NamedWorlds
 pub mod Performing
 pub mod Stepping
-pub mod Steps
+pub mod AfterInstruction
 pub mod Starting

@@ -16,13 +16,13 @@ use Rattle.icn_run.specs.Stacks.{Frames, flat}
 use Rattle.icn_run.specs.Step.{State, Store, errs, here, outcome, over, with_world}
 use Rattle.icn_streams.specs.Handed.{CallStreams}
 use Rattle.icn_control.specs.Machines.{ComesTo}
-use Rattle.icn_control.specs.Parts.{StandsWith}
-use Rattle.icn_control.specs.Standing.{stack_in}
+use Rattle.icn_control.specs.StackAndWorld.{StandsWith}
+use Rattle.icn_control.specs.StackViews.{stack_in}
 use Rattle.icn_control.specs.declared.machine.Machine.{Machine}
-use Rattle.icn_control.specs.declared.machine.Stage.{Stage}
-use Rattle.icn_machine.specs.Answering.{Performs}
-use Rattle.icn_run_named.specs.StateNames.{StackNamed}
-use Rattle.icn_named.specs.Named.{WorldNamed}
+use Rattle.icn_control.specs.declared.machine.RunState.{RunState}
+use Rattle.icn_machine.specs.InstructionAnswers.{Performs}
+use Rattle.law_steps.specs.StateNames.{StackNamed}
+use Rattle.law_names.specs.NamedSettings.{WorldNamed}
 
 -- the store with another outside
 abbrev pub over_outside : Outside → Store Frames → Store Frames
@@ -34,7 +34,8 @@ row_on row w m st was = let at = over_outside was st in
     outcome flat (row (here flat (stack_in (extent_of w.heap) m) at)) (stack_in (extent_of w.heap) m) at
 
 -- where a stack and a world stand after it; or the run is over
-abbrev pub StandsOver : State Frames Frames → Store Frames → World → FlatStack → Outside → Result Stage Halt
+abbrev pub StandsOver : State Frames Frames → Store Frames → World → FlatStack → Outside
+    → Result RunState Halt
     → Type 0
 StandsOver state st w m now (Ok stage) = StandsWith state (over_outside now st) w m stage
 StandsOver state st w m now (Err (Halts.Error number offending)) =
@@ -47,19 +48,19 @@ StandsOver state st w m now (Err Halts.NoMemory) = ⊤
 
 -- A row is performed on a stack in a world: what it gives is pushed, and what it keeps is suspended.
 abbrev pub PerformsRow : Row → World → FlatStack → CallStreams → World → FlatStack → CallStreams
-    → Result Stage Halt → Type 0
+    → Result RunState Halt → Type 0
 PerformsRow row w m before v n after result = (st : Store Frames) → st.world ≡ world_of w
     → Performs (row_on row w m st)
     (λ was now answer. StandsOver (row_on row w m st was) st v n now answer) before after result
 
 -- A machine performs an instruction, or what is due on it.
 abbrev pub PerformsOn : {K : Type 0} → Tables → (Outside → State Frames Frames) → Machine K → CallStreams
-    → CallStreams → Result Stage Halt → Type 0
+    → CallStreams → Result RunState Halt → Type 0
 PerformsOn tables leads m before after result =
     Performs leads (λ was now answer. ComesTo tables now (leads was) m answer) before after result
 
 -- what stands on a stack and in a world names only what has a name, where something is answered but a fault or want of memory
-abbrev pub LeavesNamed : Names → World → FlatStack → Result Stage Halt → Type 0
+abbrev pub LeavesNamed : Names → World → FlatStack → Result RunState Halt → Type 0
 LeavesNamed names w m (Ok stage) =
     StackNamed names (stack_in (extent_of w.heap) m) × WorldNamed names (world_of w)
 LeavesNamed names w m (Err halt) = ⊤

@@ -23,8 +23,8 @@ use Rattle.icn_run.specs.FlatStep.{start}
 use Rattle.icn_run.specs.Stacks.{Frames, flat}
 use Rattle.icn_run.specs.Step.{State, Store, begun_if, errs, first_globals, first_store, running, static_count, with_world}
 use Rattle.icn_control.specs.Machines.{stack_seen, store_seen}
-use Rattle.icn_control.specs.Standing.{stack_in}
-use Rattle.icn_control.specs.Taking.{made_in}
+use Rattle.icn_control.specs.StackViews.{stack_in}
+use Rattle.icn_control.specs.TakenOperands.{made_in}
 use Rattle.icn_control.specs.declared.machine.Machine.{Machine}
 
 -- what a run with these words and limits is begun with, over this outside

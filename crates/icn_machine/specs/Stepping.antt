@@ -12,17 +12,17 @@ use Rattle.icn_code.specs.declared.instr.Instr.TheVariants as Instrs
 use Rattle.icn_frames.specs.Stacks as held
 use Rattle.icn_run.specs.Stacks.{Frames, flat}
 use Rattle.icn_run.specs.Step.{State, running, failing, hopping, over, stuck, steps, all_names, instruction_at}
-use Rattle.icn_run_named.specs.StateNames.{StackNamed, StateNamed, StoreNamed}
-use Rattle.icn_run_named.specs.KeepingSizes.{StateFits, StoreFits}
+use Rattle.law_steps.specs.StateNames.{StackNamed, StateNamed, StoreNamed}
+use Rattle.law_steps.specs.KeepingSizes.{StateFits, StoreFits}
 use Rattle.icn_run.specs.AnyOutside.{run_over}
-use Rattle.icn_streams.specs.Handed.{CallStreams, Follows, FailsOnce, KeepsAllCounts, KeepsCounts, WantsMemory}
+use Rattle.icn_streams.specs.Handed.{CallStreams, Follows, FailsOnce, KeepsAllCounts, KeepsFaultCounts, WantsMemory}
 use Rattle.icn_run.specs.InstructionNeeds.{HasCaseMark, HasVariables}
 use Rattle.icn_instructions.specs.Ranges.{IsInRange}
-use Rattle.icn_control.specs.Machines.{ComesTo, HaltsAt, HasStack, IsSound, StandsAt, does, stack_of, stack_seen, store_seen}
+use Rattle.icn_control.specs.Machines.{ComesTo, HaltsAt, HasStack, IsSoundMachine, StandsAt, does, stack_of, stack_seen, store_seen}
 use Rattle.icn_control.specs.declared.machine.Machine.{Machine}
-use Rattle.icn_control.specs.declared.machine.Stage.{Stage}
-use Rattle.icn_control.specs.declared.machine.Stage.TheVariants as Stages
-use Rattle.icn_machine.specs.Answering.{AnswersStep}
+use Rattle.icn_control.specs.declared.machine.RunState.{RunState}
+use Rattle.icn_control.specs.declared.machine.RunState.TheVariants as RunStates
+use Rattle.icn_machine.specs.InstructionAnswers.{AnswersStep}
 
 -- What holds of each state that a run comes to
 
@@ -60,20 +60,20 @@ pub record IsKept (tables : Tables) (state : State Frames Frames) : Type 0 where
   pub fits : StateFits tables state
 
 -- where a run goes on
-abbrev pub goes_on : Stage → Bool
-goes_on Stages.Runs = true
-goes_on Stages.Fails = true
-goes_on Stages.HopDue = true
-goes_on Stages.Over = false
-goes_on Stages.AtBound = false
+abbrev pub goes_on : RunState → Bool
+goes_on RunStates.Running = true
+goes_on RunStates.Failing = true
+goes_on RunStates.Hopping = true
+goes_on RunStates.Over = false
+goes_on RunStates.AtBound = false
 
 -- whether failing or a hop is due
-abbrev pub is_failing : Stage → Bool
-is_failing Stages.Fails = true
-is_failing Stages.HopDue = true
-is_failing Stages.Runs = false
-is_failing Stages.Over = false
-is_failing Stages.AtBound = false
+abbrev pub is_failing : RunState → Bool
+is_failing RunStates.Failing = true
+is_failing RunStates.Hopping = true
+is_failing RunStates.Running = false
+is_failing RunStates.Over = false
+is_failing RunStates.AtBound = false
 
 -- the outside of a state, with the report of an error in it
 abbrev pub outside_at : State Frames Frames → Outside
@@ -84,30 +84,30 @@ outside_at (over ending outside) = outside
 outside_at stuck = outside_of []
 
 -- The state for which a machine stands, where its run goes on.
-abbrev pub IsAt : {K : Type 0} → Tables → Outside → State Frames Frames → Machine K → Stage → Type 0
-IsAt tables outside state m Stages.Runs = state ≡ running (stack_seen m) (store_seen tables outside m)
-IsAt tables outside state m Stages.Fails = state ≡ failing (stack_seen m) (store_seen tables outside m)
-IsAt tables outside state m Stages.HopDue =
+abbrev pub IsAt : {K : Type 0} → Tables → Outside → State Frames Frames → Machine K → RunState → Type 0
+IsAt tables outside state m RunStates.Running = state ≡ running (stack_seen m) (store_seen tables outside m)
+IsAt tables outside state m RunStates.Failing = state ≡ failing (stack_seen m) (store_seen tables outside m)
+IsAt tables outside state m RunStates.Hopping =
     (old : Frames) × (state ≡ hopping old (store_seen tables outside m))
-IsAt tables outside state m Stages.Over = ⊥
-IsAt tables outside state m Stages.AtBound = ⊥
+IsAt tables outside state m RunStates.Over = ⊥
+IsAt tables outside state m RunStates.AtBound = ⊥
 
 -- all this holds of a state for which a machine stands
-abbrev pub KeepsState : {K : Type 0} → Tables → Machine K → Stage → Type 0
+abbrev pub KeepsState : {K : Type 0} → Tables → Machine K → RunState → Type 0
 KeepsState tables m stage = (outside : Outside)
     × ((state : State Frames Frames) × (IsAt tables outside state m stage × IsKept tables state))
 
 -- where the run goes on
-abbrev pub IsKeptAt : {K : Type 0} → Tables → Machine K → Stage → Type 0
-IsKeptAt tables m Stages.Runs = KeepsState tables m Stages.Runs
-IsKeptAt tables m Stages.Fails = KeepsState tables m Stages.Fails
-IsKeptAt tables m Stages.HopDue = KeepsState tables m Stages.HopDue
-IsKeptAt tables m Stages.Over = ⊤
-IsKeptAt tables m Stages.AtBound = ⊤
+abbrev pub IsKeptAt : {K : Type 0} → Tables → Machine K → RunState → Type 0
+IsKeptAt tables m RunStates.Running = KeepsState tables m RunStates.Running
+IsKeptAt tables m RunStates.Failing = KeepsState tables m RunStates.Failing
+IsKeptAt tables m RunStates.Hopping = KeepsState tables m RunStates.Hopping
+IsKeptAt tables m RunStates.Over = ⊤
+IsKeptAt tables m RunStates.AtBound = ⊤
 
 -- A machine goes on from this stage of the run of a code.
-pub record IsReady {K : Type 0} (tables : Tables) (m : Machine K) (stage : Stage) : Type 0 where
-  pub sound : IsSound tables m
+pub record IsReady {K : Type 0} (tables : Tables) (m : Machine K) (stage : RunState) : Type 0 where
+  pub sound : IsSoundMachine tables m
   pub stack : HasStack m stage
   pub kept : IsKeptAt tables m stage
 
@@ -115,7 +115,8 @@ pub record IsReady {K : Type 0} (tables : Tables) (m : Machine K) (stage : Stage
 
 -- So many steps are done whole, and what was handed follows them; then what was answered is so of one step more.
 pub record Leads {K : Type 0} (tables : Tables) (state : State Frames Frames) (was : Outside)
-    (before : CallStreams) (n : Machine K) (after : CallStreams) (result : Result Stage Halt) : Type 0 where
+    (before : CallStreams) (n : Machine K) (after : CallStreams)
+    (result : Result RunState Halt) : Type 0 where
   pub count : ℕ
   pub between : CallStreams
   pub follows : Follows before between was (outside_at (steps flat tables count state))
@@ -123,7 +124,7 @@ pub record Leads {K : Type 0} (tables : Tables) (state : State Frames Frames) (w
       (steps flat tables (suc count) state) (outside_at (steps flat tables count state)) between after result
 
 -- where a machine stands, or how the run is over; of a fault and of want of memory nothing is said
-abbrev pub StandsBy : {K : Type 0} → Tables → Outside → State Frames Frames → Machine K → Result Stage Halt
+abbrev pub StandsBy : {K : Type 0} → Tables → Outside → State Frames Frames → Machine K → Result RunState Halt
     → Type 0
 StandsBy tables outside state n (Ok stage) = StandsAt tables outside state n stage
 StandsBy tables outside state n (Err (Halts.Error number offending)) =
@@ -135,7 +136,7 @@ StandsBy tables outside state n (Err Halts.NoMemory) = ⊤
 
 -- Steps lead there, one at least, each over some outside.
 pub record LeadsOver {K : Type 0} (tables : Tables) (state : State Frames Frames) (n : Machine K)
-    (result : Result Stage Halt) : Type 0 where
+    (result : Result RunState Halt) : Type 0 where
   pub first : Outside
   pub later : List Outside
   pub now : Outside
@@ -144,14 +145,14 @@ pub record LeadsOver {K : Type 0} (tables : Tables) (state : State Frames Frames
 -- the input has failed, once, and nothing else
 pub record InputFails (before after : CallStreams) : Type 0 where
   pub faults : after.faults ≡ one_more before.faults
-  pub output : KeepsCounts before.output after.output
-  pub errors : KeepsCounts before.errors after.errors
+  pub output : KeepsFaultCounts before.output after.output
+  pub errors : KeepsFaultCounts before.errors after.errors
 
 -- one of the outputs has failed, once, and nothing else
 pub data OutputFails (before after : CallStreams) : Type 0 where
   output_fails : after.faults ≡ before.faults → FailsOnce before.output after.output
-      → KeepsCounts before.errors after.errors → OutputFails before after
-  errors_fail : after.faults ≡ before.faults → KeepsCounts before.output after.output
+      → KeepsFaultCounts before.errors after.errors → OutputFails before after
+  errors_fail : after.faults ≡ before.faults → KeepsFaultCounts before.output after.output
       → FailsOnce before.errors after.errors → OutputFails before after
 
 -- A fault is answered where that object has failed for the first time; where it is not, nothing has failed.
@@ -164,8 +165,8 @@ IsFirstFault (Err Halts.WriteFault) before after = OutputFails before after
 IsFirstFault (Err Halts.NoMemory) before after = WantsMemory before after
 
 -- From where a machine stands, steps lead to what was answered: over the outside that the input tells, if it does, and over some input in any case.
-pub record Advances {K : Type 0} (tables : Tables) (m : Machine K) (stage : Stage) (before : CallStreams)
-    (n : Machine K) (after : CallStreams) (result : Result Stage Halt) : Type 0 where
+pub record Advances {K : Type 0} (tables : Tables) (m : Machine K) (stage : RunState) (before : CallStreams)
+    (n : Machine K) (after : CallStreams) (result : Result RunState Halt) : Type 0 where
   pub answers : (was : Outside) (state : State Frames Frames) → IsAt tables was state m stage
       → before.left ≡ Some was.left
       → Leads tables state was before n after result
@@ -175,7 +176,7 @@ pub record Advances {K : Type 0} (tables : Tables) (m : Machine K) (stage : Stag
 
 -- An instruction is being done: the place is that of the next one, nothing lacks, and all that holds of the state of the run is so still.
 pub record IsDoing {K : Type 0} (tables : Tables) (m : Machine K) (instr : Instr) : Type 0 where
-  pub sound : IsSound tables m
+  pub sound : IsSoundMachine tables m
   pub runs : IsSome m.stacks.table.running
   pub always : (outside : Outside) → AlwaysOver tables (LacksNothing tables) (does tables outside instr m)
   pub variables : (outside : Outside) → HasVariables tables (store_seen tables outside m)
@@ -208,7 +209,7 @@ is_whole (Instrs.Init label) = true
 is_whole instr = false
 
 -- nothing fails, and memory was not wanting
-abbrev pub EndsWhole : Result Stage Halt → Type 0
+abbrev pub EndsWhole : Result RunState Halt → Type 0
 EndsWhole (Ok stage) = is_failing stage ≡ false
 EndsWhole (Err (Halts.Error number offending)) = ⊤
 EndsWhole (Err (Halts.Ends status)) = ⊤
@@ -217,8 +218,8 @@ EndsWhole (Err Halts.WriteFault) = ⊤
 EndsWhole (Err Halts.NoMemory) = ⊥
 
 -- No step was done, or some steps lead to what was answered.
-pub data GoesOn {K : Type 0} (tables : Tables) (m : Machine K) (stage : Stage) (before : CallStreams)
-    (n : Machine K) (after : CallStreams) (result : Result Stage Halt) : Type 0 where
+pub data GoesOn {K : Type 0} (tables : Tables) (m : Machine K) (stage : RunState) (before : CallStreams)
+    (n : Machine K) (after : CallStreams) (result : Result RunState Halt) : Type 0 where
   stays : n ≡ m → after ≡ before → result ≡ Ok stage → GoesOn tables m stage before n after result
   advances : Advances tables m stage before n after result → GoesOn tables m stage before n after result
 
@@ -230,26 +231,26 @@ pub record IsTurn {K : Type 0} (m n : Machine K) : Type 0 where
   pub within : m.turns < m.limits.turns
 
 -- where the code goes on failing, a turn was made or fewer cells stand
-abbrev pub FailsFurther : {K : Type 0} → Machine K → Machine K → Stage → Type 0
-FailsFurther m n Stages.Fails =
+abbrev pub FailsFurther : {K : Type 0} → Machine K → Machine K → RunState → Type 0
+FailsFurther m n RunStates.Failing =
     IsTurn m n ⊎ ((n.turns ≡ m.turns) × (length (stack_seen n).cells < length (stack_seen m).cells))
-FailsFurther m n Stages.HopDue = IsTurn m n
-FailsFurther m n Stages.Runs = ⊤
-FailsFurther m n Stages.Over = ⊤
-FailsFurther m n Stages.AtBound = ⊤
+FailsFurther m n RunStates.Hopping = IsTurn m n
+FailsFurther m n RunStates.Running = ⊤
+FailsFurther m n RunStates.Over = ⊤
+FailsFurther m n RunStates.AtBound = ⊤
 
 -- where failing or a hop is due, a turn was made
-abbrev pub MakesTurn : {K : Type 0} → Machine K → Machine K → Stage → Type 0
-MakesTurn m n Stages.Fails = IsTurn m n
-MakesTurn m n Stages.HopDue = IsTurn m n
-MakesTurn m n Stages.Runs = ⊤
-MakesTurn m n Stages.Over = ⊤
-MakesTurn m n Stages.AtBound = ⊤
+abbrev pub MakesTurn : {K : Type 0} → Machine K → Machine K → RunState → Type 0
+MakesTurn m n RunStates.Failing = IsTurn m n
+MakesTurn m n RunStates.Hopping = IsTurn m n
+MakesTurn m n RunStates.Running = ⊤
+MakesTurn m n RunStates.Over = ⊤
+MakesTurn m n RunStates.AtBound = ⊤
 
 -- whether failing goes on in the same turn
-abbrev pub fails_within : Stage → ℕ → ℕ → Bool
-fails_within Stages.Fails now turns = now == turns
-fails_within Stages.HopDue now turns = false
-fails_within Stages.Runs now turns = false
-fails_within Stages.Over now turns = false
-fails_within Stages.AtBound now turns = false
+abbrev pub fails_within : RunState → ℕ → ℕ → Bool
+fails_within RunStates.Failing now turns = now == turns
+fails_within RunStates.Hopping now turns = false
+fails_within RunStates.Running now turns = false
+fails_within RunStates.Over now turns = false
+fails_within RunStates.AtBound now turns = false

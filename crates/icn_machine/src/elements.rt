@@ -6,7 +6,7 @@ ghost use Rattle.icn_value.specs.declared.val.Val.TheVariants as Vals;
 ghost use Rattle.icn_value.specs.declared.item.Item.TheVariants as Items;
 ghost use Rattle.icn_heap.specs.Extents.{IsLive};
 ghost use Rattle.icn_heap.specs.Heaps.{extent_of, heap_of};
-ghost use Rattle.icn_named.specs.Named.{HeapNamed, ItemNamed};
+ghost use Rattle.law_names.specs.NamedSettings.{HeapNamed, ItemNamed};
 ghost use Rattle.icn_vars.specs.Outcomes.{IsLiveHalt};
 ghost use Rattle.icn_vars.specs.declared.outcome.Halt.TheVariants as Halts;
 ghost use Rattle.icn_vars.specs.Worlds.{IsLiveItem, Reach, item_in, reach_of};

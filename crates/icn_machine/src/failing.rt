@@ -4,16 +4,18 @@ ghost use Rattle.icn_code.specs.Codes.{Tables};
 ghost use Rattle.icn_run.specs.Step.{all_names};
 ghost use Rattle.icn_streams.specs.Handed.{CallStreams, call_streams};
 ghost use Rattle.icn_control.specs.Soundness.{KeepsLimits};
-ghost use Rattle.icn_control.specs.declared.machine.Stage.TheVariants as Stages;
+ghost use Rattle.icn_control.specs.declared.machine.RunState.TheVariants as RunStates;
 ghost use Rattle.icn_machine.specs.Stepping.{Advances, FailsFurther, GoesOn, IsReady, MakesTurn, fails_within, is_failing};
 
 use crate::operations::resume;
-use icn_control::{Due, Machine, Stage, begin_again, end_failing, fail_once, hop, reenter};
+use icn_control::{
+    AfterFailure, Machine, RunState, begin_again, end_failing, fail_once, hop, reenter,
+};
 use icn_convert::Names;
 use icn_frames::{Cell, Stack};
 use icn_host::{Sink, Source};
-use icn_run_named::{steps_keep_names, steps_keep_sizes};
 use icn_vars::Halt;
+use law_steps::{steps_keep_names, steps_keep_sizes};
 
 // One step of failing, with the turn that it may count. The errors are those of what is resumed.
 fn fail_next<K: Stack<Cell> + Drop, N: Names, I: Source, O: Sink, E: Sink>(
@@ -23,53 +25,53 @@ fn fail_next<K: Stack<Cell> + Drop, N: Names, I: Source, O: Sink, E: Sink>(
     input: &mut I,
     out: &mut O,
     err: &mut E,
-) -> Result<Stage, Halt>
+) -> Result<RunState, Halt>
     requires ready { (tables : Tables)
-        × ((all_names tables ≡ N.known names.now) × IsReady tables m.old Stages.Fails) }
+        × ((all_names tables ≡ N.known names.now) × IsReady tables m.old RunStates.Failing) }
     ensures steps { (tables : Tables) → all_names tables ≡ N.known names.now
-        → IsReady tables m.old Stages.Fails → Advances tables m.old Stages.Fails
+        → IsReady tables m.old RunStates.Failing → Advances tables m.old RunStates.Failing
         (call_streams (I.left input.old) (I.faults input.old) (O.state out.old) (E.state err.old)) m.new
         (call_streams (I.left input.new) (I.faults input.new) (O.state out.new) (E.state err.new)) result }
     ensures ready { (tables : Tables) → all_names tables ≡ N.known names.now
-        → IsReady tables m.old Stages.Fails → IfOk result (IsReady tables m.new) }
+        → IsReady tables m.old RunStates.Failing → IfOk result (IsReady tables m.new) }
     ensures further { IfOk result (FailsFurther m.old m.new) }
     ensures within { KeepsLimits m.old m.new result }
 {
     steps_keep_names();
     steps_keep_sizes();
     match fail_once(m) {
-        Due::Failing => Ok(Stage::Fails),
-        Due::Running => Ok(Stage::Runs),
-        Due::Beginning => Ok(begin_again(m)),
-        Due::Resuming(rest) => resume(m, rest, names, buffer, input, out, err),
-        Due::Reentering => Ok(reenter(m)),
-        Due::Leaving => Ok(end_failing(m)),
+        AfterFailure::Failing => Ok(RunState::Failing),
+        AfterFailure::Running => Ok(RunState::Running),
+        AfterFailure::Beginning => Ok(begin_again(m)),
+        AfterFailure::Resuming(rest) => resume(m, rest, names, buffer, input, out, err),
+        AfterFailure::Reentering => Ok(reenter(m)),
+        AfterFailure::Leaving => Ok(end_failing(m)),
     }
 }
 
 // Whether failing goes on in the same turn.
-fn fails_within(stage: Stage, now: u64, turns: u64) -> bool
+fn fails_within(stage: RunState, now: u64, turns: u64) -> bool
     ensures { result ≡ fails_within stage now turns }
 {
     match stage {
-        Stage::Fails => now == turns,
-        Stage::HopDue => false,
-        Stage::Runs => false,
-        Stage::Over => false,
-        Stage::AtBound => false,
+        RunState::Failing => now == turns,
+        RunState::Hopping => false,
+        RunState::Running => false,
+        RunState::Over => false,
+        RunState::AtBound => false,
     }
 }
 
 // Whether failing or a hop is due.
-pub fn is_failing(stage: Stage) -> bool
+pub fn is_failing(stage: RunState) -> bool
     ensures { result ≡ is_failing stage }
 {
     match stage {
-        Stage::Fails => true,
-        Stage::HopDue => true,
-        Stage::Runs => false,
-        Stage::Over => false,
-        Stage::AtBound => false,
+        RunState::Failing => true,
+        RunState::Hopping => true,
+        RunState::Running => false,
+        RunState::Over => false,
+        RunState::AtBound => false,
     }
 }
 
@@ -81,20 +83,20 @@ fn fail_to_turn<K: Stack<Cell> + Drop, N: Names, I: Source, O: Sink, E: Sink>(
     input: &mut I,
     out: &mut O,
     err: &mut E,
-) -> Result<Stage, Halt>
+) -> Result<RunState, Halt>
     requires ready { (tables : Tables)
-        × ((all_names tables ≡ N.known names.now) × IsReady tables m.old Stages.Fails) }
+        × ((all_names tables ≡ N.known names.now) × IsReady tables m.old RunStates.Failing) }
     ensures steps { (tables : Tables) → all_names tables ≡ N.known names.now
-        → IsReady tables m.old Stages.Fails → GoesOn tables m.old Stages.Fails
+        → IsReady tables m.old RunStates.Failing → GoesOn tables m.old RunStates.Failing
         (call_streams (I.left input.old) (I.faults input.old) (O.state out.old) (E.state err.old)) m.new
         (call_streams (I.left input.new) (I.faults input.new) (O.state out.new) (E.state err.new)) result }
     ensures ready { (tables : Tables) → all_names tables ≡ N.known names.now
-        → IsReady tables m.old Stages.Fails → IfOk result (IsReady tables m.new) }
+        → IsReady tables m.old RunStates.Failing → IfOk result (IsReady tables m.new) }
     ensures turn { IfOk result (MakesTurn m.old m.new) }
     ensures within { KeepsLimits m.old m.new result }
 {
     let turns = m.turns;
-    let mut stage = Stage::Fails;
+    let mut stage = RunState::Failing;
     while fails_within(stage, m.turns, turns) {
         stage = fail_next(m, names, buffer, input, out, err)?;
     }
@@ -102,11 +104,11 @@ fn fail_to_turn<K: Stack<Cell> + Drop, N: Names, I: Source, O: Sink, E: Sink>(
 }
 
 // A hop that is due, as a turn.
-fn hop_next<K: Stack<Cell> + Drop>(m: &mut Machine<K>) -> Stage
-    requires ready { (tables : Tables) × IsReady tables m.old Stages.HopDue }
-    ensures steps { (tables : Tables) (h : CallStreams) → IsReady tables m.old Stages.HopDue
-        → Advances tables m.old Stages.HopDue h m.new h (Ok result) }
-    ensures ready { (tables : Tables) → IsReady tables m.old Stages.HopDue → IsReady tables m.new result }
+fn hop_next<K: Stack<Cell> + Drop>(m: &mut Machine<K>) -> RunState
+    requires ready { (tables : Tables) × IsReady tables m.old RunStates.Hopping }
+    ensures steps { (tables : Tables) (h : CallStreams) → IsReady tables m.old RunStates.Hopping
+        → Advances tables m.old RunStates.Hopping h m.new h (Ok result) }
+    ensures ready { (tables : Tables) → IsReady tables m.old RunStates.Hopping → IsReady tables m.new result }
     ensures turn { MakesTurn m.old m.new result }
     ensures limits { m.new.limits ≡ m.old.limits }
 {
@@ -118,13 +120,13 @@ fn hop_next<K: Stack<Cell> + Drop>(m: &mut Machine<K>) -> Stage
 // Fails until a turn was made, or hops, where one of both is due. The errors are those of `fail_next`.
 fn fail_turn<K: Stack<Cell> + Drop, N: Names, I: Source, O: Sink, E: Sink>(
     m: &mut Machine<K>,
-    stage: Stage,
+    stage: RunState,
     names: &N,
     buffer: &mut Vec<u8>,
     input: &mut I,
     out: &mut O,
     err: &mut E,
-) -> Result<Stage, Halt>
+) -> Result<RunState, Halt>
     requires ready { (tables : Tables)
         × ((all_names tables ≡ N.known names.now) × IsReady tables m.old stage) }
     ensures steps { (tables : Tables) → all_names tables ≡ N.known names.now → IsReady tables m.old stage
@@ -137,11 +139,11 @@ fn fail_turn<K: Stack<Cell> + Drop, N: Names, I: Source, O: Sink, E: Sink>(
     ensures within { KeepsLimits m.old m.new result }
 {
     match stage {
-        Stage::Fails => fail_to_turn(m, names, buffer, input, out, err),
-        Stage::HopDue => Ok(hop_next(m)),
-        Stage::Runs => Ok(Stage::Runs),
-        Stage::Over => Ok(Stage::Over),
-        Stage::AtBound => Ok(Stage::AtBound),
+        RunState::Failing => fail_to_turn(m, names, buffer, input, out, err),
+        RunState::Hopping => Ok(hop_next(m)),
+        RunState::Running => Ok(RunState::Running),
+        RunState::Over => Ok(RunState::Over),
+        RunState::AtBound => Ok(RunState::AtBound),
     }
 }
 
@@ -153,13 +155,13 @@ fn fail_turn<K: Stack<Cell> + Drop, N: Names, I: Source, O: Sink, E: Sink>(
 /// Those of what is resumed (`resume`). Nothing else of failing takes memory.
 pub fn fail_through<K: Stack<Cell> + Drop, N: Names, I: Source, O: Sink, E: Sink>(
     m: &mut Machine<K>,
-    from: Stage,
+    from: RunState,
     names: &N,
     buffer: &mut Vec<u8>,
     input: &mut I,
     out: &mut O,
     err: &mut E,
-) -> Result<Stage, Halt>
+) -> Result<RunState, Halt>
     requires ready { (tables : Tables)
         × ((all_names tables ≡ N.known names.now) × IsReady tables m.old from) }
     ensures steps { (tables : Tables) → all_names tables ≡ N.known names.now → IsReady tables m.old from

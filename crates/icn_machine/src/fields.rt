@@ -2,17 +2,17 @@
 ghost use Rattle.std.specs.Prelude.{IsSome};
 ghost use Rattle.icn_value.specs.Store.{Outside};
 ghost use Rattle.icn_heap.specs.Heaps.{heap_of};
-ghost use Rattle.icn_named.specs.Sizes.{FitSizes};
+ghost use Rattle.law_names.specs.RowSizes.{FitSizes};
 ghost use Rattle.icn_frames.specs.Stacks as flat;
-ghost use Rattle.icn_code.specs.Seen.{tables_of};
+ghost use Rattle.icn_code.specs.CodeTables.{tables_of};
 ghost use Rattle.icn_code.specs.declared.instr.Instr.TheVariants as Instrs;
-ghost use Rattle.icn_run_named.specs.KeepingSizes.{field_count};
+ghost use Rattle.law_steps.specs.KeepingSizes.{field_count};
 ghost use Rattle.icn_control.specs.Machines.{ComesTo, does, stack_of};
-ghost use Rattle.icn_control.specs.Soundness.{Stands, StaysSound};
+ghost use Rattle.icn_control.specs.Soundness.{IsRunnable, StaysSound};
 
 use icn_calls::push_field;
 use icn_code::Code;
-use icn_control::{Machine, Stage};
+use icn_control::{Machine, RunState};
 use icn_frames::{Cell, Stack};
 use icn_vars::Halt;
 
@@ -24,8 +24,8 @@ pub fn field<K: Stack<Cell> + Drop>(
     m: &mut Machine<K>,
     code: &Code,
     field: u32,
-) -> Result<Stage, Halt>
-    requires stands { Stands m.old }
+) -> Result<RunState, Halt>
+    requires stands { IsRunnable m.old }
     requires operand { IsSome (flat.pop (stack_of m.old)) }
     requires sizes { FitSizes (field_count (tables_of code.now)) (heap_of m.old.world.heap) }
     ensures step { (outside : Outside) → ComesTo (tables_of code.now) outside
@@ -34,9 +34,9 @@ pub fn field<K: Stack<Cell> + Drop>(
 {
     let item = m.stacks.frames().pop();
     if m.turns >= m.limits.turns {
-        return Ok(Stage::AtBound);
+        return Ok(RunState::AtBound);
     }
     m.turns += 1;
     push_field(m.stacks.frames(), &m.world, code, field, item)?;
-    Ok(Stage::Runs)
+    Ok(RunState::Running)
 }

@@ -2,17 +2,17 @@
 ghost use Rattle.std.specs.Prelude.{IfOk, OnOk};
 ghost use Rattle.icn_value.specs.Store.{Names, Setting};
 ghost use Rattle.icn_heap.specs.Extents.{Extent};
-ghost use Rattle.icn_named.specs.Keeping.{OutcomeNamed};
+ghost use Rattle.law_names.specs.RowsNamed.{OutcomeNamed};
 ghost use Rattle.icn_vars.specs.Outcomes.{IsLiveOutcome, outcome_in};
 ghost use Rattle.icn_vars.specs.Worlds.{Reach};
 ghost use Rattle.icn_frames.specs.Stacks as flat;
 ghost use Rattle.icn_code.specs.Codes.{Tables};
-ghost use Rattle.icn_control.specs.Living.{IsLiveStack, with_locals};
-ghost use Rattle.icn_control.specs.Standing.{stack_in};
-ghost use Rattle.icn_run_named.specs.StateNames.{StackNamed};
+ghost use Rattle.icn_control.specs.LiveStacks.{IsLiveStack, with_locals};
+ghost use Rattle.icn_control.specs.StackViews.{stack_in};
+ghost use Rattle.law_steps.specs.StateNames.{StackNamed};
 ghost use Rattle.icn_machine.specs.Giving.{GivesOutcome};
 
-use icn_control::Stage;
+use icn_control::RunState;
 use icn_frames::{Cell, Frames, Stack, Why};
 use icn_vars::Outcome;
 use std::alloc::AllocError;
@@ -21,7 +21,7 @@ use std::alloc::AllocError;
 pub fn give_outcome<K: Stack<Cell> + Drop>(
     frames: &mut Frames<K>,
     outcome: Outcome,
-) -> Result<Stage, AllocError>
+) -> Result<RunState, AllocError>
     ensures gives { IfOk result (λ stage. GivesOutcome outcome frames.old.flat frames.new.flat stage) }
     ensures live { (tables : Tables) (reach : Reach) → IsLiveStack tables reach frames.old.flat
         → IsLiveOutcome (with_locals (flat.local_count frames.old.flat) reach) outcome
@@ -31,14 +31,14 @@ pub fn give_outcome<K: Stack<Cell> + Drop>(
         → OnOk result (StackNamed names (stack_in all frames.new.flat)) }
 {
     match outcome {
-        Outcome::Fails => Ok(Stage::Fails),
+        Outcome::Fails => Ok(RunState::Failing),
         Outcome::Gives(item) => {
             frames.push(item)?;
-            Ok(Stage::Runs)
+            Ok(RunState::Running)
         }
         Outcome::Suspends(item, rest) => {
             frames.suspend(Why::Op(rest), Some(item))?;
-            Ok(Stage::Runs)
+            Ok(RunState::Running)
         }
     }
 }

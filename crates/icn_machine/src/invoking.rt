@@ -4,38 +4,38 @@ ghost use Rattle.icn_value.specs.Limited.{limits_of};
 ghost use Rattle.icn_value.specs.Store.{Outside};
 ghost use Rattle.icn_heap.specs.Extents.{IsLive, value_in};
 ghost use Rattle.icn_heap.specs.Heaps.{extent_of, heap_of};
-ghost use Rattle.icn_named.specs.Sizes.{FitSizes};
+ghost use Rattle.law_names.specs.RowSizes.{FitSizes};
 ghost use Rattle.icn_vars.specs.Worlds.{IsLiveItem, item_in, reach_of};
 ghost use Rattle.icn_frames.specs.Stacks as flat;
-ghost use Rattle.icn_code.specs.Seen.{tables_of};
+ghost use Rattle.icn_code.specs.CodeTables.{tables_of};
 ghost use Rattle.icn_code.specs.declared.instr.Instr.TheVariants as Instrs;
 ghost use Rattle.icn_run.specs.Stacks.{flat as calls};
 ghost use Rattle.icn_run.specs.Step.{all_names, applied_to_elements, invoke_value, invoked_with};
-ghost use Rattle.icn_run_named.specs.KeepingSizes.{field_count};
-ghost use Rattle.icn_run_named.specs.StateNames.{StoreNamed};
+ghost use Rattle.law_steps.specs.KeepingSizes.{field_count};
+ghost use Rattle.law_steps.specs.StateNames.{StoreNamed};
 ghost use Rattle.icn_streams.specs.Handed.{call_streams};
-ghost use Rattle.icn_control.specs.Living.{IsLiveStack, with_locals};
-ghost use Rattle.icn_control.specs.Machines.{HasStack, IsSound, does, stack_of, store_seen};
-ghost use Rattle.icn_control.specs.Soundness.{KeepsLimits, LeavesWorld, Stands};
-ghost use Rattle.icn_control.specs.Standing.{stack_in};
-ghost use Rattle.icn_control.specs.Taking.{take_operands};
+ghost use Rattle.icn_control.specs.LiveStacks.{IsLiveStack, with_locals};
+ghost use Rattle.icn_control.specs.Machines.{HasStack, IsSoundMachine, does, stack_of, store_seen};
+ghost use Rattle.icn_control.specs.Soundness.{KeepsLimits, LeavesWorld, IsRunnable};
+ghost use Rattle.icn_control.specs.StackViews.{stack_in};
+ghost use Rattle.icn_control.specs.TakenOperands.{take_operands};
 ghost use Rattle.icn_calls.specs.Calling.{IsGoing};
 ghost use Rattle.icn_machine.specs.Invoking.{PerformsEvent};
 ghost use Rattle.icn_machine.specs.Performing.{LeavesNamed, PerformsOn};
-ghost use Rattle.icn_machine.specs.Naming.{AreNamed, HoldsNamed, IsNamed};
+ghost use Rattle.icn_machine.specs.NamedWorlds.{AreNamed, HoldsNamed, MachineNamed};
 
 use crate::elements::elements_of;
 use crate::performing::perform;
 use icn_apply::Applied;
 use icn_calls::function_of;
 use icn_code::Code;
-use icn_control::{Machine, Stage, take_operands, value_of};
+use icn_control::{Machine, RunState, take_operands, value_of};
 use icn_convert::Names;
 use icn_frames::{Cell, Frames, Stack};
 use icn_host::{Sink, Source};
-use icn_run_named::{steps_keep_names, steps_keep_sizes};
 use icn_value::{Item, Limits, Val};
 use icn_vars::{Halt, World};
+use law_steps::{steps_keep_names, steps_keep_sizes};
 
 /// Calls a value with items: a built-in function is performed on them, a procedure entered, a record made, and a number
 /// chooses one of them. The rooms for values and for what is read and put are used again, whatever they hold.
@@ -56,7 +56,7 @@ pub fn call_value<K: Stack<Cell> + Drop, N: Names, I: Source, O: Sink, E: Sink>(
     input: &mut I,
     out: &mut O,
     err: &mut E,
-) -> Result<Stage, Halt>
+) -> Result<RunState, Halt>
     requires known { N.known names.now ≡ all_names (tables_of code.now) }
     requires few { length items.now < 2 ^ 63 }
     requires bounds { (heap_of world.old.heap).bounds ≡ limits_of limits.now }
@@ -108,7 +108,7 @@ fn call_first<K: Stack<Cell> + Drop, N: Names, I: Source, O: Sink, E: Sink>(
     input: &mut I,
     out: &mut O,
     err: &mut E,
-) -> Result<Stage, Halt>
+) -> Result<RunState, Halt>
     requires known { N.known names.now ≡ all_names (tables_of code.now) }
     requires some { 0 < length items.now }
     requires few { length items.now < 2 ^ 63 }
@@ -154,16 +154,16 @@ pub fn invoke<K: Stack<Cell> + Drop, N: Names, I: Source, O: Sink, E: Sink>(
     input: &mut I,
     out: &mut O,
     err: &mut E,
-) -> Result<Stage, Halt>
+) -> Result<RunState, Halt>
     requires known { N.known names.now ≡ all_names (tables_of code.now) }
-    requires stands { Stands m.old }
+    requires stands { IsRunnable m.old }
     requires operands { IsSome (take_operands (suc count) (stack_of m.old)) }
-    requires named { IsNamed (N.known names.now) m.old }
+    requires named { MachineNamed (N.known names.now) m.old }
     ensures step { PerformsOn (tables_of code.now)
         (λ outside. does (tables_of code.now) outside (Instrs.Invoke count) m.old) m.new
         (call_streams (I.left input.old) (I.faults input.old) (O.state out.old) (E.state err.old))
         (call_streams (I.left input.new) (I.faults input.new) (O.state out.new) (E.state err.new)) result }
-    ensures sound { IsSound (tables_of code.now) m.old → OnOk result (IsSound (tables_of code.now) m.new) }
+    ensures sound { IsSoundMachine (tables_of code.now) m.old → OnOk result (IsSoundMachine (tables_of code.now) m.new) }
     ensures within { KeepsLimits m.old m.new result }
     ensures stack { IfOk result (HasStack m.new) }
     ensures named { LeavesNamed (N.known names.now) m.new.world (stack_of m.new) result }
@@ -177,7 +177,7 @@ pub fn invoke<K: Stack<Cell> + Drop, N: Names, I: Source, O: Sink, E: Sink>(
         return Err(Halt::NoMemory);
     };
     if m.turns >= m.limits.turns {
-        return Ok(Stage::AtBound);
+        return Ok(RunState::AtBound);
     }
     m.turns += 1;
     call_first(
@@ -211,7 +211,7 @@ fn call_with_elements<K: Stack<Cell> + Drop, N: Names, I: Source, O: Sink, E: Si
     input: &mut I,
     out: &mut O,
     err: &mut E,
-) -> Result<Stage, Halt>
+) -> Result<RunState, Halt>
     requires known { N.known names.now ≡ all_names (tables_of code.now) }
     requires bounds { (heap_of world.old.heap).bounds ≡ limits_of limits.now }
     requires here { HoldsNamed (N.known names.now) world.old frames.old.flat }
@@ -257,16 +257,16 @@ pub fn appl<K: Stack<Cell> + Drop, N: Names, I: Source, O: Sink, E: Sink>(
     input: &mut I,
     out: &mut O,
     err: &mut E,
-) -> Result<Stage, Halt>
+) -> Result<RunState, Halt>
     requires known { N.known names.now ≡ all_names (tables_of code.now) }
-    requires stands { Stands m.old }
+    requires stands { IsRunnable m.old }
     requires operands { IsSome (take_operands 2 (stack_of m.old)) }
-    requires named { IsNamed (N.known names.now) m.old }
+    requires named { MachineNamed (N.known names.now) m.old }
     ensures step { PerformsOn (tables_of code.now)
         (λ outside. does (tables_of code.now) outside Instrs.Appl m.old) m.new
         (call_streams (I.left input.old) (I.faults input.old) (O.state out.old) (E.state err.old))
         (call_streams (I.left input.new) (I.faults input.new) (O.state out.new) (E.state err.new)) result }
-    ensures sound { IsSound (tables_of code.now) m.old → OnOk result (IsSound (tables_of code.now) m.new) }
+    ensures sound { IsSoundMachine (tables_of code.now) m.old → OnOk result (IsSoundMachine (tables_of code.now) m.new) }
     ensures within { KeepsLimits m.old m.new result }
     ensures stack { IfOk result (HasStack m.new) }
     ensures named { LeavesNamed (N.known names.now) m.new.world (stack_of m.new) result }
@@ -278,7 +278,7 @@ pub fn appl<K: Stack<Cell> + Drop, N: Names, I: Source, O: Sink, E: Sink>(
 {
     let two = take_two(m.stacks.frames());
     if m.turns >= m.limits.turns {
-        return Ok(Stage::AtBound);
+        return Ok(RunState::AtBound);
     }
     m.turns += 1;
     call_with_elements(

@@ -1,23 +1,23 @@
 //! The machine over all rows: operations, functions, what they left, and runs of instructions.
 #![tactic(auto)]
 
-mod begun;
 mod elements;
 mod failing;
 mod fields;
 mod giving;
 mod invoking;
 mod operations;
+mod own_locals;
 mod performing;
 mod starting;
 mod stepping;
 
-pub use begun::{Earlier, OwnLocals};
 pub use failing::fail_through;
 pub use fields::field;
 pub use giving::give_outcome;
 pub use invoking::{appl, call_value, invoke};
 pub use operations::{operate, resume};
+pub use own_locals::{Earlier, OwnLocals};
 pub use performing::{perform, perform_again};
 pub use starting::start;
-pub use stepping::{Rooms, Stepped, step};
+pub use stepping::{AfterStep, Rooms, step};

@@ -7,21 +7,21 @@ ghost use Rattle.icn_vars.specs.Outcomes.{IsLiveResidual, residual_in};
 ghost use Rattle.icn_frames.specs.Stacks as flat;
 ghost use Rattle.icn_code.specs.Codes.{Tables};
 ghost use Rattle.icn_code.specs.declared.instr.Instr.TheVariants as Instrs;
-ghost use Rattle.icn_named.specs.Named.{ResidualNamed};
+ghost use Rattle.law_names.specs.NamedSettings.{ResidualNamed};
 ghost use Rattle.icn_run.specs.Calls.{Op as Operation};
 ghost use Rattle.icn_run.specs.Stacks.{flat as calls};
 ghost use Rattle.icn_run.specs.Step.{all_names, resume_by};
 ghost use Rattle.icn_streams.specs.Handed.{call_streams};
-ghost use Rattle.icn_control.specs.Living.{with_locals};
+ghost use Rattle.icn_control.specs.LiveStacks.{with_locals};
 ghost use Rattle.icn_control.specs.Machines.{does, extent, stack_of, stack_seen, store_seen, world_reach};
-ghost use Rattle.icn_control.specs.Soundness.{Stands, StaysSound};
-ghost use Rattle.icn_control.specs.Taking.{take_operands};
+ghost use Rattle.icn_control.specs.Soundness.{IsRunnable, StaysSound};
+ghost use Rattle.icn_control.specs.TakenOperands.{take_operands};
 ghost use Rattle.icn_machine.specs.Performing.{LeavesNamed, PerformsOn};
-ghost use Rattle.icn_machine.specs.Naming.{IsNamed};
+ghost use Rattle.icn_machine.specs.NamedWorlds.{MachineNamed};
 
 use crate::performing::{perform, perform_again};
 use icn_apply::Applied;
-use icn_control::{Machine, Stage, take_operands};
+use icn_control::{Machine, RunState, take_operands};
 use icn_convert::Names;
 use icn_defs::arity;
 use icn_frames::{Cell, Stack};
@@ -41,11 +41,11 @@ pub fn operate<K: Stack<Cell> + Drop, N: Names, I: Source, O: Sink, E: Sink>(
     input: &mut I,
     out: &mut O,
     err: &mut E,
-) -> Result<Stage, Halt>
-    requires stands { Stands m.old }
+) -> Result<RunState, Halt>
+    requires stands { IsRunnable m.old }
     requires row { op ≢ Ops.Refresh }
     requires operands { IsSome (take_operands (arity op) (stack_of m.old)) }
-    requires named { IsNamed (N.known names.now) m.old }
+    requires named { MachineNamed (N.known names.now) m.old }
     ensures step { (tables : Tables) → all_names tables ≡ N.known names.now
         → PerformsOn tables (λ outside. does tables outside (Instrs.Op op) m.old) m.new
         (call_streams (I.left input.old) (I.faults input.old) (O.state out.old) (E.state err.old))
@@ -57,7 +57,7 @@ pub fn operate<K: Stack<Cell> + Drop, N: Names, I: Source, O: Sink, E: Sink>(
         return Err(Halt::NoMemory);
     };
     if m.turns >= m.limits.turns {
-        return Ok(Stage::AtBound);
+        return Ok(RunState::AtBound);
     }
     m.turns += 1;
     perform(
@@ -82,11 +82,11 @@ pub fn resume<K: Stack<Cell> + Drop, N: Names, I: Source, O: Sink, E: Sink>(
     input: &mut I,
     out: &mut O,
     err: &mut E,
-) -> Result<Stage, Halt>
-    requires stands { Stands m.old }
+) -> Result<RunState, Halt>
+    requires stands { IsRunnable m.old }
     requires rest { IsLiveResidual (with_locals (flat.local_count (stack_of m.old)) (world_reach m.old))
         rest }
-    requires named { IsNamed (N.known names.now) m.old }
+    requires named { MachineNamed (N.known names.now) m.old }
     requires rest_named { ResidualNamed (N.known names.now) (residual_in (extent m.old) rest) }
     ensures step { (tables : Tables) → PerformsOn tables (λ outside. resume_by calls tables
         (Operation (residual_in (extent m.old) rest)) (stack_seen m.old) (store_seen tables outside m.old))
@@ -96,7 +96,7 @@ pub fn resume<K: Stack<Cell> + Drop, N: Names, I: Source, O: Sink, E: Sink>(
     ensures named { LeavesNamed (N.known names.now) m.new.world (stack_of m.new) result }
 {
     if m.turns >= m.limits.turns {
-        return Ok(Stage::AtBound);
+        return Ok(RunState::AtBound);
     }
     m.turns += 1;
     perform_again(

@@ -3,7 +3,7 @@ ghost use Rattle.std.specs.Prelude.{◌≡◌, [], length, map, OnOk};
 ghost use Rattle.icn_defs.specs.Applying as rows;
 ghost use Rattle.icn_defs.specs.StepRows as step_rows;
 ghost use Rattle.icn_heap.specs.Heaps.{extent_of};
-ghost use Rattle.icn_named.specs.Named.{ResidualNamed};
+ghost use Rattle.law_names.specs.NamedSettings.{ResidualNamed};
 ghost use Rattle.icn_vars.specs.Outcomes.{IsLiveResidual, residual_in};
 ghost use Rattle.icn_vars.specs.Worlds.{item_in, reach_of};
 ghost use Rattle.icn_frames.specs.Stacks as flat;
@@ -14,15 +14,15 @@ ghost use Rattle.icn_streams.specs.Handed.{call_streams};
 ghost use Rattle.icn_apply.specs.Applicable.{IsApplicable, applied_of};
 ghost use Rattle.icn_apply.specs.NamesAfter.{AnswerNamed};
 ghost use Rattle.icn_apply.specs.SizesAfter.{AnswerKeepsSizes, WorldsKeepSizes};
-ghost use Rattle.icn_control.specs.Living.{IsLiveStack, with_locals};
+ghost use Rattle.icn_control.specs.LiveStacks.{IsLiveStack, with_locals};
 ghost use Rattle.icn_machine.specs.Performing.{LeavesNamed, PerformsRow};
 ghost use Rattle.icn_control.specs.Soundness.{LeavesWorld};
-ghost use Rattle.icn_machine.specs.Naming.{AreNamed, HoldsNamed};
+ghost use Rattle.icn_machine.specs.NamedWorlds.{AreNamed, HoldsNamed};
 
-use crate::begun::{Earlier, OwnLocals};
 use crate::giving::give_outcome;
+use crate::own_locals::{Earlier, OwnLocals};
 use icn_apply::{Applied, again, apply};
-use icn_control::Stage;
+use icn_control::RunState;
 use icn_convert::Names;
 use icn_frames::{Cell, Frames, Stack};
 use icn_host::{Sink, Source};
@@ -47,7 +47,7 @@ pub fn perform<K: Stack<Cell> + Drop, N: Names, I: Source, O: Sink, E: Sink>(
     input: &mut I,
     out: &mut O,
     err: &mut E,
-) -> Result<Stage, Halt>
+) -> Result<RunState, Halt>
     requires applicable { IsApplicable what (length items.now) }
     requires here { HoldsNamed (N.known names.now) world.old frames.old.flat }
     requires given { AreNamed (N.known names.now) world.old frames.old.flat items.now }
@@ -148,7 +148,7 @@ pub fn perform_again<K: Stack<Cell> + Drop, N: Names, I: Source, O: Sink, E: Sin
     input: &mut I,
     out: &mut O,
     err: &mut E,
-) -> Result<Stage, Halt>
+) -> Result<RunState, Halt>
     requires here { HoldsNamed (N.known names.now) world.old frames.old.flat }
     requires rest { IsLiveResidual (with_locals (flat.local_count frames.old.flat) (reach_of world.old []))
         rest }

@@ -11,17 +11,17 @@ ghost use Rattle.icn_heap.specs.Extents.{Extent, IsLive, value_in};
 ghost use Rattle.icn_heap.specs.Heaps.{extent_of, heap_of};
 ghost use Rattle.icn_code.specs.Codes.{proc_of};
 ghost use Rattle.icn_code.specs.Rules.{is_start, name_of};
-ghost use Rattle.icn_code.specs.Seen.{tables_of};
+ghost use Rattle.icn_code.specs.CodeTables.{tables_of};
 ghost use Rattle.icn_run.specs.Step.{first_globals, main_of, procedure_at, start_value, statics_of};
 ghost use Rattle.icn_frames.specs.Stacks as flat;
 ghost use Rattle.icn_coexp.specs.Transfers.{first_table};
-ghost use Rattle.icn_control.specs.Machines.{IsSound};
-ghost use Rattle.icn_control.specs.Taking.{KeepsCounts};
+ghost use Rattle.icn_control.specs.Machines.{IsSoundMachine};
+ghost use Rattle.icn_control.specs.TakenOperands.{KeepsCounts};
 ghost use Rattle.icn_vars.specs.Worlds.{world_of};
 ghost use Rattle.icn_machine.specs.Starting.{BeginsWith, ChargesWords, StartsAs, WordsFit, about_nothing, bare, launch_with, world_charged};
 
 use icn_calls::{add_nulls, take_parameters};
-use icn_code::{Code, Global as Variable, Procedure, Start};
+use icn_code::{Code, Global as Variable, LinkedProcedure, Start};
 use icn_coexp::Stacks;
 use icn_control::{Machine, list_of};
 use icn_frames::{Cell, Frames, Stack};
@@ -70,7 +70,7 @@ fn procedure_at(start: Start) -> Option<u32>
 }
 
 // The procedure of a place.
-fn proc_at(code: &Code, place: u32) -> Option<&Procedure>
+fn proc_at(code: &Code, place: u32) -> Option<&LinkedProcedure>
     ensures { option_map (λ proc. proc_of proc.now) result ≡ slice_get (tables_of code.now).procs place }
 {
     code.procs.get(place as usize)
@@ -221,7 +221,7 @@ pub fn start<K: Stack<Cell> + Drop>(
 ) -> Result<Machine<K>, Halt>
     ensures step { (outside : Outside)
         → StartsAs (tables_of code.now) (launch_with words.now limits outside) result }
-    ensures sound { IfOk result (IsSound (tables_of code.now)) }
+    ensures sound { IfOk result (IsSoundMachine (tables_of code.now)) }
     ensures limits { IfOk result (λ m. m.limits ≡ limits) }
     ensures stack { IfOk result (λ m. IsSome m.stacks.table.running) }
 {
@@ -240,7 +240,7 @@ fn first_locals<K: Stack<Cell> + Drop>(
     alloc: Global,
     world: &mut World,
     vals: &mut Vec<Val>,
-    proc: &Procedure,
+    proc: &LinkedProcedure,
 ) -> Result<(), Stop>
     requires collects { proc.now.collects ≡ true → 0 < proc.now.parameters }
     requires levels { 1 ≤ (heap_of world.old.heap).bounds.levels }
@@ -285,7 +285,7 @@ fn start_main<K: Stack<Cell> + Drop>(
     alloc: Global,
     code: &Code,
     main: u32,
-    proc: &Procedure,
+    proc: &LinkedProcedure,
     words: &[String],
     limits: Limits,
 ) -> Result<Machine<K>, Halt>
@@ -293,7 +293,7 @@ fn start_main<K: Stack<Cell> + Drop>(
     requires there { slice_get (tables_of code.now).procs main ≡ Some (proc_of proc.now) }
     ensures step { (outside : Outside)
         → StartsAs (tables_of code.now) (launch_with words.now limits outside) result }
-    ensures sound { IfOk result (IsSound (tables_of code.now)) }
+    ensures sound { IfOk result (IsSoundMachine (tables_of code.now)) }
     ensures limits { IfOk result (λ m. m.limits ≡ limits) }
     ensures stack { IfOk result (λ m. IsSome m.stacks.table.running) }
 {
@@ -308,7 +308,7 @@ fn start_in<K: Stack<Cell> + Drop>(
     alloc: Global,
     code: &Code,
     main: u32,
-    proc: &Procedure,
+    proc: &LinkedProcedure,
     words: &[String],
     limits: Limits,
     mut world: World,
@@ -325,7 +325,7 @@ fn start_in<K: Stack<Cell> + Drop>(
         ≡ true }
     ensures step { (outside : Outside)
         → StartsAs (tables_of code.now) (launch_with words.now limits outside) result }
-    ensures sound { IfOk result (IsSound (tables_of code.now)) }
+    ensures sound { IfOk result (IsSoundMachine (tables_of code.now)) }
     ensures limits { IfOk result (λ m. m.limits ≡ limits) }
     ensures stack { IfOk result (λ m. IsSome m.stacks.table.running) }
 {

@@ -4,16 +4,16 @@ ghost use Rattle.icn_value.specs.Store.{Outside};
 ghost use Rattle.icn_vars.specs.declared.outcome.Halt.TheVariants.{NoMemory};
 ghost use Rattle.icn_code.specs.declared.instr.Instr.{Instr as InstrSeen};
 ghost use Rattle.icn_frames.specs.Stacks as flat;
-ghost use Rattle.icn_code.specs.Seen.{tables_of};
+ghost use Rattle.icn_code.specs.CodeTables.{tables_of};
 ghost use Rattle.icn_run.specs.Stacks.{flat as calls};
 ghost use Rattle.icn_run.specs.Step.{all_names, instruction_at, instrs_of, running, step};
 ghost use Rattle.icn_streams.specs.Handed.{call_streams};
 ghost use Rattle.icn_control.specs.Machines.{ComesTo, does, stack_seen, store_seen};
 ghost use Rattle.icn_control.specs.Soundness.{KeepsLimits};
-ghost use Rattle.icn_control.specs.declared.machine.Stage.TheVariants as Stages;
+ghost use Rattle.icn_control.specs.declared.machine.RunState.TheVariants as RunStates;
 ghost use Rattle.icn_machine.specs.Performing.{PerformsOn};
 ghost use Rattle.icn_machine.specs.Stepping.{Advances, EndsWhole, GoesOn, IsDoing, IsReady, is_applied, is_failing, is_whole};
-ghost use Rattle.icn_machine.specs.Steps.{stage_of, stage_result};
+ghost use Rattle.icn_machine.specs.AfterInstruction.{stage_of, stage_result};
 
 use crate::failing::{fail_through, is_failing as fails_now};
 use crate::fields::field;
@@ -21,24 +21,24 @@ use crate::invoking::{appl, invoke};
 use crate::operations::operate;
 use icn_apply::CodeNames;
 use icn_code::{Code, Instr};
-use icn_control::{Machine, Stage};
+use icn_control::{Machine, RunState};
 use icn_convert::Names;
 use icn_frames::{Cell, Frames, Stack};
 use icn_host::{Sink, Source};
 use icn_instructions::do_instruction;
-use icn_run_named::{steps_keep_names, steps_keep_sizes};
 use icn_text::Op;
 use icn_value::{Item, Val};
 use icn_vars::Halt;
 use icn_verify::Verified;
+use law_steps::{steps_keep_names, steps_keep_sizes};
 
 /// Where a run stands after an instruction.
 #[derive(Clone, Copy, Debug, PartialEq, Eq)]
-pub enum Stepped {
+pub enum AfterStep {
     /// The next instruction is due.
-    On,
+    Running,
     /// The starting call is over, and with it the run.
-    Finished,
+    Over,
     /// One turn more would be past the bound.
     AtBound,
 }
@@ -78,7 +78,7 @@ fn take_instr<K: Stack<Cell> + Drop>(frames: &mut Frames<K>, code: &Code) -> Ins
 
 // The same on the stack that runs. What a step of the run comes to is what the instruction comes to then.
 fn next_instr<K: Stack<Cell> + Drop>(m: &mut Machine<K>, code: &Code) -> Instr
-    requires ready { IsReady (tables_of code.now) m.old Stages.Runs }
+    requires ready { IsReady (tables_of code.now) m.old RunStates.Running }
     ensures instr { instruction_at calls (tables_of code.now) (stack_seen m.old) ≡ Some result }
     ensures step { (outside : Outside) → step calls (tables_of code.now) (running (stack_seen m.old)
         (store_seen (tables_of code.now) outside m.old)) ≡ does (tables_of code.now) outside result m.new }
@@ -112,7 +112,7 @@ fn do_applied<K: Stack<Cell> + Drop, N: Names, I: Source, O: Sink, E: Sink>(
     input: &mut I,
     out: &mut O,
     err: &mut E,
-) -> Result<Stage, Halt>
+) -> Result<RunState, Halt>
     requires applied { is_applied instr ≡ true }
     requires known { N.known names.now ≡ all_names (tables_of code.now) }
     requires doing { IsDoing (tables_of code.now) m.old instr }
@@ -142,7 +142,7 @@ fn do_plain<K: Stack<Cell> + Drop>(
     code: &Code,
     instr: Instr,
     rooms: &mut Rooms,
-) -> Result<Stage, Halt>
+) -> Result<RunState, Halt>
     requires applied { is_applied instr ≡ false }
     requires doing { IsDoing (tables_of code.now) m.old instr }
     ensures step { (outside : Outside)
@@ -165,10 +165,10 @@ fn do_next<K: Stack<Cell> + Drop, N: Names, I: Source, O: Sink, E: Sink>(
     input: &mut I,
     out: &mut O,
     err: &mut E,
-) -> Result<Stage, Halt>
+) -> Result<RunState, Halt>
     requires known { N.known names.now ≡ all_names (tables_of code.now) }
-    requires ready { IsReady (tables_of code.now) m.old Stages.Runs }
-    ensures steps { Advances (tables_of code.now) m.old Stages.Runs
+    requires ready { IsReady (tables_of code.now) m.old RunStates.Running }
+    ensures steps { Advances (tables_of code.now) m.old RunStates.Running
         (call_streams (I.left input.old) (I.faults input.old) (O.state out.old) (E.state err.old)) m.new
         (call_streams (I.left input.new) (I.faults input.new) (O.state out.new) (E.state err.new)) result }
     ensures ready { IfOk result (IsReady (tables_of code.now) m.new) }
@@ -185,30 +185,30 @@ fn do_next<K: Stack<Cell> + Drop, N: Names, I: Source, O: Sink, E: Sink>(
 }
 
 // Where the run stands at a stage at which nothing fails.
-fn stepped_of(stage: Stage) -> Stepped
+fn stepped_of(stage: RunState) -> AfterStep
     requires { is_failing stage ≡ false }
     ensures { stage_of result ≡ stage }
 {
     match stage {
-        Stage::Runs => Stepped::On,
-        Stage::Over => Stepped::Finished,
-        Stage::AtBound => Stepped::AtBound,
-        Stage::Fails => unreachable!(),
-        Stage::HopDue => unreachable!(),
+        RunState::Running => AfterStep::Running,
+        RunState::Over => AfterStep::Over,
+        RunState::AtBound => AfterStep::AtBound,
+        RunState::Failing => unreachable!(),
+        RunState::Hopping => unreachable!(),
     }
 }
 
 // Fails until the run stands somewhere. The errors are those of `fail_through`.
 fn fail_to_next<K: Stack<Cell> + Drop, N: Names, I: Source, O: Sink, E: Sink>(
     m: &mut Machine<K>,
-    from: Stage,
+    from: RunState,
     code: &Code,
     names: &N,
     buffer: &mut Vec<u8>,
     input: &mut I,
     out: &mut O,
     err: &mut E,
-) -> Result<Stepped, Halt>
+) -> Result<AfterStep, Halt>
     requires known { N.known names.now ≡ all_names (tables_of code.now) }
     requires ready { IsReady (tables_of code.now) m.old from }
     ensures steps { GoesOn (tables_of code.now) m.old from
@@ -231,10 +231,10 @@ fn step_named<K: Stack<Cell> + Drop, N: Names, I: Source, O: Sink, E: Sink>(
     input: &mut I,
     out: &mut O,
     err: &mut E,
-) -> Result<Stepped, Halt>
+) -> Result<AfterStep, Halt>
     requires known { N.known names.now ≡ all_names (tables_of code.now) }
-    requires ready { IsReady (tables_of code.now) m.old Stages.Runs }
-    ensures steps { Advances (tables_of code.now) m.old Stages.Runs
+    requires ready { IsReady (tables_of code.now) m.old RunStates.Running }
+    ensures steps { Advances (tables_of code.now) m.old RunStates.Running
         (call_streams (I.left input.old) (I.faults input.old) (O.state out.old) (E.state err.old)) m.new
         (call_streams (I.left input.new) (I.faults input.new) (O.state out.new) (E.state err.new))
         (stage_result result) }
@@ -266,9 +266,9 @@ pub fn step<K: Stack<Cell> + Drop, I: Source, O: Sink, E: Sink>(
     input: &mut I,
     out: &mut O,
     err: &mut E,
-) -> Result<Stepped, Halt>
-    requires ready { IsReady (tables_of code.now.code) m.old Stages.Runs }
-    ensures steps { Advances (tables_of code.now.code) m.old Stages.Runs
+) -> Result<AfterStep, Halt>
+    requires ready { IsReady (tables_of code.now.code) m.old RunStates.Running }
+    ensures steps { Advances (tables_of code.now.code) m.old RunStates.Running
         (call_streams (I.left input.old) (I.faults input.old) (O.state out.old) (E.state err.old)) m.new
         (call_streams (I.left input.new) (I.faults input.new) (O.state out.new) (E.state err.new))
         (stage_result result) }

@@ -1,1 +1,1 @@
-pub mod Observing
+pub mod OneObservation

@@ -3,7 +3,7 @@ use Rattle.std.specs.Prelude.{ℕ, zero, suc, ◌==◌, Bool, true, false, List,
 use Rattle.icn_tree.specs.Trees.{Tree, Empty}
 use Rattle.icn_value.specs.Values.{Value, ACoexp, Item, Val}
 use Rattle.icn_defs.specs.StepRows.{coexpression_row}
-use Rattle.icn_meaning.specs.Contexts.{frame_of, activation_of, Works, Nothing, ◌and_then◌, Choices, NoChoice, ◌or_else◌, Result, Exhaust, Surroundings, InCall, Status, Fresh, Active, Waiting, AfterResult, Exhausted, Coexpression, Store, State, eval, succeed, fail, hop, lost}
+use Rattle.icn_meaning.specs.Contexts.{frame_of, activation_of, Works, Nothing, ◌and_then◌, Choices, NoChoice, ◌or_else◌, Result, Exhaust, Surroundings, InCall, Status, Fresh, Active, Waiting, AfterResult, Exhausted, Coexpression, Store, Evaluation, eval, succeed, fail, hop, lost}
 use Rattle.icn_meaning.specs.Turns.{turn, errs, locals_of, setting_in, with_made, value}
 
 -- the co-expression of this number; where there is none, an exhausted one
@@ -53,28 +53,28 @@ with_fresh e procedure locals st = let co : Coexpression =
     record st { coexpressions = st.coexpressions ++ co ∷ [] }
 
 -- a fresh one is made in an activation: its expression, the procedure that it stands in, and the values of the locals
-abbrev pub fresh : Tree → ℕ → List Value → ℕ → Works → Choices → Store → State
+abbrev pub fresh : Tree → ℕ → List Value → ℕ → Works → Choices → Store → Evaluation
 fresh e procedure locals a k r st = with_made (coexpression_row (length locals) (setting_in a st)) a r st
     (λ v st. succeed (Val v) k r (with_fresh e procedure locals st))
 
 -- `create e`, with the present values of the locals
-abbrev pub create : Tree → Surroundings → Works → Choices → Store → State
+abbrev pub create : Tree → Surroundings → Works → Choices → Store → Evaluation
 create e s k r st =
     turn st (λ st. fresh e (frame_of s).procedure (locals_of (activation_of s) st) (activation_of s) k r st)
 
 -- a new co-expression, made as this one was
-abbrev pub refreshed_from : Option Coexpression → ℕ → Works → Choices → Store → State
+abbrev pub refreshed_from : Option Coexpression → ℕ → Works → Choices → Store → Evaluation
 refreshed_from (Some co) a k r st = fresh co.body co.procedure co.values a k r st
 refreshed_from None a k r st = lost
 
 -- `^C`, with the values of its creation
-abbrev pub refresh : Value → ℕ → Works → Choices → Store → State
+abbrev pub refresh : Value → ℕ → Works → Choices → Store → Evaluation
 refresh (ACoexp zero) a k r st = errs 215 (Some (ACoexp zero)) r st
 refresh (ACoexp (suc n)) a k r st = refreshed_from (slice_get st.coexpressions (suc n)) a k r st
 refresh v a k r st = errs 118 (Some v) r st
 
 -- a fresh one begins in an activation of its own, where so many activations were made
-abbrev pub begins : Coexpression → ℕ → Store → State
+abbrev pub begins : Coexpression → ℕ → Store → Evaluation
 begins co a st = eval co.body
     (InCall (record { activation = a; procedure = co.procedure; level = 1 }) (Result a and_then Nothing)
     (Exhaust or_else NoChoice))
@@ -82,7 +82,7 @@ begins co a st = eval co.body
     (record st { activations = st.activations ++ co.values ∷ [] })
 
 -- one that was in this status is entered with a value
-abbrev pub entered_in : Status → ℕ → Value → Store → State
+abbrev pub entered_in : Status → ℕ → Value → Store → Evaluation
 entered_in Fresh c v st = begins (coexpression_of c st) (length st.activations) (make_active c st)
 entered_in (Waiting k r) c v st = succeed (Val v) k r (make_active c st)
 entered_in (AfterResult r) c v st = fail r (make_active c st)
@@ -90,11 +90,11 @@ entered_in Exhausted c v st = hop c (record st { active = c })
 entered_in Active c v st = lost
 
 -- a co-expression is entered with a value
-abbrev pub enter_coexp : ℕ → Value → Store → State
+abbrev pub enter_coexp : ℕ → Value → Store → Evaluation
 enter_coexp c v st = entered_in (status_of c st) c v st
 
 -- one that was in this status is entered with failure
-abbrev pub failed_in : Status → ℕ → Store → State
+abbrev pub failed_in : Status → ℕ → Store → Evaluation
 failed_in (Waiting k r) c st = fail r (make_active c st)
 failed_in (AfterResult r) c st = fail r (make_active c st)
 failed_in Exhausted c st = hop c (record st { active = c })
@@ -102,37 +102,37 @@ failed_in Fresh c st = lost
 failed_in Active c st = lost
 
 -- a co-expression is entered with failure
-abbrev pub fail_coexp : ℕ → Store → State
+abbrev pub fail_coexp : ℕ → Store → Evaluation
 fail_coexp c st = failed_in (status_of c st) c st
 
 -- the active one waits, and is the activator of the one that is entered
-abbrev pub transmit : Value → ℕ → Works → Choices → Store → State
+abbrev pub transmit : Value → ℕ → Works → Choices → Store → Evaluation
 transmit v c k r st = enter_coexp c v (with_activator c st.active (with_status st.active (Waiting k r) st))
 
 -- an exhausted co-expression fails, the active one gives the value at once, and another one is entered
-abbrev pub sent_if : Bool → Status → Value → ℕ → Works → Choices → Store → State
+abbrev pub sent_if : Bool → Status → Value → ℕ → Works → Choices → Store → Evaluation
 sent_if is_active Exhausted v c k r st = fail r st
 sent_if true status v c k r st = succeed (Val v) k r st
 sent_if false status v c k r st = transmit v c k r st
 
 -- `v @ C`
-abbrev pub activate : Value → Value → Works → Choices → Store → State
+abbrev pub activate : Value → Value → Works → Choices → Store → Evaluation
 activate v (ACoexp c) k r st = sent_if (c == st.active) (status_of c st) v c k r st
 activate v other k r st = errs 118 (Some other) r st
 
 -- the active one gives a result to its activator
-abbrev pub gives : Value → Choices → Store → State
+abbrev pub gives : Value → Choices → Store → Evaluation
 gives v r st = enter_coexp (activator_of st.active st) v
     (count_result st.active (with_status st.active (AfterResult r) st))
 
 -- the expression of a co-expression has a result, which goes to its activator
-abbrev pub result : Item → ℕ → Choices → Store → State
+abbrev pub result : Item → ℕ → Choices → Store → Evaluation
 result x a r st = turn st (λ st. value x a r st (λ v. gives v r st))
 
 -- the active one is exhausted, and its activator is entered with failure
-abbrev pub exhaust : Store → State
+abbrev pub exhaust : Store → Evaluation
 exhaust st = turn st (λ st. fail_coexp (activator_of st.active st) (with_status st.active Exhausted st))
 
 -- an exhausted one passes failure on to its activator
-abbrev pub pass_failure : ℕ → Store → State
+abbrev pub pass_failure : ℕ → Store → Evaluation
 pass_failure c st = turn st (λ st. fail_coexp (activator_of c st) st)

@@ -14,16 +14,16 @@ use Rattle.icn_defs.specs.Rows.{Residual}
 pub use Rattle.icn_defs.specs.Running.{Pair, Ending, Done, Exit, Errored, AtBound}
 
 -- what is applied to operands: an operation, a call, `p ! L`, a list display, a field by its name, an activation `v @ C`
-pub data Form : Type 0 where
-  Operating : Op → Form
-  Calling : Form
-  Spreading : Form
-  Collecting : Form
-  Taking : List ℕ → Form
-  Activating : Form
+pub data Application : Type 0 where
+  Operating : Op → Application
+  Calling : Application
+  Spreading : Application
+  Collecting : Application
+  Taking : List ℕ → Application
+  Activating : Application
 
 -- a call that runs: the number of its activation, its procedure and its level
-pub record Frame : Type 0 where
+pub record Invocation : Type 0 where
   pub activation : ℕ
   pub procedure : ℕ
   pub level : ℕ
@@ -49,7 +49,7 @@ mutual
   -- Result: what the co-expression of this activation gives. Flags, counts and saved pairs are numbers of cells of the store, since other evaluations
   -- change them between a result and its resumption.
   pub data Work : Type 0 where
-    Args : Form → List Item → Trees → Surroundings → Work
+    Args : Application → List Item → Trees → Surroundings → Work
     Then : Tree → Surroundings → Work
     Cut : Choices → Action → Work
     Raise : ℕ → Work
@@ -92,7 +92,7 @@ mutual
   -- What is open around, the innermost first: scans with the cell of the pair that they saved; loops with the surroundings, works and choices around
   -- them and the action and choices of `next`; and the call with the works and choices of its caller.
   pub data Surroundings : Type 0 where
-    InCall : Frame → Works → Choices → Surroundings
+    InCall : Invocation → Works → Choices → Surroundings
     InScan : ℕ → Surroundings → Surroundings
     InLoop : Surroundings → Works → Choices → Action → Choices → Surroundings
 
@@ -130,16 +130,16 @@ pub record Store : Type 0 where
 
 -- A tree is evaluated, a result is handed on, something fails, an exhausted co-expression is to pass failure on, the run is over, or it came where no
 -- program comes that breaks no rule.
-pub data State : Type 0 where
-  eval : Tree → Surroundings → Works → Choices → Store → State
-  succeed : Item → Works → Choices → Store → State
-  fail : Choices → Store → State
-  hop : ℕ → Store → State
-  over : Ending → Store → State
-  lost : State
+pub data Evaluation : Type 0 where
+  eval : Tree → Surroundings → Works → Choices → Store → Evaluation
+  succeed : Item → Works → Choices → Store → Evaluation
+  fail : Choices → Store → Evaluation
+  hop : ℕ → Store → Evaluation
+  over : Ending → Store → Evaluation
+  lost : Evaluation
 
 -- the call around
-abbrev pub frame_of : Surroundings → Frame
+abbrev pub frame_of : Surroundings → Invocation
 frame_of (InCall frame k r) = frame
 frame_of (InScan p s) = frame_of s
 frame_of (InLoop s k r a rn) = frame_of s

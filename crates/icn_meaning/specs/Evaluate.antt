@@ -17,7 +17,7 @@ use Rattle.icn_value.specs.Values.{Value, Null, Integer, Text, Chars, Item, Val,
 use Rattle.icn_defs.specs.Keywords.{Standing, keyword_item}
 use Rattle.icn_meaning.specs.Operators.{prefix_op, infix_op, section_op}
 use Rattle.icn_meaning.specs.Program.{Program, meaning_of}
-use Rattle.icn_meaning.specs.Contexts.{Operating, Calling, Spreading, Collecting, Taking, Activating, frame_of, Works, Nothing, ◌and_then◌, Choices, ◌or_else◌, Then, Cut, Raise, Limit, Scan, Update, Each, Select, Returning, Suspending, Do, Again, Go, Give, Fails, Pass, Body, Off, Surroundings, InLoop, Store, State, eval, succeed, fail, lost}
+use Rattle.icn_meaning.specs.Contexts.{Operating, Calling, Spreading, Collecting, Taking, Activating, frame_of, Works, Nothing, ◌and_then◌, Choices, ◌or_else◌, Then, Cut, Raise, Limit, Scan, Update, Each, Select, Returning, Suspending, Do, Again, Go, Give, Fails, Pass, Body, Off, Surroundings, InLoop, Store, Evaluation, eval, succeed, fail, lost}
 use Rattle.icn_meaning.specs.Actions.{off, act, break, next}
 use Rattle.icn_meaning.specs.Coexpressions.{activator_of, create}
 use Rattle.icn_meaning.specs.Calls.{operands}
@@ -35,7 +35,7 @@ keyword_among name (keyword ∷ others) =
     if bytes_eq name (keyword_name keyword) then Some keyword else keyword_among name others
 
 -- a value is the result
-abbrev pub give_value : Value → Works → Choices → Store → State
+abbrev pub give_value : Value → Works → Choices → Store → Evaluation
 give_value v k r st = succeed (Val v) k r st
 
 -- what keywords tell of the run: the level, the active co-expression and its activator
@@ -44,17 +44,17 @@ standing_of s st =
     record { level = (frame_of s).level; current = st.active; source = activator_of st.active st }
 
 -- the item is the result, or it fails
-abbrev pub item_or_failure : Option Item → Works → Choices → Store → State
+abbrev pub item_or_failure : Option Item → Works → Choices → Store → Evaluation
 item_or_failure (Some x) k r st = succeed x k r st
 item_or_failure None k r st = fail r st
 
 -- a keyword gives its value or variable, or fails
-abbrev pub keyword : Option KeywordName → Surroundings → Works → Choices → Store → State
+abbrev pub keyword : Option KeywordName → Surroundings → Works → Choices → Store → Evaluation
 keyword (Some word) s k r st = item_or_failure (keyword_item (standing_of s st) word) k r st
 keyword None s k r st = lost
 
 -- `{e1; e2; ..}`: the first, bounded, and then the rest; an empty one before the last is passed over
-abbrev pub compound : Place → Trees → Surroundings → Works → Choices → Store → State
+abbrev pub compound : Place → Trees → Surroundings → Works → Choices → Store → Evaluation
 compound place NoTrees s k r st = give_value Null k r st
 compound place (More e NoTrees) s k r st = eval e s k r st
 compound place (More Empty (More e es)) s k r st = compound place (More e es) s k r st
@@ -63,14 +63,14 @@ compound place (More d (More e es)) s k r st =
     (Do (Go (Compound place (More e es)) s k) or_else r) st
 
 -- `(e1, e2, ..)`: the first and then the rest
-abbrev pub conjunction : Place → Trees → Surroundings → Works → Choices → Store → State
+abbrev pub conjunction : Place → Trees → Surroundings → Works → Choices → Store → Evaluation
 conjunction place NoTrees s k r st = give_value Null k r st
 conjunction place (More e NoTrees) s k r st = eval e s k r st
 conjunction place (More d (More e es)) s k r st =
     eval d s (Then (Parentheses place (More e es)) s and_then k) r st
 
 -- `x[i, j]` is `x[i][j]`
-abbrev pub subscripts : Program → Place → Tree → Trees → Surroundings → Works → Choices → Store → State
+abbrev pub subscripts : Program → Place → Tree → Trees → Surroundings → Works → Choices → Store → Evaluation
 subscripts program place x NoTrees s k r st = eval x s k r st
 subscripts program place x (More i NoTrees) s k r st =
     operands program (Operating SubscriptOp) [] (More x (More i NoTrees)) s k r st
@@ -93,7 +93,7 @@ otherwise Absent s k r = r
 otherwise (Present b) s k r = Do (Go b s k) or_else r
 
 -- `|e`, with the flag that tells whether a round gave a result
-abbrev pub repeat_alternation : Tree → Surroundings → ℕ → Works → Choices → Store → State
+abbrev pub repeat_alternation : Tree → Surroundings → ℕ → Works → Choices → Store → Evaluation
 repeat_alternation e s flag k r st = eval e s (Raise flag and_then k) (Again e s flag k or_else r)
     (record st { flags = st.flags ++ false ∷ [] })
 
@@ -102,7 +102,7 @@ abbrev pub inside : Tree → Surroundings → Works → Choices → Surroundings
 inside loop s k r = InLoop s k r (Pass loop s k) r
 
 -- the three loops with a control expression
-abbrev pub loops : LoopKind → Tree → Tree → MaybeTree → Surroundings → Works → Choices → Store → State
+abbrev pub loops : LoopKind → Tree → Tree → MaybeTree → Surroundings → Works → Choices → Store → Evaluation
 loops Loops.While loop c b s k r st =
     eval c (inside loop s k r) (Cut r (Body b (inside loop s k r) (Pass loop s k)) and_then Nothing) r st
 loops Loops.Until loop c b s k r st = eval c (inside loop s k r) (Cut r Fails and_then Nothing)
@@ -110,13 +110,13 @@ loops Loops.Until loop c b s k r st = eval c (inside loop s k r) (Cut r Fails an
 loops Loops.Every loop e b s k r st = eval e (InLoop s k r Fails r) (Each b s k r and_then Nothing) r st
 
 -- an operator before its operand
-abbrev pub before : Program → Operator → Tree → Surroundings → Works → Choices → Store → State
+abbrev pub before : Program → Operator → Tree → Surroundings → Works → Choices → Store → Evaluation
 before program Bar e s k r st = repeat_alternation e s (length st.flags) k r st
 before program At e s k r st = operands program Activating [] (More Empty (More e NoTrees)) s k r st
 before program o e s k r st = operands program (Operating (prefix_op o)) [] (More e NoTrees) s k r st
 
 -- an operator between two operands
-abbrev pub between : Program → Operator → Tree → Tree → Surroundings → Works → Choices → Store → State
+abbrev pub between : Program → Operator → Tree → Tree → Surroundings → Works → Choices → Store → Evaluation
 between program Ampersand a b s k r st = eval a s (Then b s and_then k) r st
 between program Question a b s k r st = eval a s (Scan b s and_then k) r st
 between program Bar a b s k r st = eval a s k (Do (Go b s k) or_else r) st
@@ -127,7 +127,7 @@ between program o a b s k r st =
     operands program (Operating (infix_op o)) [] (More a (More b NoTrees)) s k r st
 
 -- what the evaluation of an expression goes on as
-abbrev pub on_eval : Program → Tree → Surroundings → Works → Choices → Store → State
+abbrev pub on_eval : Program → Tree → Surroundings → Works → Choices → Store → Evaluation
 on_eval program Empty s k r st = give_value Null k r st
 on_eval program (Constant place value) s k r st = give_value (literal value) k r st
 on_eval program (Identifier name) s k r st =

@@ -2,25 +2,25 @@
 use Rattle.std.specs.Prelude.{ℕ, Bool, true, false, slice_index_or, slice_set}
 use Rattle.icn_tree.specs.Trees.{Tree, MaybeTree, Absent, Present}
 use Rattle.icn_defs.specs.Applying.{again}
-use Rattle.icn_meaning.specs.Contexts.{Works, Nothing, ◌and_then◌, Choices, NoChoice, ◌or_else◌, Cut, Raise, Do, Again, Resume, Restore, Reenter, Back, Exhaust, Fails, Surroundings, Store, State, eval, fail, over, Done}
+use Rattle.icn_meaning.specs.Contexts.{Works, Nothing, ◌and_then◌, Choices, NoChoice, ◌or_else◌, Cut, Raise, Do, Again, Resume, Restore, Reenter, Back, Exhaust, Fails, Surroundings, Store, Evaluation, eval, fail, over, Done}
 use Rattle.icn_meaning.specs.Turns.{turn, setting_in, answer}
 use Rattle.icn_meaning.specs.Scanning.{restore_pair, exchange_pairs, exchanged_oldest}
 use Rattle.icn_meaning.specs.Actions.{act}
 use Rattle.icn_meaning.specs.Coexpressions.{exhaust}
 
 -- another round of `|e`, where its flag is up
-abbrev pub again_if : Bool → Tree → Surroundings → ℕ → Works → Choices → Store → State
+abbrev pub again_if : Bool → Tree → Surroundings → ℕ → Works → Choices → Store → Evaluation
 again_if true e s flag k r st = turn st (λ st. eval e s (Raise flag and_then k) (Again e s flag k or_else r)
     (record st { flags = slice_set st.flags flag false }))
 again_if false e s flag k r st = fail r st
 
 -- a suspended procedure goes on
-abbrev pub back : MaybeTree → Surroundings → Choices → Store → State
+abbrev pub back : MaybeTree → Surroundings → Choices → Store → Evaluation
 back Absent s r st = fail r st
 back (Present b) s r st = eval b s (Cut r Fails and_then Nothing) r st
 
 -- what the newest choice does where something fails
-abbrev pub on_fail : Choices → Store → State
+abbrev pub on_fail : Choices → Store → Evaluation
 on_fail NoChoice st = over Done st
 on_fail (Do a or_else r) st = act a r st
 on_fail (Again e s flag k or_else r) st = again_if (slice_index_or st.flags flag false) e s flag k r st

@@ -8,7 +8,7 @@ use Rattle.icn_tree.specs.declared.tree.Name.{Name}
 use Rattle.icn_tree.specs.declared.tree.Infix.TheVariants.{Plain}
 use Rattle.icn_tree.specs.declared.tree.LocalKind.{LocalKind}
 use Rattle.icn_tree.specs.declared.tree.LocalKind.TheVariants as Kinds
-use Rattle.icn_tree.specs.Trees.{Tree, Trees, MaybeTree, Clauses, Locals, Initial, Declaration, Empty, Constant, Identifier, Keyword, Parentheses, Listing, Compound, Call, CoCall, Subscript, Section, Field, Prefix, Not, Binary, To, If, Case, Loop, Repeat, Create, Next, Fail, Break, Return, Suspend, Absent, Present, NoTrees, More, Default, Guarded, NoClauses, MoreClauses, NoInitial, Initially, Global as GlobalDeclaration, Link, Invocable, Record, ProcedureOf, Procedure as ProcedureTree}
+use Rattle.icn_tree.specs.Trees.{Tree, Trees, MaybeTree, Clauses, LocalDecl, Initial, Declaration, Empty, Constant, Identifier, Keyword, Parentheses, Listing, Compound, Call, CoCall, Subscript, Section, Field, Prefix, Not, Binary, To, If, Case, Loop, Repeat, Create, Next, Fail, Break, Return, Suspend, Absent, Present, NoTrees, More, Default, Guarded, NoClauses, MoreClauses, NoInitial, Initially, Global as GlobalDeclaration, Link, Invocable, Record, ProcedureOf, Procedure as ProcedureTree}
 use Rattle.icn_value.specs.Values.{Value, Null, Procedure, Root, Global, Static, Local}
 use Rattle.icn_value.specs.Store.{Names}
 
@@ -25,14 +25,14 @@ pub record Routine : Type 0 where
   pub body : Trees
 
 -- the constructor of a record
-pub record Kind : Type 0 where
+pub record Constructor : Type 0 where
   pub name : List ℕ
   pub fields : List (List ℕ)
 
 -- the procedures and records as declared; the globals by their numbers, each with the value that it begins with; and how many statics there are
 pub record Program : Type 0 where
   pub routines : List Routine
-  pub kinds : List Kind
+  pub kinds : List Constructor
   pub globals : List (List ℕ)
   pub starts : List Value
   pub statics : ℕ
@@ -138,7 +138,7 @@ texts [] = []
 texts (name ∷ names) = name.text ∷ texts names
 
 -- the names that are declared local
-abbrev pub locals_among : List Locals → List (List ℕ)
+abbrev pub locals_among : List LocalDecl → List (List ℕ)
 locals_among [] = []
 locals_among (locals ∷ others) = of_kind locals.kind ++ locals_among others
   where
@@ -147,7 +147,7 @@ locals_among (locals ∷ others) = of_kind locals.kind ++ locals_among others
     of_kind Kinds.Static = []
 
 -- the names that are declared static
-abbrev pub statics_among : List Locals → List (List ℕ)
+abbrev pub statics_among : List LocalDecl → List (List ℕ)
 statics_among [] = []
 statics_among (locals ∷ others) = of_kind locals.kind ++ statics_among others
   where
@@ -185,7 +185,7 @@ procedures_of (ProcedureOf procedure ∷ others) = procedure ∷ procedures_of o
 procedures_of (_ ∷ others) = procedures_of others
 
 -- the kinds of record among the declarations
-abbrev pub kinds_of : List Declaration → List Kind
+abbrev pub kinds_of : List Declaration → List Constructor
 kinds_of [] = []
 kinds_of (Record place name fields ∷ others) =
     record { name = name.text; fields = texts fields } ∷ kinds_of others
@@ -252,7 +252,7 @@ routine_names [] = []
 routine_names (routine ∷ others) = routine.name ∷ routine_names others
 
 -- the names of the kinds of record
-abbrev pub kind_names : List Kind → List (List ℕ)
+abbrev pub kind_names : List Constructor → List (List ℕ)
 kind_names [] = []
 kind_names (kind ∷ others) = kind.name ∷ kind_names others
 
@@ -301,7 +301,7 @@ names_of program = record { procedures = routine_names program.routines; records
 -- what is called by a procedure's number
 pub data Callee : Type 0 where
   IsRoutine : Routine → Callee
-  IsKind : ℕ → Kind → Callee
+  IsKind : ℕ → Constructor → Callee
   IsFunction : Func → Callee
   IsNothing : Callee
 
@@ -312,13 +312,13 @@ function_numbered n (function ∷ others) =
     if func_number function == suc n then IsFunction function else function_numbered n others
 
 -- a constructor by its place, or else a function, behind so many procedures and constructors
-abbrev pub kind_or_function : ℕ → ℕ → List Kind → Callee
+abbrev pub kind_or_function : ℕ → ℕ → List Constructor → Callee
 kind_or_function n place [] = function_numbered n functions
 kind_or_function zero place (kind ∷ kinds) = IsKind place kind
 kind_or_function (suc n) place (kind ∷ kinds) = kind_or_function n (suc place) kinds
 
 -- what a number stands for: procedures come first, then kinds of record, then functions
-abbrev pub callee_among : ℕ → List Routine → List Kind → Callee
+abbrev pub callee_among : ℕ → List Routine → List Constructor → Callee
 callee_among n [] kinds = kind_or_function n zero kinds
 callee_among zero (routine ∷ routines) kinds = IsRoutine routine
 callee_among (suc n) (routine ∷ routines) kinds = callee_among n routines kinds

@@ -9,7 +9,7 @@ use Rattle.icn_defs.specs.Conversions.{integer_of}
 use Rattle.icn_defs.specs.StepRows.{text_row}
 use Rattle.icn_meaning.specs.Operators.{infix_op}
 use Rattle.icn_meaning.specs.Program.{Program}
-use Rattle.icn_meaning.specs.Contexts.{Operating, Activating, activation_of, Works, Nothing, ◌and_then◌, Choices, ◌or_else◌, Args, Then, Cut, Raise, Limit, Count, Scan, Leave, Update, Each, Select, Returning, Suspending, Result, Restore, Reenter, Fails, Try, Surroundings, InScan, InLoop, Store, State, eval, succeed, fail, over, Done}
+use Rattle.icn_meaning.specs.Contexts.{Operating, Activating, activation_of, Works, Nothing, ◌and_then◌, Choices, ◌or_else◌, Args, Then, Cut, Raise, Limit, Count, Scan, Leave, Update, Each, Select, Returning, Suspending, Result, Restore, Reenter, Fails, Try, Surroundings, InScan, InLoop, Store, Evaluation, eval, succeed, fail, over, Done}
 use Rattle.icn_meaning.specs.Turns.{errs, setting_in, with_made, value}
 use Rattle.icn_meaning.specs.Scanning.{new_cell, enter_scan, exchange_pairs}
 use Rattle.icn_meaning.specs.Actions.{act}
@@ -21,7 +21,7 @@ abbrev pub raise_flag : ℕ → Store → Store
 raise_flag flag st = record st { flags = slice_set st.flags flag true }
 
 -- a limit: so many results are allowed, in a new count
-abbrev pub limit : Option ℤ → Value → Tree → Surroundings → Works → Choices → Store → State
+abbrev pub limit : Option ℤ → Value → Tree → Surroundings → Works → Choices → Store → Evaluation
 limit (Some (pos zero)) v e s k r st = fail r st
 limit (Some (pos (suc n))) v e s k r st =
     eval e s (Count (length st.limits) r and_then k) r (record st { limits = st.limits ++ suc n ∷ [] })
@@ -33,29 +33,29 @@ abbrev pub remaining : ℕ → Store → ℕ
 remaining c st = pred (slice_index_or st.limits c zero)
 
 -- with the last result that is allowed the choices of the limited expression are gone
-abbrev pub count_by : ℕ → Item → Works → Choices → Choices → Store → State
+abbrev pub count_by : ℕ → Item → Works → Choices → Choices → Store → Evaluation
 count_by zero x k r0 r st = succeed x k r0 st
 count_by (suc n) x k r0 r st = succeed x k r st
 
 -- a result of a limited expression is counted
-abbrev pub count_down : ℕ → Item → Works → Choices → Choices → Store → State
+abbrev pub count_down : ℕ → Item → Works → Choices → Choices → Store → Evaluation
 count_down c x k r0 r st =
     count_by (remaining c st) x k r0 r (record st { limits = slice_set st.limits c (remaining c st) })
 
 -- a scan of this text, which saves the pair in the cell p
-abbrev pub scan_in : ℕ → Value → Tree → Surroundings → Works → Choices → Store → State
+abbrev pub scan_in : ℕ → Value → Tree → Surroundings → Works → Choices → Store → Evaluation
 scan_in p (Text text) e s k r st =
     eval e (InScan p s) (Leave p and_then k) (Restore p or_else r) (enter_scan text st)
 scan_in p v e s k r st = fail r st
 
 -- a scan begins with the text of a value
-abbrev pub scan : Item → Tree → Surroundings → Works → Choices → Store → State
+abbrev pub scan : Item → Tree → Surroundings → Works → Choices → Store → Evaluation
 scan x e s k r st =
     value x (activation_of s) r st (λ v. with_made (text_row v (setting_in (activation_of s) st))
     (activation_of s) r st (λ text st. scan_in (new_cell st) text e s k r st))
 
 -- `x op:= y`, with x there
-abbrev pub update : Operator → Item → Tree → Surroundings → Works → Choices → Store → State
+abbrev pub update : Operator → Item → Tree → Surroundings → Works → Choices → Store → Evaluation
 update Ampersand x y s k r st = eval y s (Args (Operating Assign) (x ∷ []) NoTrees s and_then k) r st
 update Question x y s k r st =
     succeed x (Scan y s and_then Args (Operating Assign) (x ∷ []) NoTrees s and_then k) r st
@@ -65,7 +65,7 @@ update o x y s k r st = eval y s (Args (Operating (infix_op o)) (x ∷ []) NoTre
     and_then Args (Operating Assign) (x ∷ []) NoTrees s and_then k) r st
 
 -- a result of the control expression of `every`, around which are s, k and r0
-abbrev pub each : MaybeTree → Surroundings → Works → Choices → Choices → Store → State
+abbrev pub each : MaybeTree → Surroundings → Works → Choices → Choices → Store → Evaluation
 each Absent s k r0 r st = fail r st
 each (Present b) s k r0 r st = eval b (InLoop s k r0 Fails r) (Cut r Fails and_then Nothing) r st
 
@@ -76,7 +76,7 @@ default_of (MoreClauses (Default place e) cases) = Present e
 default_of (MoreClauses (Guarded place c b) cases) = default_of cases
 
 -- what the next work does with a result
-abbrev pub on_succeed : Program → Item → Works → Choices → Store → State
+abbrev pub on_succeed : Program → Item → Works → Choices → Store → Evaluation
 on_succeed program x Nothing r st = over Done st
 on_succeed program x (Args form xs es s and_then k) r st = operands program form (x ∷ xs) es s k r st
 on_succeed program x (Then e s and_then k) r st = eval e s k r st

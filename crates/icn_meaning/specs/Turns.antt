@@ -6,23 +6,23 @@ use Rattle.icn_defs.specs.Rows.{Outcome, Fails, Gives, Suspends, Error, Ends}
 use Rattle.icn_defs.specs.StepRows.{value_row}
 use Rattle.icn_defs.specs.Errors.{error_report}
 use Rattle.icn_defs.specs.Running.{bound_report, with_errors}
-use Rattle.icn_meaning.specs.Contexts.{Works, Choices, ◌or_else◌, Resume, Store, State, succeed, fail, over, Ending, Exit, Errored, AtBound}
+use Rattle.icn_meaning.specs.Contexts.{Works, Choices, ◌or_else◌, Resume, Store, Evaluation, succeed, fail, over, Ending, Exit, Errored, AtBound}
 
 -- the run ends, and this is put on the error output
-abbrev pub end_run : Ending → List ℕ → Store → State
+abbrev pub end_run : Ending → List ℕ → Store → Evaluation
 end_run ending text st = over ending (record st { outside = with_errors text st.outside })
 
 -- An error ends the run. This is the one place where errors come to, with the choices that stand there, so that an error can become failure here.
-abbrev pub errs : ℕ → Option Value → Choices → Store → State
+abbrev pub errs : ℕ → Option Value → Choices → Store → Evaluation
 errs n offending r st = end_run (Errored n) (error_report st.names st.world.heap n offending) st
 
 -- a turn is counted before its event, or the run ends at the bound
-abbrev pub turn_if : Bool → Store → (Store → State) → State
+abbrev pub turn_if : Bool → Store → (Store → Evaluation) → Evaluation
 turn_if true st go = go (record st { turns = suc st.turns })
 turn_if false st go = end_run AtBound bound_report st
 
 -- A turn is counted before anything of it is done; where as many as the bound were made, the run stands there.
-abbrev pub turn : Store → (Store → State) → State
+abbrev pub turn : Store → (Store → Evaluation) → Evaluation
 turn st go = turn_if (nat_lt st.turns st.world.heap.bounds.turns) st go
 
 -- the locals of an activation
@@ -42,7 +42,7 @@ after a setting st = record st {
 }
 
 -- what an operation answers in an activation goes on as this
-abbrev pub answer : Outcome → ℕ → Works → Choices → Store → State
+abbrev pub answer : Outcome → ℕ → Works → Choices → Store → Evaluation
 answer (Fails setting) a k r st = fail r (after a setting st)
 answer (Gives x setting) a k r st = succeed x k r (after a setting st)
 answer (Suspends x m setting) a k r st = succeed x k (Resume a m k or_else r) (after a setting st)
@@ -50,28 +50,28 @@ answer (Error n v setting) a k r st = errs n v r (after a setting st)
 answer (Ends n setting) a k r st = over (Exit n) (after a setting st)
 
 -- A row gives a value, and it goes on with that; or it is an error. What such a row never answers counts as failure.
-abbrev pub with_given : Outcome → Choices → Store → (Value → State) → State
+abbrev pub with_given : Outcome → Choices → Store → (Value → Evaluation) → Evaluation
 with_given (Gives (Val v) setting) r st go = go v
 with_given (Error n v setting) r st go = errs n v r st
 with_given _ r st go = fail r st
 
 -- the same where the row changes the store
-abbrev pub with_made : Outcome → ℕ → Choices → Store → (Value → Store → State) → State
+abbrev pub with_made : Outcome → ℕ → Choices → Store → (Value → Store → Evaluation) → Evaluation
 with_made (Gives (Val v) setting) a r st go = go v (after a setting st)
 with_made (Error n v setting) a r st go = errs n v r (after a setting st)
 with_made _ a r st go = fail r st
 
 -- the value of an item, dereferenced in an activation
-abbrev pub value : Item → ℕ → Choices → Store → (Value → State) → State
+abbrev pub value : Item → ℕ → Choices → Store → (Value → Evaluation) → Evaluation
 value x a r st go = with_given (value_row x (setting_in a st)) r st go
 
 -- the values of items, dereferenced from left to right
-abbrev pub values : List Item → ℕ → Choices → Store → (List Value → State) → State
+abbrev pub values : List Item → ℕ → Choices → Store → (List Value → Evaluation) → Evaluation
 values [] a r st go = go []
 values (x ∷ xs) a r st go = value x a r st (λ v. values xs a r st (λ vs. go (v ∷ vs)))
 
 -- what leaves an activation: a local of it, or a substring of one, is dereferenced; another variable stays one
-abbrev pub outgoing : Item → ℕ → Choices → Store → (Item → State) → State
+abbrev pub outgoing : Item → ℕ → Choices → Store → (Item → Evaluation) → Evaluation
 outgoing (Var (Whole (Local n))) a r st go = value (Var (Whole (Local n))) a r st (λ v. go (Val v))
 outgoing (Var (Part (Local n) place size)) a r st go =
     value (Var (Part (Local n) place size)) a r st (λ v. go (Val v))

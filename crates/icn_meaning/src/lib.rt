@@ -1,6 +1,6 @@
 //! The meaning of a program of the whole language, as a definition.
 #![tactic(auto)]
 
-mod laws;
+mod meaning_laws;
 
-pub use laws::one_observation;
+pub use meaning_laws::one_observation;

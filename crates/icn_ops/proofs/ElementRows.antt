@@ -7,7 +7,7 @@ use Rattle.icn_value.specs.Store.{Setting, list_at, record_at, set_at, table_at}
 use Rattle.icn_defs.specs.Calls.{GoesOn}
 use Rattle.icn_defs.specs.Conversions.{held_text}
 use Rattle.icn_defs.specs.Elements.{element_item, field_item, key_item, list_items_from, part_of, record_fields_from, set_members_from, table_values_from, text_bytes_from, variable_bytes_from}
-use Rattle.icn_defs.specs.Reading.{reads}
+use Rattle.icn_defs.specs.ReadAndAssign.{reads}
 use Rattle.icn_defs.specs.Rows.{Row, Fails, Suspends, Error, TextBytes, VariableBytes, ListItems, SetMembers, TableValues, RecordFields, thing_or_failure, passing, present, suspends}
 
 pub get_past : {A : Type 0} (xs : List A) (place : ℕ) → length xs ≤ place → slice_get xs place ≡ None

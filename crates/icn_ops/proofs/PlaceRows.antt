@@ -17,6 +17,7 @@ element_found n size place next s is within =
 
 -- Integers and sizes as they are held
 
+-- the place of an element depends on the integer and the size alone
 pub element_held : (n n' : ℤ) (size size' : ℕ) (next : ℕ → Row) (s : Setting) (outcome : Outcome) → n' ≡ n → size' ≡ size
     → element_place n' size' next s ≡ outcome
     → element_place n size next s ≡ outcome

@@ -12,15 +12,16 @@ use Rattle.icn_defs.specs.Calls.{GoesOn}
 use Rattle.icn_defs.specs.Operations.{new_set_of}
 use Rattle.icn_defs.specs.Rows.{Row, changes_heap, costs_cells}
 use Rattle.icn_heap.specs.Extents.{Extent}
-use Rattle.icn_heap.specs.Making.{having_members, made_set_of}
+use Rattle.icn_heap.specs.MadeStructures.{having_members, made_set_of}
 use Rattle.icn_vars.specs.Stops.{StopsFinding, StopsPassing, stop_of}
-use Rattle.icn_vars.proofs.Changing.{cells_change, charged_then}
-use Rattle.icn_ops.proofs.Steps.{member_is, members_are}
+use Rattle.icn_vars.proofs.HeapChanges.{cells_change, charged_then}
+use Rattle.icn_ops.proofs.TwoOperandSteps.{member_is, members_are}
 
 -- what the row does behind the charge
 after_charge : List Value → (Value → Row) → Row
 after_charge items next setting = changes_heap (having_members items) (next (ASet (length setting.world.heap.sets))) setting
 
+-- a new set is found, and the row goes on with it
 pub set_made : (setting : Setting) (items : List Value) (made : Heap) → made_set_of setting.world.heap items ≡ Ok made
     → GoesOn (new_set_of items) setting (next_set setting.world.heap) (having_heap (λ heap. made) setting)
 unfolding after_charge
@@ -45,6 +46,7 @@ finding_by all setting items (Strings sum limit) is = λ next. is (after_charge 
 finding_by all setting items (Cells sum limit) is = λ next. is (after_charge items next)
 finding_by all setting items NoMemory is = tt
 
+-- a new set for which there is no room stops the row
 pub set_refused : (all : Extent) (setting : Setting) (items : List Value) (full : Full) → Refuses (made_set_of setting.world.heap items) full
     → StopsFinding all (new_set_of items) setting setting (stop_of full)
 set_refused all setting items full why =

@@ -6,12 +6,12 @@ use Rattle.icn_value.specs.declared.item.VarRef.{VarRef}
 use Rattle.icn_value.specs.Values.{Value, Variable, Var}
 use Rattle.icn_value.specs.Store.{Setting}
 use Rattle.icn_defs.specs.Calls.{GoesOn}
-use Rattle.icn_defs.specs.Facts.{can_hold}
-use Rattle.icn_defs.specs.Reading.{the_value}
+use Rattle.icn_defs.specs.RowFacts.{can_hold}
+use Rattle.icn_defs.specs.ReadAndAssign.{the_value}
 use Rattle.icn_defs.specs.Rows.{Mover, Suspends, UndoAssign, UndoExchange}
 use Rattle.icn_heap.specs.Extents.{Extent}
 use Rattle.icn_vars.specs.Worlds.{item_in, variable_in}
-use Rattle.icn_vars.proofs.Holding.{read_holds}
+use Rattle.icn_vars.proofs.HeldValues.{read_holds}
 
 -- the variable that an item is can hold the value that the item was read to have
 item_holds : (all : Extent) (item : HeldItem) (variable : VarRef) (value : Value) (s : Setting) → item ≡ VarItem variable

@@ -1,3 +1,3 @@
 pub mod Operands
-pub mod Kinds
+pub mod OperationGroups
 pub mod Sections

@@ -11,7 +11,7 @@ use Rattle.icn_value.specs.declared.val.Val.{Val}
 use Rattle.icn_value.specs.Values.{Value, Integer, Item}
 use Rattle.icn_defs.specs.Arguments.{integer, list, number, string}
 use Rattle.icn_defs.specs.Conversions.{cset_of}
-use Rattle.icn_defs.specs.Reading.{the_value}
+use Rattle.icn_defs.specs.ReadAndAssign.{the_value}
 use Rattle.icn_defs.specs.Rows.{◌>>=◌, ◌>>◌, Row, Finds, number_or_error, costs_text, costs_texts, gives_value, here, passing, present}
 use Rattle.icn_defs.specs.Scanning.{stands, tabs_to}
 use Rattle.icn_heap.specs.Extents.{Extent, text_in, value_in}

@@ -9,11 +9,11 @@ ghost use Rattle.icn_heap.specs.Extents.{IsLive};
 ghost use Rattle.icn_heap.specs.Heaps.{extent_of};
 ghost use Rattle.icn_vars.specs.Outcomes.{IsLiveAnswer, IsLiveResidual, residual_in};
 ghost use Rattle.icn_vars.specs.Worlds.{IsLiveItem, KeepsItems, item_in, reach_of};
-ghost use Rattle.icn_args.specs.Words.{Answers};
+ghost use Rattle.icn_args.specs.RowWords.{Answers};
 ghost use Rattle.icn_streams.specs.Answers.{call_state};
 ghost use Rattle.icn_streams.specs.Applies.{Applies};
 ghost use Rattle.icn_streams.specs.Handed.{call_streams};
-ghost use Rattle.icn_ops.specs.Kinds.{is_of_operations, wants_values};
+ghost use Rattle.icn_ops.specs.OperationGroups.{is_of_operations, wants_values};
 
 use crate::random::random_row;
 use crate::resumed::resume;

@@ -11,21 +11,21 @@ ghost use Rattle.icn_heap.specs.Extents.{IsLive};
 ghost use Rattle.icn_heap.specs.Heaps.{extent_of};
 ghost use Rattle.icn_vars.specs.Outcomes.{IsLiveAnswer};
 ghost use Rattle.icn_vars.specs.Worlds.{IsLiveItem, item_in, reach_of};
-ghost use Rattle.icn_args.specs.Words.{Answers};
+ghost use Rattle.icn_args.specs.RowWords.{Answers};
 
 use crate::operands::two_numbers;
-use icn_args::{computed, number_of};
+use icn_args::{arith_result, number_of};
 use icn_text::{Arith, add, div, mul, power, rem, sub};
 use icn_value::{Item, Val};
 use icn_vars::{Halt, Locals, Outcome, World, deref};
 
 // The integer that was computed, or the error of its operation.
-fn given(found: Result<i64, Arith>) -> Result<Outcome, Halt>
+fn integer_outcome(found: Result<i64, Arith>) -> Result<Outcome, Halt>
     ensures row { (all : Extent) (setting : Setting)
         → ComesToAnswer all (gives_computed found) setting setting result }
     ensures live { (reach : Reach) → IsLiveAnswer reach result }
 {
-    let n = computed(found)?;
+    let n = arith_result(found)?;
     Ok(Outcome::Gives(Item::Val(Val::Integer(n))))
 }
 
@@ -52,7 +52,7 @@ pub fn negate_row<L: Locals>(w: &World, l: &L, x: Item) -> Result<Outcome, Halt>
 {
     let val = deref(w, l, x)?;
     let n = number_of(&w.heap, val)?;
-    given(sub(0, n))
+    integer_outcome(sub(0, n))
 }
 
 /// `m + n`: the sum, or error 102; 203 where 64 bits do not hold it.
@@ -65,7 +65,7 @@ pub fn add_row<L: Locals>(w: &World, l: &L, x: Item, y: Item) -> Result<Outcome,
     ensures live { IsLiveAnswer (reach_of w.now (L.items l.now)) result }
 {
     let (m, n) = two_numbers(w, l, x, y)?;
-    given(add(m, n))
+    integer_outcome(add(m, n))
 }
 
 /// `m - n`: the difference, or error 102; 203 where 64 bits do not hold it.
@@ -78,7 +78,7 @@ pub fn subtract_row<L: Locals>(w: &World, l: &L, x: Item, y: Item) -> Result<Out
     ensures live { IsLiveAnswer (reach_of w.now (L.items l.now)) result }
 {
     let (m, n) = two_numbers(w, l, x, y)?;
-    given(sub(m, n))
+    integer_outcome(sub(m, n))
 }
 
 /// `m * n`: the product, or error 102; 203 where 64 bits do not hold it.
@@ -91,7 +91,7 @@ pub fn multiply_row<L: Locals>(w: &World, l: &L, x: Item, y: Item) -> Result<Out
     ensures live { IsLiveAnswer (reach_of w.now (L.items l.now)) result }
 {
     let (m, n) = two_numbers(w, l, x, y)?;
-    given(mul(m, n))
+    integer_outcome(mul(m, n))
 }
 
 /// `m / n`: the quotient, truncated toward 0, or error 102; 201 at the divisor 0, 203 where 64 bits do not hold it.
@@ -104,7 +104,7 @@ pub fn divide_row<L: Locals>(w: &World, l: &L, x: Item, y: Item) -> Result<Outco
     ensures live { IsLiveAnswer (reach_of w.now (L.items l.now)) result }
 {
     let (m, n) = two_numbers(w, l, x, y)?;
-    given(div(m, n))
+    integer_outcome(div(m, n))
 }
 
 /// `m % n`: the remainder, with the sign of the dividend, or error 102; 202 at the divisor 0.
@@ -117,7 +117,7 @@ pub fn remainder_row<L: Locals>(w: &World, l: &L, x: Item, y: Item) -> Result<Ou
     ensures live { IsLiveAnswer (reach_of w.now (L.items l.now)) result }
 {
     let (m, n) = two_numbers(w, l, x, y)?;
-    given(rem(m, n))
+    integer_outcome(rem(m, n))
 }
 
 /// `m ^ n`: the power, or error 102; 201 at 0 to an exponent below 0, 203 where 64 bits do not hold it.
@@ -130,5 +130,5 @@ pub fn power_row<L: Locals>(w: &World, l: &L, x: Item, y: Item) -> Result<Outcom
     ensures live { IsLiveAnswer (reach_of w.now (L.items l.now)) result }
 {
     let (m, n) = two_numbers(w, l, x, y)?;
-    given(power(m, n))
+    integer_outcome(power(m, n))
 }

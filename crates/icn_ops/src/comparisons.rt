@@ -7,7 +7,7 @@ ghost use Rattle.icn_heap.specs.Extents.{Extent, IsLive, value_in};
 ghost use Rattle.icn_heap.specs.Heaps.{extent_of};
 ghost use Rattle.icn_vars.specs.Outcomes.{IsLiveAnswer};
 ghost use Rattle.icn_vars.specs.Worlds.{IsLiveItem, KeepsItems, Reach, item_in, reach_of};
-ghost use Rattle.icn_args.specs.Words.{Answers};
+ghost use Rattle.icn_args.specs.RowWords.{Answers};
 ghost use Rattle.std.specs.Prelude.{◌≡◌};
 ghost use Rattle.icn_defs.specs.Rows.{gives_value, passing};
 ghost use Rattle.icn_vars.specs.Outcomes.{IsLiveOutcome, outcome_in};

@@ -8,7 +8,7 @@ ghost use Rattle.icn_heap.specs.Extents.{IsLive, IsText, text_in};
 ghost use Rattle.icn_heap.specs.Heaps.{extent_of, heap_of};
 ghost use Rattle.icn_vars.specs.Outcomes.{IsLiveAnswer};
 ghost use Rattle.icn_vars.specs.Worlds.{IsLiveVariable, reach_of, variable_in};
-ghost use Rattle.icn_args.specs.Words.{Answers};
+ghost use Rattle.icn_args.specs.RowWords.{Answers};
 
 use crate::parts::{element_item, field_count, list_count, part_of};
 use icn_heap::{Heap, short_text};

@@ -8,7 +8,7 @@ ghost use Rattle.icn_heap.specs.Extents.{IsLive, value_in};
 ghost use Rattle.icn_heap.specs.Heaps.{extent_of, heap_of};
 ghost use Rattle.icn_vars.specs.Outcomes.{IsLiveAnswer};
 ghost use Rattle.icn_vars.specs.Worlds.{IsLiveItem, KeepsItems, item_in, reach_of};
-ghost use Rattle.icn_args.specs.Words.{Answers};
+ghost use Rattle.icn_args.specs.RowWords.{Answers};
 
 use crate::operands::two_lists;
 use icn_args::new_list;

@@ -8,7 +8,7 @@ ghost use Rattle.icn_heap.specs.Extents.{Extent, IsLive};
 ghost use Rattle.icn_heap.specs.Heaps.{extent_of};
 ghost use Rattle.icn_vars.specs.Outcomes.{IsLiveAnswer, IsLiveOutcome, outcome_in};
 ghost use Rattle.icn_vars.specs.Worlds.{IsLiveItem, Reach, item_in, reach_of};
-ghost use Rattle.icn_args.specs.Words.{Answers};
+ghost use Rattle.icn_args.specs.RowWords.{Answers};
 
 use icn_args::is_null;
 use icn_value::{Item, Val};

@@ -8,7 +8,7 @@ ghost use Rattle.icn_heap.specs.Extents.{IsLive, IsText, text_in, values_in};
 ghost use Rattle.icn_heap.specs.Heaps.{extent_of};
 ghost use Rattle.icn_vars.specs.Stops.{IsLiveStop};
 ghost use Rattle.icn_vars.specs.Worlds.{IsLiveItem, IsShortItem, KeepsItems, item_in, reach_of, setting_of};
-ghost use Rattle.icn_args.specs.Words.{IsFound};
+ghost use Rattle.icn_args.specs.RowWords.{IsFound};
 ghost use Rattle.icn_ops.specs.Operands as operands;
 ghost use Rattle.icn_ops.specs.Operands.{ordered_text_in, texts_in, three_in};
 

@@ -7,7 +7,7 @@ ghost use Rattle.icn_heap.specs.Extents.{IsLive, value_in};
 ghost use Rattle.icn_heap.specs.Heaps.{extent_of};
 ghost use Rattle.icn_vars.specs.Outcomes.{IsLiveAnswer};
 ghost use Rattle.icn_vars.specs.Worlds.{IsLiveItem, IsShortItem, KeepsItems, item_in, reach_of};
-ghost use Rattle.icn_args.specs.Words.{Answers, HasText, the_text};
+ghost use Rattle.icn_args.specs.RowWords.{Answers, HasText, the_text};
 
 use crate::elements::{set_count, table_count};
 use crate::parts::{element_item, field_count, list_count, part_item, text_holder, text_length};
@@ -33,7 +33,7 @@ pub fn random_row<L: Locals>(w: &mut World, l: &L, x: Item) -> Result<Outcome, H
 }
 
 // A random number up to a value, or one of its elements. The item has the value.
-#[tactic(auto, using(icn_vars::proofs::KeptItems::items_all))]
+#[tactic(auto, using(icn_vars::proofs::KeptItems::keeps_items_refl))]
 fn random_by<L: Locals>(w: &mut World, l: &L, x: Item, val: Val) -> Result<Outcome, Halt>
     requires locals { All (IsLive (extent_of w.old.heap)) (L.items l.now) }
     requires item { IsLiveItem (reach_of w.old (L.items l.now)) x }
@@ -59,7 +59,7 @@ fn random_by<L: Locals>(w: &mut World, l: &L, x: Item, val: Val) -> Result<Outco
 }
 
 // A number from 1 to n at random. The error is 205 about the value that n comes from, where n is below 1.
-#[tactic(auto, using(icn_vars::proofs::KeptItems::items_all))]
+#[tactic(auto, using(icn_vars::proofs::KeptItems::keeps_items_refl))]
 fn random_number<L: Locals>(w: &mut World, l: &L, val: Val, n: i64) -> Result<Outcome, Halt>
     requires locals { All (IsLive (extent_of w.old.heap)) (L.items l.now) }
     requires val { IsLive (extent_of w.old.heap) val }
@@ -105,7 +105,7 @@ fn random_byte<L: Locals>(w: &mut World, l: &L, x: Item, val: Val) -> Result<Out
 }
 
 // An element of a list at random; it fails where there is none.
-#[tactic(auto, using(icn_vars::proofs::KeptItems::items_all, crate::proofs::RandomRows::list_picked, crate::proofs::RandomRows::list_empty))]
+#[tactic(auto, using(icn_vars::proofs::KeptItems::keeps_items_refl, crate::proofs::RandomRows::list_picked, crate::proofs::RandomRows::list_empty))]
 fn random_item<L: Locals>(w: &mut World, l: &L, x: Item, list: u32) -> Result<Outcome, Halt>
     requires locals { All (IsLive (extent_of w.old.heap)) (L.items l.now) }
     requires list { IsLive (extent_of w.old.heap) (ListVal list) }
@@ -127,7 +127,7 @@ fn random_item<L: Locals>(w: &mut World, l: &L, x: Item, list: u32) -> Result<Ou
 }
 
 // A member of a set at random; it fails where there is none.
-#[tactic(auto, using(icn_vars::proofs::KeptItems::items_all, crate::proofs::RandomRows::member_picked, crate::proofs::RandomRows::set_empty))]
+#[tactic(auto, using(icn_vars::proofs::KeptItems::keeps_items_refl, crate::proofs::RandomRows::member_picked, crate::proofs::RandomRows::set_empty))]
 fn random_member<L: Locals>(w: &mut World, l: &L, x: Item, set: u32) -> Result<Outcome, Halt>
     requires locals { All (IsLive (extent_of w.old.heap)) (L.items l.now) }
     requires set { IsLive (extent_of w.old.heap) (Set set) }
@@ -151,7 +151,7 @@ fn random_member<L: Locals>(w: &mut World, l: &L, x: Item, set: u32) -> Result<O
 }
 
 // The value at a key of a table at random; it fails where there is none.
-#[tactic(auto, using(icn_vars::proofs::KeptItems::items_all, crate::proofs::RandomRows::pair_picked, crate::proofs::RandomRows::table_empty))]
+#[tactic(auto, using(icn_vars::proofs::KeptItems::keeps_items_refl, crate::proofs::RandomRows::pair_picked, crate::proofs::RandomRows::table_empty))]
 fn random_value<L: Locals>(w: &mut World, l: &L, x: Item, table: u32) -> Result<Outcome, Halt>
     requires locals { All (IsLive (extent_of w.old.heap)) (L.items l.now) }
     requires table { IsLive (extent_of w.old.heap) (Table table) }
@@ -178,7 +178,7 @@ fn random_value<L: Locals>(w: &mut World, l: &L, x: Item, table: u32) -> Result<
 }
 
 // A field of a record at random; it fails where there is none.
-#[tactic(auto, using(icn_vars::proofs::KeptItems::items_all, crate::proofs::RandomRows::field_picked, crate::proofs::RandomRows::record_empty))]
+#[tactic(auto, using(icn_vars::proofs::KeptItems::keeps_items_refl, crate::proofs::RandomRows::field_picked, crate::proofs::RandomRows::record_empty))]
 fn random_field<L: Locals>(w: &mut World, l: &L, x: Item, rec: u32) -> Result<Outcome, Halt>
     requires locals { All (IsLive (extent_of w.old.heap)) (L.items l.now) }
     requires rec { IsLive (extent_of w.old.heap) (Rec rec) }

@@ -6,9 +6,9 @@ ghost use Rattle.icn_heap.specs.Extents.{IsLive};
 ghost use Rattle.icn_heap.specs.Heaps.{extent_of};
 ghost use Rattle.icn_vars.specs.Outcomes.{IsLiveAnswer, IsLiveResidual, residual_in};
 ghost use Rattle.icn_vars.specs.Worlds.{KeepsItems, reach_of};
-ghost use Rattle.icn_args.specs.Words.{Answers};
+ghost use Rattle.icn_args.specs.RowWords.{Answers};
 ghost use Rattle.icn_value.specs.declared.residual.Residual.TheVariants.{InputLines};
-ghost use Rattle.icn_ops.specs.Kinds.{is_of_operations};
+ghost use Rattle.icn_ops.specs.OperationGroups.{is_of_operations};
 
 use crate::counting::counting_again;
 use crate::elements::{
@@ -21,7 +21,7 @@ use icn_value::Residual;
 use icn_vars::{Halt, Locals, Outcome, World};
 
 // Goes on with what an operation left, or takes it back. The errors are those of its row.
-#[tactic(auto, using(icn_vars::proofs::KeptItems::items_all))]
+#[tactic(auto, using(icn_vars::proofs::KeptItems::keeps_items_refl))]
 pub fn resume<L: Locals>(rest: Residual, w: &mut World, l: &mut L) -> Result<Outcome, Halt>
     requires operation { is_of_operations rest ≡ true }
     requires world { rest ≢ InputLines }

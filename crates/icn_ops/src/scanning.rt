@@ -7,7 +7,7 @@ ghost use Rattle.icn_heap.specs.Extents.{IsLive, IsText, text_in};
 ghost use Rattle.icn_heap.specs.Heaps.{extent_of};
 ghost use Rattle.icn_vars.specs.Outcomes.{IsLiveAnswer, IsLiveOutcome, outcome_in};
 ghost use Rattle.icn_vars.specs.Worlds.{IsLiveItem, KeepsItems, item_in, reach_of, setting_of};
-ghost use Rattle.icn_args.specs.Words.{Answers};
+ghost use Rattle.icn_args.specs.RowWords.{Answers};
 ghost use Rattle.icn_ops.specs.Operands.{matches_here};
 
 use crate::operands::one_text;

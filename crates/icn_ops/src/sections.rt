@@ -11,13 +11,13 @@ ghost use Rattle.icn_heap.specs.Heaps.{extent_of, heap_of};
 ghost use Rattle.icn_vars.specs.Outcomes.{IsLiveAnswer};
 ghost use Rattle.icn_vars.specs.Stops.{IsLiveStop};
 ghost use Rattle.icn_vars.specs.Worlds.{IsLiveItem, IsShortItem, KeepsItems, item_in, reach_of};
-ghost use Rattle.icn_args.specs.Words.{Answers, IsFound, HasText, the_text};
+ghost use Rattle.icn_args.specs.RowWords.{Answers, IsFound, HasText, the_text};
 ghost use Rattle.icn_ops.specs.Sections.{second_of};
 
 use crate::operands::three_values;
 use crate::parts::{list_count, part_item, text_holder, text_length};
 use crate::positions::places;
-use icn_args::{computed, integer_of, new_list, text_of};
+use icn_args::{arith_result, integer_of, new_list, text_of};
 use icn_heap::Heap;
 use icn_text::{Arith, add, sub};
 use icn_value::{Item, Val};
@@ -127,7 +127,7 @@ fn section_by<L: Locals>(
 }
 
 // A section of a value, which the item has.
-#[tactic(auto, using(icn_vars::proofs::KeptItems::items_all))]
+#[tactic(auto, using(icn_vars::proofs::KeptItems::keeps_items_refl))]
 fn section_of<L: Locals>(
     kind: Second,
     w: &mut World,
@@ -197,7 +197,7 @@ fn text_section<L: Locals>(
 }
 
 // A new list of the elements of a list between two positions.
-#[tactic(auto, using(icn_vars::proofs::KeptItems::items_all))]
+#[tactic(auto, using(icn_vars::proofs::KeptItems::keeps_items_refl))]
 fn list_section<L: Locals>(
     kind: Second,
     w: &mut World,
@@ -226,7 +226,7 @@ fn list_section<L: Locals>(
 }
 
 // A new list of the elements of a list from one place up to another, counted from 0.
-#[tactic(auto, using(icn_vars::proofs::KeptItems::items_all))]
+#[tactic(auto, using(icn_vars::proofs::KeptItems::keeps_items_refl))]
 fn new_section<L: Locals>(
     w: &mut World,
     l: &L,
@@ -262,7 +262,7 @@ fn positions(kind: Second, heap: &Heap, from: Val, to: Val) -> Result<(i64, i64)
 {
     let m = integer_of(heap, from)?;
     let n = integer_of(heap, to)?;
-    let end = computed(second_of(kind, m, n))?;
+    let end = arith_result(second_of(kind, m, n))?;
     Ok((m, end))
 }
 

@@ -11,7 +11,7 @@ ghost use Rattle.icn_heap.specs.Heaps.{extent_of, heap_of};
 ghost use Rattle.icn_vars.specs.Outcomes.{IsLiveAnswer};
 ghost use Rattle.icn_vars.specs.Stops.{IsLiveStop};
 ghost use Rattle.icn_vars.specs.Worlds.{IsLiveItem, KeepsItems, item_in, reach_of, setting_of};
-ghost use Rattle.icn_args.specs.Words.{Answers, IsFound};
+ghost use Rattle.icn_args.specs.RowWords.{Answers, IsFound};
 ghost use Rattle.icn_ops.specs.Operands.{csets_in};
 ghost use Rattle.icn_ops.specs.Operands as operands;
 
@@ -130,7 +130,7 @@ fn one_cset(heap: &Heap, val: Val) -> Result<Cset, Stop>
 }
 
 // A new set of the members of one set, and behind them those of another that are new. The errors are 307 and want of memory.
-#[tactic(auto, using(icn_vars::proofs::Growing::grows))]
+#[tactic(auto, using(icn_vars::proofs::GrowingWorlds::grows))]
 fn new_union<L: Locals>(w: &mut World, l: &L, first: u32, second: u32) -> Result<Val, Stop>
     requires locals { All (IsLive (extent_of w.old.heap)) (L.items l.now) }
     requires first { IsLive (extent_of w.old.heap) (Set first) }
@@ -149,7 +149,7 @@ fn new_union<L: Locals>(w: &mut World, l: &L, first: u32, second: u32) -> Result
 }
 
 // A new set of the members of one set that are not in another. The errors are 307 and want of memory.
-#[tactic(auto, using(icn_vars::proofs::Growing::grows))]
+#[tactic(auto, using(icn_vars::proofs::GrowingWorlds::grows))]
 fn new_difference<L: Locals>(w: &mut World, l: &L, first: u32, second: u32) -> Result<Val, Stop>
     requires locals { All (IsLive (extent_of w.old.heap)) (L.items l.now) }
     requires first { IsLive (extent_of w.old.heap) (Set first) }
@@ -167,7 +167,7 @@ fn new_difference<L: Locals>(w: &mut World, l: &L, first: u32, second: u32) -> R
 }
 
 // A new set of the members of one set that are in another. The errors are 307 and want of memory.
-#[tactic(auto, using(icn_vars::proofs::Growing::grows))]
+#[tactic(auto, using(icn_vars::proofs::GrowingWorlds::grows))]
 fn new_intersection<L: Locals>(w: &mut World, l: &L, first: u32, second: u32) -> Result<Val, Stop>
     requires locals { All (IsLive (extent_of w.old.heap)) (L.items l.now) }
     requires first { IsLive (extent_of w.old.heap) (Set first) }

@@ -8,7 +8,7 @@ ghost use Rattle.icn_heap.specs.Extents.{IsLive, value_in};
 ghost use Rattle.icn_heap.specs.Heaps.{extent_of};
 ghost use Rattle.icn_vars.specs.Outcomes.{IsLiveAnswer};
 ghost use Rattle.icn_vars.specs.Worlds.{IsLiveItem, IsShortItem, KeepsItems, item_in, reach_of};
-ghost use Rattle.icn_args.specs.Words.{Answers, HasText, the_text};
+ghost use Rattle.icn_args.specs.RowWords.{Answers, HasText, the_text};
 
 use crate::operands::two_values;
 use crate::parts::{
@@ -37,7 +37,7 @@ pub fn subscript_row<L: Locals>(w: &mut World, l: &L, x: Item, y: Item) -> Resul
 }
 
 // A subscript of a value, which the item has.
-#[tactic(auto, using(icn_vars::proofs::KeptItems::items_all))]
+#[tactic(auto, using(icn_vars::proofs::KeptItems::keeps_items_refl))]
 fn subscript_of<L: Locals>(
     w: &mut World,
     l: &L,

@@ -8,8 +8,8 @@ ghost use Rattle.icn_heap.specs.Extents.{IsLive};
 ghost use Rattle.icn_heap.specs.Heaps.{extent_of};
 ghost use Rattle.icn_vars.specs.Outcomes.{IsLiveAnswer};
 ghost use Rattle.icn_vars.specs.Worlds.{IsLiveItem, KeepsItems, item_in, reach_of};
-ghost use Rattle.icn_args.specs.Words.{Answers};
-ghost use Rattle.icn_ops.specs.Kinds.{wants_values};
+ghost use Rattle.icn_args.specs.RowWords.{Answers};
+ghost use Rattle.icn_ops.specs.OperationGroups.{wants_values};
 
 use crate::arithmetic::{
     add_row, divide_row, multiply_row, negate_row, number_row, power_row, remainder_row,

@@ -3,7 +3,7 @@ ghost use Rattle.std.specs.Prelude.{◌≡◌, ◌≢◌, true, IfErr, IfOk};
 ghost use Rattle.std.specs.List.{All};
 ghost use Rattle.icn_value.specs.Store.{Setting};
 ghost use Rattle.icn_value.specs.declared.item.Item.TheVariants.{Var as VarItem};
-ghost use Rattle.icn_defs.specs.Reading.{the_variable};
+ghost use Rattle.icn_defs.specs.ReadAndAssign.{the_variable};
 ghost use Rattle.icn_defs.specs.Variables.{assign_row, reversible_assign_row, reversible_swap_row, swap_row, undo_assign_again, undo_exchange_again};
 ghost use Rattle.icn_heap.specs.Extents.{Extent, IsLive, value_in};
 ghost use Rattle.icn_heap.specs.Heaps.{extent_of};
@@ -12,7 +12,7 @@ ghost use Rattle.icn_vars.specs.declared.outcome.Halt.TheVariants.{NoMemory};
 ghost use Rattle.icn_vars.specs.Outcomes.{IsLiveAnswer, IsOld, mover_of};
 ghost use Rattle.icn_vars.specs.Stops.{IsLiveStop};
 ghost use Rattle.icn_vars.specs.Worlds.{IsLiveItem, IsLiveVariable, KeepsItems, Reach, item_in, reach_of, variable_in};
-ghost use Rattle.icn_args.specs.Words.{Answers, IsFound};
+ghost use Rattle.icn_args.specs.RowWords.{Answers, IsFound};
 
 use icn_value::{Item, Mover, Residual, Val, VarRef};
 use icn_vars::{
@@ -35,7 +35,7 @@ fn variable_of(item: Item) -> Result<VarRef, Stop>
 }
 
 /// `x := y`: the variable, whose old value is not read.
-#[tactic(auto, using(icn_vars::proofs::KeptItems::items_all))]
+#[tactic(auto, using(icn_vars::proofs::KeptItems::keeps_items_refl))]
 pub fn assign_row<L: Locals>(w: &mut World, l: &mut L, x: Item, y: Item) -> Result<Outcome, Halt>
     requires locals { All (IsLive (extent_of w.old.heap)) (L.items l.old) }
     requires first { IsLiveItem (reach_of w.old (L.items l.old)) x }
@@ -55,7 +55,7 @@ pub fn assign_row<L: Locals>(w: &mut World, l: &mut L, x: Item, y: Item) -> Resu
 }
 
 /// `x :=: y`: the left variable.
-#[tactic(auto, using(icn_vars::proofs::KeptItems::items_all))]
+#[tactic(auto, using(icn_vars::proofs::KeptItems::keeps_items_refl))]
 pub fn swap_row<L: Locals>(w: &mut World, l: &mut L, x: Item, y: Item) -> Result<Outcome, Halt>
     requires locals { All (IsLive (extent_of w.old.heap)) (L.items l.old) }
     requires first { IsLiveItem (reach_of w.old (L.items l.old)) x }
@@ -77,7 +77,7 @@ pub fn swap_row<L: Locals>(w: &mut World, l: &mut L, x: Item, y: Item) -> Result
 }
 
 /// `x <- y`: the variable; resumed, its old value is assigned back.
-#[tactic(auto, using(icn_vars::proofs::KeptItems::items_all))]
+#[tactic(auto, using(icn_vars::proofs::KeptItems::keeps_items_refl))]
 pub fn reversible_assign_row<L: Locals>(
     w: &mut World,
     l: &mut L,
@@ -128,7 +128,7 @@ pub fn undo_assign_again<L: Locals>(
 }
 
 /// `x <-> y`: the left variable; resumed, the old values are assigned back.
-#[tactic(auto, using(icn_vars::proofs::KeptItems::items_all))]
+#[tactic(auto, using(icn_vars::proofs::KeptItems::keeps_items_refl))]
 pub fn reversible_swap_row<L: Locals>(
     w: &mut World,
     l: &mut L,

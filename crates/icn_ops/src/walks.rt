@@ -9,7 +9,7 @@ ghost use Rattle.icn_heap.specs.Extents.{IsLive, value_in};
 ghost use Rattle.icn_heap.specs.Heaps.{extent_of};
 ghost use Rattle.icn_vars.specs.Outcomes.{IsLiveAnswer};
 ghost use Rattle.icn_vars.specs.Worlds.{IsLiveItem, KeepsItems, item_in, reach_of};
-ghost use Rattle.icn_args.specs.Words.{Answers, HasText, the_text};
+ghost use Rattle.icn_args.specs.RowWords.{Answers, HasText, the_text};
 ghost use Rattle.icn_streams.specs.Answers.{call_state};
 ghost use Rattle.icn_streams.specs.Applies.{Applies};
 ghost use Rattle.icn_streams.specs.Handed.{call_streams};
@@ -53,7 +53,7 @@ pub fn elements_row<L: Locals, I: Source>(
 }
 
 // The elements of a value that is no file, which the item has.
-#[tactic(auto, using(icn_vars::proofs::KeptItems::items_all))]
+#[tactic(auto, using(icn_vars::proofs::KeptItems::keeps_items_refl))]
 fn elements_of<L: Locals>(w: &mut World, l: &L, x: Item, val: Val) -> Result<Outcome, Halt>
     requires locals { All (IsLive (extent_of w.old.heap)) (L.items l.now) }
     requires item { IsLiveItem (reach_of w.old (L.items l.now)) x }
@@ -80,7 +80,7 @@ fn elements_of<L: Locals>(w: &mut World, l: &L, x: Item, val: Val) -> Result<Out
 }
 
 // The bytes of a text, which are parts of the variable that holds the text, if one does.
-#[tactic(auto, using(icn_vars::proofs::KeptItems::items_all))]
+#[tactic(auto, using(icn_vars::proofs::KeptItems::keeps_items_refl))]
 fn text_elements<L: Locals>(w: &mut World, l: &L, x: Item, val: Val) -> Result<Outcome, Halt>
     requires locals { All (IsLive (extent_of w.old.heap)) (L.items l.now) }
     requires item { IsLiveItem (reach_of w.old (L.items l.now)) x }

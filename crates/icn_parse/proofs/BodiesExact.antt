@@ -13,24 +13,24 @@ use Rattle.icn_tree.specs.Levels.{begins, goes_on, is_present}
 use Rattle.icn_tree.specs.Phrases.{next, place_of, sign}
 use Rattle.icn_tree.specs.Grammar.{Part, Spells}
 use Rattle.icn_tree.specs.Declarations.{SpellsInitial, SpellsBody}
-use Rattle.icn_tree.proofs.Finding.{part_started, is_nonempty, started_begins, ends_at}
-use Rattle.icn_tree.proofs.Expressions.{found}
-use Rattle.icn_tree.proofs.Framed.{framed}
+use Rattle.icn_tree.proofs.ExpressionsFound.{part_started, is_nonempty, started_begins, ends_at}
+use Rattle.icn_tree.proofs.OneExpressionTree.{every_tree_found}
+use Rattle.icn_tree.proofs.FormStretches.{framed}
 use Rattle.icn_expr.proofs.Automaton.{climbing_level}
 use Rattle.icn_expr.specs.Capped.{with_last}
 use Rattle.icn_expr.specs.Automata.{Builds, behind}
 use Rattle.icn_expr.specs.Reading.{expression_read}
-use Rattle.icn_expr.proofs.Standing.{Ends}
-use Rattle.icn_expr.proofs.Showing.{Shows}
+use Rattle.icn_expr.proofs.ReadByGrammar.{Ends}
+use Rattle.icn_expr.proofs.SameSteps.{Shows}
 use Rattle.icn_expr.proofs.Exact.{expression_found, expression_sound}
 use Rattle.icn_parse.specs.FileReading.{Reads, is_semicolon, is_initial, is_end, local_kind, sign_read, initial_by, initial_read, body_by, body_read}
-use Rattle.icn_parse.proofs.NamesExact.{bind_some, next_sign, sign_found, sign_sound}
-use Rattle.icn_parse.proofs.HeadsExact.{bind_at, semicolon_tests, initial_tests, sign_at_place, sign_shorter}
+use Rattle.icn_parse.proofs.NamesExact.{bind_parts, next_sign, sign_found, sign_sound}
+use Rattle.icn_parse.proofs.HeadsExact.{bind_of_some, semicolon_tests, initial_tests, sign_at_place, sign_shorter}
 
 -- What stands first
 
 part_first : (tree : Tree) (here middle : List Token) → Part 1 tree (Spells tree) here middle → goes_on 1 (next middle) ≡ false → begins (next here) ≡ true
-part_first tree here middle p e = started_begins 1 here (tree, middle) (part_started 1 tree (found tree) (omega arith) here middle p e)
+part_first tree here middle p e = started_begins 1 here (tree, middle) (part_started 1 tree (every_tree_found tree) (omega arith) here middle p e)
 
 present_first : (tree : Tree) → is_present tree ≡ true → (here middle : List Token) → Part 0 tree (Spells tree) here middle → goes_on 1 (next middle) ≡ false
     → begins (next here) ≡ true
@@ -126,14 +126,14 @@ module _ (V L C : Type 0) (make : Builds V L C) (show : Shows V L C make) where
   initial_found (Initially place value) here after s e =
       let end = s.2 in
       ap (initial_read make) s.1
-      ∙ bind_at _ _ (show.tree value, end.0) _ (expression_found V L C make show 1 value s.0 end.0 end.1 (semicolon_ends 1 value end.0 after refl end.2))
-      (bind_at _ _ after _ (sign_found is_semicolon (PunctuationKind Semicolon) semicolon_tests end.0 after end.2) refl)
+      ∙ bind_of_some _ _ (show.tree value, end.0) _ (expression_found V L C make show 1 value s.0 end.0 end.1 (semicolon_ends 1 value end.0 after refl end.2))
+      (bind_of_some _ _ after _ (sign_found is_semicolon (PunctuationKind Semicolon) semicolon_tests end.0 after end.2) refl)
 
   initial_step : (b : Bool) (here : List Token) (read : Option (Place × V)) (after : List Token) → is_initial (next here) ≡ b
       → initial_by make b here ≡ Some (read, after) → (initial : Initial) × SpellsInitial initial here after × (read ≡ shown_initial initial)
   initial_step true here read after i e =
-      let value = bind_some (expression_read make 1 (behind here)) _ (read, after) e in
-      let end = bind_some (sign_read is_semicolon value.0.1) _ (read, after) value.2 in
+      let value = bind_parts (expression_read make 1 (behind here)) _ (read, after) e in
+      let end = bind_parts (sign_read is_semicolon value.0.1) _ (read, after) value.2 in
       let part = expression_sound V L C make show 1 (behind here) value.0.1 value.0.0 (omega arith) value.1 in
       let spelled : SpellsInitial (Initially (place_of here) part.tree) here end.0 = (
         behind here,
@@ -165,8 +165,8 @@ module _ (V L C : Type 0) (make : Builds V L C) (show : Shows V L C make) where
       let no_end : is_end (next here) ≡ false = element_opens (λ kind. is_end kind ≡ false) begins_no_end refl tree here s.0 end.0 s.1 end.1 in
       let shorter : length end.0 ≤ n = omega (arith, h, part_shorter 0 tree here s.0 s.1, sign_shorter (PunctuationKind Semicolon) s.0 end.0 end.1) in
       ap (λ b. body_by make b (body_read make (suc n)) (show.trees done) here) no_end
-      ∙ bind_at _ _ (show.tree tree, s.0) _ (expression_found V L C make show 0 tree here s.0 s.1 (semicolon_ends 0 tree s.0 end.0 refl end.1))
-      (bind_at _ _ end.0 _ (sign_found is_semicolon (PunctuationKind Semicolon) semicolon_tests s.0 end.0 end.1)
+      ∙ bind_of_some _ _ (show.tree tree, s.0) _ (expression_found V L C make show 0 tree here s.0 s.1 (semicolon_ends 0 tree s.0 end.0 refl end.1))
+      (bind_of_some _ _ end.0 _ (sign_found is_semicolon (PunctuationKind Semicolon) semicolon_tests s.0 end.0 end.1)
       (ap (λ elements. body_read make (suc n) elements end.0) (sym (show.with_element done tree))
       ∙ body_behind trees (with_last done tree) end.0 middle after n shorter end.2 e
       ∙ ap (λ all. Some (show.trees all, middle)) (joined_last done tree trees)))
@@ -190,8 +190,8 @@ module _ (V L C : Type 0) (make : Builds V L C) (show : Shows V L C make) where
       subst (λ (r : L × List Token). BodySound done here r.0 r.1) (same_Some (show.trees done, here) (read, after) e)
       (NoTrees, refl, ap show.trees (sym (joined_none done)))
   body_step false done here others f read after e =
-      let value = bind_some (expression_read make 0 here) _ (read, after) e in
-      let end = bind_some (sign_read is_semicolon value.0.1) _ (read, after) value.2 in
+      let value = bind_parts (expression_read make 0 here) _ (read, after) e in
+      let end = bind_parts (sign_read is_semicolon value.0.1) _ (read, after) value.2 in
       let part = expression_sound V L C make show 0 here value.0.1 value.0.0 (omega arith) value.1 in
       let with_it : make.with_element (show.trees done) value.0.0 ≡ show.trees (with_last done part.tree) = ap (make.with_element (show.trees done)) part.is
       ∙ sym (show.with_element done part.tree) in

@@ -7,7 +7,7 @@ use Rattle.icn_tree.specs.Phrases.{next}
 use Rattle.icn_tree.specs.Trees.{Tree, Trees, Clauses}
 use Rattle.icn_expr.specs.Capped.{WithHeight, builds_with_height}
 use Rattle.icn_expr.specs.Reading.{expression_read}
-use Rattle.icn_expr.proofs.Capping.{capped_shows}
+use Rattle.icn_expr.proofs.CappedRuns.{capped_shows}
 use Rattle.icn_expr.proofs.Exact.{expression_sound}
 use Rattle.icn_parse.specs.FileReading.{◌>>=◌, is_end, is_semicolon, sign_read, body_by, body_read}
 use Rattle.icn_parse.proofs.NamesExact.{sign_sound}

@@ -8,16 +8,16 @@ use Rattle.icn_tree.specs.declared.token.Word.TheVariants as Words
 use Rattle.icn_tree.specs.declared.token.Punctuation.TheVariants.{OpenParenthesis, CloseParenthesis}
 use Rattle.icn_tree.specs.declared.tree.Place.{Place}
 use Rattle.icn_tree.specs.declared.tree.Name.{Name}
-use Rattle.icn_tree.specs.Trees.{Locals, Initial, NoInitial, Initially, Procedure, Declaration, Global, Link, Invocable, Record, ProcedureOf}
+use Rattle.icn_tree.specs.Trees.{LocalDecl, Initial, NoInitial, Initially, Procedure, Declaration, Global, Link, Invocable, Record, ProcedureOf}
 use Rattle.icn_tree.specs.Phrases.{Phrase, next, place_of, sign_at, sign, ◌⨾◌}
 use Rattle.icn_tree.specs.Grammar.{identifier, word_at}
 use Rattle.icn_tree.specs.Declarations.{SpellsMaybeNames, SpellsItem, SpellsLocals, SpellsInitial, SpellsBody, SpellsDeclaration, SpellsFile, IsTreeOf}
-use Rattle.icn_tree.proofs.Framed.{declaration_framed}
+use Rattle.icn_tree.proofs.FormStretches.{declaration_framed}
 use Rattle.icn_expr.specs.Automata.{Builds, behind, is_close_parenthesis}
-use Rattle.icn_expr.proofs.Showing.{Shows}
+use Rattle.icn_expr.proofs.SameSteps.{Shows}
 use Rattle.icn_parse.specs.FileReading.{is_open_parenthesis, is_end, sign_read, name_of, item_of, some_read, maybe_names, locals_read, initial_read, body_read, DeclarationOver, GlobalOver, LinkOver, InvocableOver, RecordOver, ProcedureIs, name_read, head_read, procedure_read, record_read, declaration_by, declaration_read, file_read}
-use Rattle.icn_parse.proofs.NamesExact.{bind_some, is_comma_next, one_name, one_item, some_found, some_sound, sign_found, sign_sound}
-use Rattle.icn_parse.proofs.HeadsExact.{bind_at, open_parenthesis_tests, close_parenthesis_tests, end_tests, sign_here, maybe_found, maybe_sound, locals_found, locals_sound, name_found, name_sound, SpellsHead, head_found, head_sound}
+use Rattle.icn_parse.proofs.NamesExact.{bind_parts, is_comma_next, one_name, one_item, some_found, some_sound, sign_found, sign_sound}
+use Rattle.icn_parse.proofs.HeadsExact.{bind_of_some, open_parenthesis_tests, close_parenthesis_tests, end_tests, sign_here, maybe_found, maybe_sound, locals_found, locals_sound, name_found, name_sound, SpellsHead, head_found, head_sound}
 use Rattle.icn_parse.proofs.BodiesExact as Bodies
 
 word_here : (kind : Kind) (here : List Token) → next here ≡ Some kind → sign_at (place_of here) kind here (behind here)
@@ -76,10 +76,10 @@ module _ (V L C : Type 0) (make : Builds V L C) (show : Shows V L C make) where
       let q = r.2 in
       let o = q.2 in
       ap (declaration_read make) s.1
-      ∙ bind_at _ _ (name, r.0) _ (name_found name s.0 r.0 r.1)
-      (bind_at _ _ q.0 _ (sign_found is_open_parenthesis (PunctuationKind OpenParenthesis) open_parenthesis_tests r.0 q.0 q.1)
-      (bind_at _ _ (fields, o.0) _ (maybe_found fields q.0 o.0 after o.1 o.2)
-      (bind_at _ _ after _ (sign_found is_close_parenthesis (PunctuationKind CloseParenthesis) close_parenthesis_tests o.0 after o.2) refl)))
+      ∙ bind_of_some _ _ (name, r.0) _ (name_found name s.0 r.0 r.1)
+      (bind_of_some _ _ q.0 _ (sign_found is_open_parenthesis (PunctuationKind OpenParenthesis) open_parenthesis_tests r.0 q.0 q.1)
+      (bind_of_some _ _ (fields, o.0) _ (maybe_found fields q.0 o.0 after o.1 o.2)
+      (bind_of_some _ _ after _ (sign_found is_close_parenthesis (PunctuationKind CloseParenthesis) close_parenthesis_tests o.0 after o.2) refl)))
 
   procedure_found : (p : Procedure) (here after : List Token) → SpellsDeclaration (ProcedureOf p) here after
       → declaration_read make here ≡ Some (shown_declaration (ProcedureOf p), after)
@@ -93,23 +93,23 @@ module _ (V L C : Type 0) (make : Builds V L C) (show : Shows V L C make) where
       let j = k.2 in
       let i = j.2 in
       ap (declaration_read make) s.1
-      ∙ bind_at _ _ (p.name, (p.parameters, p.is_variadic), l.0)
+      ∙ bind_of_some _ _ (p.name, (p.parameters, p.is_variadic), l.0)
       _ (head_found p.name p.parameters p.is_variadic s.0 l.0 (r.0, r.1, (q.0, q.1, (o.0, o.1, (m.0, m.1, l.1)))))
-      (bind_at _ _ (p.locals, k.0) _ (locals_found p.locals l.0 k.0 (length l.0) (omega arith) k.1
+      (bind_of_some _ _ (p.locals, k.0) _ (locals_found p.locals l.0 k.0 (length l.0) (omega arith) k.1
       (Bodies.initial_no_local p.initial k.0 j.0 j.1 (Bodies.body_no_local p.body j.0 i.0 after i.1 i.2)))
-      (bind_at _ _ (shown_initial p.initial, j.0)
+      (bind_of_some _ _ (shown_initial p.initial, j.0)
       _ (Bodies.initial_found V L C make show p.initial k.0 j.0 j.1 (Bodies.body_no_initial p.body j.0 i.0 after i.1 i.2))
-      (bind_at _ _ (show.trees p.body, i.0) _ (Bodies.body_found V L C make show p.body j.0 i.0 after (length j.0) (omega arith) i.1 i.2)
-      (bind_at _ _ after _ (sign_found is_end (WordKind Words.End) end_tests i.0 after i.2) refl))))
+      (bind_of_some _ _ (show.trees p.body, i.0) _ (Bodies.body_found V L C make show p.body j.0 i.0 after (length j.0) (omega arith) i.1 i.2)
+      (bind_of_some _ _ after _ (sign_found is_end (WordKind Words.End) end_tests i.0 after i.2) refl))))
 
   declaration_found : (declaration : Declaration) (here after : List Token) → SpellsDeclaration declaration here after → is_comma_next (next after) ≡ false
       → declaration_read make here ≡ Some (shown_declaration declaration, after)
   declaration_found (Global place names) here after s e =
-      ap (declaration_read make) s.1 ∙ bind_at _ _ (names, after) _ (some_found name_of identifier one_name names s.0 after s.2 e) refl
+      ap (declaration_read make) s.1 ∙ bind_of_some _ _ (names, after) _ (some_found name_of identifier one_name names s.0 after s.2 e) refl
   declaration_found (Link place items) here after s e =
-      ap (declaration_read make) s.1 ∙ bind_at _ _ (items, after) _ (some_found item_of SpellsItem one_item items s.0 after s.2 e) refl
+      ap (declaration_read make) s.1 ∙ bind_of_some _ _ (items, after) _ (some_found item_of SpellsItem one_item items s.0 after s.2 e) refl
   declaration_found (Invocable place items) here after s e =
-      ap (declaration_read make) s.1 ∙ bind_at _ _ (items, after) _ (some_found item_of SpellsItem one_item items s.0 after s.2 e) refl
+      ap (declaration_read make) s.1 ∙ bind_of_some _ _ (items, after) _ (some_found item_of SpellsItem one_item items s.0 after s.2 e) refl
   declaration_found (Record place name fields) here after s e = record_found place name fields here after s
   declaration_found (ProcedureOf p) here after s e = procedure_found p here after s
 
@@ -121,10 +121,10 @@ module _ (V L C : Type 0) (make : Builds V L C) (show : Shows V L C make) where
   record_sound : (place : Place) (here tokens : List Token) (read : DeclarationOver V L) (after : List Token) → word_at place Words.Record here tokens
       → record_read place tokens ≡ Some (read, after) → IsRead read here after
   record_sound place here tokens read after w e =
-      let n = bind_some (name_read tokens) _ (read, after) e in
-      let o = bind_some (sign_read is_open_parenthesis n.0.1) _ (read, after) n.2 in
-      let f = bind_some (maybe_names o.0) _ (read, after) o.2 in
-      let c = bind_some (sign_read is_close_parenthesis f.0.1) _ (read, after) f.2 in
+      let n = bind_parts (name_read tokens) _ (read, after) e in
+      let o = bind_parts (sign_read is_open_parenthesis n.0.1) _ (read, after) n.2 in
+      let f = bind_parts (maybe_names o.0) _ (read, after) o.2 in
+      let c = bind_parts (sign_read is_close_parenthesis f.0.1) _ (read, after) f.2 in
       let inner : SpellsRecord n.0.0 f.0.0 tokens c.0 = (
         n.0.1,
         name_sound tokens n.0.0 n.0.1 n.1,
@@ -137,7 +137,7 @@ module _ (V L C : Type 0) (make : Builds V L C) (show : Shows V L C make) where
       subst (λ (r : DeclarationOver V L × List Token). IsRead r.0 here r.1) (same_Some (RecordOver place n.0.0 f.0.0, c.0) (read, after) c.2)
       (Record place n.0.0 f.0.0, (tokens, w, inner), refl)
 
-  same_procedure : (place : Place) (name : Name) (parameters : List Name) (is_variadic : Bool) (locals : List Locals)
+  same_procedure : (place : Place) (name : Name) (parameters : List Name) (is_variadic : Bool) (locals : List LocalDecl)
       (initial other_initial : Option (Place × V)) (body other_body : L) → initial ≡ other_initial → body ≡ other_body
       → ◌≡◌ {A = DeclarationOver V L}
       (ProcedureIs (record { place = place; name = name; parameters = parameters; is_variadic = is_variadic; locals = locals; initial = initial; body = body }))
@@ -152,11 +152,11 @@ module _ (V L C : Type 0) (make : Builds V L C) (show : Shows V L C make) where
   procedure_sound : (place : Place) (here tokens : List Token) (read : DeclarationOver V L) (after : List Token) → word_at place Words.Procedure here tokens
       → procedure_read make place tokens ≡ Some (read, after) → IsRead read here after
   procedure_sound place here tokens read after w e =
-      let h = bind_some (head_read tokens) _ (read, after) e in
-      let l = bind_some (locals_read (suc (length h.0.2)) h.0.2) _ (read, after) h.2 in
-      let i = bind_some (initial_read make l.0.1) _ (read, after) l.2 in
-      let b = bind_some (body_read make (suc (length i.0.1)) make.no_elements i.0.1) _ (read, after) i.2 in
-      let r = bind_some (sign_read is_end b.0.1) _ (read, after) b.2 in
+      let h = bind_parts (head_read tokens) _ (read, after) e in
+      let l = bind_parts (locals_read (suc (length h.0.2)) h.0.2) _ (read, after) h.2 in
+      let i = bind_parts (initial_read make l.0.1) _ (read, after) l.2 in
+      let b = bind_parts (body_read make (suc (length i.0.1)) make.no_elements i.0.1) _ (read, after) i.2 in
+      let r = bind_parts (sign_read is_end b.0.1) _ (read, after) b.2 in
       let head = head_sound tokens h.0.0 h.0.1.0 h.0.1.1 h.0.2 h.1 in
       let initial = Bodies.initial_sound V L C make show l.0.1 i.0.0 i.0.1 i.1 in
       let body = Bodies.body_sound V L C make show (suc (length i.0.1)) i.0.1 b.0.0 b.0.1 b.1 in
@@ -172,21 +172,21 @@ module _ (V L C : Type 0) (make : Builds V L C) (show : Shows V L C make) where
   pub declaration_sound : (kind : Option Kind) (here : List Token) (read : DeclarationOver V L) (after : List Token) → next here ≡ kind
       → declaration_by make kind (place_of here) (behind here) ≡ Some (read, after) → IsRead read here after
   declaration_sound (Some (WordKind Words.Global)) here read after k e =
-      let names = bind_some (some_read name_of (behind here)) _ (read, after) e in
+      let names = bind_parts (some_read name_of (behind here)) _ (read, after) e in
       subst (λ (r : DeclarationOver V L × List Token). IsRead r.0 here r.1) (same_Some (GlobalOver (place_of here) names.0.0, names.0.1) (read, after) names.2) (
         Global (place_of here) names.0.0,
         (behind here, word_here (WordKind Words.Global) here k, (some_sound name_of identifier one_name (behind here) names.0.0 names.0.1 names.1).spelled),
         refl,
       )
   declaration_sound (Some (WordKind Words.Link)) here read after k e =
-      let items = bind_some (some_read item_of (behind here)) _ (read, after) e in
+      let items = bind_parts (some_read item_of (behind here)) _ (read, after) e in
       subst (λ (r : DeclarationOver V L × List Token). IsRead r.0 here r.1) (same_Some (LinkOver (place_of here) items.0.0, items.0.1) (read, after) items.2) (
         Link (place_of here) items.0.0,
         (behind here, word_here (WordKind Words.Link) here k, (some_sound item_of SpellsItem one_item (behind here) items.0.0 items.0.1 items.1).spelled),
         refl,
       )
   declaration_sound (Some (WordKind Words.Invocable)) here read after k e =
-      let items = bind_some (some_read item_of (behind here)) _ (read, after) e in
+      let items = bind_parts (some_read item_of (behind here)) _ (read, after) e in
       subst (λ (r : DeclarationOver V L × List Token). IsRead r.0 here r.1)
       (same_Some (InvocableOver (place_of here) items.0.0, items.0.1) (read, after) items.2) (
         Invocable (place_of here) items.0.0,
@@ -205,8 +205,8 @@ module _ (V L C : Type 0) (make : Builds V L C) (show : Shows V L C make) where
       → here ≡ token ∷ tokens → declaration_read make here ≡ Some (first, after) → file_read make n after ≡ Some others
       → file_read make (suc n) here ≡ Some (first ∷ others)
   file_more first others token tokens here after n e d o =
-      ap (file_read make (suc n)) e ∙ bind_at (declaration_read make (token ∷ tokens)) _ (first, after) _ (ap (declaration_read make) (sym e) ∙ d)
-      (bind_at (file_read make n after) _ others _ o refl)
+      ap (file_read make (suc n)) e ∙ bind_of_some (declaration_read make (token ∷ tokens)) _ (first, after) _ (ap (declaration_read make) (sym e) ∙ d)
+      (bind_of_some (file_read make n after) _ others _ o refl)
 
   -- the tree of the tokens is read
   pub file_found : (file : List Declaration) (tokens : List Token) (n : ℕ) → length tokens ≤ n → IsTreeOf file tokens
@@ -225,8 +225,8 @@ module _ (V L C : Type 0) (make : Builds V L C) (show : Shows V L C make) where
   file_sound [] n found e = ([], refl, sym (same_Some [] found e))
   file_sound (token ∷ tokens) zero found e = absurd (none-some found e)
   file_sound (token ∷ tokens) (suc n) found e =
-      let first = bind_some (declaration_read make (token ∷ tokens)) _ found e in
-      let others = bind_some (file_read make n first.0.1) _ found first.2 in
+      let first = bind_parts (declaration_read make (token ∷ tokens)) _ found e in
+      let others = bind_parts (file_read make n first.0.1) _ found first.2 in
       let d = declaration_sound (next (token ∷ tokens)) (token ∷ tokens) first.0.0 first.0.1 refl first.1 in
       let rest = file_sound first.0.1 n others.0 others.1 in (
         d.0 ∷ rest.0,

@@ -6,12 +6,12 @@ use Rattle.icn_tree.specs.declared.token.Token.{Token}
 use Rattle.icn_tree.specs.declared.tree.Place.{Place}
 use Rattle.icn_tree.specs.Phrases.{next}
 use Rattle.icn_tree.specs.Trees.{Tree, Trees, Clauses, Declaration}
-use Rattle.icn_tree.proofs.Framed.{declaration_framed}
+use Rattle.icn_tree.proofs.FormStretches.{declaration_framed}
 use Rattle.icn_expr.specs.Capped.{WithHeight, builds_with_height}
-use Rattle.icn_expr.proofs.Capping.{capped_shows}
+use Rattle.icn_expr.proofs.CappedRuns.{capped_shows}
 use Rattle.icn_parse.specs.FileReading.{◌>>=◌, declaration_read, file_read}
-use Rattle.icn_parse.specs.Gathering.{CappedDeclaration, Finish, finish, high_with, done_with, kept_declarations}
-use Rattle.icn_parse.specs.declared.stop.Stop.{Stop}
+use Rattle.icn_parse.specs.KeptDeclarations.{CappedDeclaration, Finish, finish, high_with, done_with, kept_declarations}
+use Rattle.icn_parse.specs.declared.stop.ParseStop.{ParseStop}
 use Rattle.icn_parse.specs.Views.{ReadsNothing, finished_read}
 use Rattle.icn_parse.proofs.DeclarationsExact.{declaration_sound}
 
@@ -99,7 +99,7 @@ file_stops tokens high done (token ∷ rest) so some e =
     none_before None e = refl
     none_before (Some all) e = absurd (none-some _ (sym e))
 
-pub file_stopped : (tokens : List Token) (high : Option Place) (done : List Declaration) (rest : List Token) (stop : Stop) → FileSo tokens high done rest
+pub file_stopped : (tokens : List Token) (high : Option Place) (done : List Declaration) (rest : List Token) (stop : ParseStop) → FileSo tokens high done rest
     → 0 < length rest → ReadsNothing (finished_read (declaration_read builds_with_height rest)) stop
     → ReadsNothing (file_read builds_with_height (length tokens) tokens) stop
 file_stopped tokens high done rest stop so some (inl is) = inl is

@@ -2,8 +2,8 @@ pub mod NamesExact
 pub mod HeadsExact
 pub mod BodiesExact
 pub mod DeclarationsExact
-pub mod Looping
+pub mod ParserLoops
 pub mod BodyLoop
 pub mod FileLoop
 pub mod UnknownKeywords
-pub mod Answering
+pub mod ReadOutcomes

@@ -8,17 +8,18 @@ use Rattle.icn_tree.specs.declared.token.Token.{Token}
 use Rattle.icn_tree.specs.declared.token.Punctuation.TheVariants.{Comma}
 use Rattle.icn_tree.specs.declared.tree.Place.{Place}
 use Rattle.icn_tree.specs.declared.tree.Name.{Name}
-use Rattle.icn_tree.specs.declared.tree.Item.{Item}
-use Rattle.icn_tree.specs.declared.tree.Item.TheVariants as Items
+use Rattle.icn_tree.specs.declared.tree.DeclItem.{DeclItem}
+use Rattle.icn_tree.specs.declared.tree.DeclItem.TheVariants as Items
 use Rattle.icn_tree.specs.Phrases.{Phrase, next, token_at, sign}
 use Rattle.icn_tree.specs.Grammar.{identifier, mark}
 use Rattle.icn_tree.specs.Declarations.{MoreWithCommas, WithCommas, SpellsItem}
 use Rattle.icn_expr.specs.Automata.{behind}
 use Rattle.icn_parse.specs.FileReading.{◌>>=◌, is_comma, name_at, name_of, item_at, item_of, sign_by, sign_read, in_front, further_by, further, some_read}
 
-pub bind_some : {A B : Type 0} (o : Option A) (f : A → Option B) (y : B) → (o >>= f) ≡ Some y → (x : A) × (o ≡ Some x) × (f x ≡ Some y)
-bind_some None f y e = absurd (none-some y e)
-bind_some (Some x) f y e = (x, refl, e)
+-- both steps of a reading that gave something gave something
+pub bind_parts : {A B : Type 0} (o : Option A) (f : A → Option B) (y : B) → (o >>= f) ≡ Some y → (x : A) × (o ≡ Some x) × (f x ≡ Some y)
+bind_parts None f y e = absurd (none-some y e)
+bind_parts (Some x) f y e = (x, refl, e)
 
 abbrev pub is_comma_next : Option Kind → Bool
 is_comma_next None = false
@@ -41,11 +42,11 @@ one_name = record {
   sound = λ name token after e. name_sound name token.kind (record { line = token.line; file = token.file }) after e;
 }
 
-item_reads : (item : Item) (here after : List Token) → SpellsItem item here after → (token : Token) × (here ≡ token ∷ after) × (item_of token ≡ Some item)
+item_reads : (item : DeclItem) (here after : List Token) → SpellsItem item here after → (token : Token) × (here ≡ token ∷ after) × (item_of token ≡ Some item)
 item_reads (Items.Identifier name) here after s = (token_at name.place (IdentifierKind name.text), s, refl)
 item_reads (Items.Text name) here after s = (token_at name.place (TextKind name.text), s, refl)
 
-item_sound : (item : Item) (kind : Kind) (place : Place) (after : List Token) → item_at kind place ≡ Some item
+item_sound : (item : DeclItem) (kind : Kind) (place : Place) (after : List Token) → item_at kind place ≡ Some item
     → SpellsItem item (token_at place kind ∷ after) after
 item_sound item (IdentifierKind text) place after e = subst (λ i. SpellsItem i (token_at place (IdentifierKind text) ∷ after) after)
     (same_Some (Items.Identifier (record { text = text; place = place })) item e) refl
@@ -171,6 +172,7 @@ sign_by_sound : (test : Option Kind → Bool) (kind : Kind) → Tests test kind 
 sign_by_sound test kind t true here after f e = subst (λ tokens. sign kind here tokens) (same_Some (behind here) after e) (sign_at_next test kind t here f)
 sign_by_sound test kind t false here after f e = absurd (none-some after e)
 
+-- a sign that is read is one of the grammar
 pub sign_sound : (test : Option Kind → Bool) (kind : Kind) → Tests test kind → (here after : List Token) → sign_read test here ≡ Some after
     → sign kind here after
 sign_sound test kind t here after e = sign_by_sound test kind t (test (next here)) here after refl e

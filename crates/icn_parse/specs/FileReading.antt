@@ -7,11 +7,11 @@ use Rattle.icn_tree.specs.declared.token.Word.TheVariants as Words
 use Rattle.icn_tree.specs.declared.token.Punctuation.TheVariants.{OpenParenthesis, OpenBracket, Comma, Semicolon}
 use Rattle.icn_tree.specs.declared.tree.Place.{Place}
 use Rattle.icn_tree.specs.declared.tree.Name.{Name}
-use Rattle.icn_tree.specs.declared.tree.Item.{Item}
-use Rattle.icn_tree.specs.declared.tree.Item.TheVariants as Items
+use Rattle.icn_tree.specs.declared.tree.DeclItem.{DeclItem}
+use Rattle.icn_tree.specs.declared.tree.DeclItem.TheVariants as Items
 use Rattle.icn_tree.specs.declared.tree.LocalKind.{LocalKind}
 use Rattle.icn_tree.specs.declared.tree.LocalKind.TheVariants.{Local, Static}
-use Rattle.icn_tree.specs.Trees.{Locals}
+use Rattle.icn_tree.specs.Trees.{LocalDecl}
 use Rattle.icn_tree.specs.Phrases.{next, place_of}
 use Rattle.icn_expr.specs.Automata.{Builds, behind, is_close_parenthesis, is_close_bracket}
 use Rattle.icn_expr.specs.Reading.{expression_read}
@@ -67,13 +67,13 @@ name_at _ place = None
 abbrev pub name_of : Token → Option Name
 name_of token = name_at token.kind (record { line = token.line; file = token.file })
 
-abbrev pub item_at : Kind → Place → Option Item
+abbrev pub item_at : Kind → Place → Option DeclItem
 item_at (IdentifierKind text) place = Some (Items.Identifier (record { text = text; place = place }))
 item_at (TextKind text) place = Some (Items.Text (record { text = text; place = place }))
 item_at _ place = None
 
 -- a token that `link` or `invocable` may have, an identifier or a string, as an item
-abbrev pub item_of : Token → Option Item
+abbrev pub item_of : Token → Option DeclItem
 item_of token = item_at token.kind (record { line = token.line; file = token.file })
 
 -- a token that passes a test
@@ -121,14 +121,14 @@ abbrev pub parameters_read : List Token → Option (List Name × Bool × List To
 parameters_read tokens =
     maybe_names tokens >>= λ names. variadic_by (is_open_bracket (next names.1)) names.0 names.1
 
-abbrev pub locals_by : Option LocalKind → Reads (List Locals) → Reads (List Locals)
+abbrev pub locals_by : Option LocalKind → Reads (List LocalDecl) → Reads (List LocalDecl)
 locals_by None others tokens = Some ([], tokens)
 locals_by (Some kind) others tokens =
     some_read name_of (behind tokens) >>= λ names. sign_read is_semicolon names.1 >>= λ rest. others rest
     >>= λ found. Some (record { place = place_of tokens; kind = kind; names = names.0 } ∷ found.0, found.1)
 
 -- in so many steps
-abbrev pub locals_read : ℕ → Reads (List Locals)
+abbrev pub locals_read : ℕ → Reads (List LocalDecl)
 locals_read zero tokens = None
 locals_read (suc n) tokens = locals_by (local_kind (next tokens)) (locals_read n) tokens
 
@@ -156,14 +156,14 @@ pub record ProcedureOver (V L : Type 0) : Type 0 where
   pub name : Name
   pub parameters : List Name
   pub is_variadic : Bool
-  pub locals : List Locals
+  pub locals : List LocalDecl
   pub initial : Option (Place × V)
   pub body : L
 
 pub data DeclarationOver (V L : Type 0) : Type 0 where
   GlobalOver : Place → List Name → DeclarationOver V L
-  LinkOver : Place → List Item → DeclarationOver V L
-  InvocableOver : Place → List Item → DeclarationOver V L
+  LinkOver : Place → List DeclItem → DeclarationOver V L
+  InvocableOver : Place → List DeclItem → DeclarationOver V L
   RecordOver : Place → Name → List Name → DeclarationOver V L
   ProcedureIs : ProcedureOver V L → DeclarationOver V L
 

@@ -1,6 +1,6 @@
 pub mod Outcomes
 pub mod FileReading
 pub mod PartReading
-pub mod Gathering
+pub mod KeptDeclarations
 pub mod Views
 pub mod Longest

@@ -77,43 +77,44 @@ first_too_high (ProcedureOf p ∷ others) =
 first_too_high (other ∷ others) = first_too_high others
 
 -- an unknown keyword, or a form that is not in this profile
-pub data Fault : Type 0 where
-  UnknownKeyword : Place → Fault
-  NotInProfile : Place → Fault
+pub data ProfileFault : Type 0 where
+  UnknownKeyword : Place → ProfileFault
+  NotInProfile : Place → ProfileFault
 
 abbrev pub initial_keywords : Initial → List Name
 initial_keywords NoInitial = []
 initial_keywords (Initially place value) = keywords value
 
 -- what a declaration has that is not in this profile
-abbrev pub declaration_fault : Declaration → Option Fault
+abbrev pub declaration_fault : Declaration → Option ProfileFault
 declaration_fault (Invocable place items) = Some (NotInProfile place)
 declaration_fault (ProcedureOf p) =
     option_map UnknownKeyword (first_unknown (initial_keywords p.initial ++ all_keywords p.body))
 declaration_fault declaration = None
 
-abbrev pub fault_or : Option Fault → Option Fault → Option Fault
+abbrev pub fault_or : Option ProfileFault → Option ProfileFault → Option ProfileFault
 fault_or (Some fault) later = Some fault
 fault_or None later = later
 
 -- what the first declaration has that has it
-abbrev pub first_fault : List Declaration → Option Fault
+abbrev pub first_fault : List Declaration → Option ProfileFault
 first_fault [] = None
 first_fault (declaration ∷ others) = fault_or (declaration_fault declaration) (first_fault others)
 
 -- The answers, by their cases. No program comes before a tree that is too high, and that before the other faults.
-pub data Outcome : Type 0 where
-  NoProgram : Outcome
-  TooHigh : Place → Outcome
-  Faulty : Fault → Outcome
-  IsTree : List Declaration → Outcome
+pub data Parsed : Type 0 where
+  NoProgram : Parsed
+  TooHigh : Place → Parsed
+  Faulty : ProfileFault → Parsed
+  IsTree : List Declaration → Parsed
 
 -- what tokens come to: they are no program; a tree is too high; a rule is broken; or this is their tree
-pub data IsOutcome (tokens : List Token) : Outcome → Type 0 where
+pub data IsOutcome (tokens : List Token) : Parsed → Type 0 where
   no_program : (HasTree tokens → ⊥) → IsOutcome tokens NoProgram
   too_high : (file : List Declaration) (place : Place) → IsTreeOf file tokens
       → first_too_high file ≡ Some place → IsOutcome tokens (TooHigh place)
-  faulty : (file : List Declaration) (fault : Fault) → IsTreeOf file tokens → first_too_high file ≡ None
+  faulty : (file : List Declaration) (fault : ProfileFault) → IsTreeOf file tokens
+      → first_too_high file ≡ None
       → first_fault file ≡ Some fault → IsOutcome tokens (Faulty fault)
   is_tree : (file : List Declaration) → IsTreeOf file tokens → first_too_high file ≡ None
       → first_fault file ≡ None → IsOutcome tokens (IsTree file)

@@ -3,7 +3,7 @@ use Rattle.std.specs.Prelude.{◌≡◌, ◌⊎◌, List, map, Option, Some, Non
 use Rattle.std.specs.Option.{option_map}
 use Rattle.icn_tree.specs.declared.tree.Place.{Place}
 use Rattle.icn_tree.specs.declared.token.Token.{Token}
-use Rattle.icn_tree.specs.declared.tree.File.{File}
+use Rattle.icn_tree.specs.declared.tree.SourceFile.{SourceFile}
 use Rattle.icn_tree.specs.declared.rule.Rule.{Rule}
 use Rattle.icn_tree.specs.declared.rule.Rule.TheVariants.{S1, S2, S3, S4}
 use Rattle.icn_tree.specs.TreeOf.{declaration_of, declarations_of, locals_of}
@@ -11,9 +11,9 @@ use Rattle.icn_tree.specs.Trees.{Tree, Declaration}
 use Rattle.icn_tree.specs.Declarations.{IsTreeOf}
 use Rattle.icn_expr.specs.Capped.{WithHeight}
 use Rattle.icn_expr.specs.Views.{capped_of, elements_of}
-use Rattle.icn_parse.specs.declared.stop.Stop.{Stop}
-use Rattle.icn_parse.specs.declared.stop.Stop.TheVariants.{NotHere, NoMemory}
-use Rattle.icn_parse.specs.declared.procedure.First.{First}
+use Rattle.icn_parse.specs.declared.stop.ParseStop.{ParseStop}
+use Rattle.icn_parse.specs.declared.stop.ParseStop.TheVariants.{NotHere, NoMemory}
+use Rattle.icn_parse.specs.declared.procedure.InitialExpr.{InitialExpr}
 use Rattle.icn_parse.specs.declared.procedure.Outline.{Outline}
 use Rattle.icn_parse.specs.declared.declaration.Finished.{Finished}
 use Rattle.icn_parse.specs.declared.declaration.Finished.TheVariants as F
@@ -22,14 +22,14 @@ use Rattle.icn_parse.specs.declared.check.Unfit.TheVariants as U
 use Rattle.icn_parse.specs.declared.fault.ParseFault.{ParseFault}
 use Rattle.icn_parse.specs.declared.fault.ParseFault.TheVariants.{Broken, NoMemory as NoMemoryFault}
 use Rattle.icn_parse.specs.FileReading.{ProcedureIs}
-use Rattle.icn_parse.specs.Gathering.{CappedDeclaration, Finish, IsKept, IsTooHigh, finish}
-use Rattle.icn_parse.specs.Outcomes.{Fault, UnknownKeyword, NotInProfile, Outcome, NoProgram, TooHigh, Faulty, IsTree, first_too_high}
+use Rattle.icn_parse.specs.KeptDeclarations.{CappedDeclaration, Finish, IsKept, IsTooHigh, finish}
+use Rattle.icn_parse.specs.Outcomes.{ProfileFault, UnknownKeyword, NotInProfile, Parsed, NoProgram, TooHigh, Faulty, IsTree, first_too_high}
 
 -- nothing is read, or memory ran out
-abbrev pub ReadsNothing : {A : Type 0} → Option A → Stop → Type 0
+abbrev pub ReadsNothing : {A : Type 0} → Option A → ParseStop → Type 0
 ReadsNothing read stop = (stop ≡ NoMemory) ⊎ (read ≡ None)
 
-abbrev pub first_value : First → Place × WithHeight Tree
+abbrev pub first_value : InitialExpr → Place × WithHeight Tree
 first_value first = (first.place, capped_of first.value)
 
 -- a procedure as it was read, whose parts may be too high
@@ -58,17 +58,17 @@ abbrev pub place_found : Result (Unit {0}) Place → Option Place
 place_found (Ok done) = None
 place_found (Err place) = Some place
 
-abbrev pub fault_at : Unfit → Fault
+abbrev pub fault_at : Unfit → ProfileFault
 fault_at (U.UnknownKeyword place) = UnknownKeyword place
 fault_at (U.NotInProfile place) = NotInProfile place
 
 -- what a check of declarations answers
-abbrev pub fault_found : Result (Unit {0}) Unfit → Option Fault
+abbrev pub fault_found : Result (Unit {0}) Unfit → Option ProfileFault
 fault_found (Ok done) = None
 fault_found (Err unfit) = Some (fault_at unfit)
 
 -- the rule that is broken where a file could not be read on, or want of memory
-abbrev pub fault_of_stop : Stop → ParseFault
+abbrev pub fault_of_stop : ParseStop → ParseFault
 fault_of_stop NotHere = Broken S1 0 0
 fault_of_stop NoMemory = NoMemoryFault
 
@@ -78,7 +78,7 @@ fault_of_unfit (U.UnknownKeyword place) = Broken S3 place.file place.line
 fault_of_unfit (U.NotInProfile place) = Broken S4 place.file place.line
 
 -- the rule that an outcome breaks, and where: S1 has line 0 of the named file
-abbrev pub broken_by : Outcome → Option (Rule × Place)
+abbrev pub broken_by : Parsed → Option (Rule × Place)
 broken_by NoProgram = Some (S1, record { line = 0; file = 0 })
 broken_by (TooHigh place) = Some (S2, place)
 broken_by (Faulty (UnknownKeyword place)) = Some (S3, place)
@@ -86,13 +86,13 @@ broken_by (Faulty (NotInProfile place)) = Some (S4, place)
 broken_by (IsTree file) = None
 
 -- the fault is of an outcome, or memory ran out
-abbrev pub Breaks : (Outcome → Type 0) → ParseFault → Type 0
-Breaks IsIt (Broken rule file line) = (outcome : Outcome) × IsIt outcome
+abbrev pub Breaks : (Parsed → Type 0) → ParseFault → Type 0
+Breaks IsIt (Broken rule file line) = (outcome : Parsed) × IsIt outcome
     × (broken_by outcome ≡ Some (rule, record { line = line; file = file }))
 Breaks IsIt NoMemoryFault = Unit {0}
 
 -- The answer is the outcome's, or memory ran out.
-abbrev pub Answers : (Outcome → Type 0) → Result File ParseFault → Type 0
+abbrev pub Answers : (Parsed → Type 0) → Result SourceFile ParseFault → Type 0
 Answers IsIt (Ok file) = IsIt (IsTree (declarations_of file))
 Answers IsIt (Err fault) = Breaks IsIt fault
 

@@ -5,14 +5,14 @@ ghost use Rattle.icn_tree.specs.Phrases.{next};
 ghost use Rattle.icn_tree.specs.TreeOf.{initial_of};
 ghost use Rattle.icn_expr.specs.Capped.{builds_with_height};
 ghost use Rattle.icn_parse.specs.FileReading.{record_read, declaration_by, declaration_read};
-ghost use Rattle.icn_parse.specs.Gathering.{finish, finish_initial};
+ghost use Rattle.icn_parse.specs.KeptDeclarations.{finish, finish_initial};
 ghost use Rattle.icn_parse.specs.Views.{ReadsNothing, first_value, finish_of, finished_read, outline_of};
 
 use crate::names::{read_items, read_maybe_names, read_name, read_names};
-use crate::procedure::{First, Head, Outline, read_procedure};
+use crate::procedure::{InitialExpr, Outline, ProcedureHead, read_procedure};
 use crate::sign::{close_parenthesis_next, open_parenthesis_next, sign};
-use crate::stop::Stop;
-use icn_tree::{Decl, Expr, Initial, Kind, Locals, Place, Procedure, Token, Word};
+use crate::stop::ParseStop;
+use icn_tree::{Decl, Expr, Initial, Kind, LocalDecl, Place, Procedure, Token, Word};
 use std::alloc::Global;
 
 /// A declaration that was read.
@@ -26,8 +26,8 @@ pub enum Finished {
 
 // What is too high is let go.
 fn discard(
-    head: Head,
-    locals: Vec<Locals>,
+    head: ProcedureHead,
+    locals: Vec<LocalDecl>,
     initial: Option<Option<Initial>>,
     body: Option<Vec<Expr>>,
 ) {
@@ -38,7 +38,7 @@ fn discard(
 }
 
 // The expression of an `initial`, unless it is too high.
-fn finish_first(first: Option<First>) -> Option<Option<Initial>>
+fn finish_first(first: Option<InitialExpr>) -> Option<Option<Initial>>
     ensures { option_map initial_of result ≡ finish_initial (option_map first_value first) }
 {
     let Some(first) = first else {
@@ -83,7 +83,7 @@ fn read_record<'a>(
     alloc: Global,
     place: Place,
     tokens: &'a [Token],
-) -> Result<(Finished, &'a [Token]), Stop>
+) -> Result<(Finished, &'a [Token]), ParseStop>
     ensures { let read = finished_read (record_read place tokens.now) in
         MatchResult result (λ found. read ≡ Some (finish_of found.0, found.1.now)) (ReadsNothing read) }
 {
@@ -107,7 +107,7 @@ fn read_behind<'a>(
     kind: &Kind,
     place: Place,
     tokens: &'a [Token],
-) -> Result<(Finished, &'a [Token]), Stop>
+) -> Result<(Finished, &'a [Token]), ParseStop>
     ensures { let read = finished_read (declaration_by builds_with_height (Some kind.now) place tokens.now) in
         MatchResult result (λ found. read ≡ Some (finish_of found.0, found.1.now)) (ReadsNothing read) }
 {
@@ -129,7 +129,7 @@ fn read_behind<'a>(
             let (outline, rest) = read_procedure(alloc, place, tokens)?;
             Ok((finish_outline(outline), rest))
         }
-        _ => Err(Stop::NotHere),
+        _ => Err(ParseStop::NotHere),
     }
 }
 
@@ -137,12 +137,12 @@ fn read_behind<'a>(
 pub fn read_declaration<'a>(
     alloc: Global,
     tokens: &'a [Token],
-) -> Result<(Finished, &'a [Token]), Stop>
+) -> Result<(Finished, &'a [Token]), ParseStop>
     ensures { let read = finished_read (declaration_read builds_with_height tokens.now) in
         MatchResult result (λ found. read ≡ Some (finish_of found.0, found.1.now)) (ReadsNothing read) }
 {
     let Some((token, rest)) = tokens.split_first() else {
-        return Err(Stop::NotHere);
+        return Err(ParseStop::NotHere);
     };
     let place = Place {
         line: token.line,

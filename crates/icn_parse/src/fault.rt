@@ -2,11 +2,11 @@
 ghost use Rattle.std.specs.Prelude.{◌≡◌};
 ghost use Rattle.icn_parse.specs.declared.fault.ParseFault.TheVariants.{Broken as IsBroken, NoMemory as IsNoMemory};
 ghost use Rattle.icn_tree.specs.declared.rule.Rule.TheVariants.{S1};
-ghost use Rattle.icn_parse.specs.declared.stop.Stop.TheVariants.{NotHere};
+ghost use Rattle.icn_parse.specs.declared.stop.ParseStop.TheVariants.{NotHere};
 ghost use Rattle.icn_parse.specs.Views.{fault_of_stop, fault_of_unfit};
 
 use crate::check::Unfit;
-use crate::stop::Stop;
+use crate::stop::ParseStop;
 use icn_tree::{Place, Rule};
 use std::alloc::AllocError;
 
@@ -52,17 +52,17 @@ impl From<Unfit> for ParseFault {
     }
 }
 
-impl From<Stop> for ParseFault {
+impl From<ParseStop> for ParseFault {
     ghost from_gives = { λ stop fault. fault ≡ fault_of_stop stop };
 
-    fn from(stop: Stop) -> Self {
+    fn from(stop: ParseStop) -> Self {
         match stop {
-            Stop::NotHere => ParseFault::Broken {
+            ParseStop::NotHere => ParseFault::Broken {
                 rule: Rule::S1,
                 file: 0,
                 line: 0,
             },
-            Stop::NoMemory => ParseFault::NoMemory,
+            ParseStop::NoMemory => ParseFault::NoMemory,
         }
     }
 }

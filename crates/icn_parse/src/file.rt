@@ -4,24 +4,24 @@ ghost use Rattle.std.specs.Option.{option_map};
 ghost use Rattle.icn_tree.specs.TreeOf.{declaration_of};
 ghost use Rattle.icn_expr.specs.Capped.{builds_with_height};
 ghost use Rattle.icn_parse.specs.FileReading.{file_read};
-ghost use Rattle.icn_parse.specs.Gathering.{kept_declarations, high_with, done_with};
+ghost use Rattle.icn_parse.specs.KeptDeclarations.{kept_declarations, high_with, done_with};
 ghost use Rattle.icn_parse.specs.Views.{ReadsNothing, finish_of};
 
 use crate::declaration::{Finished, read_declaration};
-use crate::stop::Stop;
+use crate::stop::ParseStop;
 use icn_tree::{Decl, Place, Token};
 use std::alloc::{AllocError, Global};
 
 /// What is kept of the declarations of a program text.
 #[derive(Drop)]
-pub struct Gathered {
+pub struct KeptDeclarations {
     /// The name of the first procedure that has a tree higher than 2000.
     pub high: Option<Place>,
     /// The declarations that have none.
     pub decls: Vec<Decl>,
 }
 
-impl Gathered {
+impl KeptDeclarations {
     // One declaration more.
     fn add(&mut self, finished: Finished) -> Result<(), AllocError>
         ensures high { IfOk result (λ done. self.new.high ≡ high_with self.old.high (finish_of finished)) }
@@ -41,12 +41,12 @@ impl Gathered {
 }
 
 /// The declarations of a program text.
-pub fn read_file(alloc: Global, tokens: &[Token]) -> Result<Gathered, Stop>
+pub fn read_file(alloc: Global, tokens: &[Token]) -> Result<KeptDeclarations, ParseStop>
     ensures { let read = file_read builds_with_height (length tokens.now) tokens.now in
         MatchResult result (λ all. option_map (kept_declarations None []) read
         ≡ Some (all.high, map declaration_of all.decls.items)) (ReadsNothing read) }
 {
-    let mut all = Gathered {
+    let mut all = KeptDeclarations {
         high: None,
         decls: Vec::new(alloc),
     };

@@ -6,13 +6,13 @@ mod declaration;
 mod fault;
 mod file;
 mod keywords;
-mod laws;
 mod names;
+mod parse_laws;
 mod parser;
 mod procedure;
 mod sign;
 mod stop;
 
 pub use fault::ParseFault;
-pub use laws::{longest_expressions, one_outcome, trees_are_read};
+pub use parse_laws::{longest_expressions, one_outcome, trees_are_read};
 pub use parser::parse;

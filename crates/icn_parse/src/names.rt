@@ -7,9 +7,9 @@ ghost use Rattle.icn_parse.specs.PartReading.{item_read};
 ghost use Rattle.icn_parse.specs.Views.{ReadsNothing};
 
 use crate::sign::{close_parenthesis_next, comma_next};
-use crate::stop::Stop;
+use crate::stop::ParseStop;
 use icn_expr::behind;
-use icn_tree::{Bytes, Item, Kind, Name, Place, Token};
+use icn_tree::{Bytes, DeclItem, Kind, Name, Place, Token};
 use std::alloc::Global;
 
 // Where a token stands.
@@ -24,12 +24,12 @@ fn place_at(token: &Token) -> Place
 }
 
 // The name that a token is.
-fn name_of(alloc: Global, token: &Token) -> Result<Name, Stop>
+fn name_of(alloc: Global, token: &Token) -> Result<Name, ParseStop>
     ensures { MatchResult result (λ name. name_at_token token.now ≡ Some name)
         (ReadsNothing (name_at_token token.now)) }
 {
     let Kind::Identifier(text) = &token.kind else {
-        return Err(Stop::NotHere);
+        return Err(ParseStop::NotHere);
     };
     Ok(Name {
         text: Bytes::from_slice(alloc, text.as_slice())?,
@@ -38,36 +38,39 @@ fn name_of(alloc: Global, token: &Token) -> Result<Name, Stop>
 }
 
 // The item that a token is.
-fn item_of(alloc: Global, token: &Token) -> Result<Item, Stop>
+fn item_of(alloc: Global, token: &Token) -> Result<DeclItem, ParseStop>
     ensures { MatchResult result (λ item. item_at_token token.now ≡ Some item)
         (ReadsNothing (item_at_token token.now)) }
 {
     match &token.kind {
-        Kind::Identifier(text) => Ok(Item::Identifier(Name {
+        Kind::Identifier(text) => Ok(DeclItem::Identifier(Name {
             text: Bytes::from_slice(alloc, text.as_slice())?,
             place: place_at(token),
         })),
-        Kind::Text(text) => Ok(Item::Text(Name {
+        Kind::Text(text) => Ok(DeclItem::Text(Name {
             text: Bytes::from_slice(alloc, text.as_slice())?,
             place: place_at(token),
         })),
-        _ => Err(Stop::NotHere),
+        _ => Err(ParseStop::NotHere),
     }
 }
 
 /// The name that stands next.
-pub fn read_name<'a>(alloc: Global, tokens: &'a [Token]) -> Result<(Name, &'a [Token]), Stop>
+pub fn read_name<'a>(alloc: Global, tokens: &'a [Token]) -> Result<(Name, &'a [Token]), ParseStop>
     ensures { MatchResult result (λ found. name_read tokens.now ≡ Some (found.0, found.1.now))
         (ReadsNothing (name_read tokens.now)) }
 {
     let Some((token, rest)) = tokens.split_first() else {
-        return Err(Stop::NotHere);
+        return Err(ParseStop::NotHere);
     };
     Ok((name_of(alloc, token)?, rest))
 }
 
 /// One or more names.
-pub fn read_names<'a>(alloc: Global, tokens: &'a [Token]) -> Result<(Vec<Name>, &'a [Token]), Stop>
+pub fn read_names<'a>(
+    alloc: Global,
+    tokens: &'a [Token],
+) -> Result<(Vec<Name>, &'a [Token]), ParseStop>
     ensures { MatchResult result (λ found. some_read name_at_token tokens.now
         ≡ Some (found.0.items, found.1.now)) (ReadsNothing (some_read name_at_token tokens.now)) }
 {
@@ -83,18 +86,21 @@ pub fn read_names<'a>(alloc: Global, tokens: &'a [Token]) -> Result<(Vec<Name>, 
 }
 
 // The item that stands next.
-fn read_item<'a>(alloc: Global, tokens: &'a [Token]) -> Result<(Item, &'a [Token]), Stop>
+fn read_item<'a>(alloc: Global, tokens: &'a [Token]) -> Result<(DeclItem, &'a [Token]), ParseStop>
     ensures { MatchResult result (λ found. item_read tokens.now ≡ Some (found.0, found.1.now))
         (ReadsNothing (item_read tokens.now)) }
 {
     let Some((token, rest)) = tokens.split_first() else {
-        return Err(Stop::NotHere);
+        return Err(ParseStop::NotHere);
     };
     Ok((item_of(alloc, token)?, rest))
 }
 
 /// One or more items.
-pub fn read_items<'a>(alloc: Global, tokens: &'a [Token]) -> Result<(Vec<Item>, &'a [Token]), Stop>
+pub fn read_items<'a>(
+    alloc: Global,
+    tokens: &'a [Token],
+) -> Result<(Vec<DeclItem>, &'a [Token]), ParseStop>
     ensures { MatchResult result (λ found. some_read item_at_token tokens.now
         ≡ Some (found.0.items, found.1.now)) (ReadsNothing (some_read item_at_token tokens.now)) }
 {
@@ -113,7 +119,7 @@ pub fn read_items<'a>(alloc: Global, tokens: &'a [Token]) -> Result<(Vec<Item>, 
 pub fn read_maybe_names<'a>(
     alloc: Global,
     tokens: &'a [Token],
-) -> Result<(Vec<Name>, &'a [Token]), Stop>
+) -> Result<(Vec<Name>, &'a [Token]), ParseStop>
     ensures { MatchResult result (λ found. maybe_names_read tokens.now ≡ Some (found.0.items, found.1.now))
         (ReadsNothing (maybe_names_read tokens.now)) }
 {

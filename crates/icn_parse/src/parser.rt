@@ -7,7 +7,7 @@ ghost use Rattle.icn_parse.specs.Views.{Answers, Breaks, IsLowTree};
 use crate::check::check_declarations;
 use crate::fault::ParseFault;
 use crate::file::read_file;
-use icn_tree::{Bytes, Decl, File, Rule, Token};
+use icn_tree::{Bytes, Decl, Rule, SourceFile, Token};
 use std::alloc::Global;
 
 // Declarations in which no tree is too high.
@@ -30,13 +30,13 @@ fn read_declarations(alloc: Global, tokens: &[Token]) -> Result<Vec<Decl>, Parse
 /// which an operand, an element or a part of a clause is one lower; with S3, at the name behind `&`, where a keyword is
 /// unknown; with S4 where a form is not in this profile, which is `invocable`. S1 comes before S2, S2 before the others, and
 /// these in the order of places. `NoMemory` where memory ran out.
-pub fn parse(alloc: Global, name: &str, tokens: &[Token]) -> Result<File, ParseFault>
+pub fn parse(alloc: Global, name: &str, tokens: &[Token]) -> Result<SourceFile, ParseFault>
     ensures exact { Answers (IsOutcome tokens.now) result }
     ensures name { IfOk result (λ file. file.name ≡ name.now) }
 {
     let decls = read_declarations(alloc, tokens)?;
     check_declarations(&decls)?;
-    Ok(File {
+    Ok(SourceFile {
         name: Bytes::from_slice(alloc, name.as_bytes())?,
         decls,
     })

@@ -14,14 +14,14 @@ use crate::sign::{
     close_bracket_next, close_parenthesis_next, end_next, initial_next, local_kind,
     open_bracket_next, open_parenthesis_next, semicolon_next, sign,
 };
-use crate::stop::Stop;
-use icn_expr::{Elements, Value, behind, expression, place_of};
-use icn_tree::{LocalKind, Locals, Name, Place, Token};
+use crate::stop::ParseStop;
+use icn_expr::{CappedTree, Elements, behind, expression, place_of};
+use icn_tree::{LocalDecl, LocalKind, Name, Place, Token};
 use std::alloc::Global;
 
 /// What stands between the word of a procedure and its locals.
 #[derive(Drop)]
-pub struct Head {
+pub struct ProcedureHead {
     pub name: Name,
     pub parameters: Vec<Name>,
     pub is_variadic: bool,
@@ -29,18 +29,18 @@ pub struct Head {
 
 /// The expression of an `initial`, with its height.
 #[derive(Drop)]
-pub struct First {
+pub struct InitialExpr {
     pub place: Place,
-    pub value: Value,
+    pub value: CappedTree,
 }
 
 /// A procedure as it was read, its trees with their heights.
 #[derive(Drop)]
 pub struct Outline {
     pub place: Place,
-    pub head: Head,
-    pub locals: Vec<Locals>,
-    pub initial: Option<First>,
+    pub head: ProcedureHead,
+    pub locals: Vec<LocalDecl>,
+    pub initial: Option<InitialExpr>,
     pub body: Elements,
 }
 
@@ -49,14 +49,14 @@ fn read_value<'a>(
     alloc: Global,
     level: u32,
     tokens: &'a [Token],
-) -> Result<(Value, &'a [Token]), Stop>
+) -> Result<(CappedTree, &'a [Token]), ParseStop>
     ensures { MatchResult result (λ found. expression_read builds_with_height level tokens.now
         ≡ Some (capped_of found.0, found.1.now))
         (ReadsNothing (expression_read builds_with_height level tokens.now)) }
 {
     match expression(alloc, level, tokens)? {
         Some(found) => Ok(found),
-        None => Err(Stop::NotHere),
+        None => Err(ParseStop::NotHere),
     }
 }
 
@@ -64,7 +64,7 @@ fn read_value<'a>(
 fn read_parameters<'a>(
     alloc: Global,
     tokens: &'a [Token],
-) -> Result<(Vec<Name>, bool, &'a [Token]), Stop>
+) -> Result<(Vec<Name>, bool, &'a [Token]), ParseStop>
     ensures { MatchResult result (λ found. parameters_read tokens.now
         ≡ Some (found.0.items, found.1, found.2.now)) (ReadsNothing (parameters_read tokens.now)) }
 {
@@ -78,7 +78,10 @@ fn read_parameters<'a>(
 }
 
 // The head of a procedure, behind its word.
-fn read_head<'a>(alloc: Global, tokens: &'a [Token]) -> Result<(Head, &'a [Token]), Stop>
+fn read_head<'a>(
+    alloc: Global,
+    tokens: &'a [Token],
+) -> Result<(ProcedureHead, &'a [Token]), ParseStop>
     ensures { MatchResult result (λ found. head_read tokens.now
         ≡ Some (found.0.name, (found.0.parameters.items, found.0.is_variadic), found.1.now))
         (ReadsNothing (head_read tokens.now)) }
@@ -88,7 +91,7 @@ fn read_head<'a>(alloc: Global, tokens: &'a [Token]) -> Result<(Head, &'a [Token
     let (parameters, is_variadic, rest) = read_parameters(alloc, rest)?;
     let rest = sign(close_parenthesis_next(rest), rest)?;
     let rest = sign(semicolon_next(rest), rest)?;
-    let head = Head {
+    let head = ProcedureHead {
         name,
         parameters,
         is_variadic,
@@ -101,21 +104,21 @@ fn read_locals<'a>(
     alloc: Global,
     kind: LocalKind,
     tokens: &'a [Token],
-) -> Result<(Locals, &'a [Token]), Stop>
+) -> Result<(LocalDecl, &'a [Token]), ParseStop>
     ensures { MatchResult result (λ found. locals_one kind tokens.now ≡ Some (locals_of found.0, found.1.now))
         (ReadsNothing (locals_one kind tokens.now)) }
 {
     let place = place_of(tokens);
     let (names, rest) = read_names(alloc, behind(tokens))?;
     let rest = sign(semicolon_next(rest), rest)?;
-    Ok((Locals { place, kind, names }, rest))
+    Ok((LocalDecl { place, kind, names }, rest))
 }
 
 // All locals and statics.
 fn read_all_locals<'a>(
     alloc: Global,
     tokens: &'a [Token],
-) -> Result<(Vec<Locals>, &'a [Token]), Stop>
+) -> Result<(Vec<LocalDecl>, &'a [Token]), ParseStop>
     ensures { MatchResult result (λ found. locals_read (suc (length tokens.now)) tokens.now
         ≡ Some (map locals_of found.0.items, found.1.now))
         (ReadsNothing (locals_read (suc (length tokens.now)) tokens.now)) }
@@ -134,7 +137,7 @@ fn read_all_locals<'a>(
 fn read_initial<'a>(
     alloc: Global,
     tokens: &'a [Token],
-) -> Result<(Option<First>, &'a [Token]), Stop>
+) -> Result<(Option<InitialExpr>, &'a [Token]), ParseStop>
     ensures { MatchResult result
         (λ found. initial_read builds_with_height tokens.now
         ≡ Some (option_map first_value found.0, found.1.now))
@@ -146,11 +149,11 @@ fn read_initial<'a>(
     let place = place_of(tokens);
     let (value, rest) = read_value(alloc, 1, behind(tokens))?;
     let rest = sign(semicolon_next(rest), rest)?;
-    Ok((Some(First { place, value }), rest))
+    Ok((Some(InitialExpr { place, value }), rest))
 }
 
 // The expressions up to the end of a procedure.
-fn read_body<'a>(alloc: Global, tokens: &'a [Token]) -> Result<(Elements, &'a [Token]), Stop>
+fn read_body<'a>(alloc: Global, tokens: &'a [Token]) -> Result<(Elements, &'a [Token]), ParseStop>
     ensures { MatchResult result (λ found. body_read builds_with_height
         (suc (length tokens.now)) builds_with_height.no_elements tokens.now
         ≡ Some (elements_of found.0, found.1.now))
@@ -172,7 +175,7 @@ pub fn read_procedure<'a>(
     alloc: Global,
     place: Place,
     tokens: &'a [Token],
-) -> Result<(Outline, &'a [Token]), Stop>
+) -> Result<(Outline, &'a [Token]), ParseStop>
     ensures { MatchResult result (λ found. procedure_read builds_with_height place tokens.now
         ≡ Some (outline_of found.0, found.1.now))
         (ReadsNothing (procedure_read builds_with_height place tokens.now)) }

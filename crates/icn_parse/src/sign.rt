@@ -6,17 +6,17 @@ ghost use Rattle.icn_parse.specs.FileReading.{sign_by, is_semicolon, is_open_par
 ghost use Rattle.icn_parse.specs.PartReading.{is_comma_next};
 ghost use Rattle.icn_parse.specs.Views.{ReadsNothing};
 
-use crate::stop::Stop;
+use crate::stop::ParseStop;
 use icn_expr::behind;
 use icn_tree::{Kind, LocalKind, Punctuation, Token, Word};
 
 /// The tokens behind a sign, where it stands next.
-pub fn sign(stands: bool, tokens: &[Token]) -> Result<&[Token], Stop>
+pub fn sign(stands: bool, tokens: &[Token]) -> Result<&[Token], ParseStop>
     ensures { MatchResult result (λ rest. sign_by stands tokens.now ≡ Some rest.now)
         (ReadsNothing (sign_by stands tokens.now)) }
 {
     if !stands {
-        return Err(Stop::NotHere);
+        return Err(ParseStop::NotHere);
     }
     Ok(behind(tokens))
 }

@@ -4,7 +4,7 @@ use Rattle.icn_tree.specs.declared.lines.Lines.{Lines}
 use Rattle.icn_tree.specs.declared.rule.Rule.TheVariants.{P6}
 use Rattle.icn_prep.specs.declared.fault.PrepFault.{PrepFault}
 use Rattle.icn_prep.specs.declared.fault.PrepFault.TheVariants.{Missing, Broken, FileFault, NoMemory}
-use Rattle.icn_prep.specs.SourceLines.{Source}
+use Rattle.icn_prep.specs.SourceLines.{PreprocessedSource}
 
 -- a fault of the store, or want of memory
 abbrev pub IsOfStore : PrepFault → Type 0
@@ -31,7 +31,7 @@ abbrev pub IsAnswer : {A : Type 0} → Result A PrepFault → PrepFault → Type
 IsAnswer outcome fault = IsOfStore fault ⊎ (outcome ≡ Err fault)
 
 -- the names and the lines, or the fault
-abbrev pub outcome_of : Result Lines PrepFault → Result Source PrepFault
+abbrev pub outcome_of : Result Lines PrepFault → Result PreprocessedSource PrepFault
 outcome_of (Ok lines) = Ok (record { names = lines.names.items; lines = lines.lines.items })
 outcome_of (Err fault) = Err fault
 

@@ -1,8 +1,8 @@
 -- Lines that are directives, and their names.
 use Rattle.std.specs.Prelude.{ℕ, Bool, true, false, List, [], ◌∷◌, Option, None, Some, if◌then◌else◌, ◌==◌, ◌&&◌, ◌||◌, not, drop, codes}
 use Rattle.std.specs.Str.{bytes_eq}
-use Rattle.icn_prep.specs.declared.keyword.Keyword.{Keyword}
-use Rattle.icn_prep.specs.declared.keyword.Keyword.TheVariants.{Define, Undef, Include, Ifdef, Ifndef, Else, Endif, Line, Error}
+use Rattle.icn_prep.specs.declared.keyword.DirectiveName.{DirectiveName}
+use Rattle.icn_prep.specs.declared.keyword.DirectiveName.TheVariants.{Define, Undef, Include, Ifdef, Ifndef, Else, Endif, Line, Error}
 use Rattle.icn_prep.specs.declared.literal.LiteralState.{LiteralState}
 use Rattle.icn_prep.specs.declared.literal.LiteralState.TheVariants.{Outside, Inside, Joining, Escape, Control, Comment}
 use Rattle.icn_prep.specs.LiteralStates.{after_in}
@@ -62,7 +62,7 @@ operand line =
     trim (without_comment (names_file (directive_name line)) Outside (behind_word (directive_text line)))
 
 -- the directive of this name, if there is one
-abbrev pub keyword_of : List ℕ → Option Keyword
+abbrev pub keyword_of : List ℕ → Option DirectiveName
 keyword_of name =
     if bytes_eq name (codes "define") then Some Define
     else (if bytes_eq name (codes "undef") then Some Undef

@@ -4,9 +4,9 @@ use Rattle.icn_tree.specs.declared.rule.Rule.TheVariants.{P6}
 use Rattle.icn_prep.specs.declared.fault.PrepFault.{PrepFault}
 use Rattle.icn_prep.specs.declared.fault.PrepFault.TheVariants.{Missing, Broken, FileFault, NoMemory}
 use Rattle.icn_prep.specs.FileLines.{lines_of}
-use Rattle.icn_prep.specs.Outcomes.{◌>>=◌}
+use Rattle.icn_prep.specs.RefusedSteps.{◌>>=◌}
 use Rattle.icn_prep.specs.Cursors.{Cursor, next_line}
-use Rattle.icn_prep.specs.SourceLines.{State, Outcome, Step, IncludeStep, lines_read}
+use Rattle.icn_prep.specs.SourceLines.{LineState, Preprocessed, Step, IncludeStep, lines_read}
 
 -- the fault that the definition gives, or want of memory
 abbrev pub Refuses : {A : Type 0} → Result A PrepFault → PrepFault → Type 0
@@ -20,12 +20,12 @@ IsOfText Missing = ⊥
 IsOfText FileFault = ⊥
 
 -- a line was read up to here, where it includes the file of a name, or else whole
-abbrev pub rest_of_line : IncludeStep → Option (List ℕ) → State → Cursor → Step
+abbrev pub rest_of_line : IncludeStep → Option (List ℕ) → LineState → Cursor → Step
 rest_of_line includes None s cursor = Ok (s, cursor)
 rest_of_line includes (Some name) s cursor = includes name s cursor >>= λ s'. Ok (s', next_line cursor)
 
 -- lines were read up to one that includes the file of a name, behind which so many bytes were passed, or else to the end
-abbrev pub rest_of_lines : IncludeStep → Option (List ℕ × ℕ) → State → Cursor → List ℕ → Outcome
+abbrev pub rest_of_lines : IncludeStep → Option (List ℕ × ℕ) → LineState → Cursor → List ℕ → Preprocessed
 rest_of_lines includes None s cursor content = Ok s
 rest_of_lines includes (Some stop) s cursor content = includes stop.0 s cursor
     >>= λ s'. lines_read includes s' (next_line cursor) (lines_of (drop stop.1 content))

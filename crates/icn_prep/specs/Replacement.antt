@@ -4,7 +4,7 @@ use Rattle.std.specs.List.{prefix_len}
 use Rattle.icn_prep.specs.declared.literal.LiteralState.{LiteralState}
 use Rattle.icn_prep.specs.declared.literal.LiteralState.TheVariants.{Outside, Inside, Joining, Escape, Control, Comment}
 use Rattle.icn_prep.specs.LiteralStates.{after}
-use Rattle.icn_prep.specs.Texts.{TextOf, without}
+use Rattle.icn_prep.specs.DefinedNames.{TextOf, without}
 use Rattle.icn_tree.specs.Characters.{continues_identifier}
 
 -- the bytes that came of a text, and how the byte behind it stands

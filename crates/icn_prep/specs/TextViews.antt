@@ -4,7 +4,7 @@ use Rattle.std.specs.Option.{option_map}
 use Rattle.std.specs.Str.{bytes_eq}
 use Rattle.indexmap.specs.IndexMap.{IndexMap, get_by, index_map_len}
 use Rattle.icn_prep.specs.declared.texts.Texts.{Texts as TextMap}
-use Rattle.icn_prep.specs.Texts.{Texts}
+use Rattle.icn_prep.specs.DefinedNames.{Texts}
 
 abbrev pub texts_in : {Y Z S : Type 0} → IndexMap (Vec ℕ Y) (Vec ℕ Z) S → Texts
 texts_in m = record {

@@ -62,7 +62,7 @@ fn trimmed_end(bytes: &[u8]) -> &[u8]
 }
 
 // The bytes without the blanks at both ends.
-pub fn trimmed(bytes: &[u8]) -> &[u8]
+pub fn trim_blanks(bytes: &[u8]) -> &[u8]
     ensures { result.now ≡ trim bytes.now }
 {
     trimmed_end(trimmed_start(bytes))

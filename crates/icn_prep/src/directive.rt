@@ -4,7 +4,7 @@ ghost use Rattle.icn_prep.specs.Directives.{is_pair_end, begins_pair_end, begins
 ghost use Rattle.icn_prep.specs.declared.literal.LiteralState.TheVariants.{Outside};
 ghost use Rattle.icn_prep.specs.Words.{first_word, behind_word};
 
-use crate::bytes::{trimmed, trimmed_start};
+use crate::bytes::{trim_blanks, trimmed_start};
 use crate::literal::LiteralState;
 use icn_tree::characters::identifier_len;
 
@@ -50,7 +50,7 @@ pub fn name_and_operand(line: &[u8]) -> (&[u8], &[u8])
 {
     let text = directive_text(line);
     let (name, rest) = text.split_at(identifier_len(text));
-    (name, trimmed(uncommented(names_file(name), rest)))
+    (name, trim_blanks(strip_comment(names_file(name), rest)))
 }
 
 // What stands behind the `$`, without the blanks before the directive's name.
@@ -72,7 +72,7 @@ fn names_file(name: &[u8]) -> bool
 }
 
 // The bytes up to a comment.
-fn uncommented(is_name: bool, text: &[u8]) -> &[u8]
+fn strip_comment(is_name: bool, text: &[u8]) -> &[u8]
     ensures { result.now ≡ without_comment is_name Outside text.now }
 {
     let mut literal = LiteralState::Outside;

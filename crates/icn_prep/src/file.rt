@@ -11,15 +11,15 @@ ghost use Rattle.icn_prep.specs.StateViews.{state_of};
 use crate::cursor::Cursor;
 use crate::cut::first_line;
 use crate::fault::PrepFault;
-use crate::give::{broken, name_at};
+use crate::give::{line_refusal, name_at};
 use crate::line::read_line;
-use crate::reading::Reading;
+use crate::source_reader::SourceReader;
 use icn_tree::Rule;
 
 /// Reads the lines of a file that come behind the first `from` bytes. `Some` is the name of a file whose lines come next, and
 /// how many bytes stand before what comes behind those.
 pub fn read_lines(
-    reading: &mut Reading,
+    reading: &mut SourceReader,
     cursor: &mut Cursor,
     content: &[u8],
     from: usize,
@@ -58,13 +58,13 @@ pub fn read_lines(
 }
 
 // A file closes what it began.
-fn end_file(reading: &Reading, cursor: &mut Cursor) -> Result<(), PrepFault>
+fn end_file(reading: &SourceReader, cursor: &mut Cursor) -> Result<(), PrepFault>
     ensures exact { let outcome = end_file (state_of reading.now) (cursor_of cursor.old).conditionals in
         MatchResult result (λ _. outcome ≡ Ok (state_of reading.now)) (Refuses outcome) }
     ensures fault { IfErr result IsOfText }
 {
     match cursor.conditionals.pop() {
-        Some(innermost) => Err(broken(
+        Some(innermost) => Err(line_refusal(
             reading.alloc,
             Rule::P4,
             name_at(reading, innermost.file),

@@ -12,7 +12,7 @@ ghost use Rattle.icn_prep.specs.StateViews.{state_of};
 use crate::cursor::Cursor;
 use crate::fault::PrepFault;
 use crate::literal::LiteralState;
-use crate::reading::Reading;
+use crate::source_reader::SourceReader;
 use crate::texts::Texts;
 use icn_profile::MOST_BYTES_OF_SOURCE;
 use icn_tree::{Bytes, Rule, SourceLine};
@@ -22,11 +22,11 @@ use std::alloc::Global;
 pub const LONGEST: usize = MOST_BYTES_OF_SOURCE as usize;
 
 /// Nothing was read yet.
-pub fn start(alloc: Global) -> Reading
+pub fn start(alloc: Global) -> SourceReader
     ensures state { state_of result ≡ first_state }
     ensures empty { result.size ≡ 0 }
 {
-    Reading {
+    SourceReader {
         alloc,
         names: Vec::new(alloc),
         lines: Vec::new(alloc),
@@ -37,7 +37,7 @@ pub fn start(alloc: Global) -> Reading
 }
 
 /// The name at this index among the names of files, or no bytes.
-pub fn name_at(reading: &Reading, file: u32) -> &[u8]
+pub fn name_at(reading: &SourceReader, file: u32) -> &[u8]
     ensures { result.now ≡ name_at (state_of reading.now) file }
 {
     match reading.names.get(file as usize) {
@@ -47,7 +47,7 @@ pub fn name_at(reading: &Reading, file: u32) -> &[u8]
 }
 
 /// The refusal of a line of a file.
-pub fn broken(alloc: Global, rule: Rule, file: &[u8], line: u32) -> PrepFault
+pub fn line_refusal(alloc: Global, rule: Rule, file: &[u8], line: u32) -> PrepFault
     ensures { (result ≡ NoMemory) ⊎ (result ≡ Broken rule file.now line) }
 {
     match Bytes::from_slice(alloc, file) {
@@ -57,11 +57,11 @@ pub fn broken(alloc: Global, rule: Rule, file: &[u8], line: u32) -> PrepFault
 }
 
 /// The refusal of the line at the cursor.
-pub fn refusal(reading: &Reading, cursor: &Cursor, rule: Rule) -> PrepFault
+pub fn refusal(reading: &SourceReader, cursor: &Cursor, rule: Rule) -> PrepFault
     ensures { (result ≡ NoMemory)
         ⊎ (result ≡ Broken rule (name_at (state_of reading.now) cursor.now.file) cursor.now.line) }
 {
-    broken(
+    line_refusal(
         reading.alloc,
         rule,
         name_at(reading, cursor.file),
@@ -71,7 +71,7 @@ pub fn refusal(reading: &Reading, cursor: &Cursor, rule: Rule) -> PrepFault
 
 /// Gives a line.
 pub fn give(
-    reading: &mut Reading,
+    reading: &mut SourceReader,
     cursor: &Cursor,
     bytes: Vec<u8>,
     literal: LiteralState,
@@ -84,7 +84,7 @@ pub fn give(
     ensures longer { OnOk result (reading.old.size < reading.new.size) }
 {
     if reading.size + bytes.len() > LONGEST {
-        return Err(broken(reading.alloc, Rule::P9, name_at(reading, 0), 0));
+        return Err(line_refusal(reading.alloc, Rule::P9, name_at(reading, 0), 0));
     }
     let size = reading.size + bytes.len() + 1;
     let line = SourceLine {
@@ -99,7 +99,7 @@ pub fn give(
 }
 
 /// Leaves a line empty.
-pub fn leave_empty(reading: &mut Reading, cursor: &Cursor) -> Result<(), PrepFault>
+pub fn leave_empty(reading: &mut SourceReader, cursor: &Cursor) -> Result<(), PrepFault>
     requires { cursor.now.file < vec_len reading.old.names }
     ensures exact { let step = left_empty (state_of reading.old) (cursor_of cursor.now) in
         MatchResult result (λ _. step ≡ Ok (state_of reading.new)) (Refuses step) }
@@ -112,7 +112,7 @@ pub fn leave_empty(reading: &mut Reading, cursor: &Cursor) -> Result<(), PrepFau
 }
 
 /// Adds the name of a file, and answers its index. A line was given for each name before it, so that indices have room.
-pub fn add_name(reading: &mut Reading, name: &[u8]) -> Result<u32, PrepFault>
+pub fn add_name(reading: &mut SourceReader, name: &[u8]) -> Result<u32, PrepFault>
     requires { vec_len reading.old.names ≤ reading.old.size }
     ensures cursor { IfOk result (λ cursor. cursor ≡ length reading.old.names.items) }
     ensures state { OnOk result (state_of reading.new

@@ -4,7 +4,7 @@ ghost use Rattle.icn_prep.specs.Directives.{keyword_of};
 
 /// A directive by its name.
 #[derive(Clone, Copy, Debug, PartialEq, Eq)]
-pub enum Keyword {
+pub enum DirectiveName {
     Define,
     Undef,
     Include,
@@ -16,29 +16,29 @@ pub enum Keyword {
     Error,
 }
 
-impl Keyword {
+impl DirectiveName {
     /// The directive of this name, if there is one.
-    pub fn named(name: &[u8]) -> Option<Keyword>
+    pub fn directive_named(name: &[u8]) -> Option<DirectiveName>
         ensures { result ≡ keyword_of name.now }
     {
         if name == b"define".as_slice() {
-            Some(Keyword::Define)
+            Some(DirectiveName::Define)
         } else if name == b"undef".as_slice() {
-            Some(Keyword::Undef)
+            Some(DirectiveName::Undef)
         } else if name == b"include".as_slice() {
-            Some(Keyword::Include)
+            Some(DirectiveName::Include)
         } else if name == b"ifdef".as_slice() {
-            Some(Keyword::Ifdef)
+            Some(DirectiveName::Ifdef)
         } else if name == b"ifndef".as_slice() {
-            Some(Keyword::Ifndef)
+            Some(DirectiveName::Ifndef)
         } else if name == b"else".as_slice() {
-            Some(Keyword::Else)
+            Some(DirectiveName::Else)
         } else if name == b"endif".as_slice() {
-            Some(Keyword::Endif)
+            Some(DirectiveName::Endif)
         } else if name == b"line".as_slice() {
-            Some(Keyword::Line)
+            Some(DirectiveName::Line)
         } else if name == b"error".as_slice() {
-            Some(Keyword::Error)
+            Some(DirectiveName::Error)
         } else {
             None
         }

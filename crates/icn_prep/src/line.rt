@@ -14,16 +14,16 @@ ghost use Rattle.icn_prep.specs.TextViews.{texts_of};
 use crate::cursor::{Conditional, Cursor};
 use crate::directive::{is_directive, name_and_operand};
 use crate::fault::PrepFault;
-use crate::give::{LONGEST, add_name, broken, give, leave_empty, name_at, refusal};
-use crate::keyword::Keyword;
+use crate::give::{LONGEST, add_name, give, leave_empty, line_refusal, name_at, refusal};
+use crate::keyword::DirectiveName;
 use crate::operand::{define_operand, file_operand, line_operand, name_operand};
-use crate::reading::Reading;
-use crate::replace::replaced;
+use crate::replace::replace_in_line;
+use crate::source_reader::SourceReader;
 use icn_tree::Rule;
 
 /// Reads a line. `Some` is the name of a file whose lines stand in its place, and then the line was not given yet.
 pub fn read_line<'a>(
-    reading: &mut Reading,
+    reading: &mut SourceReader,
     cursor: &mut Cursor,
     line: &'a [u8],
 ) -> Result<Option<&'a str>, PrepFault>
@@ -39,7 +39,12 @@ pub fn read_line<'a>(
 {
     if is_directive(reading.literal, line) {
         let (name, operand) = name_and_operand(line);
-        directive(reading, cursor, Keyword::named(name), operand)
+        directive(
+            reading,
+            cursor,
+            DirectiveName::directive_named(name),
+            operand,
+        )
     } else {
         if cursor.taken {
             text_line(reading, cursor, line)?;
@@ -51,7 +56,7 @@ pub fn read_line<'a>(
 }
 
 // A line that is no directive.
-fn text_line(reading: &mut Reading, cursor: &mut Cursor, line: &[u8]) -> Result<(), PrepFault>
+fn text_line(reading: &mut SourceReader, cursor: &mut Cursor, line: &[u8]) -> Result<(), PrepFault>
     requires here { StandsIn reading.old cursor.old }
     ensures exact { let s = state_of reading.old in
         let step = text_line s (cursor_of cursor.old)
@@ -60,17 +65,17 @@ fn text_line(reading: &mut Reading, cursor: &mut Cursor, line: &[u8]) -> Result<
     ensures goes { PassesLine reading.old reading.new cursor.old cursor.new result }
 {
     let most = LONGEST.saturating_sub(reading.size);
-    let read = replaced(reading.alloc, &reading.texts, reading.literal, line, most)?;
+    let read = replace_in_line(reading.alloc, &reading.texts, reading.literal, line, most)?;
     let Some((bytes, literal)) = read else {
-        return Err(broken(reading.alloc, Rule::P9, name_at(reading, 0), 0));
+        return Err(line_refusal(reading.alloc, Rule::P9, name_at(reading, 0), 0));
     };
-    give(reading, cursor, bytes, literal.carried())?;
+    give(reading, cursor, bytes, literal.at_next_line())?;
     cursor.line += 1;
     Ok(())
 }
 
 // Leaves a line empty and goes on to the next.
-fn skip(reading: &mut Reading, cursor: &mut Cursor) -> Result<(), PrepFault>
+fn skip(reading: &mut SourceReader, cursor: &mut Cursor) -> Result<(), PrepFault>
     requires here { StandsIn reading.old cursor.old }
     ensures exact { let step = pass_line (state_of reading.old) (cursor_of cursor.old)
         (next_line (cursor_of cursor.old)) in
@@ -84,9 +89,9 @@ fn skip(reading: &mut Reading, cursor: &mut Cursor) -> Result<(), PrepFault>
 
 // A directive by its name and its operand.
 fn directive<'a>(
-    reading: &mut Reading,
+    reading: &mut SourceReader,
     cursor: &mut Cursor,
-    keyword: Option<Keyword>,
+    keyword: Option<DirectiveName>,
     operand: &'a [u8],
 ) -> Result<Option<&'a str>, PrepFault>
     requires here { StandsIn reading.old cursor.old }
@@ -100,17 +105,17 @@ fn directive<'a>(
     ensures stays { IfOk result (λ name. IfSome name (λ _. cursor.new.line ≡ cursor.old.line)) }
 {
     match keyword {
-        Some(Keyword::Ifdef) => if_line(reading, cursor, true, operand)?,
-        Some(Keyword::Ifndef) => if_line(reading, cursor, false, operand)?,
-        Some(Keyword::Else) => else_line(reading, cursor, operand)?,
-        Some(Keyword::Endif) => endif_line(reading, cursor, operand)?,
+        Some(DirectiveName::Ifdef) => if_line(reading, cursor, true, operand)?,
+        Some(DirectiveName::Ifndef) => if_line(reading, cursor, false, operand)?,
+        Some(DirectiveName::Else) => else_line(reading, cursor, operand)?,
+        Some(DirectiveName::Endif) => endif_line(reading, cursor, operand)?,
         _ if !cursor.taken => skip(reading, cursor)?,
         None => return Err(refusal(reading, cursor, Rule::P1)),
-        Some(Keyword::Error) => return Err(refusal(reading, cursor, Rule::P8)),
-        Some(Keyword::Define) => define_line(reading, cursor, operand)?,
-        Some(Keyword::Undef) => undef_line(reading, cursor, operand)?,
-        Some(Keyword::Line) => line_line(reading, cursor, operand)?,
-        Some(Keyword::Include) => match file_operand(operand) {
+        Some(DirectiveName::Error) => return Err(refusal(reading, cursor, Rule::P8)),
+        Some(DirectiveName::Define) => define_line(reading, cursor, operand)?,
+        Some(DirectiveName::Undef) => undef_line(reading, cursor, operand)?,
+        Some(DirectiveName::Line) => line_line(reading, cursor, operand)?,
+        Some(DirectiveName::Include) => match file_operand(operand) {
             Some(name) => return Ok(Some(name)),
             None => return Err(refusal(reading, cursor, Rule::P2)),
         },
@@ -119,7 +124,11 @@ fn directive<'a>(
 }
 
 // `$define`
-fn define_line(reading: &mut Reading, cursor: &mut Cursor, operand: &[u8]) -> Result<(), PrepFault>
+fn define_line(
+    reading: &mut SourceReader,
+    cursor: &mut Cursor,
+    operand: &[u8],
+) -> Result<(), PrepFault>
     requires here { StandsIn reading.old cursor.old }
     ensures exact { let step = define_line (state_of reading.old) (cursor_of cursor.old)
         (define_operand operand.now) in
@@ -141,7 +150,11 @@ fn define_line(reading: &mut Reading, cursor: &mut Cursor, operand: &[u8]) -> Re
 }
 
 // `$undef`
-fn undef_line(reading: &mut Reading, cursor: &mut Cursor, operand: &[u8]) -> Result<(), PrepFault>
+fn undef_line(
+    reading: &mut SourceReader,
+    cursor: &mut Cursor,
+    operand: &[u8],
+) -> Result<(), PrepFault>
     requires here { StandsIn reading.old cursor.old }
     ensures exact { let step = undef_line (state_of reading.old) (cursor_of cursor.old)
         (name_operand operand.now) in
@@ -157,7 +170,7 @@ fn undef_line(reading: &mut Reading, cursor: &mut Cursor, operand: &[u8]) -> Res
 
 // `$ifdef`, where a name is wanted, and `$ifndef`
 fn if_line(
-    reading: &mut Reading,
+    reading: &mut SourceReader,
     cursor: &mut Cursor,
     wanted: bool,
     operand: &[u8],
@@ -185,7 +198,11 @@ fn if_line(
 }
 
 // `$else`
-fn else_line(reading: &mut Reading, cursor: &mut Cursor, operand: &[u8]) -> Result<(), PrepFault>
+fn else_line(
+    reading: &mut SourceReader,
+    cursor: &mut Cursor,
+    operand: &[u8],
+) -> Result<(), PrepFault>
     requires here { StandsIn reading.old cursor.old }
     ensures exact { let s = state_of reading.old in let at = cursor_of cursor.old in
         let step = (if is_empty operand.now then else_line s at at.conditionals else refuse s at Rule.P2) in
@@ -212,7 +229,11 @@ fn else_line(reading: &mut Reading, cursor: &mut Cursor, operand: &[u8]) -> Resu
 }
 
 // `$endif`
-fn endif_line(reading: &mut Reading, cursor: &mut Cursor, operand: &[u8]) -> Result<(), PrepFault>
+fn endif_line(
+    reading: &mut SourceReader,
+    cursor: &mut Cursor,
+    operand: &[u8],
+) -> Result<(), PrepFault>
     requires here { StandsIn reading.old cursor.old }
     ensures exact { let s = state_of reading.old in let at = cursor_of cursor.old in
         let step = (if is_empty operand.now then endif_line s at at.conditionals else refuse s at Rule.P2) in
@@ -232,7 +253,11 @@ fn endif_line(reading: &mut Reading, cursor: &mut Cursor, operand: &[u8]) -> Res
 }
 
 // `$line`
-fn line_line(reading: &mut Reading, cursor: &mut Cursor, operand: &[u8]) -> Result<(), PrepFault>
+fn line_line(
+    reading: &mut SourceReader,
+    cursor: &mut Cursor,
+    operand: &[u8],
+) -> Result<(), PrepFault>
     requires here { StandsIn reading.old cursor.old }
     ensures exact { let step = line_line (state_of reading.old) (cursor_of cursor.old)
         (line_operand operand.now) in

@@ -46,11 +46,15 @@ impl LiteralState {
         ensures { result ≡ after_in is_name self byte }
     {
         let state = self.after(byte);
-        if is_name { state.unescaped() } else { state }
+        if is_name {
+            state.without_backslash()
+        } else {
+            state
+        }
     }
 
     // The same where a backslash is a byte like another.
-    fn unescaped(self) -> Self
+    fn without_backslash(self) -> Self
         ensures { result ≡ without_escape self }
     {
         match self {
@@ -60,7 +64,7 @@ impl LiteralState {
     }
 
     /// How the next line begins, behind a line that ends so.
-    pub fn carried(self) -> Self
+    pub fn at_next_line(self) -> Self
         ensures { result ≡ next_line_state self }
     {
         match self {

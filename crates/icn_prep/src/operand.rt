@@ -7,7 +7,7 @@ ghost use Rattle.icn_prep.specs.Operands.{name_operand, define_operand, text_in_
 ghost use Rattle.icn_profile.specs.Numbers.{greatest_line_operand};
 ghost use Rattle.icn_tree.specs.Characters.{is_digit};
 
-use crate::bytes::{has_blank, is_name, trimmed, trimmed_start, unquoted_len};
+use crate::bytes::{has_blank, is_name, trim_blanks, trimmed_start, unquoted_len};
 use icn_profile::DOUBLE_QUOTE;
 use icn_tree::characters::{begins_identifier, digits_len, identifier_len};
 
@@ -28,7 +28,7 @@ pub fn define_operand(operand: &[u8]) -> Option<(&[u8], &[u8])>
 {
     let (name, rest) = operand.split_at(identifier_len(operand));
     if is_name(name) && !begins_with(b'(', rest) {
-        Some((name, trimmed(rest)))
+        Some((name, trim_blanks(rest)))
     } else {
         None
     }
@@ -48,7 +48,7 @@ pub fn file_operand(operand: &[u8]) -> Option<&str>
     ensures { option_map (λ name. name.now) result ≡ file_operand operand.now }
 {
     if begins_with(DOUBLE_QUOTE, operand) {
-        let name = quoted(operand)?;
+        let name = quoted_text(operand)?;
         file_name(name)
     } else {
         let name = plain_run(operand)?;
@@ -81,7 +81,7 @@ fn plain_run(operand: &[u8]) -> Option<&[u8]>
 }
 
 // What stands in double quotes, up to the next one, where nothing stands behind it.
-fn quoted(operand: &[u8]) -> Option<&[u8]>
+fn quoted_text(operand: &[u8]) -> Option<&[u8]>
     ensures { option_map (λ name. name.now) result ≡ text_in_quotes operand.now }
 {
     let (first, rest) = operand.split_first()?;
@@ -113,11 +113,11 @@ pub fn line_operand(operand: &[u8]) -> Option<(u32, Option<&[u8]>)>
         return None;
     }
     let (digits, rest) = operand.split_at(count);
-    numbered(number_of(digits), trimmed_start(rest))
+    line_number_and_name(number_of(digits), trimmed_start(rest))
 }
 
 // The number, and perhaps a name in double quotes.
-fn numbered(number: u32, rest: &[u8]) -> Option<(u32, Option<&[u8]>)>
+fn line_number_and_name(number: u32, rest: &[u8]) -> Option<(u32, Option<&[u8]>)>
     ensures read { option_map (λ found. (found.0, option_map (λ name. name.now) found.1)) result
         ≡ number_and_name number rest.now }
     ensures same { IfSome result (λ found. found.0 ≡ number) }
@@ -125,7 +125,7 @@ fn numbered(number: u32, rest: &[u8]) -> Option<(u32, Option<&[u8]>)>
     if rest.is_empty() {
         return Some((number, None));
     }
-    let name = quoted(rest)?;
+    let name = quoted_text(rest)?;
     Some((number, Some(name)))
 }
 

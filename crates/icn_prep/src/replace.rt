@@ -17,7 +17,7 @@ type Outer<'a> = IndexMap<&'a [u8], &'a [u8]>;
 
 /// The bytes that come of a line, and how its end stands to literals and comments. `None` where there are more than `most`
 /// bytes, and then no memory was taken for them.
-pub fn replaced<'a>(
+pub fn replace_in_line<'a>(
     alloc: Global,
     texts: &'a Texts,
     literal: LiteralState,

@@ -12,10 +12,10 @@ ghost use Rattle.icn_prep.specs.StateViews.{state_of};
 use crate::cursor::Cursor;
 use crate::fault::PrepFault;
 use crate::file::read_lines;
-use crate::give::{LONGEST, add_name, broken, leave_empty, refusal, start};
+use crate::give::{LONGEST, add_name, leave_empty, line_refusal, refusal, start};
 use crate::open_file::OpenFile;
-use crate::reading::Reading;
-use icn_host::{Files, Look};
+use crate::source_reader::SourceReader;
+use icn_host::{Files, ReadFailure};
 use icn_tree::{Lines, Rule};
 use std::alloc::Global;
 
@@ -70,7 +70,11 @@ pub fn preprocess<F: Files>(alloc: Global, name: &str, files: &mut F) -> Result<
 }
 
 // A file from its first line on.
-fn begin_file(reading: &mut Reading, name: &str, content: Vec<u8>) -> Result<OpenFile, PrepFault>
+fn begin_file(
+    reading: &mut SourceReader,
+    name: &str,
+    content: Vec<u8>,
+) -> Result<OpenFile, PrepFault>
     requires short { vec_len content ≤ most_bytes_of_source }
     requires few { vec_len reading.old.names ≤ reading.old.size }
     ensures cursor { IfOk result (λ file. cursor_of file.cursor ≡ start_of (length reading.old.names.items)) }
@@ -113,15 +117,15 @@ fn named_content<F: Files>(alloc: Global, name: &str, files: &mut F) -> Result<V
     let mut content = Vec::new(alloc);
     match files.read(name, LONGEST as u64, &mut content) {
         Ok(()) => not_longer(alloc, name, content),
-        Err(Look::NotThere) => Err(PrepFault::Missing),
-        Err(Look::Failed) => Err(PrepFault::FileFault),
-        Err(Look::NoMemory) => Err(PrepFault::NoMemory),
+        Err(ReadFailure::NotThere) => Err(PrepFault::Missing),
+        Err(ReadFailure::Failed) => Err(PrepFault::FileFault),
+        Err(ReadFailure::NoMemory) => Err(PrepFault::NoMemory),
     }
 }
 
 // The content of a file that the line at the cursor includes. So many files stand round the file of that line.
 fn included_content<F: Files>(
-    reading: &Reading,
+    reading: &SourceReader,
     cursor: &Cursor,
     depth: usize,
     name: &str,
@@ -140,9 +144,9 @@ fn included_content<F: Files>(
     match files.read(name, LONGEST as u64, &mut content) {
         Ok(()) if depth >= DEEPEST => Err(refusal(reading, cursor, Rule::P7)),
         Ok(()) => not_longer(reading.alloc, name, content),
-        Err(Look::NotThere) => Err(refusal(reading, cursor, Rule::P6)),
-        Err(Look::Failed) => Err(PrepFault::FileFault),
-        Err(Look::NoMemory) => Err(PrepFault::NoMemory),
+        Err(ReadFailure::NotThere) => Err(refusal(reading, cursor, Rule::P6)),
+        Err(ReadFailure::Failed) => Err(PrepFault::FileFault),
+        Err(ReadFailure::NoMemory) => Err(PrepFault::NoMemory),
     }
 }
 
@@ -154,7 +158,7 @@ fn not_longer(alloc: Global, name: &str, content: Vec<u8>) -> Result<Vec<u8>, Pr
         ⊎ ((most_bytes_of_source < length content.items) × (fault ≡ Broken Rule.P9 name.now 0))) }
 {
     if content.len() > LONGEST {
-        return Err(broken(alloc, Rule::P9, name.as_bytes(), 0));
+        return Err(line_refusal(alloc, Rule::P9, name.as_bytes(), 0));
     }
     Ok(content)
 }

@@ -12,7 +12,7 @@ pub struct Texts {
 }
 
 impl Texts {
-    ghost use Rattle.icn_prep.specs.Texts.{no_texts, with_text, without_text};
+    ghost use Rattle.icn_prep.specs.DefinedNames.{no_texts, with_text, without_text};
     ghost use Rattle.icn_prep.specs.TextViews.{texts_of};
 
     pub fn new(alloc: Global) -> Self

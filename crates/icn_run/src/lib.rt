@@ -1,6 +1,6 @@
 //! What the run of linked code does: the definitions of a step and of a run, on flat stacks and on linked marks.
 #![tactic(auto)]
 
-mod laws;
+mod run_laws;
 
-pub use laws::one_observation;
+pub use run_laws::one_observation;

@@ -2,7 +2,7 @@
 use Rattle.std.proofs.Common.{◌≡◌, ◌∙◌, ap, ℕ, List, drop, Option, Some}
 use Rattle.icn_value.specs.Store.{outside_of}
 use Rattle.icn_code.specs.Codes.{Tables}
-use Rattle.icn_defs.specs.Interruptions.{Breaks, BreaksReading, IsOutsideOf, LosesPart, Streams}
+use Rattle.icn_defs.specs.Interruptions.{BreaksRun, BreaksRunReading, IsOutsideOf, LosesPart, Streams}
 use Rattle.icn_defs.specs.Running.{Launch, Observation}
 use Rattle.icn_run.specs.FlatStep.{Runs}
 use Rattle.icn_streams.specs.Handed.{CallStreams}
@@ -17,8 +17,8 @@ Leave = (input : List ℕ) (tables : Tables) (launch : Launch) (seen : Observati
     → Runs tables launch seen → IsOutsideOf input seen.outside
 
 abbrev pub Break : Type 0
-Break = (input : List ℕ) (seen : Observation) (before after : Streams) → IsOutsideOf input seen.outside → BreaksReading seen before after
-    → Breaks input seen before after
+Break = (input : List ℕ) (seen : Observation) (before after : Streams) → IsOutsideOf input seen.outside → BreaksRunReading seen before after
+    → BreaksRun input seen before after
 
 abbrev pub Begin : Type 0
 Begin = (input : List ℕ) → IsOutsideOf input (outside_of input)

@@ -1,6 +1,6 @@
 pub mod Reports
-pub mod Counts
+pub mod CountCauses
 pub mod Endings
-pub mod Rising
-pub mod Leaving
+pub mod CountsRise
+pub mod OutsideLeft
 pub mod InputLeft

@@ -2,7 +2,7 @@
 use Rattle.std.proofs.Common.{◌≡◌, ◌⊎◌, inl, inr, ℕ, List, Option, IfSome, Err, take, refl, sym, subst}
 use Rattle.icn_host.specs.Sinks.{Gains, SinkState}
 use Rattle.icn_host.specs.declared.fault.Fault.TheVariants.{Failed, NoMemory as Wants}
-use Rattle.icn_host.proofs.Putting.{leads_of, puts_nothing}
+use Rattle.icn_host.proofs.ToldPuts.{leads_of, puts_nothing}
 use Rattle.icn_host.specs.Puts.{Puts, all}
 use Rattle.icn_defs.specs.Running.{Observation}
 use Rattle.icn_streams.specs.Handed.{CallStreams, WantsMemory, uncounted, output_wants, errors_want}
@@ -15,9 +15,9 @@ use Rattle.icn_answer.specs.declared.answer.Answer.{Answer}
 use Rattle.icn_answer.specs.declared.answer.Answer.TheVariants.{Wrote, Ran, Refused, Command, Missing, BadUcode, BadImage, FileFault, ReadFault, WriteFault, NoMemory}
 use Rattle.icn_answer.specs.Answers.{IsFault}
 use Rattle.icn_answer.proofs.NoFaults.{ran_no_fault, wrote_no_fault}
-use Rattle.icn_run_answer.specs.Faulting.{of_run}
+use Rattle.icn_run_answer.specs.FaultAnswers.{of_run}
 use Rattle.icn_answer.specs.Lines.{fault_line, line_of}
-use Rattle.icn_answer.specs.Refusing.{PutsOwn, Refuses, put, own, write_fault, want}
+use Rattle.icn_answer.specs.Refusing.{PutsOwn, PutsItsLine, put, own, write_fault, want}
 use Rattle.icn_run_answer.specs.Reporting.{CountsFault, LineStands, PutsSome, ReportStands, Reports, put as put_whole, own as put_own, broke}
 
 -- Answers that are faults
@@ -60,7 +60,7 @@ line_stands usage name left before after NoMemory n ran gains = absurd (n refl)
 
 -- nothing but the line of an answer that no program ran for was put
 pub reports_of : {usage name : List ℕ} {left : Option (List ℕ)} {answer given : Answer} {before after : SinkState}
-    → ((ending : Ending) → answer ≡ Ran ending → ⊥) → Refuses usage name answer before after given → Reports usage name left before after given
+    → ((ending : Ending) → answer ≡ Ran ending → ⊥) → PutsItsLine usage name answer before after given → Reports usage name left before after given
 reports_of {answer = answer} ran (put n whole) = put_whole n (line_stands _ _ _ _ _ answer n ran whole.gains)
 reports_of {answer = answer} {before = before} ran (own f puts) = put_own f Wrote wrote_no_fault before (inl refl) (puts_own _ _ answer puts)
 reports_of {answer = answer} {after = after} ran (write_fault n stops) = put_own refl answer n after (leads_of _ _ _ Failed stops) (all (puts_nothing after))

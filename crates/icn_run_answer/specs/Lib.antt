@@ -1,7 +1,7 @@
 pub mod Reporting
-pub mod Faulting
-pub mod Telling
+pub mod FaultAnswers
+pub mod ToldObjects
 pub mod InputLeft
-pub mod Causes
-pub mod Falling
-pub mod Leaving
+pub mod CountCauses
+pub mod CountsRise
+pub mod OutsideLeft

@@ -2,7 +2,7 @@
 use Rattle.std.specs.Prelude.{◌≡◌, ◌⊎◌, ℕ, List, Option, IfSome}
 use Rattle.icn_host.specs.Sinks.{Gains, SinkState}
 use Rattle.icn_host.specs.Puts.{Puts, Leads}
-use Rattle.icn_streams.specs.Handed.{FailsOnce, KeepsCounts, WantsOnce}
+use Rattle.icn_streams.specs.Handed.{FailsOnce, KeepsFaultCounts, WantsOnce}
 use Rattle.icn_defs.specs.declared.ending.Ending.{Ending}
 use Rattle.icn_running.specs.declared.fault.RunFault.{RunFault}
 use Rattle.icn_running.specs.declared.fault.RunFault.TheVariants as Faults
@@ -10,7 +10,7 @@ use Rattle.icn_running.specs.Reported.{PutsReport, ending_seen}
 use Rattle.icn_answer.specs.declared.answer.Answer.{Answer}
 use Rattle.icn_answer.specs.declared.answer.Answer.TheVariants.{Wrote, Ran, Refused, Command, Missing, BadUcode, BadImage, FileFault, ReadFault, WriteFault, NoMemory}
 use Rattle.icn_answer.specs.Answers.{IsFault}
-use Rattle.icn_run_answer.specs.Faulting.{of_run}
+use Rattle.icn_run_answer.specs.FaultAnswers.{of_run}
 use Rattle.icn_answer.specs.Lines.{fault_line, line_of}
 
 -- the report of a run that ended so stands behind what the program itself put
@@ -38,9 +38,9 @@ LineStands usage name left NoMemory before after = ⊥
 
 -- the counts of the error output where a run was broken off by this fault: one rose at most, and once
 abbrev pub CountsFault : RunFault → SinkState → SinkState → Type 0
-CountsFault Faults.ReadFault before after = KeepsCounts before after
-CountsFault Faults.WriteFault before after = KeepsCounts before after ⊎ FailsOnce before after
-CountsFault Faults.NoMemory before after = KeepsCounts before after ⊎ WantsOnce before after
+CountsFault Faults.ReadFault before after = KeepsFaultCounts before after
+CountsFault Faults.WriteFault before after = KeepsFaultCounts before after ⊎ FailsOnce before after
+CountsFault Faults.NoMemory before after = KeepsFaultCounts before after ⊎ WantsOnce before after
 
 -- a program's run put something
 pub record PutsSome (before after : SinkState) : Type 0 where

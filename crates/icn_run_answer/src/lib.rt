@@ -1,8 +1,8 @@
 //! The answer of a program's run, and the counts of the outside behind it.
 #![tactic(auto)]
 
-mod laws;
+mod count_laws;
 mod run_fault;
 
-pub use laws::counts_stay;
+pub use count_laws::counts_stay;
 pub use run_fault::answer_of;

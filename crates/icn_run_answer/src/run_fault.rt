@@ -1,6 +1,6 @@
 // The answer where a run could not go on.
 ghost use Rattle.std.specs.Prelude.{◌≡◌};
-ghost use Rattle.icn_run_answer.specs.Faulting.{of_run};
+ghost use Rattle.icn_run_answer.specs.FaultAnswers.{of_run};
 
 use icn_answer::Answer;
 use icn_running::RunFault;

@@ -9,21 +9,21 @@ use Rattle.icn_host.proofs.SinkSteps.{part_more}
 use Rattle.icn_value.specs.Limited.{Bounds}
 use Rattle.icn_value.specs.Store.{Outside, Reading, outside_of}
 use Rattle.icn_code.specs.Codes.{Tables}
-use Rattle.icn_defs.specs.Interruptions.{LosesPart, Breaks, taken_of, BreaksReading}
+use Rattle.icn_defs.specs.Interruptions.{LosesPart, BreaksRun, taken_of, BreaksRunReading}
 use Rattle.icn_defs.specs.Running.{Ending, Observation, Launch, launch_of, after_steps, with_errors}
-use Rattle.icn_defs.proofs.Interrupting.{outside_begins, reading_breaks}
-use Rattle.icn_streams.specs.Handed.{CallStreams, Follows, Puts, PutsPart}
-use Rattle.icn_streams.proofs.Following.{follows_then, part_of_nothing, puts_whole, then_puts_part}
+use Rattle.icn_defs.proofs.Interruptions.{outside_begins, reading_breaks}
+use Rattle.icn_streams.specs.Handed.{CallStreams, Follows, PutsAdded, PutsPart}
+use Rattle.icn_streams.proofs.CallSequences.{follows_then, part_of_nothing, puts_whole, then_puts_part}
 use Rattle.icn_run.specs.FlatStep as Flat
 use Rattle.icn_run.specs.Stacks.{Frames, flat, empty}
 use Rattle.icn_run.specs.Step.{State, running, failing, hopping, over, stuck, observation}
-use Rattle.icn_run.proofs.Observing.{kept, over_seen}
-use Rattle.outside_laws.specs.Outsides.{Extends, HasOutside}
-use Rattle.outside_laws.proofs.Lasting.{extends_itself, of_input}
-use Rattle.outside_laws.proofs.CodeRuns.{run_leaves}
-use Rattle.outside_laws.proofs.Growing.{reached_extends, steps_extend}
-use Rattle.icn_machine.specs.Answering as Step
-use Rattle.icn_machine.specs.Answering.{BreaksOff, idle, reading, putting, behind, outside_in}
+use Rattle.icn_run.proofs.OneObservation.{observation_lasts, over_seen}
+use Rattle.law_outside.specs.Outsides.{ExtendsOutside, HasOutside}
+use Rattle.law_outside.proofs.LastingFacts.{extends_itself, of_input}
+use Rattle.law_outside.proofs.CodeRuns.{run_leaves}
+use Rattle.law_outside.proofs.GrowingOutside.{reached_extends, steps_extend}
+use Rattle.icn_machine.specs.InstructionAnswers as Step
+use Rattle.icn_machine.specs.InstructionAnswers.{BreaksOff, idle, reading, putting, behind, outside_in}
 use Rattle.icn_machine.specs.Stepping.{outside_at}
 use Rattle.icn_running.specs.Runs.{streams_of}
 use Rattle.icn_running.proofs.Observations.{ComesToEnd, then_errors}
@@ -35,7 +35,7 @@ front : (was all text more : List ℕ) → was ≡ text → all ≡ was ++ more 
 front was all text more is e = sym is ∙ sym (ap (take (length was)) e ∙ take-append_seam was more)
 
 gains_front : (before between after : SinkState) (was all more : List ℕ)
-    → Puts before between [] was → after ≡ between → all ≡ was ++ more → Gains before.held after.held (take (length was) all)
+    → PutsAdded before between [] was → after ≡ between → all ≡ was ++ more → Gains before.held after.held (take (length was) all)
 gains_front before between after was all more p same e = record {
   appends =
       subst (Appends before.held after.held) (front was all p.text more p.is e)
@@ -52,7 +52,7 @@ get_behind (x ∷ later) this older = get_behind later this older
 
 -- What was taken up to a state is a first part of what the run takes.
 loses : (input : List ℕ) (mid : Outside) (seen : Observation) (left : Option (List ℕ))
-    → Extends (outside_of input) mid → Extends mid seen.outside → left ≡ Some mid.left → LosesPart input (taken_of input seen) left
+    → ExtendsOutside (outside_of input) mid → ExtendsOutside mid seen.outside → left ≡ Some mid.left → LosesPart input (taken_of input seen) left
 loses input mid seen left before since is = record {
   count = min before.taken (length input);
   within = subst (λ n. min before.taken (length input) ≤ length input - n) (sym size) (omega arith);
@@ -78,7 +78,7 @@ module _ (tables : Tables) where
 
   lasts : (m : ℕ) (s : State Frames Frames) (seen : Observation) → observation s ≡ Some seen → observation (after_steps on m s) ≡ Some seen
   lasts zero s seen e = e
-  lasts (suc m) s seen e = lasts m (on s) seen (kept flat tables s seen e)
+  lasts (suc m) s seen e = lasts m (on s) seen (observation_lasts flat tables s seen e)
 
   stays : (m : ℕ) → after_steps on m stuck ≡ stuck
   stays zero = refl
@@ -89,19 +89,19 @@ module _ (tables : Tables) where
 
   -- what is observed at the end extends the outside of each state before it
   to_end : (m : ℕ) (s : State Frames Frames) (seen : Observation)
-      → observation (after_steps on m s) ≡ Some seen → Extends (outside_at s) seen.outside
+      → observation (after_steps on m s) ≡ Some seen → ExtendsOutside (outside_at s) seen.outside
   to_end m (running f st) seen e =
-      subst (HasOutside (Extends st.outside)) (over_seen (after_steps on m (running f st)) seen e) (steps_extend tables (running f st) m)
+      subst (HasOutside (ExtendsOutside st.outside)) (over_seen (after_steps on m (running f st)) seen e) (steps_extend tables (running f st) m)
   to_end m (failing f st) seen e =
-      subst (HasOutside (Extends st.outside)) (over_seen (after_steps on m (failing f st)) seen e) (steps_extend tables (failing f st) m)
+      subst (HasOutside (ExtendsOutside st.outside)) (over_seen (after_steps on m (failing f st)) seen e) (steps_extend tables (failing f st) m)
   to_end m (hopping f st) seen e =
-      subst (HasOutside (Extends st.outside)) (over_seen (after_steps on m (hopping f st)) seen e) (steps_extend tables (hopping f st) m)
+      subst (HasOutside (ExtendsOutside st.outside)) (over_seen (after_steps on m (hopping f st)) seen e) (steps_extend tables (hopping f st) m)
   to_end m (over ending outside) seen e =
-      subst (HasOutside (Extends outside)) (over_seen (after_steps on m (over ending outside)) seen e) (steps_extend tables (over ending outside) m)
+      subst (HasOutside (ExtendsOutside outside)) (over_seen (after_steps on m (over ending outside)) seen e) (steps_extend tables (over ending outside) m)
   to_end m stuck seen e = none m seen e
 
   has_at : (m : ℕ) (s : State Frames Frames) (seen : Observation) (o : Outside)
-      → observation (after_steps on m s) ≡ Some seen → HasOutside (Extends o) s → Extends o (outside_at s)
+      → observation (after_steps on m s) ≡ Some seen → HasOutside (ExtendsOutside o) s → ExtendsOutside o (outside_at s)
   has_at m (running f st) seen o e h = h
   has_at m (failing f st) seen o e h = h
   has_at m (hopping f st) seen o e h = h
@@ -126,37 +126,38 @@ module _ (tables : Tables) where
     ends : (n : ℕ) → observation (after_steps on r.count (at n)) ≡ Some seen
     ends n = ap observation (swap n r.count (Flat.start tables launch)) ∙ lasts n (after_steps on r.count (Flat.start tables launch)) seen r.is
 
-    since_start : (n : ℕ) → Extends (outside_of input) (outside_at (at n))
+    since_start : (n : ℕ) → ExtendsOutside (outside_of input) (outside_at (at n))
     since_start n = has_at r.count (at n) seen (outside_of input) (ends n) (reached_extends tables launch n)
 
-    until_end : (n : ℕ) → Extends (outside_at (at n)) seen.outside
+    until_end : (n : ℕ) → ExtendsOutside (outside_at (at n)) seen.outside
     until_end n = to_end r.count (at n) seen (ends n)
 
     in_next : (n : ℕ) (was : Outside) → outside_at (at (suc n)) ≡ outside_in was (at (suc n))
     in_next n was = same_at r.count (at (suc n)) seen was (ends (suc n))
 
-    next_until_end : (n : ℕ) (was : Outside) → Extends (outside_in was (at (suc n))) seen.outside
-    next_until_end n was = subst (λ (o : Outside). Extends o seen.outside) (in_next n was) (until_end (suc n))
+    next_until_end : (n : ℕ) (was : Outside) → ExtendsOutside (outside_in was (at (suc n))) seen.outside
+    next_until_end n was = subst (λ (o : Outside). ExtendsOutside o seen.outside) (in_next n was) (until_end (suc n))
 
-    next_since_start : (n : ℕ) (was : Outside) → Extends (outside_of input) (outside_in was (at (suc n)))
-    next_since_start n was = subst (Extends (outside_of input)) (in_next n was) (since_start (suc n))
+    next_since_start : (n : ℕ) (was : Outside) → ExtendsOutside (outside_of input) (outside_in was (at (suc n)))
+    next_since_start n was = subst (ExtendsOutside (outside_of input)) (in_next n was) (since_start (suc n))
 
     -- what is left is that of one outside on the way, and what was put a first part of that of another
-    breaks_at : (before after : CallStreams) (mid now : Outside) → Extends (outside_of input) mid → Extends mid seen.outside → Extends now seen.outside
+    breaks_at : (before after : CallStreams) (mid now : Outside) → ExtendsOutside (outside_of input) mid → ExtendsOutside mid seen.outside
+        → ExtendsOutside now seen.outside
         → after.left ≡ Some mid.left
         → PutsPart before.output after.output [] now.output → PutsPart before.errors after.errors [] now.errors
-        → Breaks input seen (streams_of before) (streams_of after)
+        → BreaksRun input seen (streams_of before) (streams_of after)
     breaks_at before after mid now since rest more left output errors = record {
       left = loses input mid seen after.left since rest left;
       output = gains_part before.output after.output now.output seen.outside.output more.output_text output more.output;
       errors = gains_part before.errors after.errors now.errors seen.outside.errors more.errors_text errors more.errors;
     }
 
-    from_start : Extends (outside_of input) seen.outside
-    from_start = subst (HasOutside (Extends (outside_of input))) (over_seen (at r.count) seen r.is) (reached_extends tables launch r.count)
+    from_start : ExtendsOutside (outside_of input) seen.outside
+    from_start = subst (HasOutside (ExtendsOutside (outside_of input))) (over_seen (at r.count) seen r.is) (reached_extends tables launch r.count)
 
     -- a run of which nothing was done
-    pub run_not_begun : (before : CallStreams) → before.left ≡ Some input → Breaks input seen (streams_of before) (streams_of before)
+    pub run_not_begun : (before : CallStreams) → before.left ≡ Some input → BreaksRun input seen (streams_of before) (streams_of before)
     run_not_begun before told =
         breaks_at before before (outside_of input) (outside_of input) (extends_itself (outside_of input)) from_start from_start told
         (part_of_nothing before.output []) (part_of_nothing before.errors [])
@@ -164,18 +165,20 @@ module _ (tables : Tables) where
     -- a run that is over, whose report was not put whole
     pub run_cut_short : (before between : CallStreams) (errors : SinkState) (ending : Ending) (report : List ℕ)
         → ComesToEnd tables launch before between ending report
-        → GainsPart between.errors.held errors.held report → Breaks input seen (streams_of before) (streams_of (then_errors between errors))
+        → GainsPart between.errors.held errors.held report → BreaksRun input seen (streams_of before) (streams_of (then_errors between errors))
     run_cut_short before between errors ending report comes part =
         let there : outside_at (at comes.count) ≡ with_errors report comes.now = ap outside_at comes.is in
-        let since : Extends (outside_of input) (with_errors report comes.now) = subst (Extends (outside_of input)) there (since_start comes.count) in
-        let rest : Extends (with_errors report comes.now) seen.outside = subst (λ (o : Outside). Extends o seen.outside) there (until_end comes.count) in
+        let since : ExtendsOutside (outside_of input) (with_errors report comes.now) = subst (ExtendsOutside (outside_of input)) there
+        (since_start comes.count) in
+        let rest : ExtendsOutside (with_errors report comes.now) seen.outside = subst (λ (o : Outside). ExtendsOutside o seen.outside) there
+        (until_end comes.count) in
         let put : PutsPart between.errors errors comes.now.errors (comes.now.errors ++ report) = record { text = report; is = refl; gains = part } in
         breaks_at before (then_errors between errors) (with_errors report comes.now) (with_errors report comes.now) since rest rest comes.follows.left
         (puts_whole comes.follows.output) (then_puts_part comes.follows.errors put)
 
     module _ (n : ℕ) (before between after : CallStreams) (f : Follows before between (outside_of input) (outside_at (at n))) where
       -- a step that was broken off as it read
-      pub run_breaks_reading : Step.BreaksReading (at (suc n)) (outside_at (at n)) between after → BreaksReading seen (streams_of before) (streams_of after)
+      pub run_breaks_reading : Step.BreaksReading (at (suc n)) (outside_at (at n)) between after → BreaksRunReading seen (streams_of before) (streams_of after)
       run_breaks_reading b = record {
         place = length next.later;
         reading = this;
@@ -191,20 +194,20 @@ module _ (tables : Tables) where
           this : Reading
           this = record { asked = b.asked; left = was.left; output = length was.output; errors = length was.errors }
 
-          rest : Extends was seen.outside
+          rest : ExtendsOutside was seen.outside
           rest = until_end n
 
-          next : Extends (outside_in was (at (suc n))) seen.outside
+          next : ExtendsOutside (outside_in was (at (suc n))) seen.outside
           next = next_until_end n was
 
       -- a step that was broken off as it put
-      pub run_breaks_putting : Step.BreaksPutting (at (suc n)) (outside_at (at n)) between after → Breaks input seen (streams_of before) (streams_of after)
+      pub run_breaks_putting : Step.BreaksPutting (at (suc n)) (outside_at (at n)) between after → BreaksRun input seen (streams_of before) (streams_of after)
       run_breaks_putting b =
           breaks_at before after (outside_at (at n)) (outside_in (outside_at (at n)) (at (suc n))) (since_start n) (until_end n)
           (next_until_end n (outside_at (at n)))
           (b.left ∙ f.left) (then_puts_part f.output b.output) (then_puts_part f.errors b.errors)
 
-      from_idle : after ≡ between → Breaks input seen (streams_of before) (streams_of after)
+      from_idle : after ≡ between → BreaksRun input seen (streams_of before) (streams_of after)
       from_idle e =
           let g : Follows before after (outside_of input) (outside_at (at n)) =
           subst (λ (h : CallStreams). Follows before h (outside_of input) (outside_at (at n))) (sym e) f in
@@ -212,7 +215,7 @@ module _ (tables : Tables) where
           (puts_whole g.errors)
 
       from_behind : Follows between after (outside_at (at n)) (outside_in (outside_at (at n)) (at (suc n)))
-          → Breaks input seen (streams_of before) (streams_of after)
+          → BreaksRun input seen (streams_of before) (streams_of after)
       from_behind h =
           let was = outside_at (at n) in
           let g : Follows before after (outside_of input) (outside_in was (at (suc n))) = follows_then f h in
@@ -221,7 +224,7 @@ module _ (tables : Tables) where
           g.left (puts_whole g.output) (puts_whole g.errors)
 
       -- a step that was broken off for want of memory
-      pub run_breaks_off : BreaksOff (at (suc n)) (outside_at (at n)) between after → Breaks input seen (streams_of before) (streams_of after)
+      pub run_breaks_off : BreaksOff (at (suc n)) (outside_at (at n)) between after → BreaksRun input seen (streams_of before) (streams_of after)
       run_breaks_off (idle e) = from_idle e
       run_breaks_off (reading b) =
           reading_breaks input seen (streams_of before) (streams_of after)

@@ -9,7 +9,7 @@ use Rattle.icn_vars.specs.declared.outcome.Halt.TheVariants as Halts
 use Rattle.icn_code.specs.Codes.{Tables}
 use Rattle.icn_defs.specs.declared.ending.Ending.{Ending as HeldEnding}
 use Rattle.icn_machine.specs.Starting.{StartsAs}
-use Rattle.icn_running.specs.Halting.{IsUnbegun}
+use Rattle.icn_running.specs.HaltReasons.{IsUnbegun}
 use Rattle.icn_running.specs.declared.fault.RunFault.{RunFault}
 use Rattle.icn_running.specs.Reported.{AnswersHalt, AnswersUnbegun}
 

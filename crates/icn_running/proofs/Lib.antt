@@ -1,9 +1,9 @@
 mod BrokenOff
-mod Counting
-mod Images
-mod Lasting
+mod RisenCounts
+mod PlainImages
+mod WorkLeft
 mod LoopSteps
-mod Naming
+mod NamedOrNot
 mod Observations
 mod RecordCounts
 mod RecordNumbers

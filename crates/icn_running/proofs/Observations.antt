@@ -15,11 +15,11 @@ use Rattle.icn_code.specs.Codes.{Tables}
 use Rattle.icn_run.specs.FlatStep.{start}
 use Rattle.icn_run.specs.Stacks.{flat}
 use Rattle.icn_run.specs.Step.{all_names, observation, over, steps}
-use Rattle.icn_streams.specs.Handed.{Follows, CallStreams, Puts}
-use Rattle.icn_streams.proofs.Following.{follows_then, puts_nothing}
+use Rattle.icn_streams.specs.Handed.{Follows, CallStreams, PutsAdded}
+use Rattle.icn_streams.proofs.CallSequences.{follows_then, puts_nothing}
 use Rattle.icn_control.specs.Machines.{extent}
 use Rattle.icn_control.specs.declared.machine.Machine.{Machine}
-use Rattle.icn_control.specs.declared.machine.Stage.TheVariants as Stages
+use Rattle.icn_control.specs.declared.machine.RunState.TheVariants as RunStates
 use Rattle.icn_machine.specs.Stepping.{Leads}
 use Rattle.icn_running.specs.Runs.{RunsTo, streams_of}
 
@@ -51,7 +51,7 @@ module _ {K : Type 0} (tables : Tables) (launch : Launch) (n : Machine K) (befor
   }
 
   -- the starting call is over
-  pub finished : Leads tables (start tables launch) launch.outside before n between (Ok Stages.Over)
+  pub finished : Leads tables (start tables launch) launch.outside before n between (Ok RunStates.Over)
       → ComesToEnd tables launch before between Done []
   finished leads = quiet_end Done (suc leads.count) leads.last.now leads.last.is (follows_then leads.follows leads.last.follows)
 
@@ -61,7 +61,7 @@ module _ {K : Type 0} (tables : Tables) (launch : Launch) (n : Machine K) (befor
   ended status leads = quiet_end (Exit status) (suc leads.count) leads.last.now leads.last.is (follows_then leads.follows leads.last.follows)
 
   -- it stands at the bound of turns
-  pub bounded : Leads tables (start tables launch) launch.outside before n between (Ok Stages.AtBound)
+  pub bounded : Leads tables (start tables launch) launch.outside before n between (Ok RunStates.AtBound)
       → ComesToEnd tables launch before between AtBound bound_report
   bounded leads = record {
     count = suc leads.count;
@@ -83,7 +83,7 @@ module _ {K : Type 0} (tables : Tables) (launch : Launch) (n : Machine K) (befor
 
 -- What is seen of it once its report is put
 
-gains_all : (before after : SinkState) (now : List ℕ) → Puts before after [] now → Gains before.held after.held now
+gains_all : (before after : SinkState) (now : List ℕ) → PutsAdded before after [] now → Gains before.held after.held now
 gains_all before after now puts = subst (λ (text : List ℕ). Gains before.held after.held text) (sym puts.is) puts.gains
 
 ends_there : (ending : Ending) (input : List ℕ) (before after : CallStreams) (now : Outside) → Follows before after (outside_of input) now

@@ -19,15 +19,15 @@ use Rattle.icn_run.specs.FlatStep.{Runs, start}
 use Rattle.icn_run.specs.Stacks.{Frames}
 use Rattle.icn_run.specs.Step.{State, all_names, first_store, running}
 use Rattle.icn_streams.specs.Handed.{CallStreams}
-use Rattle.icn_streams.proofs.Following.{follows_all}
+use Rattle.icn_streams.proofs.CallSequences.{follows_all}
 use Rattle.icn_control.specs.Machines.{extent, stack_seen, store_seen}
 use Rattle.icn_control.specs.declared.machine.Machine.{Machine}
-use Rattle.icn_control.specs.declared.machine.Stage.TheVariants as Stages
-use Rattle.icn_machine.specs.declared.stepping.Stepped.{Stepped}
-use Rattle.icn_machine.specs.declared.stepping.Stepped.TheVariants as Steppeds
+use Rattle.icn_control.specs.declared.machine.RunState.TheVariants as RunStates
+use Rattle.icn_machine.specs.declared.stepping.AfterStep.{AfterStep}
+use Rattle.icn_machine.specs.declared.stepping.AfterStep.TheVariants as AfterSteps
 use Rattle.icn_machine.specs.Starting.{StartsAs}
 use Rattle.icn_machine.specs.Stepping.{IsAt, Leads}
-use Rattle.icn_machine.specs.Steps.{stage_result}
+use Rattle.icn_machine.specs.AfterInstruction.{stage_result}
 use Rattle.icn_running.specs.declared.fault.RunFault.{RunFault}
 use Rattle.icn_running.specs.declared.fault.RunFault.TheVariants.{ReadFault, WriteFault, NoMemory}
 use Rattle.icn_running.specs.Reported.{AnswersEnd, AnswersFault, AnswersMachine, AnswersUnbegun, IsReportOf, PutsReport, ending_seen}
@@ -81,12 +81,12 @@ module _ (tables : Tables) (words : List (List ℕ)) (bounds : Bounds) (input : 
       (subst (λ (s : SinkState). AnswersRun tables launch (Err fault) before (then_errors between s)) (sym p.1) (seen, (r, leaves)))
 
   -- its machine has stopped
-  at_machine : {K : Type 0} (n : Machine K) (stopped : Result Stepped Halt) (answered : Result HeldEnding RunFault)
+  at_machine : {K : Type 0} (n : Machine K) (stopped : Result AfterStep Halt) (answered : Result HeldEnding RunFault)
       → Leads tables (start tables launch) launch.outside before n between (stage_result stopped)
       → AnswersMachine (all_names tables) n stopped answered between.errors errors → Answers answered
-  at_machine n (Ok Steppeds.On) answered leads p = absurd p
-  at_machine n (Ok Steppeds.Finished) answered leads p = at_end Done [] answered refl (finished tables launch n before between leads) p
-  at_machine n (Ok Steppeds.AtBound) answered leads p = at_end AtBound bound_report answered refl (bounded tables launch n before between leads) p
+  at_machine n (Ok AfterSteps.Running) answered leads p = absurd p
+  at_machine n (Ok AfterSteps.Over) answered leads p = at_end Done [] answered refl (finished tables launch n before between leads) p
+  at_machine n (Ok AfterSteps.AtBound) answered leads p = at_end AtBound bound_report answered refl (bounded tables launch n before between leads) p
   at_machine n (Err (Halts.Error number offending)) answered leads p =
       at_end (Errored number) (error_report (all_names tables) (heap_of n.world.heap) number (option_map (value_in (extent n)) offending)) answered
       (all_names tables, (heap_of n.world.heap, (option_map (value_in (extent n)) offending, refl)))
@@ -101,9 +101,9 @@ module _ (tables : Tables) (words : List (List ℕ)) (bounds : Bounds) (input : 
 
 -- of a run that has started
 pub started_answers : {K : Type 0} (tables : Tables) (m n : Machine K) (before between : CallStreams) (errors : SinkState)
-    (stopped : Result Stepped Halt) (answered : Result HeldEnding RunFault)
+    (stopped : Result AfterStep Halt) (answered : Result HeldEnding RunFault)
     → ((launch : Launch) → (seen : Observation) × Runs tables launch seen)
-    → ((was : Outside) (state : State Frames Frames) → IsAt tables was state m Stages.Runs → before.left ≡ Some was.left
+    → ((was : Outside) (state : State Frames Frames) → IsAt tables was state m RunStates.Running → before.left ≡ Some was.left
     → Leads tables state was before n between (stage_result stopped))
     → AnswersMachine (all_names tables) n stopped answered between.errors errors
     → (words : List (List ℕ)) (bounds : Bounds) (input : List ℕ) → before.left ≡ Some input

@@ -8,20 +8,20 @@ use Rattle.icn_code.specs.Codes.{Tables}
 use Rattle.icn_run.specs.FlatStep.{start}
 use Rattle.icn_run.specs.Stacks.{Frames, flat}
 use Rattle.icn_run.specs.Step.{State, running, failing, hopping, over, stuck, step, all_names}
-use Rattle.icn_run_named.specs.StateNames.{StateNamed}
-use Rattle.icn_run_named.specs.KeepingSizes.{StateFits}
+use Rattle.law_steps.specs.StateNames.{StateNamed}
+use Rattle.law_steps.specs.KeepingSizes.{StateFits}
 use Rattle.icn_run.specs.AnyOutside.{over_outside, run_over}
-use Rattle.icn_run_safe.specs.NoStuck.{IsNeverStuckOver}
-use Rattle.icn_run_safe.specs.StepMeasure.{EachStepFalls}
-use Rattle.icn_control.specs.Machines.{IsSound, stack_seen, store_seen}
+use Rattle.law_safe.specs.NoStuck.{IsNeverStuckOver}
+use Rattle.law_safe.specs.StepMeasure.{EachStepFalls}
+use Rattle.icn_control.specs.Machines.{IsSoundMachine, stack_seen, store_seen}
 use Rattle.icn_control.specs.declared.machine.Machine.{Machine}
-use Rattle.icn_control.specs.declared.machine.Stage.TheVariants as Stages
-use Rattle.icn_run_safe.specs.CaseMarks.{CaseStands, CasesStandOver}
-use Rattle.icn_run_named.specs.KeepingVariables.{StateHasVariables, StatesHaveVariables}
-use Rattle.icn_run_safe.proofs.CaseMarks.{case_mark}
+use Rattle.icn_control.specs.declared.machine.RunState.TheVariants as RunStates
+use Rattle.law_safe.specs.CaseMarks.{CaseStands, CasesStandOver}
+use Rattle.law_steps.specs.KeepingVariables.{StateHasVariables, StatesHaveVariables}
+use Rattle.law_safe.proofs.CaseMarks.{case_mark}
 use Rattle.icn_machine.specs.Stepping.{FindsMark, FindsVariables, IsKept, IsReady}
-use Rattle.icn_running.specs.Lasting.{AlwaysFalls, Lasts}
-use Rattle.icn_running.proofs.Lasting.{falls_elsewhere}
+use Rattle.icn_running.specs.WorkLeft.{AlwaysFalls, Lasts}
+use Rattle.icn_running.proofs.WorkLeft.{falls_elsewhere}
 
 -- The words of the laws are those of the machine
 
@@ -65,9 +65,9 @@ start_kept tables launch never variables cases named fits = record {
 }
 
 -- the machine that stands for it is ready
-pub start_ready : {K : Type 0} (tables : Tables) (launch : Launch) (m : Machine K) → IsKept tables (start tables launch) → IsSound tables m
+pub start_ready : {K : Type 0} (tables : Tables) (launch : Launch) (m : Machine K) → IsKept tables (start tables launch) → IsSoundMachine tables m
     → IsSome m.stacks.table.running
-    → start tables launch ≡ running (stack_seen m) (store_seen tables launch.outside m) → IsReady tables m Stages.Runs
+    → start tables launch ≡ running (stack_seen m) (store_seen tables launch.outside m) → IsReady tables m RunStates.Running
 start_ready tables launch m kept sound runs stands = record {
   sound = sound;
   stack = runs;

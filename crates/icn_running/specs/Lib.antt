@@ -1,7 +1,7 @@
-pub mod Faults
-pub mod Halting
-pub mod Lasting
-pub mod Ons
-pub mod Plain
+pub mod SinkFaults
+pub mod HaltReasons
+pub mod WorkLeft
+pub mod DueInstructions
+pub mod PlainValues
 pub mod Reported
 pub mod Runs

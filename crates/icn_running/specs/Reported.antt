@@ -2,7 +2,7 @@
 use Rattle.std.specs.Prelude.{◌≡◌, ◌⊎◌, ℕ, List, [], ◌++◌, Option, Some, None, Result, Ok, Err}
 use Rattle.std.specs.Option.{option_map}
 use Rattle.icn_host.specs.Sinks.{Gains, SinkState}
-use Rattle.icn_host.specs.Puts.{BreaksOff, PutsAll, RunsShort}
+use Rattle.icn_host.specs.Puts.{FailsPutting, PutsAll, RunsShort}
 use Rattle.icn_value.specs.Store.{Heap, Names}
 use Rattle.icn_value.specs.Values.{Value}
 use Rattle.icn_heap.specs.Extents.{Extent, value_in}
@@ -15,8 +15,8 @@ use Rattle.icn_defs.specs.declared.ending.Ending.{Ending as HeldEnding}
 use Rattle.icn_defs.specs.declared.ending.Ending.TheVariants as HeldEndings
 use Rattle.icn_control.specs.Machines.{extent}
 use Rattle.icn_control.specs.declared.machine.Machine.{Machine}
-use Rattle.icn_machine.specs.declared.stepping.Stepped.{Stepped}
-use Rattle.icn_machine.specs.declared.stepping.Stepped.TheVariants as Steppeds
+use Rattle.icn_machine.specs.declared.stepping.AfterStep.{AfterStep}
+use Rattle.icn_machine.specs.declared.stepping.AfterStep.TheVariants as AfterSteps
 use Rattle.icn_running.specs.declared.fault.RunFault.{RunFault}
 use Rattle.icn_running.specs.declared.fault.RunFault.TheVariants.{ReadFault, WriteFault, NoMemory}
 
@@ -47,7 +47,7 @@ pub record PutsReport (ending : Ending) (before after : SinkState) : Type 0 wher
 -- a report was not put whole, and this is the fault; where memory was wanting, it may be that it was not begun
 abbrev pub CutsShort : RunFault → SinkState → SinkState → List ℕ → Type 0
 CutsShort ReadFault before after text = ⊥
-CutsShort WriteFault before after text = BreaksOff before after text
+CutsShort WriteFault before after text = FailsPutting before after text
 CutsShort NoMemory before after text = (after ≡ before) ⊎ RunsShort before after text
 
 -- The ending is answered once its report is put; or the fault for which it was not put whole.
@@ -72,13 +72,13 @@ AnswersHalt names heap all Halts.WriteFault result before after = AnswersFault W
 AnswersHalt names heap all Halts.NoMemory result before after = AnswersFault NoMemory result before after
 
 -- the same of one that is finished or stands at its bound; where an instruction is due, it has no end
-abbrev pub AnswersStop : Stepped → Result HeldEnding RunFault → SinkState → SinkState → Type 0
-AnswersStop Steppeds.On result before after = ⊥
-AnswersStop Steppeds.Finished result before after = AnswersEnd Done [] result before after
-AnswersStop Steppeds.AtBound result before after = AnswersEnd AtBound bound_report result before after
+abbrev pub AnswersStop : AfterStep → Result HeldEnding RunFault → SinkState → SinkState → Type 0
+AnswersStop AfterSteps.Running result before after = ⊥
+AnswersStop AfterSteps.Over result before after = AnswersEnd Done [] result before after
+AnswersStop AfterSteps.AtBound result before after = AnswersEnd AtBound bound_report result before after
 
 -- What is answered of a run whose machine has stopped so.
-abbrev pub AnswersMachine : {K : Type 0} → Names → Machine K → Result Stepped Halt
+abbrev pub AnswersMachine : {K : Type 0} → Names → Machine K → Result AfterStep Halt
     → Result HeldEnding RunFault → SinkState → SinkState → Type 0
 AnswersMachine names m (Ok stepped) result before after = AnswersStop stepped result before after
 AnswersMachine names m (Err halt) result before after =

@@ -2,13 +2,13 @@
 use Rattle.std.specs.Prelude.{◌≡◌, ℕ, List, Some, Result, Ok, Err}
 use Rattle.icn_value.specs.Limited.{Bounds}
 use Rattle.icn_value.specs.Store.{outside_of}
-use Rattle.icn_defs.specs.Interruptions.{Breaks, BreaksReading, Ends, Streams}
+use Rattle.icn_defs.specs.Interruptions.{BreaksRun, BreaksRunReading, Ends, Streams}
 use Rattle.icn_defs.specs.Running.{Ending, Launch, Observation, launch_of}
 use Rattle.icn_code.specs.Codes.{Tables}
 use Rattle.icn_run.specs.FlatStep.{Runs, start}
 use Rattle.icn_run.specs.Step.{running}
 use Rattle.icn_defs.specs.declared.ending.Ending.{Ending as HeldEnding}
-use Rattle.icn_run_safe.specs.StepMeasure.{EachStepFalls}
+use Rattle.law_safe.specs.StepMeasure.{EachStepFalls}
 use Rattle.icn_streams.specs.Handed.{CallStreams, KeepsAllCounts, WantsMemory}
 use Rattle.icn_control.specs.Machines.{stack_seen, store_seen}
 use Rattle.icn_control.specs.declared.machine.Machine.{Machine}
@@ -29,9 +29,9 @@ RunsTo tables launch ending before after =
 
 -- what this fault leaves of a run that was begun with this input: broken off at a reading, at a put, or for want of memory
 abbrev pub LeavesBy : RunFault → List ℕ → Observation → CallStreams → CallStreams → Type 0
-LeavesBy ReadFault input seen before after = BreaksReading seen (streams_of before) (streams_of after)
-LeavesBy WriteFault input seen before after = Breaks input seen (streams_of before) (streams_of after)
-LeavesBy NoMemory input seen before after = Breaks input seen (streams_of before) (streams_of after)
+LeavesBy ReadFault input seen before after = BreaksRunReading seen (streams_of before) (streams_of after)
+LeavesBy WriteFault input seen before after = BreaksRun input seen (streams_of before) (streams_of after)
+LeavesBy NoMemory input seen before after = BreaksRun input seen (streams_of before) (streams_of after)
 
 -- The run of a code was broken off by this fault.
 abbrev pub IsBrokenOff : Tables → Launch → RunFault → CallStreams → CallStreams → Type 0

@@ -6,13 +6,13 @@ ghost use Rattle.icn_defs.specs.Errors.{error_report};
 ghost use Rattle.icn_defs.specs.Running.{Errored};
 ghost use Rattle.icn_heap.specs.Extents.{IsLive, value_in};
 ghost use Rattle.icn_heap.specs.Heaps.{extent_of, heap_of};
-ghost use Rattle.icn_code.specs.Seen.{tables_of};
+ghost use Rattle.icn_code.specs.CodeTables.{tables_of};
 ghost use Rattle.icn_vars.specs.Outcomes.{IsLiveHalt};
 ghost use Rattle.icn_run.specs.Step.{all_names};
 ghost use Rattle.icn_control.specs.Machines.{world_reach};
-ghost use Rattle.icn_running.specs.Ons.{is_on};
+ghost use Rattle.icn_running.specs.DueInstructions.{is_on};
 ghost use Rattle.icn_running.specs.Reported.{AnswersEnd, AnswersHalt, AnswersMachine, AnswersStop, AnswersUnbegun, ending_seen};
-ghost use Rattle.icn_running.specs.Halting.{IsAboutLive, IsUnbegun};
+ghost use Rattle.icn_running.specs.HaltReasons.{IsAboutLive, IsUnbegun};
 
 use crate::fault::RunFault;
 use crate::report::error_report;
@@ -22,7 +22,7 @@ use icn_defs::Ending;
 use icn_frames::{Cell, Stack};
 use icn_heap::Heap;
 use icn_host::{Sink, put_line};
-use icn_machine::Stepped;
+use icn_machine::AfterStep;
 use icn_value::{Limits, Val};
 use icn_vars::Halt;
 use std::alloc::Global;
@@ -75,14 +75,14 @@ fn end_halted<E: Sink>(
 }
 
 // Answers what a run came to that is finished or stands at its bound, and puts its report.
-fn end_stopped<E: Sink>(stepped: Stepped, err: &mut E) -> Result<Ending, RunFault>
+fn end_stopped<E: Sink>(stepped: AfterStep, err: &mut E) -> Result<Ending, RunFault>
     requires { is_on stepped ≡ false }
     ensures { AnswersStop stepped result (E.state err.old) (E.state err.new) }
 {
     match stepped {
-        Stepped::On => unreachable!(),
-        Stepped::Finished => Ok(Ending::Done),
-        Stepped::AtBound => put_report(Ending::AtBound, b"turn bound reached\n", err),
+        AfterStep::Running => unreachable!(),
+        AfterStep::Over => Ok(Ending::Done),
+        AfterStep::AtBound => put_report(Ending::AtBound, b"turn bound reached\n", err),
     }
 }
 
@@ -95,7 +95,7 @@ pub fn end_run<K: Stack<Cell> + Drop, E: Sink>(
     alloc: Global,
     code: &Code,
     m: &Machine<K>,
-    stopped: Result<Stepped, Halt>,
+    stopped: Result<AfterStep, Halt>,
     err: &mut E,
 ) -> Result<Ending, RunFault>
     requires stops { IfOk stopped (λ stepped. is_on stepped ≡ false) }

@@ -1,6 +1,6 @@
 // Why a run could not go on.
 ghost use Rattle.std.specs.Prelude.{◌≡◌};
-ghost use Rattle.icn_running.specs.Faults.{of_sink};
+ghost use Rattle.icn_running.specs.SinkFaults.{of_sink};
 ghost use Rattle.icn_running.specs.declared.fault.RunFault.TheVariants.{NoMemory};
 
 use icn_host::Fault;

@@ -1,19 +1,19 @@
 // A run, from its start to its end.
 ghost use Rattle.std.specs.Prelude.{◌≡◌, List, Some, ℕ, IfErr, IfOk};
 ghost use Rattle.icn_value.specs.Store.{outside_of};
-ghost use Rattle.icn_code.specs.Seen.{tables_of};
+ghost use Rattle.icn_code.specs.CodeTables.{tables_of};
 ghost use Rattle.icn_streams.specs.Handed.{call_streams};
-ghost use Rattle.icn_control.specs.declared.machine.Stage.TheVariants as Stages;
+ghost use Rattle.icn_control.specs.declared.machine.RunState.TheVariants as RunStates;
 ghost use Rattle.icn_machine.specs.Starting.{launch_with};
 ghost use Rattle.icn_machine.specs.Stepping.{IsReady};
-ghost use Rattle.icn_running.specs.Lasting.{Lasts};
+ghost use Rattle.icn_running.specs.WorkLeft.{Lasts};
 ghost use Rattle.icn_running.specs.Reported.{PutsReport, ending_seen};
 ghost use Rattle.icn_running.specs.Runs.{AnswersRuns, EndsAtFirst, IsBrokenOff, RunsTo};
 
 use crate::endings::{end_run, end_unbegun};
 use crate::fault::RunFault;
-use crate::laws::runs_hold;
 use crate::running::run_on;
+use crate::verified_run_laws::runs_hold;
 use icn_control::Machine;
 use icn_defs::Ending;
 use icn_frames::{Cell, Stack};
@@ -69,7 +69,7 @@ fn run_started<K: Stack<Cell> + Drop, I: Source, O: Sink, E: Sink>(
     out: &mut O,
     err: &mut E,
 ) -> Result<Ending, RunFault>
-    requires ready { IsReady (tables_of code.now.code) m.old Stages.Runs }
+    requires ready { IsReady (tables_of code.now.code) m.old RunStates.Running }
     requires lasts { Lasts (tables_of code.now.code) m.old }
     ensures answers { AnswersRuns (tables_of code.now.code) m.old result
         (call_streams (I.left input.old) (I.faults input.old) (O.state out.old) (E.state err.old))

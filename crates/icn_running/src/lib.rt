@@ -5,11 +5,11 @@ mod endings;
 mod error_texts;
 mod fault;
 mod launching;
-mod laws;
 mod names;
 mod report;
 mod running;
 mod shown;
+mod verified_run_laws;
 
 pub use fault::RunFault;
 pub use launching::run;

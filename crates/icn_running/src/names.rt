@@ -1,11 +1,11 @@
 // The names that a code gives, by any number: nothing has a name that the code does not give.
 ghost use Rattle.std.specs.Prelude.{◌≡◌, nat_lt, slice_get, slice_index_or, unwrap_or, []};
-ghost use Rattle.icn_code.specs.Seen.{tables_of};
+ghost use Rattle.icn_code.specs.CodeTables.{tables_of};
 ghost use Rattle.icn_defs.specs.Images.{record_name};
 ghost use Rattle.icn_heap.specs.Extents.{IsLive};
 ghost use Rattle.icn_heap.specs.Heaps.{extent_of, heap_of};
 ghost use Rattle.icn_value.specs.declared.val.Val.TheVariants.{Rec};
-ghost use Rattle.icn_convert.specs.Naming.{name_count};
+ghost use Rattle.icn_convert.specs.ProgramNames.{name_count};
 ghost use Rattle.icn_run.specs.Step.{all_names};
 
 use icn_code::Code;

@@ -1,41 +1,41 @@
 // Steps until a run stops.
 ghost use Rattle.std.specs.Prelude.{◌≡◌, IfErr, IfOk, IsTrue, false};
-ghost use Rattle.icn_code.specs.Seen.{tables_of};
+ghost use Rattle.icn_code.specs.CodeTables.{tables_of};
 ghost use Rattle.icn_vars.specs.Outcomes.{IsLiveHalt};
 ghost use Rattle.icn_streams.specs.Handed.{call_streams};
 ghost use Rattle.icn_control.specs.Machines.{world_reach};
-ghost use Rattle.icn_control.specs.declared.machine.Stage.TheVariants as Stages;
+ghost use Rattle.icn_control.specs.declared.machine.RunState.TheVariants as RunStates;
 ghost use Rattle.icn_machine.specs.Stepping.{Advances, GoesOn, IsReady};
-ghost use Rattle.icn_machine.specs.Steps.{stage_of, stage_result};
-ghost use Rattle.icn_running.specs.Lasting.{Lasts, MadeTurn};
-ghost use Rattle.icn_running.specs.Ons.{is_on, is_within};
+ghost use Rattle.icn_machine.specs.AfterInstruction.{stage_of, stage_result};
+ghost use Rattle.icn_running.specs.WorkLeft.{Lasts, MadeTurn};
+ghost use Rattle.icn_running.specs.DueInstructions.{is_on, is_within};
 
 use icn_control::Machine;
 use icn_frames::{Cell, Stack};
 use icn_host::{Sink, Source};
-use icn_machine::{Rooms, Stepped, step};
+use icn_machine::{AfterStep, Rooms, step};
 use icn_vars::Halt;
 use icn_verify::Verified;
 
 // Whether an instruction is due.
-fn is_on(stepped: Stepped) -> bool
+fn is_on(stepped: AfterStep) -> bool
     ensures { result ≡ is_on stepped }
 {
     match stepped {
-        Stepped::On => true,
-        Stepped::Finished => false,
-        Stepped::AtBound => false,
+        AfterStep::Running => true,
+        AfterStep::Over => false,
+        AfterStep::AtBound => false,
     }
 }
 
 // Whether one is due, and no turn was made since so many were.
-fn is_within(stepped: Stepped, now: u64, turns: u64) -> bool
+fn is_within(stepped: AfterStep, now: u64, turns: u64) -> bool
     ensures { result ≡ is_within stepped now turns }
 {
     match stepped {
-        Stepped::On => now == turns,
-        Stepped::Finished => false,
-        Stepped::AtBound => false,
+        AfterStep::Running => now == turns,
+        AfterStep::Over => false,
+        AfterStep::AtBound => false,
     }
 }
 
@@ -47,10 +47,10 @@ pub fn run_on<K: Stack<Cell> + Drop, I: Source, O: Sink, E: Sink>(
     input: &mut I,
     out: &mut O,
     err: &mut E,
-) -> Result<Stepped, Halt>
-    requires ready { IsReady (tables_of code.now.code) m.old Stages.Runs }
+) -> Result<AfterStep, Halt>
+    requires ready { IsReady (tables_of code.now.code) m.old RunStates.Running }
     requires lasts { Lasts (tables_of code.now.code) m.old }
-    ensures steps { Advances (tables_of code.now.code) m.old Stages.Runs
+    ensures steps { Advances (tables_of code.now.code) m.old RunStates.Running
         (call_streams (I.left input.old) (I.faults input.old) (O.state out.old) (E.state err.old)) m.new
         (call_streams (I.left input.new) (I.faults input.new) (O.state out.new) (E.state err.new))
         (stage_result result) }
@@ -58,7 +58,7 @@ pub fn run_on<K: Stack<Cell> + Drop, I: Source, O: Sink, E: Sink>(
     ensures halt { IfErr result (IsLiveHalt (world_reach m.new)) }
     ensures limits { m.new.limits ≡ m.old.limits }
 {
-    let mut stepped = Stepped::On;
+    let mut stepped = AfterStep::Running;
     while is_on(stepped) {
         stepped = run_to_turn(m, code, rooms, input, out, err)?;
     }
@@ -73,10 +73,10 @@ fn run_to_turn<K: Stack<Cell> + Drop, I: Source, O: Sink, E: Sink>(
     input: &mut I,
     out: &mut O,
     err: &mut E,
-) -> Result<Stepped, Halt>
-    requires ready { IsReady (tables_of code.now.code) m.old Stages.Runs }
+) -> Result<AfterStep, Halt>
+    requires ready { IsReady (tables_of code.now.code) m.old RunStates.Running }
     requires lasts { Lasts (tables_of code.now.code) m.old }
-    ensures steps { GoesOn (tables_of code.now.code) m.old Stages.Runs
+    ensures steps { GoesOn (tables_of code.now.code) m.old RunStates.Running
         (call_streams (I.left input.old) (I.faults input.old) (O.state out.old) (E.state err.old)) m.new
         (call_streams (I.left input.new) (I.faults input.new) (O.state out.new) (E.state err.new))
         (stage_result result) }
@@ -87,7 +87,7 @@ fn run_to_turn<K: Stack<Cell> + Drop, I: Source, O: Sink, E: Sink>(
     ensures limits { m.new.limits ≡ m.old.limits }
 {
     let turns = m.turns;
-    let mut stepped = Stepped::On;
+    let mut stepped = AfterStep::Running;
     while is_within(stepped, m.turns, turns) {
         stepped = step(m, code, rooms, input, out, err)?;
     }

@@ -7,11 +7,11 @@ ghost use Rattle.icn_value.specs.Values.{ARecord};
 ghost use Rattle.icn_value.specs.declared.val.Val.TheVariants.{Rec};
 ghost use Rattle.icn_heap.specs.Extents.{Extent, IsLive, value_in};
 ghost use Rattle.icn_heap.specs.Heaps.{extent_of, heap_of};
-ghost use Rattle.icn_code.specs.Seen.{tables_of};
-ghost use Rattle.icn_convert.specs.Numbering.{number_and_size};
-ghost use Rattle.icn_convert.specs.Naming.{AreRecordsNamed, name_count};
+ghost use Rattle.icn_code.specs.CodeTables.{tables_of};
+ghost use Rattle.icn_convert.specs.ImageEnds.{number_and_size};
+ghost use Rattle.icn_convert.specs.ProgramNames.{AreRecordsNamed, name_count};
 ghost use Rattle.icn_run.specs.Step.{all_names};
-ghost use Rattle.icn_running.specs.Plain.{IsPlain};
+ghost use Rattle.icn_running.specs.PlainValues.{IsPlain};
 
 use crate::names::{has_name, record_name};
 use icn_apply::CodeNames;
@@ -64,7 +64,7 @@ fn empty_heap(alloc: Global) -> Result<Heap, AllocError>
 }
 
 // The image of a value that is the same in every heap.
-#[tactic(auto, using(crate::proofs::Images::plain_image))]
+#[tactic(auto, using(crate::proofs::PlainImages::plain_image))]
 fn push_plain(out: &mut Vec<u8>, code: &Code, val: Val) -> Result<(), AllocError>
     requires { IsPlain val }
     ensures { OnOk result ((names : Names) (heap : HeapData) (all : Extent)

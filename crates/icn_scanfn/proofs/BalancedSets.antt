@@ -10,8 +10,8 @@ use Rattle.icn_defs.specs.Rows.{Row, Finds}
 use Rattle.icn_heap.specs.Extents.{Extent}
 use Rattle.icn_vars.specs.declared.stop.Stop.{Stop}
 use Rattle.icn_vars.specs.Stops.{StopsFinding}
-use Rattle.icn_args.specs.Words.{IsFound}
-use Rattle.icn_args.proofs.Answering.{stops_behind, stops_within}
+use Rattle.icn_args.specs.RowWords.{IsFound}
+use Rattle.icn_args.proofs.RowAnswers.{stops_behind, stops_within}
 use Rattle.icn_scanfn.specs.Searches.{Sets, balanced_sets}
 use Rattle.icn_scanfn.proofs.GivenRegions.{found_as}
 

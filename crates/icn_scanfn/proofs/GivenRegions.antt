@@ -10,23 +10,23 @@ use Rattle.icn_defs.specs.Arguments.{arg, arg_or, integer, string, value_or}
 use Rattle.icn_defs.specs.Calls.{GoesOn, Passes}
 use Rattle.icn_defs.specs.Conversions.{form_of, is_null, text_made}
 use Rattle.icn_defs.specs.Rows.{Row, Finds, costs_made, costs_text, costs_texts}
-use Rattle.icn_defs.specs.Scanning.{Region, region_from}
+use Rattle.icn_defs.specs.Scanning.{SearchedText, region_from}
 use Rattle.icn_heap.specs.Extents.{Extent}
 use Rattle.icn_vars.specs.declared.stop.Stop.{Stop}
 use Rattle.icn_vars.specs.declared.stop.Stop.TheVariants.{Error, NoMemory}
 use Rattle.icn_vars.specs.Stops.{StopsFinding, StopsPassing}
-use Rattle.icn_args.specs.Words.{IsFound}
-use Rattle.icn_args.proofs.Answering.{found_err, stops_behind, stops_within, then_stops}
+use Rattle.icn_args.specs.RowWords.{IsFound}
+use Rattle.icn_args.proofs.RowAnswers.{found_stops, stops_behind, stops_within, then_stops}
 use Rattle.icn_scanfn.specs.Regions.{charged_region}
 
 -- a text and two integers
-abbrev pub three : Value → Value → Value → Finds Region
+abbrev pub three : Value → Value → Value → Finds SearchedText
 three text first last next = string text (λ bytes. integer first (λ m. integer last (λ n. next (record { text = bytes; first = m; last = n }))))
 
 pub region_by : (args : List Value) (place : ℕ) (text first last : Value) (setting : Setting) → text ≡ arg_or (Text setting.world.subject) args place
     → first ≡ arg_or (Integer (pos (if is_null (arg args place) then setting.world.position else 1))) args (place + 1)
     → last ≡ arg_or (Integer (pos 0)) args (place + 2)
-    → (next : Region → Row) → region_from args place next setting ≡ three text first last next setting
+    → (next : SearchedText → Row) → region_from args place next setting ≡ three text first last next setting
 region_by args place text first last setting is_text is_first is_last next =
     ap (λ (v : Value). three v (arg_or (Integer (pos (if is_null (arg args place) then setting.world.position else 1))) args (place + 1))
     (arg_or (Integer (pos 0)) args (place + 2)) next setting) (sym is_text)
@@ -74,14 +74,14 @@ made_given args place subject given text is same =
 
 pub region_found : (text first last : Value) (bytes : List ℕ) (m n : ℤ) (setting : Setting) → GoesOn (string text) setting bytes setting
     → GoesOn (integer first) setting m setting → GoesOn (integer last) setting n setting
-    → (next : Region → Row) → three text first last next setting ≡ next (record { text = bytes; first = m; last = n }) setting
+    → (next : SearchedText → Row) → three text first last next setting ≡ next (record { text = bytes; first = m; last = n }) setting
 region_found text first last bytes m n setting is_text is_first is_last next =
     is_text (λ bytes. integer first (λ m. integer last (λ n. next (record { text = bytes; first = m; last = n }))))
     ∙ (is_first (λ m. integer last (λ n. next (record { text = bytes; first = m; last = n })))
     ∙ is_last (λ n. next (record { text = bytes; first = m; last = n })))
 
 -- the integers as they are held
-pub region_held : (next : Region → Row) (text : List ℕ) (m n : ℤ) (setting : Setting) → FitsSigned w64 m → FitsSigned w64 n
+pub region_held : (next : SearchedText → Row) (text : List ℕ) (m n : ℤ) (setting : Setting) → FitsSigned w64 m → FitsSigned w64 n
     → next (record { text = text; first = m; last = n }) setting
     ≡ next (record { text = text; first = to_z w64 (of_z w64 m); last = to_z w64 (of_z w64 n) }) setting
 region_held next text m n setting first last =
@@ -123,7 +123,7 @@ pub found_as : {A B : Type 0} (all : Extent) (find other : Finds A) (before afte
     → IsErrAnd result (λ other. other ≡ stop)
     → ((next : A → Row) → find next before ≡ other next before) → StopsFinding all other before after stop → IsFound all find before after shown result
 found_as all find other before after shown stop result answered same is =
-    found_err all find before after shown stop result answered (stops_as all find other before after stop same is)
+    found_stops all find before after shown stop result answered (stops_as all find other before after stop same is)
 
 -- Charges
 
@@ -152,17 +152,18 @@ both_cost_alike first second one other same alike next setting =
 
 -- Regions whose text is charged
 
-pub charged_found : (args : List Value) (n : ℕ) (given : Region) (value : Value) (bytes : List ℕ) (before after : Setting)
+pub charged_found : (args : List Value) (n : ℕ) (given : SearchedText) (value : Value) (bytes : List ℕ) (before after : Setting)
     → GoesOn (region_from args n) before given before
     → text_made (form_of value) ≡ text_made (form_of (arg args n)) → Passes (costs_text value) before after → bytes ≡ given.text
-    → (next : Region → Row) → charged_region args n next before ≡ next (record { text = bytes; first = given.first; last = given.last }) after
+    → (next : SearchedText → Row) → charged_region args n next before ≡ next (record { text = bytes; first = given.first; last = given.last }) after
 charged_found args n given value bytes before after finds made passes same next =
     finds (λ region. costs_text (arg args n) (next region))
     ∙ (costs_alike (arg args n) value made (next given) before
     ∙ (passes (next given)
     ∙ ap (λ text. next (record { text = text; first = given.first; last = given.last }) after) (sym same)))
 
-pub charge_stopped : {B : Type 0} (all : Extent) (args : List Value) (n : ℕ) (given : Region) (value : Value) (before after : Setting) (shown : B → Region)
+pub charge_stopped : {B : Type 0} (all : Extent) (args : List Value) (n : ℕ) (given : SearchedText) (value : Value) (before after : Setting)
+    (shown : B → SearchedText)
     (stop : Stop) (result : Result B Stop)
     → IsErrAnd result (λ other. other ≡ stop) → GoesOn (region_from args n) before given before → text_made (form_of value) ≡ text_made (form_of (arg args n))
     → StopsPassing all (costs_text value) before after stop → IsFound all (charged_region args n) before after shown result

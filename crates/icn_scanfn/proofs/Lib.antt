@@ -1,8 +1,8 @@
-mod Places
+mod PlaceByPlace
 mod Occurrences
 mod Moves
 mod BracketSets
 mod BalancedSets
 mod GivenRegions
 mod SearchSteps
-mod Ends
+mod KnownPlaces

@@ -19,5 +19,5 @@ pub move_found : (n : ℤ) (place size : ℕ) (setting : Setting) → Some place
 move_found n place size setting is same = ap (λ p. thing_or_failure p tabs_to setting) (ap (plain_place (pos setting.world.position +ℤ n)) (sym same) ∙ sym is)
 
 -- an integer of 64 bits is what it was before it was held
-pub held : {A : Type 0} (f : ℤ → A) (n : ℤ) → FitsSigned w64 n → f (to_z w64 (of_z w64 n)) ≡ f n
-held f n fits = ap f (to_z-of_z w64 n fits)
+pub held_integer : {A : Type 0} (f : ℤ → A) (n : ℤ) → FitsSigned w64 n → f (to_z w64 (of_z w64 n)) ≡ f n
+held_integer f n fits = ap f (to_z-of_z w64 n fits)

@@ -7,7 +7,7 @@ ghost use Rattle.icn_heap.specs.Extents.{IsLive, value_in};
 ghost use Rattle.icn_heap.specs.Heaps.{extent_of};
 ghost use Rattle.icn_vars.specs.Outcomes.{IsLiveAnswer, IsLiveResidual, residual_in};
 ghost use Rattle.icn_vars.specs.Worlds.{KeepsItems, reach_of};
-ghost use Rattle.icn_args.specs.Words.{Answers};
+ghost use Rattle.icn_args.specs.RowWords.{Answers};
 ghost use Rattle.icn_scanfn.specs.Functions.{is_of_scanning, is_scanning_function};
 
 use crate::balancing::{Sets, bal_row, balanced_again};
@@ -21,7 +21,7 @@ use icn_vars::{Halt, Locals, Outcome, World};
 
 /// Applies a function of this crate to the values of its arguments; one that is missing is null. No function of this crate ends the
 /// program or meets a fault.
-#[tactic(auto, using(icn_vars::proofs::KeptItems::items_all))]
+#[tactic(auto, using(icn_vars::proofs::KeptItems::keeps_items_refl))]
 pub fn first<L: Locals>(func: Func, args: &[Val], w: &mut World, l: &L) -> Result<Outcome, Halt>
     requires function { is_scanning_function func ≡ true }
     requires locals { All (IsLive (extent_of w.old.heap)) (L.items l.now) }
@@ -48,7 +48,7 @@ pub fn first<L: Locals>(func: Func, args: &[Val], w: &mut World, l: &L) -> Resul
 
 /// Resumes what a function of this crate left: a search goes on behind the place that it gave last, and a move is taken back. The one
 /// error is 205, of a move whose old place the subject lacks now.
-#[tactic(auto, using(icn_vars::proofs::KeptItems::items_all))]
+#[tactic(auto, using(icn_vars::proofs::KeptItems::keeps_items_refl))]
 pub fn again<L: Locals>(rest: Residual, w: &mut World, l: &L) -> Result<Outcome, Halt>
     requires scanning { is_of_scanning rest ≡ true }
     requires locals { All (IsLive (extent_of w.old.heap)) (L.items l.now) }

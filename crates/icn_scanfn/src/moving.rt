@@ -7,7 +7,7 @@ ghost use Rattle.icn_heap.specs.Extents.{IsLive, text_in, value_in};
 ghost use Rattle.icn_heap.specs.Heaps.{extent_of};
 ghost use Rattle.icn_vars.specs.Outcomes.{IsLiveAnswer, IsLiveOutcome, outcome_in};
 ghost use Rattle.icn_vars.specs.Worlds.{KeepsItems, reach_of, setting_of};
-ghost use Rattle.icn_args.specs.Words.{Answers};
+ghost use Rattle.icn_args.specs.RowWords.{Answers};
 ghost use Rattle.icn_scanfn.specs.Moves.{moves_by, tabs_by, tests_position};
 
 use icn_args::{arg, integer_of, tab_to};

@@ -13,7 +13,7 @@ ghost use Rattle.icn_heap.specs.Heaps.{extent_of};
 ghost use Rattle.icn_vars.specs.Outcomes.{IsSearch};
 ghost use Rattle.icn_vars.specs.Stops.{IsLiveStop};
 ghost use Rattle.icn_vars.specs.Worlds.{KeepsItems, reach_of, setting_of};
-ghost use Rattle.icn_args.specs.Words.{IsFound, HasText};
+ghost use Rattle.icn_args.specs.RowWords.{IsFound, HasText};
 ghost use Rattle.icn_scanfn.specs.Regions.{charged_region, given_in, searched_in};
 
 use crate::defaults::first_position;
@@ -69,7 +69,7 @@ pub fn region_from(w: &World, args: &[Val], place: usize) -> Result<Given, Stop>
 }
 
 // The same, once the text is charged. Further errors are 306 and want of memory.
-#[tactic(auto, using(icn_vars::proofs::KeptItems::items_all))]
+#[tactic(auto, using(icn_vars::proofs::KeptItems::keeps_items_refl))]
 pub fn charged_region<L: Locals>(
     w: &mut World,
     l: &L,

@@ -7,7 +7,7 @@ ghost use Rattle.icn_heap.specs.Extents.{IsLive, IsText, text_in, value_in};
 ghost use Rattle.icn_heap.specs.Heaps.{extent_of};
 ghost use Rattle.icn_vars.specs.Stops.{IsLiveStop};
 ghost use Rattle.icn_vars.specs.Worlds.{KeepsItems, reach_of, setting_of};
-ghost use Rattle.icn_args.specs.Words.{IsFound};
+ghost use Rattle.icn_args.specs.RowWords.{IsFound};
 ghost use Rattle.icn_scanfn.specs.Regions.{searched_in};
 ghost use Rattle.icn_scanfn.specs.Searches.{cset_search, text_search};
 
@@ -17,7 +17,7 @@ use icn_value::{Cset, Span, Val};
 use icn_vars::{Locals, Stop, World};
 
 // A cset, and a text with two positions. The errors are 104, 103, 101, 306 and want of memory.
-#[tactic(auto, using(icn_vars::proofs::KeptItems::items_all))]
+#[tactic(auto, using(icn_vars::proofs::KeptItems::keeps_items_refl))]
 pub fn cset_search<L: Locals>(w: &mut World, l: &L, args: &[Val]) -> Result<(Cset, Searched), Stop>
     requires locals { All (IsLive (extent_of w.old.heap)) (L.items l.now) }
     requires args { All (IsLive (extent_of w.old.heap)) args.now }
@@ -36,7 +36,7 @@ pub fn cset_search<L: Locals>(w: &mut World, l: &L, args: &[Val]) -> Result<(Cse
 }
 
 // A text, and another one with two positions. The errors are 103, 101, 306 and want of memory.
-#[tactic(auto, using(icn_vars::proofs::KeptItems::items_all))]
+#[tactic(auto, using(icn_vars::proofs::KeptItems::keeps_items_refl))]
 pub fn text_search<L: Locals>(w: &mut World, l: &L, args: &[Val]) -> Result<(Span, Searched), Stop>
     requires locals { All (IsLive (extent_of w.old.heap)) (L.items l.now) }
     requires args { All (IsLive (extent_of w.old.heap)) args.now }

@@ -8,7 +8,7 @@ ghost use Rattle.icn_heap.specs.Extents.{Extent, IsLive, IsText, text_in, value_
 ghost use Rattle.icn_heap.specs.Heaps.{extent_of};
 ghost use Rattle.icn_vars.specs.Outcomes.{IsLiveAnswer, IsLiveOutcome, outcome_in};
 ghost use Rattle.icn_vars.specs.Worlds.{KeepsItems, Reach, reach_of};
-ghost use Rattle.icn_args.specs.Words.{Answers};
+ghost use Rattle.icn_args.specs.RowWords.{Answers};
 ghost use Rattle.icn_scanfn.specs.Regions.{searched_in};
 ghost use Rattle.icn_scanfn.specs.Searches.{any_in, many_in, match_in};
 

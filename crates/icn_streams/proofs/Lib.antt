@@ -1,7 +1,7 @@
-pub mod Idle
-pub mod Following
-pub mod Faultless
+pub mod IdleCalls
+pub mod CallSequences
+pub mod QuietRows
 pub mod NextRead
 pub mod SomeInput
 pub mod ReadRows
-pub mod Behind
+pub mod RowAnswers

@@ -109,5 +109,5 @@ stopped (Ok span) P Q stop same is = absurd same
 stopped (Err other) P Q stop same is = subst Q (sym same) is
 
 -- what is said of a value that is there
-pub at_some : {A : Type 0} (o : Option A) (x : A) (P : A → Type 0) → o ≡ Some x → IfSome o P → P x
-at_some o x P told is = subst (λ v. IfSome v P) told is
+pub if_some_elim : {A : Type 0} (o : Option A) (x : A) (P : A → Type 0) → o ≡ Some x → IfSome o P → P x
+if_some_elim o x P told is = subst (λ v. IfSome v P) told is

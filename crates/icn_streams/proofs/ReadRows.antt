@@ -24,7 +24,7 @@ use Rattle.icn_streams.specs.Answers.{Answers, CausedBy, call_state, outside_aft
 use Rattle.icn_streams.specs.Applies.{Applies}
 use Rattle.icn_streams.specs.Readings.{InputCause, Reads, ReadsOfSome, next_read}
 use Rattle.icn_host.proofs.SinkSteps.{gains_nothing}
-use Rattle.icn_streams.proofs.Idle.{counts_all}
+use Rattle.icn_streams.proofs.IdleCalls.{keeps_counts_refl}
 
 -- Behind the reading nothing more is read or put.
 pub record IsQuiet (next : List ℕ → Row) : Type 0 where
@@ -83,11 +83,11 @@ module _ (asked : Request) (next : List ℕ → Row) (quiet : IsQuiet next) (old
 
   halt_caused : (halt : Halt) → InputCause faults faults' (Err halt)
       → CausedBy (Err halt) (call_streams left faults output errors) (call_streams left' faults' output errors)
-  halt_caused (ErrorHalt number offending) cause = record { faults = cause; output = counts_all output; errors = counts_all errors }
+  halt_caused (ErrorHalt number offending) cause = record { faults = cause; output = keeps_counts_refl output; errors = keeps_counts_refl errors }
   halt_caused (EndsHalt status) cause = absurd cause
   halt_caused ReadFault cause = record { faults = cause; output = refl; errors = refl }
   halt_caused WriteFault cause = absurd cause
-  halt_caused NoMemory cause = uncounted (record { faults = cause; output = counts_all output; errors = counts_all errors })
+  halt_caused NoMemory cause = uncounted (record { faults = cause; output = keeps_counts_refl output; errors = keeps_counts_refl errors })
 
   -- the reading was not made, or an error of the row
   pub read_halts : (halt : Halt) (result : Result Outcome Halt) → IsErrAnd result (λ other. other ≡ halt)
@@ -156,7 +156,7 @@ module _ (asked : Request) (next : List ℕ → Row) (quiet : IsQuiet next) (old
           (subst (λ f. Reads asked was (call_state old locals (call_streams (Some some.had) faults output errors))
           (call_state new locals (call_streams (Some some.has) faults' output errors)) (Ok f)) same (some.reads was first));
     };
-    caused = record { faults = cause; output = counts_all output; errors = counts_all errors };
+    caused = record { faults = cause; output = keeps_counts_refl output; errors = keeps_counts_refl errors };
     live = live;
     locals = lives;
     kept = kept;
@@ -181,7 +181,7 @@ module _ (asked : Request) (next : List ℕ → Row) (quiet : IsQuiet next) (old
           (subst (λ f. Reads asked was (call_state old locals (call_streams (Some some.had) faults output errors))
           (call_state new locals (call_streams (Some some.has) faults' output errors)) (Ok f)) same (some.reads was first));
     };
-    caused = record { faults = cause; output = counts_all output; errors = counts_all errors };
+    caused = record { faults = cause; output = keeps_counts_refl output; errors = keeps_counts_refl errors };
     live = record { live = tt };
     locals = lives;
     kept = kept;

@@ -19,7 +19,7 @@ call_streams left faults output errors =
 -- What is put
 
 -- what came behind the first of these two texts was put on the sink
-pub record Puts (before after : SinkState) (was now : List ℕ) : Type 0 where
+pub record PutsAdded (before after : SinkState) (was now : List ℕ) : Type 0 where
   pub text : List ℕ
   pub is : now ≡ was ++ text
   pub gains : Gains before.held after.held text
@@ -33,13 +33,13 @@ pub record PutsPart (before after : SinkState) (was now : List ℕ) : Type 0 whe
 -- the outside that was has become the one that is now, and the input and the outputs tell so
 pub record Follows (before after : CallStreams) (was now : Outside) : Type 0 where
   pub left : after.left ≡ Some now.left
-  pub output : Puts before.output after.output was.output now.output
-  pub errors : Puts before.errors after.errors was.errors now.errors
+  pub output : PutsAdded before.output after.output was.output now.output
+  pub errors : PutsAdded before.errors after.errors was.errors now.errors
 
 -- Counts
 
 -- a sink has neither failed nor wanted memory
-pub record KeepsCounts (before after : SinkState) : Type 0 where
+pub record KeepsFaultCounts (before after : SinkState) : Type 0 where
   pub faults : after.faults ≡ before.faults
   pub wants : after.wants ≡ before.wants
 
@@ -56,8 +56,8 @@ pub record WantsOnce (before after : SinkState) : Type 0 where
 -- nothing has failed, and no sink has wanted memory
 pub record KeepsAllCounts (before after : CallStreams) : Type 0 where
   pub faults : after.faults ≡ before.faults
-  pub output : KeepsCounts before.output after.output
-  pub errors : KeepsCounts before.errors after.errors
+  pub output : KeepsFaultCounts before.output after.output
+  pub errors : KeepsFaultCounts before.errors after.errors
 
 -- the input has failed, once, and the outputs were left alone
 pub record ReadingFails (before after : CallStreams) : Type 0 where
@@ -68,16 +68,16 @@ pub record ReadingFails (before after : CallStreams) : Type 0 where
 -- the input was left alone, and one of the outputs has failed, once
 pub data WritingFails (before after : CallStreams) : Type 0 where
   output_fails : after.left ≡ before.left → after.faults ≡ before.faults
-      → FailsOnce before.output after.output → KeepsCounts before.errors after.errors
+      → FailsOnce before.output after.output → KeepsFaultCounts before.errors after.errors
       → WritingFails before after
   errors_fail : after.left ≡ before.left → after.faults ≡ before.faults
-      → KeepsCounts before.output after.output → FailsOnce before.errors after.errors
+      → KeepsFaultCounts before.output after.output → FailsOnce before.errors after.errors
       → WritingFails before after
 
 -- nothing has failed, and at most one of the outputs has wanted memory, once
 pub data WantsMemory (before after : CallStreams) : Type 0 where
   uncounted : KeepsAllCounts before after → WantsMemory before after
   output_wants : after.faults ≡ before.faults → WantsOnce before.output after.output
-      → KeepsCounts before.errors after.errors → WantsMemory before after
-  errors_want : after.faults ≡ before.faults → KeepsCounts before.output after.output
+      → KeepsFaultCounts before.errors after.errors → WantsMemory before after
+  errors_want : after.faults ≡ before.faults → KeepsFaultCounts before.output after.output
       → WantsOnce before.errors after.errors → WantsMemory before after

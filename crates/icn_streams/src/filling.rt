@@ -6,7 +6,7 @@ ghost use Rattle.icn_value.specs.Store.{ALine, SomeBytes};
 ghost use Rattle.icn_streams.specs.Readings.{Fills, FillsOfSome, asked_in};
 
 use crate::ask::Ask;
-use icn_host::{Fault, Line, Source};
+use icn_host::{Fault, LineEnd, Source};
 
 // Fills the buffer with what is asked for, and answers whether there was something.
 pub fn fill<I: Source>(ask: Ask, input: &mut I, buffer: &mut Vec<u8>) -> Result<bool, Fault>
@@ -33,7 +33,7 @@ fn fill_line<I: Source>(input: &mut I, buffer: &mut Vec<u8>) -> Result<bool, Fau
 {
     buffer.clear();
     let line = input.line(buffer)?;
-    Ok(line != Line::End)
+    Ok(line != LineEnd::End)
 }
 
 fn fill_bytes<I: Source>(count: u64, input: &mut I, buffer: &mut Vec<u8>) -> Result<bool, Fault>

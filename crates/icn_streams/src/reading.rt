@@ -56,7 +56,7 @@ pub fn read_text<L: Locals, I: Source>(
 }
 
 // A text of these bytes, which is charged.
-#[tactic(auto, using(icn_vars::proofs::Growing::grows, icn_vars::proofs::Growing::locals_grow))]
+#[tactic(auto, using(icn_vars::proofs::GrowingWorlds::grows, icn_vars::proofs::GrowingWorlds::locals_grow))]
 fn text_of<L: Locals>(w: &mut World, l: &L, bytes: &[u8]) -> Result<Span, Stop>
     requires locals { All (IsLive (extent_of w.old.heap)) (L.items l.now) }
     ensures live { IfOk result (IsText (extent_of w.new.heap)) }

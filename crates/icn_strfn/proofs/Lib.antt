@@ -1,7 +1,7 @@
-mod Coming
-mod Steps
+mod RowAnswers
+mod CheckedRows
 mod Fillings
-mod Images
+mod MappedBytes
 mod Trims
 mod KeptArguments
 mod NamedRecords

@@ -8,8 +8,8 @@ use Rattle.icn_value.specs.declared.val.Val.TheVariants.{Rec}
 use Rattle.icn_heap.specs.declared.heap.Heap.{Heap}
 use Rattle.icn_heap.specs.Extents.{IsLive}
 use Rattle.icn_heap.specs.Heaps.{extent_of, heap_of}
-use Rattle.icn_heap.specs.Parts.{record_in}
-use Rattle.icn_convert.specs.Naming.{AreRecordsNamed}
+use Rattle.icn_heap.specs.HeapParts.{record_in}
+use Rattle.icn_convert.specs.ProgramNames.{AreRecordsNamed}
 
 -- the records of the extent are those of the heap
 record_count : (heap : Heap) → length (heap_of heap).records ≡ (extent_of heap).records

@@ -10,7 +10,7 @@ use Rattle.icn_defs.specs.Strings.{one}
 use Rattle.icn_heap.specs.Extents.{Extent, value_in}
 use Rattle.icn_vars.specs.declared.stop.Stop.{Stop}
 use Rattle.icn_vars.specs.declared.stop.Stop.TheVariants.{Error, NoMemory}
-use Rattle.icn_args.specs.Words.{HasText, the_text}
+use Rattle.icn_args.specs.RowWords.{HasText, the_text}
 use Rattle.icn_strfn.specs.declared.text_arguments.DefaultText.TheVariants.{Blank, Upper, Lower}
 use Rattle.icn_strfn.specs.TextArguments.{or_default}
 

@@ -4,10 +4,10 @@ ghost use Rattle.std.specs.List.{All};
 ghost use Rattle.icn_defs.specs.Applying.{again, function_of};
 ghost use Rattle.icn_heap.specs.Extents.{IsLive, value_in};
 ghost use Rattle.icn_heap.specs.Heaps.{extent_of, heap_of};
-ghost use Rattle.icn_convert.specs.Naming.{AreRecordsNamed, IsNamed};
+ghost use Rattle.icn_convert.specs.ProgramNames.{AreRecordsNamed, IsNamed};
 ghost use Rattle.icn_vars.specs.Outcomes.{IsLiveAnswer, residual_in};
 ghost use Rattle.icn_vars.specs.Worlds.{KeepsItems, reach_of};
-ghost use Rattle.icn_args.specs.Words.{Answers};
+ghost use Rattle.icn_args.specs.RowWords.{Answers};
 ghost use Rattle.icn_strfn.specs.Functions.{is_sequence, is_string_function};
 ghost use Rattle.icn_strfn.specs.Stopping.{Gives, IsLiveGiven};
 
@@ -26,7 +26,7 @@ use icn_vars::{Halt, Locals, Outcome, Stop, World};
 
 /// Applies a function of this crate to the values of its arguments; one that is missing is null. No function of this crate ends the
 /// program or meets a fault.
-#[tactic(auto, using(icn_vars::proofs::KeptItems::items_all))]
+#[tactic(auto, using(icn_vars::proofs::KeptItems::keeps_items_refl))]
 pub fn first<N: Names, L: Locals>(
     names: &N,
     func: Func,
@@ -45,7 +45,7 @@ pub fn first<N: Names, L: Locals>(
     ensures locals { All (IsLive (extent_of w.new.heap)) (L.items l.now) }
     ensures kept { KeepsItems (reach_of w.old (L.items l.now)) (reach_of w.new (L.items l.now)) }
 {
-    let outcome = applied(names, func, args, w, l)?;
+    let outcome = apply_string_function(names, func, args, w, l)?;
     Ok(outcome)
 }
 
@@ -62,8 +62,8 @@ pub fn again<L: Locals>(rest: Residual, w: &World, l: &L) -> Result<Outcome, Hal
     }
 }
 
-#[tactic(auto, using(icn_vars::proofs::KeptItems::items_all))]
-fn applied<N: Names, L: Locals>(
+#[tactic(auto, using(icn_vars::proofs::KeptItems::keeps_items_refl))]
+fn apply_string_function<N: Names, L: Locals>(
     names: &N,
     func: Func,
     args: &[Val],

@@ -16,7 +16,7 @@ use icn_value::{Item, Span, Val};
 use icn_vars::{Locals, Outcome, Stop, World};
 
 // A new text of these bytes, which is charged. The errors are 306 and want of memory.
-pub fn built<L: Locals>(w: &mut World, l: &L, bytes: &[u8]) -> Result<Outcome, Stop>
+pub fn build_text<L: Locals>(w: &mut World, l: &L, bytes: &[u8]) -> Result<Outcome, Stop>
     requires { All (IsLive (extent_of w.old.heap)) (L.items l.now) }
     ensures row { Gives w.old w.new (L.items l.now) (builds bytes.now) result }
     ensures live { IsLiveGiven (reach_of w.new (L.items l.now)) result }
@@ -38,8 +38,8 @@ pub fn lacks_room(heap: &Heap, bytes: u64) -> bool
 }
 
 // A text of these bytes, which costs nothing. The error is want of memory.
-#[tactic(auto, using(icn_vars::proofs::Growing::grows, icn_vars::proofs::Growing::locals_grow))]
-pub fn held<L: Locals>(w: &mut World, l: &L, bytes: &[u8]) -> Result<Outcome, Stop>
+#[tactic(auto, using(icn_vars::proofs::GrowingWorlds::grows, icn_vars::proofs::GrowingWorlds::locals_grow))]
+pub fn hold_text<L: Locals>(w: &mut World, l: &L, bytes: &[u8]) -> Result<Outcome, Stop>
     requires { All (IsLive (extent_of w.old.heap)) (L.items l.now) }
     ensures row { Gives w.old w.new (L.items l.now) (gives_value (Text bytes.now)) result }
     ensures live { IsLiveGiven (reach_of w.new (L.items l.now)) result }

@@ -47,7 +47,7 @@ fn push_front(out: &mut Vec<u8>, text: &[u8], count: usize) -> Result<(), AllocE
 }
 
 // A text so many times.
-pub fn repeated(alloc: Global, text: &[u8], count: usize) -> Result<Vec<u8>, AllocError>
+pub fn repeat_text(alloc: Global, text: &[u8], count: usize) -> Result<Vec<u8>, AllocError>
     ensures { IfOk result (λ made. made.items ≡ concat (replicate count text.now)) }
 {
     let mut out = Vec::new(alloc);
@@ -56,7 +56,7 @@ pub fn repeated(alloc: Global, text: &[u8], count: usize) -> Result<Vec<u8>, All
 }
 
 // A text from its end to its start.
-pub fn reversed(alloc: Global, text: &[u8]) -> Result<Vec<u8>, AllocError>
+pub fn reverse_text(alloc: Global, text: &[u8]) -> Result<Vec<u8>, AllocError>
     ensures { IfOk result (λ made. made.items ≡ reverse text.now) }
 {
     text.iter().rev().copied().collect(alloc)

@@ -23,7 +23,7 @@ pub fn push_copies(out: &mut Vec<u8>, text: &[u8], count: usize) -> Result<(), A
 pub fn push_filled_left(out: &mut Vec<u8>, fill: &[u8], count: usize) -> Result<(), AllocError>
     ensures { OnOk result (out.new.items ≡ out.old.items ++ filled_left fill.now count) }
 {
-    let unit = filling(fill);
+    let unit = fill_text(fill);
     push_copies(out, unit, count / unit.len())?;
     out.extend_from_slice(&unit[..count % unit.len()])?;
     Ok(())
@@ -33,14 +33,14 @@ pub fn push_filled_left(out: &mut Vec<u8>, fill: &[u8], count: usize) -> Result<
 pub fn push_filled_right(out: &mut Vec<u8>, fill: &[u8], count: usize) -> Result<(), AllocError>
     ensures { OnOk result (out.new.items ≡ out.old.items ++ filled_right fill.now count) }
 {
-    let unit = filling(fill);
+    let unit = fill_text(fill);
     out.extend_from_slice(&unit[unit.len() - count % unit.len()..])?;
     push_copies(out, unit, count / unit.len())?;
     Ok(())
 }
 
 // What a field is filled with: an empty text counts as a blank.
-fn filling(fill: &[u8]) -> &[u8]
+fn fill_text(fill: &[u8]) -> &[u8]
     ensures value { result.now ≡ filling fill.now }
     ensures some { 0 < length result.now }
 {

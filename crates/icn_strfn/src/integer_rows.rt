@@ -14,7 +14,7 @@ ghost use Rattle.icn_vars.specs.Worlds.{Reach, reach_of};
 ghost use Rattle.icn_strfn.specs.Stopping.{Gives, IsLiveGiven};
 
 use crate::defaults::or_one;
-use crate::integers::{absolute, shifted};
+use crate::integers::{absolute_value, shift_integer};
 use icn_args::arg;
 use icn_convert::to_integer;
 use icn_text::{Arith, add};
@@ -30,7 +30,7 @@ pub fn abs_row<L: Locals>(w: &World, l: &L, args: &[Val]) -> Result<Outcome, Sto
 {
     let val = arg(args, 0);
     match to_integer(&w.heap, val) {
-        Some(n) => given(absolute(n)),
+        Some(n) => integer_outcome(absolute_value(n)),
         None => Err(Stop::Error(102, Some(val))),
     }
 }
@@ -107,7 +107,7 @@ pub fn ishift_row<L: Locals>(w: &World, l: &L, args: &[Val]) -> Result<Outcome, 
     let first = arg(args, 0);
     let second = arg(args, 1);
     match (to_integer(&w.heap, first), to_integer(&w.heap, second)) {
-        (Some(m), Some(n)) => Ok(integer(shifted(m, n))),
+        (Some(m), Some(n)) => Ok(integer(shift_integer(m, n))),
         (Some(_), None) => Err(Stop::Error(101, Some(second))),
         (None, _) => Err(Stop::Error(101, Some(first))),
     }
@@ -156,7 +156,7 @@ pub fn sequence_again(given: i64, step: i64) -> Result<Outcome, Halt>
 }
 
 // An integer that was computed, or the error of its operation.
-fn given(found: Result<i64, Arith>) -> Result<Outcome, Stop>
+fn integer_outcome(found: Result<i64, Arith>) -> Result<Outcome, Stop>
     ensures { MatchResult found (λ n. result ≡ Ok (Outcome.Gives (ValItem (Integer n))))
         (λ why. result ≡ Err (Stop.Error (arithmetic_error why) None)) }
 {

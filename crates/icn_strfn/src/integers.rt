@@ -7,30 +7,30 @@ ghost use Rattle.icn_strfn.specs.Checks.{natural_in};
 use icn_text::Arith;
 
 // The absolute value, or `Overflow`.
-pub fn absolute(n: i64) -> Result<i64, Arith>
+pub fn absolute_value(n: i64) -> Result<i64, Arith>
     ensures { result ≡ within_64_bits (pos (unsigned_abs n)) }
 {
     n.checked_abs().ok_or(Arith::Overflow)
 }
 
 // An integer shifted to the left, or to the right with zeros by a count below 0; 0 from 64 on.
-pub fn shifted(m: i64, n: i64) -> i64
+pub fn shift_integer(m: i64, n: i64) -> i64
     ensures { result ≡ shift_by m n }
 {
     match u64::try_from(n) {
-        Ok(count) => shifted_left(m, count),
+        Ok(count) => shift_left(m, count),
         Err(_) => shifted_right(m, n.unsigned_abs()),
     }
 }
 
 // An integer at or above 0.
-pub fn natural(n: i64) -> Option<u64>
+pub fn natural_number(n: i64) -> Option<u64>
     ensures { result ≡ natural_in n }
 {
     u64::try_from(n).ok()
 }
 
-fn shifted_left(m: i64, count: u64) -> i64
+fn shift_left(m: i64, count: u64) -> i64
     ensures { result ≡ shift_by m (pos count) }
 {
     if count < 64 {

@@ -13,10 +13,10 @@ ghost use Rattle.icn_strfn.specs.Stopping.{Gives, IsLiveGiven};
 ghost use Rattle.icn_strfn.specs.declared.layouts.Layout.{Layout as LayoutData};
 
 use crate::defaults::or_one;
-use crate::endings::{built, lacks_room};
-use crate::integers::natural;
+use crate::endings::{build_text, lacks_room};
+use crate::integers::natural_number;
 use crate::layouts::{Layout, laid_out};
-use crate::mapping::mapped;
+use crate::mapping::map_bytes;
 use crate::text_arguments::{
     DefaultText, argument_len, lacks_argument, lacks_text, text_argument, two_texts,
 };
@@ -28,7 +28,7 @@ use icn_vars::{Locals, Outcome, Stop, World};
 
 /// `left(s, i, s2)`, `right` and `center`: a text in a field of `i` bytes, 1 where it is null, filled with `s2`, a blank where it is
 /// null; or error 103 or 101; 205 where `i` is below 0. Others are 306 and want of memory.
-#[tactic(auto, using(icn_vars::proofs::KeptItems::items_all))]
+#[tactic(auto, using(icn_vars::proofs::KeptItems::keeps_items_refl))]
 pub fn field_row<L: Locals>(
     w: &mut World,
     l: &L,
@@ -57,7 +57,7 @@ pub fn field_row<L: Locals>(
         width as usize,
         fill.bytes(&w.heap),
     )?;
-    built(w, l, &made)
+    build_text(w, l, &made)
 }
 
 // The width of a field, once all is checked.
@@ -82,7 +82,7 @@ fn checked_width(heap: &Heap, args: &[Val]) -> Result<u64, Stop>
     if lacks_argument(fill, DefaultText::Blank) {
         return Err(Stop::Error(103, Some(fill)));
     }
-    let Some(width) = natural(n) else {
+    let Some(width) = natural_number(n) else {
         return Err(Stop::Error(205, Some(given)));
     };
     Ok(width)
@@ -90,7 +90,7 @@ fn checked_width(heap: &Heap, args: &[Val]) -> Result<u64, Stop>
 
 /// `map(s1, s2, s3)`: a text whose bytes in `s2`, the capital letters where it is null, become those at their last places in `s3`,
 /// the small letters where it is null; or error 103; 208 where the two differ in length. Others are 306 and want of memory.
-#[tactic(auto, using(icn_vars::proofs::KeptItems::items_all))]
+#[tactic(auto, using(icn_vars::proofs::KeptItems::keeps_items_refl))]
 pub fn map_row<L: Locals>(w: &mut World, l: &L, args: &[Val]) -> Result<Outcome, Stop>
     requires locals { All (IsLive (extent_of w.old.heap)) (L.items l.now) }
     requires args { All (IsLive (extent_of w.old.heap)) args.now }
@@ -110,13 +110,13 @@ pub fn map_row<L: Locals>(w: &mut World, l: &L, args: &[Val]) -> Result<Outcome,
     if lacks_room(&w.heap, len) {
         return Err(Stop::Error(306, None));
     }
-    let made = mapped(
+    let made = map_bytes(
         *w.globals.allocator(),
         w.heap.bytes(span),
         first.bytes(&w.heap),
         second.bytes(&w.heap),
     )?;
-    built(w, l, &made)
+    build_text(w, l, &made)
 }
 
 // That the bytes of a text can become others.

@@ -6,8 +6,8 @@ use std::alloc::{AllocError, Global};
 
 // A text whose bytes become others: a byte of the first text the one at its last place, in the second. The error is
 // want of memory.
-#[tactic(auto, using(crate::proofs::Images::same_map))]
-pub fn mapped(alloc: Global, text: &[u8], from: &[u8], to: &[u8]) -> Result<Vec<u8>, AllocError>
+#[tactic(auto, using(crate::proofs::MappedBytes::same_map))]
+pub fn map_bytes(alloc: Global, text: &[u8], from: &[u8], to: &[u8]) -> Result<Vec<u8>, AllocError>
     ensures { IfOk result (λ made. made.items ≡ map (map_byte from.now to.now) text.now) }
 {
     mapped_by(alloc, text, &images(from, to))
@@ -25,7 +25,7 @@ fn mapped_by(alloc: Global, text: &[u8], images: &[u8; 256]) -> Result<Vec<u8>, 
 fn images(from: &[u8], to: &[u8]) -> [u8; 256]
     ensures { (byte : ℕ) → byte < 256 → slice_index result byte ≡ map_byte from.now to.now byte }
 {
-    let mut images = themselves();
+    let mut images = identity_map();
     for (byte, image) in from.iter().zip(to) {
         images[usize::from(*byte)] = *image;
     }
@@ -33,7 +33,7 @@ fn images(from: &[u8], to: &[u8]) -> [u8; 256]
 }
 
 // Each byte, at its place.
-fn themselves() -> [u8; 256]
+fn identity_map() -> [u8; 256]
     ensures { (byte : ℕ) → byte < 256 → slice_index result byte ≡ byte }
 {
     let mut bytes = [0; 256];

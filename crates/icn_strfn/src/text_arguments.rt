@@ -8,7 +8,7 @@ ghost use Rattle.icn_heap.specs.Extents.{Extent, IsLive, IsText, text_in, value_
 ghost use Rattle.icn_heap.specs.Heaps.{extent_of};
 ghost use Rattle.icn_vars.specs.Stops.{IsLiveStop};
 ghost use Rattle.icn_vars.specs.Worlds.{KeepsItems, reach_of, setting_of};
-ghost use Rattle.icn_args.specs.Words.{HasText, IsPassed, the_text};
+ghost use Rattle.icn_args.specs.RowWords.{HasText, IsPassed, the_text};
 ghost use Rattle.icn_strfn.specs.TextArguments.{IsArgument, argument_bytes, default_bytes, or_default};
 
 use icn_args::text_of;
@@ -110,7 +110,7 @@ pub fn argument_len(heap: &Heap, val: Val, default: DefaultText) -> usize
 }
 
 // The text of an argument that has one. A text that is made is charged. The errors are 306 and want of memory.
-#[tactic(auto, using(icn_vars::proofs::KeptItems::items_all))]
+#[tactic(auto, using(icn_vars::proofs::KeptItems::keeps_items_refl))]
 pub fn text_argument<L: Locals>(
     w: &mut World,
     l: &L,

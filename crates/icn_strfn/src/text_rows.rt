@@ -8,9 +8,9 @@ ghost use Rattle.icn_vars.specs.Worlds.{KeepsItems, reach_of};
 ghost use Rattle.icn_strfn.specs.Stopping.{Gives, IsLiveGiven};
 
 use crate::defaults::or_blank;
-use crate::endings::{built, byte_given, lacks_room, text};
-use crate::fields::{repeated, reversed};
-use crate::integers::natural;
+use crate::endings::{build_text, byte_given, lacks_room, text};
+use crate::fields::{repeat_text, reverse_text};
+use crate::integers::natural_number;
 use crate::text_arguments::{lacks_text, text_len};
 use crate::trimming::trimmed_len;
 use icn_args::{arg, text_of};
@@ -19,7 +19,7 @@ use icn_value::Val;
 use icn_vars::{Locals, Outcome, Stop, World};
 
 /// `string(x)`: the text that a value converts to; it fails where there is none. The errors are 306 and want of memory.
-#[tactic(auto, using(icn_vars::proofs::KeptItems::items_all))]
+#[tactic(auto, using(icn_vars::proofs::KeptItems::keeps_items_refl))]
 pub fn string_row<L: Locals>(w: &mut World, l: &L, args: &[Val]) -> Result<Outcome, Stop>
     requires locals { All (IsLive (extent_of w.old.heap)) (L.items l.now) }
     requires args { All (IsLive (extent_of w.old.heap)) args.now }
@@ -39,7 +39,7 @@ pub fn string_row<L: Locals>(w: &mut World, l: &L, args: &[Val]) -> Result<Outco
 
 /// `ord(s)`: the byte of a text of one byte, or error 103; 205 where there is another number of bytes. Others are 306 and want
 /// of memory.
-#[tactic(auto, using(icn_vars::proofs::KeptItems::items_all))]
+#[tactic(auto, using(icn_vars::proofs::KeptItems::keeps_items_refl))]
 pub fn ord_row<L: Locals>(w: &mut World, l: &L, args: &[Val]) -> Result<Outcome, Stop>
     requires locals { All (IsLive (extent_of w.old.heap)) (L.items l.now) }
     requires args { All (IsLive (extent_of w.old.heap)) args.now }
@@ -62,7 +62,7 @@ pub fn ord_row<L: Locals>(w: &mut World, l: &L, args: &[Val]) -> Result<Outcome,
 }
 
 /// `reverse(s)`: a text from its end to its start, or error 103. Others are 306 and want of memory.
-#[tactic(auto, using(icn_vars::proofs::KeptItems::items_all))]
+#[tactic(auto, using(icn_vars::proofs::KeptItems::keeps_items_refl))]
 pub fn reverse_row<L: Locals>(w: &mut World, l: &L, args: &[Val]) -> Result<Outcome, Stop>
     requires locals { All (IsLive (extent_of w.old.heap)) (L.items l.now) }
     requires args { All (IsLive (extent_of w.old.heap)) args.now }
@@ -81,12 +81,12 @@ pub fn reverse_row<L: Locals>(w: &mut World, l: &L, args: &[Val]) -> Result<Outc
     if lacks_room(&w.heap, len) {
         return Err(Stop::Error(306, None));
     }
-    let made = reversed(*w.globals.allocator(), w.heap.bytes(span))?;
-    built(w, l, &made)
+    let made = reverse_text(*w.globals.allocator(), w.heap.bytes(span))?;
+    build_text(w, l, &made)
 }
 
 /// `repl(s, i)`: a text so many times, or error 103 or 101; 205 below 0. Others are 306 and want of memory.
-#[tactic(auto, using(icn_vars::proofs::KeptItems::items_all))]
+#[tactic(auto, using(icn_vars::proofs::KeptItems::keeps_items_refl))]
 pub fn repl_row<L: Locals>(w: &mut World, l: &L, args: &[Val]) -> Result<Outcome, Stop>
     requires locals { All (IsLive (extent_of w.old.heap)) (L.items l.now) }
     requires args { All (IsLive (extent_of w.old.heap)) args.now }
@@ -104,7 +104,7 @@ pub fn repl_row<L: Locals>(w: &mut World, l: &L, args: &[Val]) -> Result<Outcome
     let Some(n) = to_integer(&w.heap, times) else {
         return Err(Stop::Error(101, Some(times)));
     };
-    let Some(count) = natural(n) else {
+    let Some(count) = natural_number(n) else {
         return Err(Stop::Error(205, Some(times)));
     };
     let span = text_of(w, l, val)?;
@@ -112,13 +112,13 @@ pub fn repl_row<L: Locals>(w: &mut World, l: &L, args: &[Val]) -> Result<Outcome
     if lacks_room(&w.heap, count.saturating_mul(len)) {
         return Err(Stop::Error(306, None));
     }
-    let made = repeated(*w.globals.allocator(), w.heap.bytes(span), count as usize)?;
-    built(w, l, &made)
+    let made = repeat_text(*w.globals.allocator(), w.heap.bytes(span), count as usize)?;
+    build_text(w, l, &made)
 }
 
 /// `trim(s, c)`: a text without the bytes at its end that a cset has, a blank where it is null; or error 103 or 104. Others are
 /// 306 and want of memory.
-#[tactic(auto, using(icn_vars::proofs::KeptItems::items_all))]
+#[tactic(auto, using(icn_vars::proofs::KeptItems::keeps_items_refl))]
 pub fn trim_row<L: Locals>(w: &mut World, l: &L, args: &[Val]) -> Result<Outcome, Stop>
     requires locals { All (IsLive (extent_of w.old.heap)) (L.items l.now) }
     requires args { All (IsLive (extent_of w.old.heap)) args.now }

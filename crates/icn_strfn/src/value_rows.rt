@@ -8,12 +8,12 @@ ghost use Rattle.icn_defs.specs.Images.{record_name, type_name};
 ghost use Rattle.icn_defs.specs.Strings.{char_row, cset_row, image_row, type_row};
 ghost use Rattle.icn_heap.specs.Extents.{Extent, IsLive, value_in};
 ghost use Rattle.icn_heap.specs.Heaps.{extent_of, heap_of};
-ghost use Rattle.icn_convert.specs.Naming.{AreRecordsNamed, IsNamed};
+ghost use Rattle.icn_convert.specs.ProgramNames.{AreRecordsNamed, IsNamed};
 ghost use Rattle.icn_vars.specs.Worlds.{KeepsItems, reach_of};
 ghost use Rattle.icn_strfn.specs.Stopping.{Gives, IsLiveGiven};
 
-use crate::endings::{built, held};
-use crate::integers::natural;
+use crate::endings::{build_text, hold_text};
+use crate::integers::natural_number;
 use icn_args::arg;
 use icn_convert::{Names, image, to_cset, to_integer};
 use icn_heap::Heap;
@@ -34,7 +34,7 @@ pub fn cset_row<L: Locals>(w: &World, l: &L, args: &[Val]) -> Result<Outcome, St
 }
 
 /// `char(i)`: the text of a byte, which costs nothing, or error 101; 205 for what is no byte. Another is want of memory.
-#[tactic(auto, using(icn_vars::proofs::KeptItems::items_all))]
+#[tactic(auto, using(icn_vars::proofs::KeptItems::keeps_items_refl))]
 pub fn char_row<L: Locals>(w: &mut World, l: &L, args: &[Val]) -> Result<Outcome, Stop>
     requires locals { All (IsLive (extent_of w.old.heap)) (L.items l.now) }
     requires args { All (IsLive (extent_of w.old.heap)) args.now }
@@ -48,13 +48,13 @@ pub fn char_row<L: Locals>(w: &mut World, l: &L, args: &[Val]) -> Result<Outcome
     let Some(n) = to_integer(&w.heap, val) else {
         return Err(Stop::Error(101, Some(val)));
     };
-    let Some(byte) = natural(n) else {
+    let Some(byte) = natural_number(n) else {
         return Err(Stop::Error(205, Some(val)));
     };
     if byte >= 256 {
         return Err(Stop::Error(205, Some(val)));
     }
-    held(w, l, &[byte as u8])
+    hold_text(w, l, &[byte as u8])
 }
 
 /// `image(x)`: the text that shows a value. The errors are 306 and want of memory.
@@ -76,7 +76,7 @@ pub fn image_row<N: Names, L: Locals>(
 {
     let val = first_argument(args);
     let shown = image(*w.globals.allocator(), &w.heap, names, val)?;
-    built(w, l, &shown)
+    build_text(w, l, &shown)
 }
 
 /// `type(x)`: the name of a value's type, which costs nothing. The error is want of memory.
@@ -97,7 +97,7 @@ pub fn type_row<N: Names, L: Locals>(
 {
     let val = arg(args, 0);
     let name = type_name(&w.heap, names, val);
-    held(w, l, name)
+    hold_text(w, l, name)
 }
 
 // The first argument, which is null where it is missing.

@@ -5,7 +5,7 @@ use Rattle.std.proofs.lemmas.List.{length-take-le, take_all, take-append-le, dro
 use Rattle.icn_strings.specs.declared.byte_range.ByteRange.{ByteRange}
 use Rattle.icn_strings.specs.declared.region.Region.{Region}
 use Rattle.icn_strings.specs.Ranges.{IsPart}
-use Rattle.icn_strings.specs.Regions.{limit_of, sum_of, IsHeld, bytes_of, Keeps, IsUnchanged}
+use Rattle.icn_strings.specs.Regions.{limit_of, sum_of, IsHeld, bytes_of, KeepsRanges, IsUnchanged}
 
 -- bytes that lie within stay where more is appended
 within_stays : (n at : ℕ) (had more : List ℕ) → (0 < n → at + n ≤ length had) → take n (drop at (had ++ more)) ≡ take n (drop at had)
@@ -17,7 +17,7 @@ within_stays (suc n) at had more h =
     rw (drop-append-le at had more start) (take-append-le (suc n) (drop at had) more rest)
 
 -- bytes were appended, or none
-pub keeps_more : {a b : Region} (more : List ℕ) → b.bytes.items ≡ a.bytes.items ++ more → b.limit ≡ a.limit → Keeps a b
+pub keeps_more : {a b : Region} (more : List ℕ) → b.bytes.items ≡ a.bytes.items ++ more → b.limit ≡ a.limit → KeepsRanges a b
 unfolding limit_of IsHeld bytes_of
 keeps_more {a} {b} more is same = record {
   limit = same;
@@ -30,7 +30,7 @@ keeps_more {a} {b} more is same = record {
 }
 
 -- the bytes and the limit are the same
-pub keeps_same : {a b : Region} → b.bytes.items ≡ a.bytes.items → b.limit ≡ a.limit → Keeps a b
+pub keeps_same : {a b : Region} → b.bytes.items ≡ a.bytes.items → b.limit ≡ a.limit → KeepsRanges a b
 keeps_same {a} {b} is same = keeps_more [] (is ∙ sym (append-nil a.bytes.items)) same
 
 -- the bytes, the limit and the sum are the same

@@ -1,2 +1,2 @@
 pub mod Growth
-pub mod Keeping
+pub mod KeptRegions

@@ -26,7 +26,7 @@ unfoldable pub bytes_of : Region → ByteRange → List ℕ
 bytes_of region range = take range.len (drop range.start region.bytes.items)
 
 -- every range is still a range, with the same bytes, and the limit is the same
-pub record Keeps (old new : Region) : Type 0 where
+pub record KeepsRanges (old new : Region) : Type 0 where
   pub limit : limit_of new ≡ limit_of old
   pub of : (range : ByteRange) → IsOf old range → IsOf new range
   pub bytes : (range : ByteRange) → IsOf old range → bytes_of new range ≡ bytes_of old range
@@ -34,8 +34,8 @@ pub record Keeps (old new : Region) : Type 0 where
 -- no range came or went or changed, and nothing was charged
 pub record IsUnchanged (old new : Region) : Type 0 where
   pub sum : sum_of new ≡ sum_of old
-  pub kept : Keeps old new
-  pub back : Keeps new old
+  pub kept : KeepsRanges old new
+  pub back : KeepsRanges new old
 
 IsHeld-prop : (region : Region) (range : ByteRange) → IsProp (IsHeld region range)
 unfolding IsHeld

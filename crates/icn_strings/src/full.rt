@@ -1,12 +1,12 @@
 // Why a string was not made.
 ghost use Rattle.std.specs.Prelude.{◌≡◌};
-ghost use Rattle.icn_strings.specs.declared.full.Full.TheVariants.{NoMemory};
+ghost use Rattle.icn_strings.specs.declared.full.RegionFull.TheVariants.{NoMemory};
 
 use std::alloc::AllocError;
 
 /// Why a region made no string.
 #[derive(Clone, Copy, Debug, PartialEq, Eq)]
-pub enum Full {
+pub enum RegionFull {
     /// The charge would have passed the limit.
     Strings {
         /// How many bytes were charged before.
@@ -20,10 +20,10 @@ pub enum Full {
     NoMemory,
 }
 
-impl From<AllocError> for Full {
+impl From<AllocError> for RegionFull {
     ghost from_gives = { λ _ full. full ≡ NoMemory };
 
     fn from(_: AllocError) -> Self {
-        Full::NoMemory
+        RegionFull::NoMemory
     }
 }

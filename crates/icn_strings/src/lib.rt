@@ -4,12 +4,12 @@
 mod byte_range;
 mod copy;
 mod full;
-mod laws;
 mod region;
+mod region_laws;
 
 pub use byte_range::ByteRange;
-pub use full::Full;
-pub use laws::{
+pub use full::RegionFull;
+pub use region::Region;
+pub use region_laws::{
     empty_range, end_of_range, length_of_bytes, part_of_range, short_string, within_limit,
 };
-pub use region::Region;

@@ -3,7 +3,7 @@ ghost use Rattle.std.specs.Prelude.{◌≡◌, ◌+◌, ◌-◌, ◌^◌, ◌<�
 
 use crate::byte_range::ByteRange;
 use crate::copy::append_both;
-use crate::full::Full;
+use crate::full::RegionFull;
 use std::alloc::{AllocError, Global};
 use std::ops::Range;
 
@@ -24,7 +24,7 @@ pub struct Region {
 }
 
 impl Region {
-    ghost use Rattle.icn_strings.specs.Regions.{limit_of, sum_of, IsOf, bytes_of, Keeps, IsUnchanged};
+    ghost use Rattle.icn_strings.specs.Regions.{limit_of, sum_of, IsOf, bytes_of, KeepsRanges, IsUnchanged};
 
     /// A region without strings that charges at most `limit` bytes. It takes no memory until a string has bytes.
     #[tactic(auto, unfolding(crate::specs::Regions::limit_of, crate::specs::Regions::sum_of))]
@@ -43,24 +43,24 @@ impl Region {
     ///
     /// The limit is looked at before memory: `Strings` comes exactly where it would be passed, and `NoMemory` only
     /// where it would not. Either leaves the region as it was.
-    #[tactic(auto, using(crate::proofs::Keeping::keeps_then))]
-    pub fn build(&mut self, bytes: &[u8]) -> Result<ByteRange, Full>
+    #[tactic(auto, using(crate::proofs::KeptRegions::keeps_then))]
+    pub fn build(&mut self, bytes: &[u8]) -> Result<ByteRange, RegionFull>
         ensures of { IfOk result (IsOf self.new) }
         ensures len { IfOk result (λ range. range.len ≡ length bytes.now) }
         ensures bytes { IfOk result (λ range. bytes_of self.new range ≡ bytes.now) }
         ensures sum { OnOk result (sum_of self.new ≡ sum_of self.old + length bytes.now) }
         ensures within { sum_of self.new ≤ limit_of self.new }
-        ensures kept { Keeps self.old self.new }
+        ensures kept { KeepsRanges self.old self.new }
 
-        ensures full { result ≡ Err (Full.Strings (sum_of self.old) (limit_of self.old))
+        ensures full { result ≡ Err (RegionFull.Strings (sum_of self.old) (limit_of self.old))
             ↔ (limit_of self.old < sum_of self.old + length bytes.now) }
         ensures memory { sum_of self.old + length bytes.now ≤ limit_of self.old
-            → OnErr result (result ≡ Err Full.NoMemory) }
+            → OnErr result (result ≡ Err RegionFull.NoMemory) }
         ensures err { OnErr result (IsUnchanged self.old self.new) }
     {
         let len = bytes.len() as u64;
         if len > self.room() {
-            return Err(self.full());
+            return Err(self.limit_refusal());
         }
         let range = self.hold(bytes)?;
         self.charge(len);
@@ -71,8 +71,8 @@ impl Region {
     ///
     /// The limit is looked at before memory: `Strings` comes exactly where it would be passed, and `NoMemory` only
     /// where it would not. Either leaves the region as it was.
-    #[tactic(auto, using(crate::proofs::Keeping::keeps_then))]
-    pub fn join(&mut self, a: ByteRange, b: ByteRange) -> Result<ByteRange, Full>
+    #[tactic(auto, using(crate::proofs::KeptRegions::keeps_then))]
+    pub fn join(&mut self, a: ByteRange, b: ByteRange) -> Result<ByteRange, RegionFull>
         requires first { IsOf self.old a }
         requires second { IsOf self.old b }
         ensures of { IfOk result (IsOf self.new) }
@@ -81,18 +81,18 @@ impl Region {
             (λ range. bytes_of self.new range ≡ bytes_of self.old a ++ bytes_of self.old b) }
         ensures sum { OnOk result (sum_of self.new ≡ sum_of self.old + (a.len + b.len)) }
         ensures within { sum_of self.new ≤ limit_of self.new }
-        ensures kept { Keeps self.old self.new }
+        ensures kept { KeepsRanges self.old self.new }
 
-        ensures full { result ≡ Err (Full.Strings (sum_of self.old) (limit_of self.old))
+        ensures full { result ≡ Err (RegionFull.Strings (sum_of self.old) (limit_of self.old))
             ↔ (limit_of self.old < sum_of self.old + (a.len + b.len)) }
         ensures memory { sum_of self.old + (a.len + b.len) ≤ limit_of self.old
-            → OnErr result (result ≡ Err Full.NoMemory) }
+            → OnErr result (result ≡ Err RegionFull.NoMemory) }
         ensures err { OnErr result (IsUnchanged self.old self.new) }
     {
         // One after the other, so that the sum of the two lengths cannot overflow.
         let room = self.room();
         if a.len > room || b.len > room - a.len {
-            return Err(self.full());
+            return Err(self.limit_refusal());
         }
         let range = self.hold_both(a, b)?;
         self.charge(range.len);
@@ -108,7 +108,7 @@ impl Region {
         ensures len { IfOk result (λ range. range.len ≡ length bytes.now) }
         ensures bytes { IfOk result (λ range. bytes_of self.new range ≡ bytes.now) }
         ensures sum { sum_of self.new ≡ sum_of self.old }
-        ensures kept { Keeps self.old self.new }
+        ensures kept { KeepsRanges self.old self.new }
 
         ensures err { OnErr result (IsUnchanged self.old self.new) }
     {
@@ -158,7 +158,7 @@ impl Region {
         ensures bytes { IfOk result
             (λ range. bytes_of self.new range ≡ bytes_of self.old a ++ bytes_of self.old b) }
         ensures sum { sum_of self.new ≡ sum_of self.old }
-        ensures kept { Keeps self.old self.new }
+        ensures kept { KeepsRanges self.old self.new }
         ensures err { OnErr result (IsUnchanged self.old self.new) }
     {
         let start = self.bytes.len() as u64;
@@ -184,10 +184,10 @@ impl Region {
 
     // The refusal where the limit would be passed.
     #[tactic(auto, unfolding(crate::specs::Regions::limit_of, crate::specs::Regions::sum_of))]
-    fn full(&self) -> Full
-        ensures { result ≡ Full.Strings (sum_of self.now) (limit_of self.now) }
+    fn limit_refusal(&self) -> RegionFull
+        ensures { result ≡ RegionFull.Strings (sum_of self.now) (limit_of self.now) }
     {
-        Full::Strings {
+        RegionFull::Strings {
             sum: self.sum,
             limit: self.limit,
         }
@@ -198,8 +198,8 @@ impl Region {
     fn charge(&mut self, len: u64)
         requires { sum_of self.old + len ≤ limit_of self.old }
         ensures sum { sum_of self.new ≡ sum_of self.old + len }
-        ensures kept { Keeps self.old self.new }
-        ensures back { Keeps self.new self.old }
+        ensures kept { KeepsRanges self.old self.new }
+        ensures back { KeepsRanges self.new self.old }
     {
         self.sum += len;
     }

@@ -1,10 +1,10 @@
 pub mod NewStructures
-pub mod Taking
-pub mod Additions
-pub mod Keeping
-pub mod Rows
-pub mod Copying
-pub mod Inserting
-pub mod Placing
+pub mod TakenElements
+pub mod AddedElements
+pub mod KeptFields
+pub mod RowAnswers
+pub mod CopiedStructures
+pub mod InsertedKeys
+pub mod SortedPlaces
 pub mod NamedValues
 pub mod SortRows

@@ -7,10 +7,10 @@ use Rattle.icn_value.specs.Values.{Null}
 use Rattle.icn_value.specs.Store.{Heap, Names, Record, Table, new_list, list_at, set_at, table_at, record_at}
 use Rattle.icn_defs.specs.Arguments.{arg}
 use Rattle.icn_heap.specs.Extents.{Extent, value_in, values_in}
-use Rattle.icn_convert.specs.Naming.{AreRecordsNamed, IsNamed}
-use Rattle.icn_named.specs.Named.{HeapNamed, ListNamed, PairNamed, SetNamed, ValueNamed}
+use Rattle.icn_convert.specs.ProgramNames.{AreRecordsNamed, IsNamed}
+use Rattle.law_names.specs.NamedSettings.{HeapNamed, ListNamed, PairNamed, SetNamed, ValueNamed}
 use Rattle.icn_structfn.specs.Sorting.{pair_at}
-use Rattle.icn_structfn.proofs.Placing.{holds_at}
+use Rattle.icn_structfn.proofs.SortedPlaces.{holds_at}
 
 -- a value whose meaning has a name
 pub named_value : (names : Names) (all : Extent) (val : Val) → ValueNamed names (value_in all val) → IsNamed names val

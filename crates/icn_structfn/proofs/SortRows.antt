@@ -11,11 +11,11 @@ use Rattle.icn_defs.specs.Calls.{GoesOn}
 use Rattle.icn_defs.specs.Conversions.{group_of}
 use Rattle.icn_defs.specs.Rows.{Row, Error, gives_value, new_list_of}
 use Rattle.icn_defs.specs.Structures.{pair_lists, sort_row, sorted_of, table_sorted}
-use Rattle.icn_heap.specs.Extents.{AreLive, Extent, IsLive, Keeps, value_in, values_in}
+use Rattle.icn_heap.specs.Extents.{AreLive, Extent, IsLive, KeepsValues, value_in, values_in}
 use Rattle.icn_vars.specs.declared.stop.Stop.{Stop}
 use Rattle.icn_vars.specs.declared.stop.Stop.TheVariants.{Error as ErrorStop, NoMemory}
 use Rattle.icn_vars.specs.Stops.{StopsFinding}
-use Rattle.icn_structfn.proofs.Rows.{nothing_left}
+use Rattle.icn_structfn.proofs.RowAnswers.{nothing_left}
 use Rattle.icn_structfn.specs.Sorting.{in_turn, order_of, pair_lists_behind, sorted_pairs, sorted_value}
 
 orders : (names : Names) (heap : Heap) (pairs : List (Value × Value)) (n : ℤ) (chosen : Value) (setting : Setting)
@@ -60,7 +60,7 @@ no_structure names n chosen all (TableVal id) a b c d next setting = absurd (c i
 no_structure names n chosen all (CoexpVal id) a b c d next setting = refl
 
 -- both values of a pair, alone and as a pair
-pub two_same : (old new : Extent) (pair : Val × Val) → Keeps old new → AreLive old pair
+pub two_same : (old new : Extent) (pair : Val × Val) → KeepsValues old new → AreLive old pair
     → map (value_in new) (pair.0 ∷ pair.1 ∷ []) ≡ (values_in old pair).0 ∷ (values_in old pair).1 ∷ []
 two_same old new pair keeps live =
     ap (λ (v : Value). v ∷ value_in new pair.1 ∷ []) (keeps.value pair.0 live.first)
@@ -93,12 +93,12 @@ all_turned all vals rest whole none so =
 
 module _ (pairs : List (Value × Value)) (before : Setting) where
   -- what is left to be made, behind the lists that were made
-  abbrev pub Left : List Value → List (Value × Value) → Setting → Type 0
-  Left done rest now = (next : List Value → Row) → pair_lists pairs next before ≡ pair_lists_behind done rest next now
+  abbrev pub ListsLeft : List Value → List (Value × Value) → Setting → Type 0
+  ListsLeft done rest now = (next : List Value → Row) → pair_lists pairs next before ≡ pair_lists_behind done rest next now
 
   -- one more list
   pub one_made : (done : List Value) (first : Value × Value) (rest others : List (Value × Value)) (list : Value) (now after : Setting) → rest ≡ first ∷ others
-      → Left done rest now → GoesOn (new_list_of (first.0 ∷ first.1 ∷ [])) now list after → Left (done ++ list ∷ []) others after
+      → ListsLeft done rest now → GoesOn (new_list_of (first.0 ∷ first.1 ∷ [])) now list after → ListsLeft (done ++ list ∷ []) others after
   one_made done first rest others list now after same so made next =
       so next ∙ (ap (λ (left : List (Value × Value)). pair_lists_behind done left next now) same
       ∙ (made (λ value. pair_lists others (λ more. next (done ++ value ∷ more))) ∙ behind))
@@ -109,14 +109,15 @@ module _ (pairs : List (Value × Value)) (before : Setting) where
   -- one that is not made
   pub one_stops : (all : Extent) (done : List Value) (first : Value × Value) (rest others : List (Value × Value)) (now after : Setting) (stop : Stop)
       → rest ≡ first ∷ others
-      → Left done rest now → StopsFinding all (new_list_of (first.0 ∷ first.1 ∷ [])) now after stop → StopsFinding all (pair_lists pairs) before after stop
+      → ListsLeft done rest now → StopsFinding all (new_list_of (first.0 ∷ first.1 ∷ [])) now after stop → StopsFinding all (pair_lists pairs) before after stop
   one_stops all done first rest others now after (ErrorStop number offending) same so stops = λ next.
       so next ∙ (ap (λ (left : List (Value × Value)). pair_lists_behind done left next now) same
       ∙ stops (λ value. pair_lists others (λ more. next (done ++ value ∷ more))))
   one_stops all done first rest others now after NoMemory same so stops = tt
 
   -- all are made
-  pub all_made : (done : List Value) (rest : List (Value × Value)) (now : Setting) → rest ≡ [] → Left done rest now → GoesOn (pair_lists pairs) before done now
+  pub all_made : (done : List Value) (rest : List (Value × Value)) (now : Setting) → rest ≡ [] → ListsLeft done rest now
+      → GoesOn (pair_lists pairs) before done now
   all_made done rest now none so next =
       so next
       ∙ (ap (λ (left : List (Value × Value)). pair_lists_behind done left next now) none ∙ ap (λ (values : List Value). next values now) (append-nil done))

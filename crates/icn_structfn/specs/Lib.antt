@@ -1,5 +1,5 @@
-pub mod Adding
+pub mod AddedElements
 pub mod Copies
-pub mod Keepers
+pub mod SetsAndTables
 pub mod Functions
 pub mod Sorting

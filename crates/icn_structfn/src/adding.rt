@@ -3,16 +3,16 @@ ghost use Rattle.std.specs.Prelude.{◌≡◌, ◌+◌, ◌≤◌, map, drop, le
 ghost use Rattle.std.specs.List.{All};
 ghost use Rattle.icn_value.specs.Store.{Outside};
 ghost use Rattle.icn_defs.specs.Structures.{put_row, push_row, or_null};
-ghost use Rattle.icn_heap.specs.Extents.{Extent, IsLive, Keeps, value_in};
+ghost use Rattle.icn_heap.specs.Extents.{Extent, IsLive, KeepsValues, value_in};
 ghost use Rattle.icn_heap.specs.Heaps.{extent_of, heap_of};
 ghost use Rattle.icn_vars.specs.Outcomes.{IsLiveAnswer};
 ghost use Rattle.icn_vars.specs.Worlds.{KeepsItems, reach_of, setting_of};
-ghost use Rattle.icn_args.specs.Words.{Answers, IsPassed};
+ghost use Rattle.icn_args.specs.RowWords.{Answers, IsPassed};
 ghost use Rattle.icn_structs.specs.Numbered.{with_left, with_right};
 ghost use Rattle.icn_value.specs.declared.full.Full.TheVariants.{NoMemory};
 ghost use Rattle.icn_value.specs.declared.val.Val.TheVariants.{List};
 ghost use Rattle.icn_vars.specs.Stops.{IsLiveStop};
-ghost use Rattle.icn_structfn.specs.Adding.{added_to, adds};
+ghost use Rattle.icn_structfn.specs.AddedElements.{added_to, adds};
 
 use icn_args::arg;
 use icn_heap::{Full, Heap};
@@ -32,7 +32,7 @@ pub fn put<L: Locals>(w: &mut World, l: &L, args: &[Val]) -> Result<Outcome, Hal
     let list = arg(args, 0);
     match list {
         Val::List(id) => {
-            add_right(w, l, id, added(args))?;
+            add_right(w, l, id, values_to_add(args))?;
             Ok(Outcome::Gives(Item::Val(list)))
         }
         _ => Err(Halt::Error(108, Some(list))),
@@ -40,7 +40,7 @@ pub fn put<L: Locals>(w: &mut World, l: &L, args: &[Val]) -> Result<Outcome, Hal
 }
 
 // Adds values at the right of a list, all of which are charged at once.
-#[tactic(auto, using(icn_vars::proofs::Growing::grows))]
+#[tactic(auto, using(icn_vars::proofs::GrowingWorlds::grows))]
 fn add_right<L: Locals>(w: &mut World, l: &L, list: u32, vals: &[Val]) -> Result<(), Stop>
     requires locals { All (IsLive (extent_of w.old.heap)) (L.items l.now) }
     requires list { IsLive (extent_of w.old.heap) (List list) }
@@ -65,7 +65,7 @@ fn put_each(heap: &mut Heap, list: u32, vals: &[Val]) -> Result<(), Full>
     ensures step { OnOk result (heap_of heap.new
         ≡ added_to with_right list (map (value_in (extent_of heap.old)) vals.now) (heap_of heap.old)) }
     ensures error { IfErr result (λ full. full ≡ NoMemory) }
-    ensures kept { Keeps (extent_of heap.old) (extent_of heap.new) }
+    ensures kept { KeepsValues (extent_of heap.old) (extent_of heap.new) }
     ensures records { (heap_of heap.new).records ≡ (heap_of heap.old).records }
 {
     let mut rest = vals;
@@ -89,7 +89,7 @@ pub fn push<L: Locals>(w: &mut World, l: &L, args: &[Val]) -> Result<Outcome, Ha
     let list = arg(args, 0);
     match list {
         Val::List(id) => {
-            add_left(w, l, id, added(args))?;
+            add_left(w, l, id, values_to_add(args))?;
             Ok(Outcome::Gives(Item::Val(list)))
         }
         _ => Err(Halt::Error(108, Some(list))),
@@ -97,7 +97,7 @@ pub fn push<L: Locals>(w: &mut World, l: &L, args: &[Val]) -> Result<Outcome, Ha
 }
 
 // Adds values at the left of a list, all of which are charged at once.
-#[tactic(auto, using(icn_vars::proofs::Growing::grows))]
+#[tactic(auto, using(icn_vars::proofs::GrowingWorlds::grows))]
 fn add_left<L: Locals>(w: &mut World, l: &L, list: u32, vals: &[Val]) -> Result<(), Stop>
     requires locals { All (IsLive (extent_of w.old.heap)) (L.items l.now) }
     requires list { IsLive (extent_of w.old.heap) (List list) }
@@ -123,7 +123,7 @@ fn push_each(heap: &mut Heap, list: u32, vals: &[Val]) -> Result<(), Full>
     ensures step { OnOk result (heap_of heap.new
         ≡ added_to with_left list (map (value_in (extent_of heap.old)) vals.now) (heap_of heap.old)) }
     ensures error { IfErr result (λ full. full ≡ NoMemory) }
-    ensures kept { Keeps (extent_of heap.old) (extent_of heap.new) }
+    ensures kept { KeepsValues (extent_of heap.old) (extent_of heap.new) }
     ensures records { (heap_of heap.new).records ≡ (heap_of heap.old).records }
 {
     let mut rest = vals;
@@ -135,7 +135,7 @@ fn push_each(heap: &mut Heap, list: u32, vals: &[Val]) -> Result<(), Full>
 }
 
 // The arguments behind the first, or null where there are none.
-fn added(args: &[Val]) -> &[Val]
+fn values_to_add(args: &[Val]) -> &[Val]
     ensures value { (all : Extent)
         → map (value_in all) result.now ≡ or_null (drop 1 (map (value_in all) args.now)) }
     ensures live { (all : Extent) → All (IsLive all) args.now → All (IsLive all) result.now }

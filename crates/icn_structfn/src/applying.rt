@@ -5,10 +5,10 @@ ghost use Rattle.icn_text.specs.declared.func.Func.TheVariants.{Sort};
 ghost use Rattle.icn_defs.specs.Applying.{function_of};
 ghost use Rattle.icn_heap.specs.Extents.{IsLive, value_in};
 ghost use Rattle.icn_heap.specs.Heaps.{extent_of, heap_of};
-ghost use Rattle.icn_named.specs.Named.{HeapNamed};
+ghost use Rattle.law_names.specs.NamedSettings.{HeapNamed};
 ghost use Rattle.icn_vars.specs.Outcomes.{IsLiveAnswer};
 ghost use Rattle.icn_vars.specs.Worlds.{KeepsItems, reach_of};
-ghost use Rattle.icn_args.specs.Words.{Answers};
+ghost use Rattle.icn_args.specs.RowWords.{Answers};
 ghost use Rattle.icn_structfn.specs.Functions.{is_of_structures};
 
 use crate::adding::{push, put};
@@ -22,7 +22,7 @@ use icn_value::Val;
 use icn_vars::{Halt, Locals, Outcome, World};
 
 /// A function over structures is applied to values. What `key` leaves goes on by `key_again`. `sort` wants that all in the heap that is named has a name.
-#[tactic(auto, using(icn_vars::proofs::KeptItems::items_all))]
+#[tactic(auto, using(icn_vars::proofs::KeptItems::keeps_items_refl))]
 pub fn first<L: Locals, N: Names>(
     w: &mut World,
     l: &L,

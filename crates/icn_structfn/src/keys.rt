@@ -7,12 +7,12 @@ ghost use Rattle.icn_heap.specs.Extents.{Extent, IsLive, value_in};
 ghost use Rattle.icn_heap.specs.Heaps.{extent_of, heap_of};
 ghost use Rattle.icn_vars.specs.Outcomes.{IsLiveAnswer, IsLiveOutcome, outcome_in};
 ghost use Rattle.icn_vars.specs.Worlds.{KeepsItems, reach_of, setting_of};
-ghost use Rattle.icn_args.specs.Words.{Answers, IsPassed};
+ghost use Rattle.icn_args.specs.RowWords.{Answers, IsPassed};
 ghost use Rattle.icn_value.specs.declared.val.Val.TheVariants.{Table};
 ghost use Rattle.icn_vars.specs.Stops.{IsLiveStop};
 ghost use Rattle.std.specs.Option.{option_map};
 ghost use Rattle.icn_defs.specs.Arguments.{keeper_of};
-ghost use Rattle.icn_structfn.specs.Keepers.{inserts_in};
+ghost use Rattle.icn_structfn.specs.SetsAndTables.{inserts_in};
 
 use icn_args::arg;
 use icn_heap::Heap;
@@ -70,7 +70,7 @@ pub fn insert<L: Locals>(w: &mut World, l: &L, args: &[Val]) -> Result<Outcome, 
 }
 
 // Puts a member, or a key with its value, in, and charges it where it is new.
-#[tactic(auto, using(icn_vars::proofs::Growing::grows))]
+#[tactic(auto, using(icn_vars::proofs::GrowingWorlds::grows))]
 fn insert_into<L: Locals>(w: &mut World, l: &L, kept: Val, key: Val, val: Val) -> Result<(), Stop>
     requires locals { All (IsLive (extent_of w.old.heap)) (L.items l.now) }
     requires kept { IsLive (extent_of w.old.heap) kept }
@@ -92,7 +92,7 @@ fn insert_into<L: Locals>(w: &mut World, l: &L, kept: Val, key: Val, val: Val) -
 }
 
 /// `delete(X, x)`: takes a member or a key out of a set or a table, which it gives.
-#[tactic(auto, using(icn_vars::proofs::Growing::grows))]
+#[tactic(auto, using(icn_vars::proofs::GrowingWorlds::grows))]
 pub fn delete<L: Locals>(w: &mut World, l: &L, args: &[Val]) -> Result<Outcome, Halt>
     requires locals { All (IsLive (extent_of w.old.heap)) (L.items l.now) }
     requires args { All (IsLive (extent_of w.old.heap)) args.now }

@@ -11,13 +11,13 @@ ghost use Rattle.icn_heap.specs.Extents.{IsLive, value_in};
 ghost use Rattle.icn_heap.specs.Heaps.{extent_of, heap_of};
 ghost use Rattle.icn_vars.specs.Stops.{IsLiveStop};
 ghost use Rattle.icn_vars.specs.Worlds.{KeepsItems, reach_of, setting_of};
-ghost use Rattle.icn_args.specs.Words.{IsFound};
+ghost use Rattle.icn_args.specs.RowWords.{IsFound};
 
 use icn_value::Val;
 use icn_vars::{Locals, Stop, World};
 
 /// A new list of one value so many times, which are charged. The errors are 307 and want of memory.
-#[tactic(auto, using(icn_vars::proofs::Growing::grows))]
+#[tactic(auto, using(icn_vars::proofs::GrowingWorlds::grows))]
 pub fn filled_list<L: Locals>(w: &mut World, l: &L, count: u64, fill: Val) -> Result<Val, Stop>
     requires locals { All (IsLive (extent_of w.old.heap)) (L.items l.now) }
     requires fill { IsLive (extent_of w.old.heap) fill }
@@ -35,7 +35,7 @@ pub fn filled_list<L: Locals>(w: &mut World, l: &L, count: u64, fill: Val) -> Re
 }
 
 /// A new set of these values, each of them once, which are charged. The errors are 307 and want of memory.
-#[tactic(auto, using(icn_vars::proofs::Growing::grows))]
+#[tactic(auto, using(icn_vars::proofs::GrowingWorlds::grows))]
 pub fn new_set<L: Locals>(w: &mut World, l: &L, vals: &[Val]) -> Result<Val, Stop>
     requires locals { All (IsLive (extent_of w.old.heap)) (L.items l.now) }
     requires vals { All (IsLive (extent_of w.old.heap)) vals.now }
@@ -51,7 +51,7 @@ pub fn new_set<L: Locals>(w: &mut World, l: &L, vals: &[Val]) -> Result<Val, Sto
 }
 
 /// A new set of the members of a set, which are charged. The errors are 307 and want of memory.
-#[tactic(auto, using(icn_vars::proofs::Growing::grows))]
+#[tactic(auto, using(icn_vars::proofs::GrowingWorlds::grows))]
 pub fn set_like<L: Locals>(w: &mut World, l: &L, set: u32) -> Result<Val, Stop>
     requires locals { All (IsLive (extent_of w.old.heap)) (L.items l.now) }
     requires set { IsLive (extent_of w.old.heap) (Set set) }
@@ -67,7 +67,7 @@ pub fn set_like<L: Locals>(w: &mut World, l: &L, set: u32) -> Result<Val, Stop>
 }
 
 /// A new table without pairs, which is charged. The errors are 307 and want of memory.
-#[tactic(auto, using(icn_vars::proofs::Growing::grows))]
+#[tactic(auto, using(icn_vars::proofs::GrowingWorlds::grows))]
 pub fn new_table<L: Locals>(w: &mut World, l: &L, default: Val) -> Result<Val, Stop>
     requires locals { All (IsLive (extent_of w.old.heap)) (L.items l.now) }
     requires default { IsLive (extent_of w.old.heap) default }
@@ -84,7 +84,7 @@ pub fn new_table<L: Locals>(w: &mut World, l: &L, default: Val) -> Result<Val, S
 }
 
 /// A new table with the pairs and the default of a table, which are charged. The errors are 307 and want of memory.
-#[tactic(auto, using(icn_vars::proofs::Growing::grows))]
+#[tactic(auto, using(icn_vars::proofs::GrowingWorlds::grows))]
 pub fn table_like<L: Locals>(w: &mut World, l: &L, table: u32) -> Result<Val, Stop>
     requires locals { All (IsLive (extent_of w.old.heap)) (L.items l.now) }
     requires table { IsLive (extent_of w.old.heap) (Table table) }
@@ -100,7 +100,7 @@ pub fn table_like<L: Locals>(w: &mut World, l: &L, table: u32) -> Result<Val, St
 }
 
 /// A new record of this constructor with these fields, at most 2^16, which are charged. The errors are 307 and want of memory.
-#[tactic(auto, using(icn_vars::proofs::Growing::grows))]
+#[tactic(auto, using(icn_vars::proofs::GrowingWorlds::grows))]
 pub fn new_record<L: Locals>(w: &mut World, l: &L, kind: u16, fields: &[Val]) -> Result<Val, Stop>
     requires locals { All (IsLive (extent_of w.old.heap)) (L.items l.now) }
     requires fields { All (IsLive (extent_of w.old.heap)) fields.now }

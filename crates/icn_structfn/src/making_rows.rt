@@ -7,7 +7,7 @@ ghost use Rattle.icn_heap.specs.Extents.{IsLive, value_in};
 ghost use Rattle.icn_heap.specs.Heaps.{extent_of, heap_of};
 ghost use Rattle.icn_vars.specs.Outcomes.{IsLiveAnswer};
 ghost use Rattle.icn_vars.specs.Worlds.{KeepsItems, reach_of, setting_of};
-ghost use Rattle.icn_args.specs.Words.{Answers, IsFound};
+ghost use Rattle.icn_args.specs.RowWords.{Answers, IsFound};
 ghost use Rattle.icn_vars.specs.Stops.{IsLiveStop};
 ghost use Rattle.icn_structfn.specs.Copies.{copy_of_value, set_of_value};
 

@@ -10,7 +10,7 @@ ghost use Rattle.icn_defs.specs.Structures.{entry_cmp, key_cmp};
 ghost use Rattle.icn_structs.specs.PairLists.{KeysDiffer};
 ghost use Rattle.icn_heap.specs.Extents.{AreLive, Extent, IsLive, value_in, values_in};
 ghost use Rattle.icn_heap.specs.Heaps.{extent_of, heap_of};
-ghost use Rattle.icn_named.specs.Named.{HeapNamed, PairNamed, ValueNamed};
+ghost use Rattle.law_names.specs.NamedSettings.{HeapNamed, PairNamed, ValueNamed};
 ghost use Rattle.icn_structfn.specs.Sorting.{pair_at};
 
 use icn_args::arg;

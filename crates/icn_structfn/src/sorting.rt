@@ -10,11 +10,11 @@ ghost use Rattle.icn_defs.specs.Structures.{pair_lists, sort_row};
 ghost use Rattle.icn_structs.specs.PairLists.{KeysDiffer};
 ghost use Rattle.icn_heap.specs.Extents.{AreLive, Extent, IsLive, value_in, values_in};
 ghost use Rattle.icn_heap.specs.Heaps.{extent_of, heap_of};
-ghost use Rattle.icn_named.specs.Named.{HeapNamed, PairNamed, ValueNamed};
+ghost use Rattle.law_names.specs.NamedSettings.{HeapNamed, PairNamed, ValueNamed};
 ghost use Rattle.icn_vars.specs.Outcomes.{IsLiveAnswer};
 ghost use Rattle.icn_vars.specs.Stops.{IsLiveStop};
 ghost use Rattle.icn_vars.specs.Worlds.{KeepsItems, reach_of, setting_of};
-ghost use Rattle.icn_args.specs.Words.{Answers, IsFound};
+ghost use Rattle.icn_args.specs.RowWords.{Answers, IsFound};
 ghost use Rattle.icn_structfn.specs.Sorting.{in_turn, list_of_pairs, order_of, sorted_pairs, sorted_value};
 
 use crate::ordering::{by_entry, by_key, in_order};
@@ -244,12 +244,12 @@ fn list_in_turn<L: Locals>(w: &mut World, l: &L, pairs: &[(Val, Val)]) -> Result
     ensures locals { All (IsLive (extent_of w.new.heap)) (L.items l.now) }
     ensures kept { KeepsItems (reach_of w.old (L.items l.now)) (reach_of w.new (L.items l.now)) }
 {
-    let vals = turned(*w.globals.allocator(), pairs)?;
+    let vals = interleave_pairs(*w.globals.allocator(), pairs)?;
     new_list(w, l, &vals)
 }
 
 // Keys and values in turn.
-fn turned(alloc: Global, pairs: &[(Val, Val)]) -> Result<Vec<Val>, AllocError>
+fn interleave_pairs(alloc: Global, pairs: &[(Val, Val)]) -> Result<Vec<Val>, AllocError>
     ensures values { IfOk result
         (λ vals. (all : Extent) → map (value_in all) vals.items ≡ in_turn (map (values_in all) pairs.now)) }
     ensures live { IfOk result

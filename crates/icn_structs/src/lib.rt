@@ -2,9 +2,9 @@
 #![tactic(auto)]
 
 mod deque;
-mod laws;
 mod pairs;
+mod structure_laws;
 
 pub use deque::Deque;
-pub use laws::{numbers_stay, values_stay};
 pub use pairs::Pairs;
+pub use structure_laws::{numbers_stay, values_stay};

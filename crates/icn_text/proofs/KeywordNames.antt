@@ -36,7 +36,8 @@ pub every_keyword : (test : Keyword → Bool) → list_all test ALL ≡ true →
 every_keyword = listed.each_passes keyword_number ALL (lit< tt) keyword_at
 
 -- what is found under the number of one is this one
-pub keyword_found : (found : Option Keyword) (any : Keyword) → option_map_or (λ x. eqb (keyword_number x) (keyword_number any)) found false ≡ true → found ≡ Some any
+pub keyword_found : (found : Option Keyword) (any : Keyword) → option_map_or (λ x. eqb (keyword_number x) (keyword_number any)) found false ≡ true
+    → found ≡ Some any
 keyword_found = listed.found_again keyword_number ALL (lit< tt) keyword_at
 
 pub keyword_within : (any : Keyword) → keyword_number any ≤ length ALL
@@ -54,7 +55,8 @@ number_of (any ∷ others) name = cond (bytes_eq (keyword_name any) name) (keywo
 
 number_found : (any : Keyword) → number_of ALL (keyword_name any) ≡ keyword_number any
 unfolding number_of
-number_found any = eqb-true (number_of ALL (keyword_name any)) (keyword_number any) (every_keyword (λ x. eqb (number_of ALL (keyword_name x)) (keyword_number x)) refl any)
+number_found any =
+    eqb-true (number_of ALL (keyword_name any)) (keyword_number any) (every_keyword (λ x. eqb (number_of ALL (keyword_name x)) (keyword_number x)) refl any)
 
 pub one_name : (a b : Keyword) → keyword_name a ≡ keyword_name b → a ≡ b
 one_name a b same = listed.one_number keyword_number ALL (lit< tt) keyword_at a b (sym (number_found a) ∙ ap (number_of ALL) same ∙ number_found b)

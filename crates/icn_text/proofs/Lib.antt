@@ -4,10 +4,10 @@ pub mod KeywordNames
 pub mod OpNumbers
 mod DigitSteps
 mod Numerals
-mod Completing
-mod Sounding
-mod Deciding
+mod ReadingComplete
+mod ReadingSound
+mod DecidedIntegers
 mod Powers
-mod Fitting
+mod FitsIn64Bits
 mod WrittenIntegers
 mod GrowingDigits

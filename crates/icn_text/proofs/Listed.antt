@@ -23,8 +23,7 @@ no_name : (found name : List ℕ) → bytes_eq found name ≡ false → found �
 no_name found name differs same = let clash : false ≡ true = sym differs ∙ (bytes_eq-Decides found name).1 same in cc
 
 module _ {X : Type 0} (number : X → ℕ) (all : List X) (some : 0 < length all)
-  (listed : (any default : X) → get_or all (number any - 1) default ≡ any) where
-
+    (listed : (any default : X) → get_or all (number any - 1) default ≡ any) where
   -- what all of the list pass is passed by each value
   pub each_passes : (test : X → Bool) → list_all test all ≡ true → (any : X) → test any ≡ true
   each_passes test is any =

@@ -43,9 +43,9 @@ above_no_sign b h = (grind (arith, nat_tests), grind (arith, nat_tests))
 
 -- Runs of bytes
 
-pub both : (a b : Bool) → (a && b) ≡ true → (a ≡ true) × (b ≡ true)
-both true b h = (refl, h)
-both false b h = absurd (let clash : false ≡ true = h in cc)
+pub and_parts : (a b : Bool) → (a && b) ≡ true → (a ≡ true) × (b ≡ true)
+and_parts true b h = (refl, h)
+and_parts false b h = absurd (let clash : false ≡ true = h in cc)
 
 -- the first of the bytes, if there is one, does not pass
 abbrev pub Stops : (ℕ → Bool) → List ℕ → Type 0
@@ -56,7 +56,7 @@ pub run_len : (p : ℕ → Bool) (xs ys : List ℕ) → list_all p xs ≡ true �
 run_len p [] [] h s = refl
 run_len p [] (y ∷ ys) h s = ap (λ t. cond t (1 + prefix_len p ys) 0) s
 run_len p (x ∷ xs) ys h s =
-    let here = both (p x) (list_all p xs) h in
+    let here = and_parts (p x) (list_all p xs) h in
     let later : prefix_len p (xs ++ ys) ≡ length xs = run_len p xs ys here.1 s in
     ap (λ t. cond t (1 + prefix_len p (xs ++ ys)) 0) here.0 ∙ omega (arith, later)
 

@@ -14,9 +14,9 @@ use Rattle.std.specs.Str.Parse.{AllDigits}
 use Rattle.icn_text.specs.IntegerArithmetic.{fitting}
 use Rattle.icn_text.specs.Integers.{is_digit_of, WritesNumeral, decimal, with_sign, WritesSigned, plain, minus, WritesInteger}
 use Rattle.icn_text.specs.Reading.{integer_read, written_integer}
-use Rattle.icn_text.proofs.Completing.{integer_again}
-use Rattle.icn_text.proofs.Fitting.{fitting_so, so_fitting}
-use Rattle.icn_text.proofs.Sounding.{integer_sound}
+use Rattle.icn_text.proofs.ReadingComplete.{integer_again}
+use Rattle.icn_text.proofs.FitsIn64Bits.{fitting_so, so_fitting}
+use Rattle.icn_text.proofs.ReadingSound.{integer_sound}
 
 -- what the relation says is found
 pub written : (text : List ℕ) (n : ℤ) → WritesInteger text n → written_integer text ≡ Some n

@@ -4,7 +4,7 @@ ghost use Rattle.std.specs.Int.{int_pow};
 ghost use Rattle.icn_text.specs.IntegerArithmetic.{within_64_bits, sum, difference, product, quotient, remainder, power};
 ghost use Rattle.icn_text.specs.Reading.{in_64_bits};
 
-use crate::integer::signed;
+use crate::integer::integer_with_sign;
 
 /// Why an operation on integers has no result.
 #[derive(Clone, Copy, Debug, PartialEq, Eq)]
@@ -79,7 +79,7 @@ fn natural_power(base: i64, exponent: u64) -> Result<i64, Arith>
 {
     let magnitude = magnitude_power(base.unsigned_abs(), exponent).ok_or(Arith::Overflow)?;
     let is_negative = base < 0 && exponent % 2 == 1;
-    signed(is_negative, magnitude).map_err(|_| Arith::Overflow)
+    integer_with_sign(is_negative, magnitude).map_err(|_| Arith::Overflow)
 }
 
 // By repeated squaring. The power of half the exponent is no greater than the power, and neither is its square,

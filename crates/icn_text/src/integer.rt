@@ -21,13 +21,13 @@ pub fn read_integer(text: &[u8]) -> Result<i64, NotInteger>
     ensures found { result_ok result ≡ written_integer text.now }
 {
     match integer(text) {
-        Some((is_negative, magnitude)) => signed(is_negative, magnitude),
+        Some((is_negative, magnitude)) => integer_with_sign(is_negative, magnitude),
         None => Err(NotInteger),
     }
 }
 
 // The integer of this sign and magnitude.
-pub(crate) fn signed(is_negative: bool, magnitude: u64) -> Result<i64, NotInteger>
+pub(crate) fn integer_with_sign(is_negative: bool, magnitude: u64) -> Result<i64, NotInteger>
     ensures { OkIff result (FitsSigned w64 (with_sign is_negative magnitude))
         (with_sign is_negative magnitude) }
 {
@@ -92,13 +92,13 @@ fn value(digits: &[u8], radix: u32) -> Option<u64>
 {
     let mut value = 0u64;
     for digit in digits {
-        value = appended(value, radix, *digit)?;
+        value = append_digit(value, radix, *digit)?;
     }
     Some(value)
 }
 
 // The number with one more digit at its end.
-fn appended(value: u64, radix: u32, digit: u8) -> Option<u64>
+fn append_digit(value: u64, radix: u32, digit: u8) -> Option<u64>
     ensures { result ≡ in_64_bits (value * radix + digit_value digit) }
 {
     value

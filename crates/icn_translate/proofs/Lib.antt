@@ -1,4 +1,4 @@
-pub mod Entries
-pub mod Lists
-pub mod Names
-pub mod Numbering
+pub mod DraftStarts
+pub mod ExpressionLists
+pub mod NameTable
+pub mod RowNumbers

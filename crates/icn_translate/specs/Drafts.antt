@@ -4,7 +4,7 @@ use Rattle.std.specs.List.{list_any, position_or_len}
 use Rattle.std.specs.Str.{bytes_eq}
 use Rattle.icn_unit.specs.declared.unit.UnitInstr.{UnitInstr}
 use Rattle.icn_unit.specs.declared.unit.UnitInstr.TheVariants.{Var}
-use Rattle.icn_translate.specs.declared.builder.Ways.{Ways}
+use Rattle.icn_translate.specs.declared.builder.LoopLabels.{LoopLabels}
 
 -- The instructions so far; how many labels have a number; the names so far, those that are declared first; and the labels
 -- of the loops and the last labels of the cases that are open, the innermost first.
@@ -12,7 +12,7 @@ pub record Draft : Type 0 where
   pub instrs : List UnitInstr
   pub labels : ℕ
   pub names : List (List ℕ)
-  pub loops : List Ways
+  pub loops : List LoopLabels
   pub cases : List (Option ℕ)
 
 -- What stands behind a draft: `draft ▹ step` goes on with the step.
@@ -73,23 +73,23 @@ put_variable name d = record {
 -- Loops
 
 -- the labels of a loop, neither of which was mentioned
-abbrev pub no_ways : Ways
+abbrev pub no_ways : LoopLabels
 no_ways = record { next = None; last = None }
 
-abbrev pub first_ways : List Ways → Ways
+abbrev pub first_ways : List LoopLabels → LoopLabels
 first_ways [] = no_ways
 first_ways (ways ∷ others) = ways
 
-abbrev pub other_ways : List Ways → List Ways
+abbrev pub other_ways : List LoopLabels → List LoopLabels
 other_ways [] = []
 other_ways (ways ∷ others) = others
 
 -- the labels of the innermost loop
-unfoldable pub innermost : Draft → Ways
+unfoldable pub innermost : Draft → LoopLabels
 innermost d = first_ways d.loops
 
 -- in one more loop with these labels, and outside the innermost one
-unfoldable pub in_loop : Ways → Draft → Draft
+unfoldable pub in_loop : LoopLabels → Draft → Draft
 in_loop ways d =
     record { instrs = d.instrs; labels = d.labels; names = d.names; loops = ways ∷ d.loops; cases = d.cases }
 

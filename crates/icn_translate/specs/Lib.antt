@@ -2,8 +2,8 @@ pub mod Views
 pub mod ProcCodes
 pub mod Translation
 pub mod Instructions
-pub mod Open
+pub mod OpenMarks
 pub mod Drafts
-pub mod Numbers
+pub mod NumbersTaken
 pub mod Room
 pub mod FileUnits

@@ -4,12 +4,12 @@ use Rattle.std.specs.List.{flat_map}
 use Rattle.icn_tree.specs.declared.tree.Name.{Name}
 use Rattle.icn_tree.specs.declared.tree.LocalKind.{LocalKind}
 use Rattle.icn_tree.specs.declared.tree.LocalKind.TheVariants as Kept
-use Rattle.icn_tree.specs.Trees.{Locals, Procedure}
+use Rattle.icn_tree.specs.Trees.{LocalDecl, Procedure}
 use Rattle.icn_unit.specs.declared.unit.NameKind.{NameKind}
 use Rattle.icn_unit.specs.declared.unit.NameKind.TheVariants.{Parameter, Local, Static, Undeclared}
 use Rattle.icn_unit.specs.declared.unit.UnitInstr.TheVariants.{Pfail}
 use Rattle.icn_unit.specs.declared.unit.UnitName.{UnitName}
-use Rattle.icn_unit.specs.PlainUnits.{Proc}
+use Rattle.icn_unit.specs.PlainUnits.{PlainProc}
 use Rattle.icn_translate.specs.Drafts.{Draft, ◌▹◌, put, with_names}
 use Rattle.icn_translate.specs.Translation.{initially, body}
 
@@ -25,10 +25,10 @@ abbrev pub kind_of : LocalKind → NameKind
 kind_of Kept.Local = Local
 kind_of Kept.Static = Static
 
-abbrev pub local_entries : Locals → List UnitName
+abbrev pub local_entries : LocalDecl → List UnitName
 local_entries locals = map (λ name. entry_of (kind_of locals.kind) name.text) locals.names
 
-abbrev pub local_texts : Locals → List (List ℕ)
+abbrev pub local_texts : LocalDecl → List (List ℕ)
 local_texts locals = texts_of locals.names
 
 -- the parameters, and then locals and statics as they are declared
@@ -59,7 +59,7 @@ undeclared_in procedure = drop (length (first_draft procedure).names) (draft_of 
 
 -- The code of a procedure: its names, and its instructions, whose labels are numbered from 1 in the order of their first
 -- mentions.
-abbrev pub proc_code : Procedure → Proc
+abbrev pub proc_code : Procedure → PlainProc
 proc_code procedure = record {
   name = procedure.name.text;
   collects = procedure.is_variadic;

@@ -2,7 +2,7 @@
 use Rattle.std.specs.Prelude.{ℕ, ◌+◌, ◌<◌, ◌≤◌, length}
 use Rattle.icn_tree.specs.Trees.{Procedure, Clause, Clauses, Default, Guarded, NoClauses, MoreClauses}
 use Rattle.icn_translate.specs.Drafts.{Draft}
-use Rattle.icn_translate.specs.Numbers.{local_numbers, numbers}
+use Rattle.icn_translate.specs.NumbersTaken.{local_numbers, numbers}
 
 -- how many labels and names have a number
 unfoldable pub numbers_given : Draft → ℕ

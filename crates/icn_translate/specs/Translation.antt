@@ -13,7 +13,7 @@ use Rattle.icn_translate.specs.declared.forms.InfixForm.TheVariants.{Both, Scann
 use Rattle.icn_translate.specs.declared.forms.PrefixForm.TheVariants.{Activation, Repetition, Operation}
 use Rattle.icn_translate.specs.Drafts.{Draft, ◌▹◌, put, next_label, with_label, put_variable, no_ways, in_loop, outside_loop, aside, put_next, put_last, in_case, outside_case, put_end}
 use Rattle.icn_translate.specs.Instructions.{literal_instr, keyword_instr, section_op, infix_form, prefix_form}
-use Rattle.icn_translate.specs.Open.{Open, Outermost, Marked, Looped, Each, unmarks_for_break, unmarks_for_next, around}
+use Rattle.icn_translate.specs.OpenMarks.{OpenMarks, Outermost, Marked, Looped, Each, unmarks_for_break, unmarks_for_next, around}
 
 -- the empty expression
 abbrev pub is_empty : Tree → Bool
@@ -79,13 +79,13 @@ control_part Until control d =
 control_part Every control d = d ▹ in_loop no_ways ▹ put I.Mark0 ▹ control ▹ put I.Pop
 
 -- what is open in the control expression of a loop: of `every` its mark stays for the next pass
-abbrev pub in_control : LoopKind → Open → Open
+abbrev pub in_control : LoopKind → OpenMarks → OpenMarks
 in_control While o = Marked (Looped o)
 in_control Until o = Marked (Looped o)
 in_control Every o = Each o
 
 -- what is open where the `do` part of a loop begins
-abbrev pub in_body : LoopKind → Open → Open
+abbrev pub in_body : LoopKind → OpenMarks → OpenMarks
 in_body While o = Looped o
 in_body Until o = Looped o
 in_body Every o = Each o
@@ -146,7 +146,7 @@ looped_body code d = d ▹ put_next I.Mark ▹ code ▹ put I.Unmark
 
 abbrev mutual
   -- what a form adds, with these marks and loops open
-  pub translate : Open → Tree → Draft → Draft
+  pub translate : OpenMarks → Tree → Draft → Draft
   translate o Empty d = d ▹ put I.Pnull
   translate o (Constant place value) d = d ▹ put (literal_instr value)
   translate o (Identifier name) d = d ▹ put_variable name.text
@@ -188,11 +188,11 @@ abbrev mutual
       ▹ suspended_part (Marked (Marked o)) b ▹ put I.Efail
 
   -- operands, one behind the other
-  pub operands : Open → Trees → Draft → Draft
+  pub operands : OpenMarks → Trees → Draft → Draft
   operands o NoTrees d = d
   operands o (More e es) d = d ▹ translate o e ▹ operands o es
 
-  pub arguments : Open → Trees → Draft → Draft
+  pub arguments : OpenMarks → Trees → Draft → Draft
   arguments o NoTrees d = d
   arguments o (More e es) d = elim (is_no_element (More e es)) as (λ is. Draft) [
     | true ↦ d
@@ -200,16 +200,16 @@ abbrev mutual
   ]
 
   -- expressions with `pop` between them
-  pub conjunction : Open → Trees → Draft → Draft
+  pub conjunction : OpenMarks → Trees → Draft → Draft
   conjunction o NoTrees d = d
   conjunction o (More e es) d = d ▹ translate o e ▹ conjuncts o es
 
-  pub conjuncts : Open → Trees → Draft → Draft
+  pub conjuncts : OpenMarks → Trees → Draft → Draft
   conjuncts o NoTrees d = d
   conjuncts o (More e es) d = d ▹ put I.Pop ▹ translate o e ▹ conjuncts o es
 
   -- each expression but the last is bounded; where it is empty it has no code
-  pub compound : Open → Trees → Draft → Draft
+  pub compound : OpenMarks → Trees → Draft → Draft
   compound o NoTrees d = d
   compound o (More e es) d =
       d ▹ either_step (is_nothing es) (translate o e) (unless_empty e (bounded_code (translate (Marked o) e)))
@@ -227,46 +227,46 @@ abbrev mutual
   other_creations NoTrees d = d
   other_creations (More e es) d = d ▹ create_code (translate Outermost e) ▹ other_creations es
 
-  pub subscripts : Open → Trees → Draft → Draft
+  pub subscripts : OpenMarks → Trees → Draft → Draft
   subscripts o NoTrees d = d
   subscripts o (More e es) d = d ▹ translate o e ▹ put (I.Op O.Subscript) ▹ subscripts o es
 
   -- the step of `to`, which is 1 where there is no `by`
-  pub to_step : Open → MaybeTree → Draft → Draft
+  pub to_step : OpenMarks → MaybeTree → Draft → Draft
   to_step o Absent d = d ▹ put (I.Int (pos 1))
   to_step o (Present e) d = d ▹ translate o e
 
   -- behind the first branch of `if`, where the label of its mark is this
-  pub otherwise : Open → MaybeTree → ℕ → Draft → Draft
+  pub otherwise : OpenMarks → MaybeTree → ℕ → Draft → Draft
   otherwise o Absent label d = d
   otherwise o (Present b) label d = d ▹ alternative (translate o b) label
 
   -- the `do` part of a loop, and that of `suspend`
-  pub looped_part : Open → MaybeTree → Draft → Draft
+  pub looped_part : OpenMarks → MaybeTree → Draft → Draft
   looped_part o Absent d = d
   looped_part o (Present b) d = d ▹ looped_body (translate o b)
 
-  pub suspended_part : Open → MaybeTree → Draft → Draft
+  pub suspended_part : OpenMarks → MaybeTree → Draft → Draft
   suspended_part o Absent d = d ▹ with_label ▹ put (I.Lab (next_label d))
   suspended_part o (Present b) d = d ▹ bounded_code (translate o b)
 
   -- the clauses but the default
-  pub guarded_part : Open → Clauses → Draft → Draft
+  pub guarded_part : OpenMarks → Clauses → Draft → Draft
   guarded_part o NoClauses d = d
   guarded_part o (MoreClauses clause clauses) d = d ▹ guarded_clause o clause ▹ guarded_part o clauses
 
-  pub guarded_clause : Open → Clause → Draft → Draft
+  pub guarded_clause : OpenMarks → Clause → Draft → Draft
   guarded_clause o (Default place e) d = d
   guarded_clause o (Guarded place s b) d =
       d ▹ put_mark ▹ put I.Ccase ▹ translate (Marked o) s ▹ put (I.Op O.Equivalent)
       ▹ put I.Unmark ▹ put I.Pop ▹ translate o b ▹ put_end I.Goto ▹ put (I.Lab (next_label d))
 
   -- the first default, or `efail`
-  pub default_part : Open → Clauses → Draft → Draft
+  pub default_part : OpenMarks → Clauses → Draft → Draft
   default_part o NoClauses d = d ▹ put I.Efail
   default_part o (MoreClauses clause clauses) d = d ▹ default_clause o clause (default_part o clauses)
 
-  pub default_clause : Open → Clause → (Draft → Draft) → Draft → Draft
+  pub default_clause : OpenMarks → Clause → (Draft → Draft) → Draft → Draft
   default_clause o (Default place e) later d = d ▹ translate o e
   default_clause o (Guarded place s b) later d = d ▹ later
 

@@ -1,17 +1,17 @@
 -- What the code keeps, as the definitions see it.
 use Rattle.std.specs.Prelude.{map}
-use Rattle.icn_translate.specs.declared.marks.Open.{Open as KeptOpen}
-use Rattle.icn_translate.specs.declared.marks.Open.TheVariants as Kept
+use Rattle.icn_translate.specs.declared.marks.OpenMarks.{OpenMarks as KeptOpen}
+use Rattle.icn_translate.specs.declared.marks.OpenMarks.TheVariants as Kept
 use Rattle.icn_translate.specs.declared.builder.Builder.{Builder}
 use Rattle.icn_translate.specs.declared.builder.Pass.{Pass}
 use Rattle.icn_translate.specs.declared.builder.Pass.TheVariants.{At, NextResult}
 use Rattle.icn_unit.specs.declared.unit.UnitInstr.{UnitInstr}
 use Rattle.icn_unit.specs.declared.unit.UnitInstr.TheVariants as I
 use Rattle.icn_translate.specs.Drafts.{Draft}
-use Rattle.icn_translate.specs.Open.{Open, Outermost, Marked, Looped, Each}
+use Rattle.icn_translate.specs.OpenMarks.{OpenMarks, Outermost, Marked, Looped, Each}
 
 -- what is open round a place, as definitions see it
-abbrev pub open_of : KeptOpen → Open
+abbrev pub open_of : KeptOpen → OpenMarks
 open_of Kept.Outermost = Outermost
 open_of (Kept.Mark' p outer) = Marked (open_of outer)
 open_of (Kept.Loop' p outer) = Looped (open_of outer)

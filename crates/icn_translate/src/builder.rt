@@ -3,13 +3,13 @@ ghost use Rattle.std.specs.Prelude.{◌≡◌, ◌+◌, ◌<◌, ◌≤◌, [], 
 ghost use Rattle.icn_unit.specs.declared.unit.UnitInstr.TheVariants.{Cofail, Coret, Create as CreateInstr, Efail, Field as FieldInstr, Goto as GotoInstr, Lab as LabInstr, Mark as MarkInstr};
 ghost use Rattle.icn_translate.specs.Drafts.{case_end, end_number, in_case, in_loop, innermost, last_number, name_index, next_label, next_number, number_of, with_number, outside_case, outside_loop, put, put_end, put_last, put_next, put_variable, no_ways, with_end, with_label, with_last, with_name, with_next, ◌▹◌};
 ghost use Rattle.icn_translate.specs.Instructions.{literal_instr};
-ghost use Rattle.icn_translate.specs.Open.{unmarks_for_break, unmarks_for_next};
+ghost use Rattle.icn_translate.specs.OpenMarks.{unmarks_for_break, unmarks_for_next};
 ghost use Rattle.icn_translate.specs.Room.{IsRoomFor, TakesAtMost, numbers_given};
 ghost use Rattle.icn_translate.specs.Translation.{loop_end, put_mark};
 ghost use Rattle.icn_translate.specs.Views.{draft_of, open_of, pass_instr};
 
 use crate::forms::literal_instr;
-use crate::marks::Open;
+use crate::marks::OpenMarks;
 use icn_tree::{Bytes, Literal};
 use icn_unit::UnitInstr;
 use indexmap::IndexSet;
@@ -18,7 +18,7 @@ use std::collections::VecDeque;
 
 /// The labels of an open loop that were mentioned.
 #[derive(Clone, Copy)]
-pub struct Ways {
+pub struct LoopLabels {
     /// The label that `next` goes to.
     pub next: Option<u32>,
     /// The last label, which `break` goes to.
@@ -47,13 +47,13 @@ pub struct Builder<'a> {
     /// The names so far, those that are declared first.
     pub names: IndexSet<&'a [u8]>,
     /// The labels of the open loops, the innermost first.
-    pub loops: VecDeque<Ways>,
+    pub loops: VecDeque<LoopLabels>,
     /// The last labels of the open cases, the innermost first.
     pub cases: VecDeque<Option<u32>>,
 }
 
 /// A count as an operand.
-pub fn counted(n: usize) -> u32
+pub fn count_operand(n: usize) -> u32
     requires { n < 4294967296 }
     ensures { result ≡ n }
 {
@@ -187,7 +187,7 @@ impl<'a> Builder<'a> {
 
     /// Goes on in one more loop, with these labels.
     #[tactic(auto, unfolding(crate::specs::Views::draft_of, crate::specs::Drafts::in_loop, crate::specs::Room::numbers_given))]
-    pub fn enter_loop(&mut self, ways: Ways) -> Result<(), AllocError>
+    pub fn enter_loop(&mut self, ways: LoopLabels) -> Result<(), AllocError>
         ensures draft { OnOk result (draft_of self.new ≡ in_loop ways (draft_of self.old)) }
         ensures given { OnOk result (TakesAtMost 0 (draft_of self.old) (draft_of self.new)) }
     {
@@ -197,7 +197,7 @@ impl<'a> Builder<'a> {
 
     /// Goes on outside the innermost loop, and gives its labels.
     #[tactic(auto, unfolding(crate::specs::Views::draft_of, crate::specs::Drafts::outside_loop, crate::specs::Drafts::innermost, crate::specs::Room::numbers_given))]
-    pub fn leave_loop(&mut self) -> Ways
+    pub fn leave_loop(&mut self) -> LoopLabels
         ensures ways { result ≡ innermost (draft_of self.old) }
         ensures draft { draft_of self.new ≡ outside_loop (draft_of self.old) }
         ensures given { TakesAtMost 0 (draft_of self.old) (draft_of self.new) }
@@ -217,7 +217,7 @@ impl<'a> Builder<'a> {
     {
         let ways = self.leave_loop();
         let label = self.number(ways.next);
-        self.enter_loop(Ways {
+        self.enter_loop(LoopLabels {
             next: Some(label),
             last: ways.last,
         })?;
@@ -233,7 +233,7 @@ impl<'a> Builder<'a> {
     {
         let ways = self.leave_loop();
         let label = self.number(ways.last);
-        self.enter_loop(Ways {
+        self.enter_loop(LoopLabels {
             next: ways.next,
             last: Some(label),
         })?;
@@ -277,30 +277,30 @@ impl<'a> Builder<'a> {
     }
 
     /// Writes `unmark` for each mark that was opened in the innermost loop.
-    pub fn put_unmarks_for_break(&mut self, within: Open<'_>) -> Result<(), AllocError>
+    pub fn put_unmarks_for_break(&mut self, within: OpenMarks<'_>) -> Result<(), AllocError>
         ensures draft { OnOk result
             (draft_of self.new ≡ unmarks_for_break (open_of within.entry) (draft_of self.old)) }
         ensures given { OnOk result (TakesAtMost 0 (draft_of self.old) (draft_of self.new)) }
     {
         match within {
-            Open::Outermost | Open::Loop(_) => Ok(()),
-            Open::Mark(outer) => {
+            OpenMarks::Outermost | OpenMarks::Loop(_) => Ok(()),
+            OpenMarks::Mark(outer) => {
                 self.put(UnitInstr::Unmark)?;
                 self.put_unmarks_for_break(*outer)
             }
-            Open::Each(_) => self.put(UnitInstr::Unmark),
+            OpenMarks::Each(_) => self.put(UnitInstr::Unmark),
         }
     }
 
     /// Writes `unmark` for each mark that was opened since the place that `next` goes to was last passed.
-    pub fn put_unmarks_for_next(&mut self, within: Open<'_>) -> Result<(), AllocError>
+    pub fn put_unmarks_for_next(&mut self, within: OpenMarks<'_>) -> Result<(), AllocError>
         ensures draft { OnOk result
             (draft_of self.new ≡ unmarks_for_next (open_of within.entry) (draft_of self.old)) }
         ensures given { OnOk result (TakesAtMost 0 (draft_of self.old) (draft_of self.new)) }
     {
         match within {
-            Open::Outermost | Open::Loop(_) | Open::Each(_) => Ok(()),
-            Open::Mark(outer) => {
+            OpenMarks::Outermost | OpenMarks::Loop(_) | OpenMarks::Each(_) => Ok(()),
+            OpenMarks::Mark(outer) => {
                 self.put(UnitInstr::Unmark)?;
                 self.put_unmarks_for_next(*outer)
             }
@@ -368,7 +368,7 @@ impl<'a> Builder<'a> {
     }
 
     /// Goes on in one more loop, with these labels, and writes `goto` to its last one.
-    pub fn put_last_goto(&mut self, ways: Ways) -> Result<(), AllocError>
+    pub fn put_last_goto(&mut self, ways: LoopLabels) -> Result<(), AllocError>
         requires { IsRoomFor 1 (draft_of self.old) }
         ensures draft { OnOk result
             (draft_of self.new ≡ put_last GotoInstr (in_loop ways (draft_of self.old))) }
@@ -441,7 +441,7 @@ impl<'a> Builder<'a> {
 }
 
 /// The labels of a loop of which none was mentioned.
-pub const UNMENTIONED: Ways = Ways {
+pub const UNMENTIONED: LoopLabels = LoopLabels {
     next: None,
     last: None,
 };
@@ -456,7 +456,7 @@ pub fn enter_name<'a>(names: &mut IndexSet<&'a [u8]>, name: &'a [u8]) -> Result<
     ensures given { OnOk result (length names.new.keys ≤ length names.old.keys + 1) }
 {
     let (place, _) = names.insert_full(name)?;
-    Ok(counted(place))
+    Ok(count_operand(place))
 }
 
 // The instruction that goes on with the next pass.

@@ -3,15 +3,15 @@ ghost use Rattle.std.specs.Prelude.{◌≡◌, ◌+◌, IfOk, OnOk};
 ghost use Rattle.icn_tree.specs.TreeOf.{all_clauses_of, all_of, clause_of, tree_of};
 ghost use Rattle.icn_unit.specs.declared.unit.UnitInstr.TheVariants as I;
 ghost use Rattle.icn_translate.specs.Drafts.{◌▹◌, aside, in_loop, next_label, no_ways, put, put_last, with_label};
-ghost use Rattle.icn_translate.specs.Open.{Looped, Marked, Outermost as OutermostOpen, around, unmarks_for_break};
-ghost use Rattle.icn_translate.specs.Numbers.{all_numbers, clause_numbers, numbers};
+ghost use Rattle.icn_translate.specs.OpenMarks.{Looped, Marked, Outermost as OutermostOpen, around, unmarks_for_break};
+ghost use Rattle.icn_translate.specs.NumbersTaken.{all_numbers, clause_numbers, numbers};
 ghost use Rattle.icn_translate.specs.Room.{IsRoomFor, TakesAtMost, default_numbers, guard_numbers, guarded_numbers};
 ghost use Rattle.icn_translate.specs.Translation.{alternative, arguments, augmented_form, back, bounded_code, case_of, compound, conjunction, control_part, create_code, creations, default_part, either_step, elements, guarded_part, guarded_clause, in_body, in_control, is_empty, is_no_element, loop_end, looped_body, operands, other_creations, plain_form, prefix_by, put_mark, subscripts, translate, unless_empty};
 ghost use Rattle.icn_translate.specs.Views.{draft_of, open_of, pass_instr};
 
-use crate::builder::{Builder, Pass, UNMENTIONED, counted};
+use crate::builder::{Builder, Pass, UNMENTIONED, count_operand};
 use crate::forms::{InfixForm, PrefixForm, infix_form, keyword_instr, prefix_form, section_op};
-use crate::marks::{Open, around};
+use crate::marks::{OpenMarks, around};
 use icn_text::Op;
 use icn_tree::{Clause, Expr, Infix, LoopKind};
 use icn_unit::UnitInstr;
@@ -20,7 +20,7 @@ use std::alloc::AllocError;
 impl<'a> Builder<'a> {
     /// Writes the code of an expression, with these marks and loops open.
     #[cycle(translate)]
-    pub fn put_expr(&mut self, expr: &'a Expr, within: Open<'_>) -> Result<(), AllocError>
+    pub fn put_expr(&mut self, expr: &'a Expr, within: OpenMarks<'_>) -> Result<(), AllocError>
         requires { IsRoomFor (numbers (tree_of expr.now)) (draft_of self.old) }
         ensures draft { OnOk result
             (draft_of self.new ≡ translate (open_of within.entry) (tree_of expr.now) (draft_of self.old)) }
@@ -150,7 +150,7 @@ impl<'a> Builder<'a> {
         &mut self,
         left: &'a Expr,
         right: &'a Expr,
-        within: Open<'_>,
+        within: OpenMarks<'_>,
     ) -> Result<(), AllocError>
         requires { IsRoomFor (numbers (tree_of left.now) + numbers (tree_of right.now)) (draft_of self.old) }
         ensures draft { OnOk result
@@ -166,7 +166,7 @@ impl<'a> Builder<'a> {
 
     // A list.
     #[cycle(translate)]
-    fn put_list(&mut self, exprs: &'a [Expr], within: Open<'_>) -> Result<(), AllocError>
+    fn put_list(&mut self, exprs: &'a [Expr], within: OpenMarks<'_>) -> Result<(), AllocError>
         requires { IsRoomFor (all_numbers (all_of exprs.now)) (draft_of self.old) }
         ensures draft { OnOk result
             (draft_of self.new ≡ (draft_of self.old ▹ arguments (open_of within.entry) (all_of exprs.now)
@@ -184,7 +184,7 @@ impl<'a> Builder<'a> {
         &mut self,
         callee: &'a Expr,
         exprs: &'a [Expr],
-        within: Open<'_>,
+        within: OpenMarks<'_>,
     ) -> Result<(), AllocError>
         requires { IsRoomFor (numbers (tree_of callee.now) + all_numbers (all_of exprs.now))
             (draft_of self.old) }
@@ -207,7 +207,7 @@ impl<'a> Builder<'a> {
         &mut self,
         callee: &'a Expr,
         exprs: &'a [Expr],
-        within: Open<'_>,
+        within: OpenMarks<'_>,
     ) -> Result<(), AllocError>
         requires { IsRoomFor (numbers (tree_of callee.now) + all_numbers (all_of exprs.now))
             (draft_of self.old) }
@@ -226,7 +226,7 @@ impl<'a> Builder<'a> {
 
     // `not`
     #[cycle(translate)]
-    fn put_not(&mut self, operand: &'a Expr, within: Open<'_>) -> Result<(), AllocError>
+    fn put_not(&mut self, operand: &'a Expr, within: OpenMarks<'_>) -> Result<(), AllocError>
         requires { IsRoomFor (1 + numbers (tree_of operand.now)) (draft_of self.old) }
         ensures draft { OnOk result
             (draft_of self.new ≡ (draft_of self.old ▹ put_mark
@@ -236,7 +236,7 @@ impl<'a> Builder<'a> {
             (TakesAtMost (1 + numbers (tree_of operand.now)) (draft_of self.old) (draft_of self.new)) }
     {
         let label = self.put_mark()?;
-        self.put_expr(operand, Open::Mark(&within))?;
+        self.put_expr(operand, OpenMarks::Mark(&within))?;
         self.put_two(UnitInstr::Unmark, UnitInstr::Efail)?;
         self.put_two(UnitInstr::Lab(label), UnitInstr::Pnull)
     }
@@ -248,7 +248,7 @@ impl<'a> Builder<'a> {
         left: &'a Expr,
         right: &'a Expr,
         form: InfixForm,
-        within: Open<'_>,
+        within: OpenMarks<'_>,
     ) -> Result<(), AllocError>
         requires { IsRoomFor (2 + numbers (tree_of left.now) + numbers (tree_of right.now))
             (draft_of self.old) }
@@ -275,14 +275,14 @@ impl<'a> Builder<'a> {
             }
             InfixForm::Either => {
                 let label = self.put_mark()?;
-                self.put_expr(left, Open::Mark(&within))?;
+                self.put_expr(left, OpenMarks::Mark(&within))?;
                 self.put(UnitInstr::Esusp)?;
                 self.put_alternative(right, label, within)
             }
             InfixForm::Limiting => {
                 self.put_expr(right, within)?;
                 self.put(UnitInstr::Limit)?;
-                self.put_expr(left, Open::Mark(&within))?;
+                self.put_expr(left, OpenMarks::Mark(&within))?;
                 self.put(UnitInstr::Lsusp)
             }
             InfixForm::Activating => {
@@ -306,7 +306,7 @@ impl<'a> Builder<'a> {
         &mut self,
         left: &'a Expr,
         right: &'a Expr,
-        within: Open<'_>,
+        within: OpenMarks<'_>,
     ) -> Result<(), AllocError>
         requires { IsRoomFor (numbers (tree_of left.now) + numbers (tree_of right.now)) (draft_of self.old) }
         ensures draft { OnOk result
@@ -328,7 +328,7 @@ impl<'a> Builder<'a> {
         left: &'a Expr,
         right: &'a Expr,
         form: InfixForm,
-        within: Open<'_>,
+        within: OpenMarks<'_>,
     ) -> Result<(), AllocError>
         requires { IsRoomFor (2 + numbers (tree_of left.now) + numbers (tree_of right.now))
             (draft_of self.old) }
@@ -372,7 +372,7 @@ impl<'a> Builder<'a> {
         &mut self,
         condition: &'a Expr,
         then: &'a Expr,
-        within: Open<'_>,
+        within: OpenMarks<'_>,
     ) -> Result<(), AllocError>
         requires { IsRoomFor (2 + numbers (tree_of condition.now) + numbers (tree_of then.now))
             (draft_of self.old) }
@@ -385,7 +385,7 @@ impl<'a> Builder<'a> {
             (draft_of self.old) (draft_of self.new)) }
     {
         self.put(UnitInstr::Mark0)?;
-        self.put_expr(condition, Open::Mark(&within))?;
+        self.put_expr(condition, OpenMarks::Mark(&within))?;
         self.put(UnitInstr::Unmark)?;
         self.put_expr(then, within)
     }
@@ -397,7 +397,7 @@ impl<'a> Builder<'a> {
         condition: &'a Expr,
         then: &'a Expr,
         otherwise: &'a Expr,
-        within: Open<'_>,
+        within: OpenMarks<'_>,
     ) -> Result<(), AllocError>
         requires { IsRoomFor (2 + numbers (tree_of condition.now) + numbers (tree_of then.now)
             + numbers (tree_of otherwise.now)) (draft_of self.old) }
@@ -412,7 +412,7 @@ impl<'a> Builder<'a> {
             + numbers (tree_of otherwise.now)) (draft_of self.old) (draft_of self.new)) }
     {
         let label = self.put_mark()?;
-        self.put_expr(condition, Open::Mark(&within))?;
+        self.put_expr(condition, OpenMarks::Mark(&within))?;
         self.put(UnitInstr::Unmark)?;
         self.put_expr(then, within)?;
         self.put_alternative(otherwise, label, within)
@@ -424,7 +424,7 @@ impl<'a> Builder<'a> {
         &mut self,
         subject: &'a Expr,
         clauses: &'a [Clause],
-        within: Open<'_>,
+        within: OpenMarks<'_>,
     ) -> Result<(), AllocError>
         requires { IsRoomFor (1 + numbers (tree_of subject.now) + clause_numbers (all_clauses_of clauses.now))
             (draft_of self.old) }
@@ -438,14 +438,14 @@ impl<'a> Builder<'a> {
             (draft_of self.old) (draft_of self.new)) }
     {
         self.put(UnitInstr::Mark0)?;
-        self.put_expr(subject, Open::Mark(&within))?;
+        self.put_expr(subject, OpenMarks::Mark(&within))?;
         self.put(UnitInstr::Eret)?;
         self.put_clauses(clauses, within)
     }
 
     // `repeat`
     #[cycle(translate)]
-    fn put_repeat(&mut self, body: &'a Expr, within: Open<'_>) -> Result<(), AllocError>
+    fn put_repeat(&mut self, body: &'a Expr, within: OpenMarks<'_>) -> Result<(), AllocError>
         requires { IsRoomFor (4 + numbers (tree_of body.now)) (draft_of self.old) }
         ensures draft { OnOk result
             (draft_of self.new ≡ (draft_of self.old ▹ with_label
@@ -462,7 +462,7 @@ impl<'a> Builder<'a> {
 
     // `break`
     #[cycle(translate)]
-    fn put_break(&mut self, value: &'a Expr, within: Open<'_>) -> Result<(), AllocError>
+    fn put_break(&mut self, value: &'a Expr, within: OpenMarks<'_>) -> Result<(), AllocError>
         requires { IsRoomFor (1 + numbers (tree_of value.now)) (draft_of self.old) }
         ensures draft { OnOk result
             (draft_of self.new ≡ (draft_of self.old ▹ unmarks_for_break (open_of within.entry)
@@ -478,7 +478,7 @@ impl<'a> Builder<'a> {
 
     // `return`
     #[cycle(translate)]
-    fn put_return(&mut self, value: &'a Expr, within: Open<'_>) -> Result<(), AllocError>
+    fn put_return(&mut self, value: &'a Expr, within: OpenMarks<'_>) -> Result<(), AllocError>
         requires { IsRoomFor (1 + numbers (tree_of value.now)) (draft_of self.old) }
         ensures draft { OnOk result
             (draft_of self.new ≡ (draft_of self.old ▹ put_mark
@@ -488,14 +488,14 @@ impl<'a> Builder<'a> {
             (TakesAtMost (1 + numbers (tree_of value.now)) (draft_of self.old) (draft_of self.new)) }
     {
         let label = self.put_mark()?;
-        self.put_expr(value, Open::Mark(&within))?;
+        self.put_expr(value, OpenMarks::Mark(&within))?;
         self.put_two(UnitInstr::Pret, UnitInstr::Lab(label))?;
         self.put(UnitInstr::Pfail)
     }
 
     // `suspend`, before its `do` part
     #[cycle(translate)]
-    fn put_suspended(&mut self, value: &'a Expr, within: Open<'_>) -> Result<(), AllocError>
+    fn put_suspended(&mut self, value: &'a Expr, within: OpenMarks<'_>) -> Result<(), AllocError>
         requires { IsRoomFor (numbers (tree_of value.now)) (draft_of self.old) }
         ensures draft { OnOk result
             (draft_of self.new ≡ (draft_of self.old ▹ put I.Mark0
@@ -504,13 +504,13 @@ impl<'a> Builder<'a> {
             (TakesAtMost (numbers (tree_of value.now)) (draft_of self.old) (draft_of self.new)) }
     {
         self.put(UnitInstr::Mark0)?;
-        self.put_expr(value, Open::Mark(&within))?;
+        self.put_expr(value, OpenMarks::Mark(&within))?;
         self.put_two(UnitInstr::Psusp, UnitInstr::Pop)
     }
 
     // The `do` part of `suspend`.
     #[cycle(translate)]
-    fn put_resumed(&mut self, body: &'a Expr, within: Open<'_>) -> Result<(), AllocError>
+    fn put_resumed(&mut self, body: &'a Expr, within: OpenMarks<'_>) -> Result<(), AllocError>
         requires { IsRoomFor (1 + numbers (tree_of body.now)) (draft_of self.old) }
         ensures draft { OnOk result
             (draft_of self.new ≡ (draft_of self.old
@@ -518,8 +518,8 @@ impl<'a> Builder<'a> {
         ensures given { OnOk result
             (TakesAtMost (1 + numbers (tree_of body.now)) (draft_of self.old) (draft_of self.new)) }
     {
-        let marked = Open::Mark(&within);
-        self.put_bounded(body, Open::Mark(&marked))
+        let marked = OpenMarks::Mark(&within);
+        self.put_bounded(body, OpenMarks::Mark(&marked))
     }
 
     // An operator before its operand.
@@ -528,7 +528,7 @@ impl<'a> Builder<'a> {
         &mut self,
         operand: &'a Expr,
         form: PrefixForm,
-        within: Open<'_>,
+        within: OpenMarks<'_>,
     ) -> Result<(), AllocError>
         requires { IsRoomFor (1 + numbers (tree_of operand.now)) (draft_of self.old) }
         ensures draft { OnOk result
@@ -546,7 +546,7 @@ impl<'a> Builder<'a> {
             PrefixForm::Repetition => {
                 let again = self.put_label()?;
                 self.put(UnitInstr::Mark0)?;
-                self.put_expr(operand, Open::Mark(&within))?;
+                self.put_expr(operand, OpenMarks::Mark(&within))?;
                 self.put_two(UnitInstr::Chfail(again), UnitInstr::Esusp)
             }
             PrefixForm::Operation(op) => {
@@ -562,7 +562,7 @@ impl<'a> Builder<'a> {
         &mut self,
         branch: &'a Expr,
         label: u32,
-        within: Open<'_>,
+        within: OpenMarks<'_>,
     ) -> Result<(), AllocError>
         requires { IsRoomFor (1 + numbers (tree_of branch.now)) (draft_of self.old) }
         ensures draft { OnOk result (draft_of self.new
@@ -577,7 +577,7 @@ impl<'a> Builder<'a> {
 
     /// Writes the code of an expression in a mark with a new label, where this is open in that mark.
     #[cycle(translate)]
-    pub fn put_bounded(&mut self, expr: &'a Expr, marked: Open<'_>) -> Result<(), AllocError>
+    pub fn put_bounded(&mut self, expr: &'a Expr, marked: OpenMarks<'_>) -> Result<(), AllocError>
         requires { IsRoomFor (1 + numbers (tree_of expr.now)) (draft_of self.old) }
         ensures draft { OnOk result (draft_of self.new
             ≡ bounded_code (translate (open_of marked.entry) (tree_of expr.now)) (draft_of self.old)) }
@@ -595,7 +595,7 @@ impl<'a> Builder<'a> {
         &mut self,
         control: &'a Expr,
         kind: LoopKind,
-        within: Open<'_>,
+        within: OpenMarks<'_>,
     ) -> Result<Pass, AllocError>
         requires { IsRoomFor (2 + numbers (tree_of control.now)) (draft_of self.old) }
         ensures pass { IfOk result (λ pass. pass_instr pass ≡ back kind (next_label (draft_of self.old))) }
@@ -604,8 +604,8 @@ impl<'a> Builder<'a> {
         ensures given { OnOk result
             (TakesAtMost (2 + numbers (tree_of control.now)) (draft_of self.old) (draft_of self.new)) }
     {
-        let looped = Open::Loop(&within);
-        let marked = Open::Mark(&looped);
+        let looped = OpenMarks::Loop(&within);
+        let marked = OpenMarks::Mark(&looped);
         match kind {
             LoopKind::While => {
                 let start = self.begin_loop()?;
@@ -625,7 +625,7 @@ impl<'a> Builder<'a> {
             LoopKind::Every => {
                 self.enter_loop(UNMENTIONED)?;
                 self.put(UnitInstr::Mark0)?;
-                self.put_expr(control, Open::Each(&within))?;
+                self.put_expr(control, OpenMarks::Each(&within))?;
                 self.put(UnitInstr::Pop)?;
                 Ok(Pass::NextResult)
             }
@@ -638,7 +638,7 @@ impl<'a> Builder<'a> {
         &mut self,
         body: &'a Expr,
         kind: LoopKind,
-        within: Open<'_>,
+        within: OpenMarks<'_>,
     ) -> Result<(), AllocError>
         requires { IsRoomFor (1 + numbers (tree_of body.now)) (draft_of self.old) }
         ensures draft { OnOk result (draft_of self.new
@@ -649,7 +649,7 @@ impl<'a> Builder<'a> {
     {
         let looped = in_body(kind, &within);
         self.put_next_mark()?;
-        self.put_expr(body, Open::Mark(&looped))?;
+        self.put_expr(body, OpenMarks::Mark(&looped))?;
         self.put(UnitInstr::Unmark)
     }
 
@@ -664,13 +664,13 @@ impl<'a> Builder<'a> {
     {
         let outer = self.put_create()?;
         let inner = self.put_mark()?;
-        self.put_expr(body, Open::Outermost)?;
+        self.put_expr(body, OpenMarks::Outermost)?;
         self.end_created(inner, outer)
     }
 
     // Operands in a row.
     #[cycle(translate)]
-    fn put_operands(&mut self, exprs: &'a [Expr], within: Open<'_>) -> Result<(), AllocError>
+    fn put_operands(&mut self, exprs: &'a [Expr], within: OpenMarks<'_>) -> Result<(), AllocError>
         requires { IsRoomFor (all_numbers (all_of exprs.now)) (draft_of self.old) }
         ensures draft { OnOk result
             (draft_of self.new ≡ operands (open_of within.entry) (all_of exprs.now) (draft_of self.old)) }
@@ -685,7 +685,7 @@ impl<'a> Builder<'a> {
 
     // The elements of a list, and how many they are.
     #[cycle(translate)]
-    fn put_arguments(&mut self, exprs: &'a [Expr], within: Open<'_>) -> Result<u32, AllocError>
+    fn put_arguments(&mut self, exprs: &'a [Expr], within: OpenMarks<'_>) -> Result<u32, AllocError>
         requires { IsRoomFor (all_numbers (all_of exprs.now)) (draft_of self.old) }
         ensures count { IfOk result (λ count. count ≡ elements (all_of exprs.now)) }
         ensures draft { OnOk result
@@ -697,7 +697,7 @@ impl<'a> Builder<'a> {
             return Ok(0);
         }
         self.put_operands(exprs, within)?;
-        let count = counted(exprs.len());
+        let count = count_operand(exprs.len());
         Ok(count)
     }
 
@@ -714,7 +714,7 @@ impl<'a> Builder<'a> {
             return Ok(0);
         }
         self.put_other_creations(exprs)?;
-        let count = counted(exprs.len());
+        let count = count_operand(exprs.len());
         Ok(count)
     }
 
@@ -735,7 +735,11 @@ impl<'a> Builder<'a> {
 
     // Expressions with `pop` between them.
     #[cycle(translate)]
-    fn put_conjunction(&mut self, exprs: &'a [Expr], within: Open<'_>) -> Result<(), AllocError>
+    fn put_conjunction(
+        &mut self,
+        exprs: &'a [Expr],
+        within: OpenMarks<'_>,
+    ) -> Result<(), AllocError>
         requires { IsRoomFor (all_numbers (all_of exprs.now)) (draft_of self.old) }
         ensures draft { OnOk result
             (draft_of self.new ≡ conjunction (open_of within.entry) (all_of exprs.now) (draft_of self.old)) }
@@ -755,7 +759,7 @@ impl<'a> Builder<'a> {
 
     // The expressions of a compound.
     #[cycle(translate)]
-    fn put_compound(&mut self, exprs: &'a [Expr], within: Open<'_>) -> Result<(), AllocError>
+    fn put_compound(&mut self, exprs: &'a [Expr], within: OpenMarks<'_>) -> Result<(), AllocError>
         requires { IsRoomFor (all_numbers (all_of exprs.now)) (draft_of self.old) }
         ensures draft { OnOk result
             (draft_of self.new ≡ compound (open_of within.entry) (all_of exprs.now) (draft_of self.old)) }
@@ -774,7 +778,7 @@ impl<'a> Builder<'a> {
         &mut self,
         expr: &'a Expr,
         is_last: bool,
-        within: Open<'_>,
+        within: OpenMarks<'_>,
     ) -> Result<(), AllocError>
         requires { IsRoomFor (1 + numbers (tree_of expr.now)) (draft_of self.old) }
         ensures draft { OnOk result (draft_of self.new ≡ either_step is_last
@@ -790,12 +794,12 @@ impl<'a> Builder<'a> {
         if is_empty(expr) {
             return Ok(());
         }
-        self.put_bounded(expr, Open::Mark(&within))
+        self.put_bounded(expr, OpenMarks::Mark(&within))
     }
 
     // Subscripts in a row.
     #[cycle(translate)]
-    fn put_subscripts(&mut self, exprs: &'a [Expr], within: Open<'_>) -> Result<(), AllocError>
+    fn put_subscripts(&mut self, exprs: &'a [Expr], within: OpenMarks<'_>) -> Result<(), AllocError>
         requires { IsRoomFor (all_numbers (all_of exprs.now)) (draft_of self.old) }
         ensures draft { OnOk result
             (draft_of self.new ≡ subscripts (open_of within.entry) (all_of exprs.now) (draft_of self.old)) }
@@ -811,7 +815,11 @@ impl<'a> Builder<'a> {
 
     // The clauses of a `case`, behind its subject.
     #[cycle(translate)]
-    fn put_clauses(&mut self, clauses: &'a [Clause], within: Open<'_>) -> Result<(), AllocError>
+    fn put_clauses(
+        &mut self,
+        clauses: &'a [Clause],
+        within: OpenMarks<'_>,
+    ) -> Result<(), AllocError>
         requires { IsRoomFor (1 + clause_numbers (all_clauses_of clauses.now)) (draft_of self.old) }
         ensures draft { OnOk result
             (draft_of self.new ≡ case_of (guarded_part (open_of within.entry) (all_clauses_of clauses.now))
@@ -829,7 +837,11 @@ impl<'a> Builder<'a> {
 
     // The clauses but the default.
     #[cycle(translate)]
-    fn put_guarded(&mut self, clauses: &'a [Clause], within: Open<'_>) -> Result<(), AllocError>
+    fn put_guarded(
+        &mut self,
+        clauses: &'a [Clause],
+        within: OpenMarks<'_>,
+    ) -> Result<(), AllocError>
         requires { IsRoomFor (guarded_numbers (all_clauses_of clauses.now)) (draft_of self.old) }
         ensures draft { OnOk result (draft_of self.new
             ≡ guarded_part (open_of within.entry) (all_clauses_of clauses.now) (draft_of self.old)) }
@@ -844,7 +856,11 @@ impl<'a> Builder<'a> {
     }
 
     #[cycle(translate)]
-    fn put_guarded_clause(&mut self, clause: &'a Clause, within: Open<'_>) -> Result<(), AllocError>
+    fn put_guarded_clause(
+        &mut self,
+        clause: &'a Clause,
+        within: OpenMarks<'_>,
+    ) -> Result<(), AllocError>
         requires { IsRoomFor (guard_numbers (clause_of clause.now)) (draft_of self.old) }
         ensures draft { OnOk result (draft_of self.new
             ≡ guarded_clause (open_of within.entry) (clause_of clause.now) (draft_of self.old)) }
@@ -856,7 +872,7 @@ impl<'a> Builder<'a> {
             Clause::Guarded { guard, value, .. } => {
                 let label = self.put_mark()?;
                 self.put(UnitInstr::Ccase)?;
-                self.put_expr(guard, Open::Mark(&within))?;
+                self.put_expr(guard, OpenMarks::Mark(&within))?;
                 self.put_two(UnitInstr::Op(Op::Equivalent), UnitInstr::Unmark)?;
                 self.put(UnitInstr::Pop)?;
                 self.put_expr(value, within)?;
@@ -868,7 +884,11 @@ impl<'a> Builder<'a> {
 
     // The first default, or `efail`.
     #[cycle(translate)]
-    fn put_default(&mut self, clauses: &'a [Clause], within: Open<'_>) -> Result<(), AllocError>
+    fn put_default(
+        &mut self,
+        clauses: &'a [Clause],
+        within: OpenMarks<'_>,
+    ) -> Result<(), AllocError>
         requires { IsRoomFor (default_numbers (all_clauses_of clauses.now)) (draft_of self.old) }
         ensures draft { OnOk result (draft_of self.new
             ≡ default_part (open_of within.entry) (all_clauses_of clauses.now) (draft_of self.old)) }
@@ -906,11 +926,11 @@ fn is_no_element(exprs: &[Expr]) -> bool
 }
 
 // What is open in the body of a loop.
-fn in_body<'a>(kind: LoopKind, within: &'a Open<'a>) -> Open<'a>
+fn in_body<'a>(kind: LoopKind, within: &'a OpenMarks<'a>) -> OpenMarks<'a>
     ensures { open_of result ≡ in_body kind (open_of within.now) }
 {
     match kind {
-        LoopKind::While | LoopKind::Until => Open::Loop(within),
-        LoopKind::Every => Open::Each(within),
+        LoopKind::While | LoopKind::Until => OpenMarks::Loop(within),
+        LoopKind::Every => OpenMarks::Each(within),
     }
 }

@@ -4,11 +4,11 @@ ghost use Rattle.icn_tree.specs.TreeOf.{declaration_of};
 ghost use Rattle.icn_unit.specs.PlainUnits.{Global as GlobalLine, Link as LinkLine, Procedure as ProcedureLine, Record as RecordLine};
 ghost use Rattle.icn_unit.specs.UnitViews.{decl_seen, proc_seen};
 ghost use Rattle.icn_translate.specs.FileUnits.{codes_in, item_text, lines_in, proc_codes, unit_decls};
-ghost use Rattle.icn_translate.specs.Numbers.{HasRoom, HaveRoom};
+ghost use Rattle.icn_translate.specs.NumbersTaken.{HasRoom, HaveRoom};
 ghost use Rattle.icn_translate.specs.ProcCodes.{texts_of};
 
 use crate::procedure::proc_code;
-use icn_tree::{Bytes, Decl, Item, Name};
+use icn_tree::{Bytes, Decl, DeclItem, Name};
 use icn_unit::{ProcCode, UnitDecl};
 use std::alloc::{AllocError, Global};
 
@@ -24,7 +24,7 @@ pub fn proc_codes(alloc: Global, decls: &[Decl]) -> Result<Vec<ProcCode>, AllocE
     Ok(codes)
 }
 
-#[tactic(auto, using(crate::proofs::Entries::seen_more))]
+#[tactic(auto, using(crate::proofs::DraftStarts::seen_more))]
 fn put_codes(codes: &mut Vec<ProcCode>, alloc: Global, decl: &Decl) -> Result<(), AllocError>
     requires { HasRoom (declaration_of decl.now) }
     ensures { OnOk result (map proc_seen codes.new.items ≡ map proc_seen codes.old.items
@@ -76,7 +76,7 @@ fn put_globals(lines: &mut Vec<UnitDecl>, alloc: Global, names: &[Name]) -> Resu
     Ok(())
 }
 
-#[tactic(auto, using(crate::proofs::Entries::seen_more))]
+#[tactic(auto, using(crate::proofs::DraftStarts::seen_more))]
 fn put_global(lines: &mut Vec<UnitDecl>, alloc: Global, name: &Name) -> Result<(), AllocError>
     ensures { OnOk result
         (map decl_seen lines.new.items ≡ map decl_seen lines.old.items ++ GlobalLine name.now.text ∷ []) }
@@ -86,7 +86,7 @@ fn put_global(lines: &mut Vec<UnitDecl>, alloc: Global, name: &Name) -> Result<(
     Ok(())
 }
 
-fn put_links(lines: &mut Vec<UnitDecl>, alloc: Global, items: &[Item]) -> Result<(), AllocError>
+fn put_links(lines: &mut Vec<UnitDecl>, alloc: Global, items: &[DeclItem]) -> Result<(), AllocError>
     ensures { OnOk result (map decl_seen lines.new.items ≡ map decl_seen lines.old.items
         ++ map (λ item. LinkLine (item_text item)) items.now) }
 {
@@ -96,8 +96,8 @@ fn put_links(lines: &mut Vec<UnitDecl>, alloc: Global, items: &[Item]) -> Result
     Ok(())
 }
 
-#[tactic(auto, using(crate::proofs::Entries::seen_more))]
-fn put_link(lines: &mut Vec<UnitDecl>, alloc: Global, item: &Item) -> Result<(), AllocError>
+#[tactic(auto, using(crate::proofs::DraftStarts::seen_more))]
+fn put_link(lines: &mut Vec<UnitDecl>, alloc: Global, item: &DeclItem) -> Result<(), AllocError>
     ensures { OnOk result (map decl_seen lines.new.items ≡ map decl_seen lines.old.items
         ++ LinkLine (item_text item.now) ∷ []) }
 {
@@ -106,15 +106,15 @@ fn put_link(lines: &mut Vec<UnitDecl>, alloc: Global, item: &Item) -> Result<(),
     Ok(())
 }
 
-fn item_text(item: &Item) -> &[u8]
+fn item_text(item: &DeclItem) -> &[u8]
     ensures { result.now ≡ item_text item.now }
 {
     match item {
-        Item::Identifier(name) | Item::Text(name) => name.text.as_slice(),
+        DeclItem::Identifier(name) | DeclItem::Text(name) => name.text.as_slice(),
     }
 }
 
-#[tactic(auto, using(crate::proofs::Entries::seen_more))]
+#[tactic(auto, using(crate::proofs::DraftStarts::seen_more))]
 fn put_record(
     lines: &mut Vec<UnitDecl>,
     alloc: Global,
@@ -142,7 +142,7 @@ fn copies(alloc: Global, names: &[Name]) -> Result<Vec<Bytes>, AllocError>
     Ok(texts)
 }
 
-#[tactic(auto, using(crate::proofs::Entries::seen_more))]
+#[tactic(auto, using(crate::proofs::DraftStarts::seen_more))]
 fn put_procedure(lines: &mut Vec<UnitDecl>, alloc: Global, name: &Name) -> Result<(), AllocError>
     ensures { OnOk result
         (map decl_seen lines.new.items ≡ map decl_seen lines.old.items ++ ProcedureLine name.now.text ∷ []) }

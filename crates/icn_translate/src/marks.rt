@@ -1,28 +1,28 @@
 // The marks and loops that are open at a place of a procedure.
 ghost use Rattle.std.specs.Prelude.{◌≡◌};
-ghost use Rattle.icn_translate.specs.Open.{around};
+ghost use Rattle.icn_translate.specs.OpenMarks.{around};
 ghost use Rattle.icn_translate.specs.Views.{open_of};
 
 /// What is open, the innermost first.
 #[derive(Clone, Copy)]
-pub enum Open<'a> {
+pub enum OpenMarks<'a> {
     /// Nothing, in a procedure or a create body.
     Outermost,
     /// A mark.
-    Mark(&'a Open<'a>),
+    Mark(&'a OpenMarks<'a>),
     /// A loop.
-    Loop(&'a Open<'a>),
+    Loop(&'a OpenMarks<'a>),
     /// An `every`, whose first mark stays open for its next pass.
-    Each(&'a Open<'a>),
+    Each(&'a OpenMarks<'a>),
 }
 
 /// What is open around the innermost loop.
-pub fn around<'a>(within: Open<'a>) -> Open<'a>
+pub fn around<'a>(within: OpenMarks<'a>) -> OpenMarks<'a>
     ensures { open_of result ≡ around (open_of within.entry) }
 {
     match within {
-        Open::Outermost => within,
-        Open::Mark(outer) => around(*outer),
-        Open::Loop(outer) | Open::Each(outer) => *outer,
+        OpenMarks::Outermost => within,
+        OpenMarks::Mark(outer) => around(*outer),
+        OpenMarks::Loop(outer) | OpenMarks::Each(outer) => *outer,
     }
 }

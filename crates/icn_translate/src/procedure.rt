@@ -6,17 +6,17 @@ ghost use Rattle.icn_unit.specs.declared.unit.NameKind.TheVariants.{Undeclared};
 ghost use Rattle.icn_unit.specs.UnitViews.{proc_seen};
 ghost use Rattle.icn_translate.specs.Drafts.{put, with_names, ◌▹◌};
 ghost use Rattle.icn_unit.specs.declared.unit.UnitInstr.TheVariants.{Pfail};
-ghost use Rattle.icn_translate.specs.Open.{Outermost as OutermostOpen};
+ghost use Rattle.icn_translate.specs.OpenMarks.{Outermost as OutermostOpen};
 ghost use Rattle.icn_translate.specs.ProcCodes.{first_draft, declared_entries, declared_texts, entry_of, kind_of, local_entries, local_texts, proc_code, texts_of};
-ghost use Rattle.icn_translate.specs.Numbers.{all_numbers, initial_numbers, local_numbers, numbers, procedure_numbers};
+ghost use Rattle.icn_translate.specs.NumbersTaken.{all_numbers, initial_numbers, local_numbers, numbers, procedure_numbers};
 ghost use Rattle.icn_translate.specs.Room.{IsRoomFor, TakesAtMost, declared_numbers, numbers_given};
 ghost use Rattle.icn_translate.specs.Translation.{body, bounded_code, initially, translate, unless_empty};
 ghost use Rattle.icn_translate.specs.Views.{draft_of};
 
 use crate::builder::{Builder, enter_name};
 use crate::expr::is_empty;
-use crate::marks::Open;
-use icn_tree::{Bytes, Expr, Initial, LocalKind, Locals, Name, Procedure};
+use crate::marks::OpenMarks;
+use icn_tree::{Bytes, Expr, Initial, LocalDecl, LocalKind, Name, Procedure};
 use icn_unit::{NameKind, ProcCode, UnitInstr, UnitName};
 use indexmap::IndexSet;
 use std::alloc::{AllocError, Global};
@@ -30,7 +30,7 @@ pub fn proc_code(alloc: Global, procedure: &Procedure) -> Result<ProcCode, Alloc
     requires room { procedure_numbers (procedure_of procedure.now) < 4294967296 }
     ensures { IfOk result (λ code. proc_seen code ≡ proc_code (procedure_of procedure.now)) }
 {
-    let mut builder = begun(alloc, procedure)?;
+    let mut builder = begin_draft(alloc, procedure)?;
     let declared = builder.all_names().len();
     put_procedure(&mut builder, procedure)?;
     let mut names = declared_entries(alloc, procedure)?;
@@ -44,7 +44,7 @@ pub fn proc_code(alloc: Global, procedure: &Procedure) -> Result<ProcCode, Alloc
 }
 
 // The draft before the first instruction: its names are those that are declared.
-fn begun<'a>(alloc: Global, procedure: &'a Procedure) -> Result<Builder<'a>, AllocError>
+fn begin_draft<'a>(alloc: Global, procedure: &'a Procedure) -> Result<Builder<'a>, AllocError>
     requires { declared_numbers (procedure_of procedure.now) < 4294967296 }
     ensures draft { IfOk result (λ builder. draft_of builder ≡ first_draft (procedure_of procedure.now)) }
     ensures given { IfOk result
@@ -71,7 +71,10 @@ fn declared_names<'a>(
     Ok(names)
 }
 
-fn enter_locals<'a>(names: &mut IndexSet<&'a [u8]>, locals: &'a [Locals]) -> Result<(), AllocError>
+fn enter_locals<'a>(
+    names: &mut IndexSet<&'a [u8]>,
+    locals: &'a [LocalDecl],
+) -> Result<(), AllocError>
     requires { length names.old.keys + local_numbers (map locals_of locals.now) < 4294967296 }
     ensures names { OnOk result (map (λ name. name.now) names.new.keys ≡ with_names
         (map (λ name. name.now) names.old.keys) (flat_map local_texts (map locals_of locals.now))) }
@@ -126,7 +129,7 @@ fn put_initial<'a>(
         Some(initial) => {
             let label = builder.label();
             builder.put_two(UnitInstr::Init(label), UnitInstr::Mark(label))?;
-            builder.put_expr(&initial.value, Open::Outermost)?;
+            builder.put_expr(&initial.value, OpenMarks::Outermost)?;
             builder.put_two(UnitInstr::Unmark, UnitInstr::Lab(label))
         }
     }
@@ -153,7 +156,7 @@ fn put_bounded<'a>(builder: &mut Builder<'a>, expr: &'a Expr) -> Result<(), Allo
     if is_empty(expr) {
         return Ok(());
     }
-    builder.put_bounded(expr, Open::Outermost)
+    builder.put_bounded(expr, OpenMarks::Outermost)
 }
 
 // The names that a procedure declares: parameters, and then locals and statics as they are declared.
@@ -174,7 +177,7 @@ fn declared_entries(alloc: Global, procedure: &Procedure) -> Result<Vec<UnitName
 fn put_locals(
     entries: &mut Vec<UnitName>,
     alloc: Global,
-    locals: &[Locals],
+    locals: &[LocalDecl],
 ) -> Result<(), AllocError>
     ensures { OnOk result
         (entries.new.items ≡ entries.old.items ++ flat_map local_entries (map locals_of locals.now)) }

@@ -23,6 +23,7 @@ up : (b : Bool) (level : ℕ) → level ≤ cond b level (suc level)
 up true level = omega arith
 up false level = omega arith
 
+-- a tree's level is at most the level that must not go on behind it
 pub level_edge : (tree : Tree) → level_of tree ≤ edge tree
 level_edge (Binary place operator left right) = up (groups_right (infix_level operator)) (infix_level operator)
 level_edge (To place from to by) = omega arith
@@ -81,6 +82,7 @@ pub begins_prefix : (operator : Operator) (found : Operator × Option Operator) 
 begins_prefix Ampersand found e = absurd (none-some found e)
 begins_prefix _ found e = ap is_some e
 
+-- a right operand has at least level 1 where its operator has
 pub right_one : (level : ℕ) → 1 ≤ level → 1 ≤ right_level level
 right_one level h = omega (arith, h, up (groups_right level) level)
 

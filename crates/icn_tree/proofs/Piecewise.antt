@@ -7,9 +7,9 @@ use Rattle.icn_tree.specs.Trees.{Declaration}
 use Rattle.icn_tree.specs.Phrases.{next}
 use Rattle.icn_tree.specs.Pieces.{is_cut, in_front, pieces}
 use Rattle.icn_tree.specs.Declarations.{SpellsDeclaration, SpellsFile, IsDeclarationOf, HasTree, SpellDeclaration}
-use Rattle.icn_tree.proofs.Files.{file_first}
-use Rattle.icn_tree.proofs.Framing.{Plain}
-use Rattle.icn_tree.proofs.Framed.{declaration_framed}
+use Rattle.icn_tree.proofs.OneFileTree.{file_first}
+use Rattle.icn_tree.proofs.TokenStretches.{Plain}
+use Rattle.icn_tree.proofs.FormStretches.{declaration_framed}
 
 cut_here : (token : Token) (tokens : List Token) → is_cut (next tokens) ≡ true → pieces (token ∷ tokens) ≡ (token ∷ []) ∷ pieces tokens
 cut_here token tokens e = cond-true (is_cut (next tokens)) ((token ∷ []) ∷ pieces tokens) (in_front token (pieces tokens)) e

@@ -11,8 +11,8 @@ use Rattle.icn_tree.specs.declared.token.Punctuation.{Punctuation}
 use Rattle.icn_tree.specs.declared.token.Punctuation.TheVariants.{OpenParenthesis, CloseParenthesis, OpenBracket, OpenBrace, Comma, Semicolon, Colon, PlusColon, MinusColon}
 use Rattle.icn_tree.specs.declared.tree.Place.{Place}
 use Rattle.icn_tree.specs.declared.tree.Name.{Name}
-use Rattle.icn_tree.specs.declared.tree.Item.{Item}
-use Rattle.icn_tree.specs.declared.tree.Item.TheVariants as Items
+use Rattle.icn_tree.specs.declared.tree.DeclItem.{DeclItem}
+use Rattle.icn_tree.specs.declared.tree.DeclItem.TheVariants as Items
 use Rattle.icn_tree.specs.declared.tree.LocalKind.{LocalKind}
 use Rattle.icn_tree.specs.declared.tree.LocalKind.TheVariants.{Local, Static}
 use Rattle.icn_tree.specs.declared.tree.Literal.TheVariants.{Integer, Text, Cset}
@@ -22,7 +22,7 @@ use Rattle.icn_tree.specs.declared.tree.SectionKind.{SectionKind}
 use Rattle.icn_tree.specs.declared.tree.SectionKind.TheVariants.{Between, Forward, Backward}
 use Rattle.icn_tree.specs.declared.tree.LoopKind.{LoopKind}
 use Rattle.icn_tree.specs.declared.tree.LoopKind.TheVariants as Loops
-use Rattle.icn_tree.specs.Trees.{Locals, Initial, NoInitial, Initially, Declaration, Global, Link, Invocable, Record, ProcedureOf, Tree, MaybeTree, Trees, Clause, Clauses, Empty, Constant, Identifier, Keyword, Parentheses, Listing, Compound, Call, CoCall, Subscript, Section, Field, Prefix, Not, Binary, To, If, Case, Loop, Repeat, Create, Next, Fail, Break, Return, Suspend, Absent, Present, NoTrees, More, Default, Guarded, NoClauses, MoreClauses}
+use Rattle.icn_tree.specs.Trees.{LocalDecl, Initial, NoInitial, Initially, Declaration, Global, Link, Invocable, Record, ProcedureOf, Tree, MaybeTree, Trees, Clause, Clauses, Empty, Constant, Identifier, Keyword, Parentheses, Listing, Compound, Call, CoCall, Subscript, Section, Field, Prefix, Not, Binary, To, If, Case, Loop, Repeat, Create, Next, Fail, Break, Return, Suspend, Absent, Present, NoTrees, More, Default, Guarded, NoClauses, MoreClauses}
 use Rattle.icn_tree.specs.Levels.{infix_level, right_level, prefix_of, kind_begins, kind_goes_on, begins, is_else, is_do, is_by}
 use Rattle.icn_tree.specs.Phrases.{next, place_of}
 use Rattle.icn_tree.specs.Grammar.{before, Separator, ByComma, BySemicolon}
@@ -41,7 +41,7 @@ pub record Readers : Type 0 where
   pub climb : ℕ → Place → Tree → Reads Tree
   pub more : Separator → Reads Trees
   pub more_clauses : Reads Clauses
-  pub locals : Reads (List Locals)
+  pub locals : Reads (List LocalDecl)
   pub body : Reads Trees
 
 abbrev pub behind : List Token → List Token
@@ -211,11 +211,11 @@ is_comma _ = false
 abbrev pub name_of : Token → Name
 name_of token = record { text = text_of (Some token.kind); place = record { line = token.line; file = token.file } }
 
-abbrev pub item_by : Kind → Place → Item
+abbrev pub item_by : Kind → Place → DeclItem
 item_by (TextKind text) place = Items.Text (record { text = text; place = place })
 item_by kind place = Items.Identifier (record { text = text_of (Some kind); place = place })
 
-abbrev pub item_of : Token → Item
+abbrev pub item_of : Token → DeclItem
 item_of token = item_by token.kind (record { line = token.line; file = token.file })
 
 abbrev pub further_by : {A : Type 0} → Bool → A → List Token → List A × List Token → List A × List Token
@@ -253,7 +253,7 @@ abbrev pub is_open_bracket : Option Kind → Bool
 is_open_bracket (Some (PunctuationKind OpenBracket)) = true
 is_open_bracket _ = false
 
-abbrev pub locals_by : Option LocalKind → Readers → Reads (List Locals)
+abbrev pub locals_by : Option LocalKind → Readers → Reads (List LocalDecl)
 locals_by None self tokens = Some ([], tokens)
 locals_by (Some kind) self tokens = self.locals (behind (some_read name_of (behind tokens)).1)
     >>= λ others. Some (record { place = place_of tokens; kind = kind; names = (some_read name_of (behind tokens)).0 } ∷ others.0, others.1)

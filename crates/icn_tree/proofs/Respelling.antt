@@ -13,14 +13,14 @@ use Rattle.icn_tree.specs.declared.rule.Rule.{Rule}
 use Rattle.icn_tree.specs.declared.token.Kind.{Kind}
 use Rattle.icn_tree.specs.declared.token.Token.{Token}
 use Rattle.icn_tree.specs.Characters.{is_space, begins_comment, begins_identifier, is_digit, continues_identifier, is_alphanumeric, is_quote, is_between}
-use Rattle.icn_tree.specs.Literals.{Literal, with_byte, literal_kind, escape_of}
-use Rattle.icn_tree.specs.Numbers.{is_nothing, is_radix_mark, is_real_mark, number_by, number}
-use Rattle.icn_tree.specs.Semicolons.{Piece, with_semicolons}
+use Rattle.icn_tree.specs.Literals.{OpenLiteral, with_byte, literal_kind, escape_of}
+use Rattle.icn_tree.specs.IntegerLiterals.{is_nothing, is_radix_mark, is_real_mark, number_by, number}
+use Rattle.icn_tree.specs.Semicolons.{LineToken, with_semicolons}
 use Rattle.icn_tree.specs.Spellings.{lookup_text, marks_of}
 use Rattle.icn_tree.specs.TokenSpellings.{is_special, with_backslashes, Spells, bare, string, cset, SpellsAll, nothing, last, more}
 use Rattle.icn_tree.specs.Tokens.{name, dot_number, mark, one_token, front_token, first_of, Scan, Found, before, piece_on, token_then, open_literal, closed_then, escape_found, Between, Inside, bytes_from, lines_from, Scanned, finish_scan, tokens_of}
-use Rattle.icn_tree.proofs.Fronts.{longest_is}
-use Rattle.icn_tree.proofs.Scanning.{skip, TokensSound, tokens_sound, choose_rows}
+use Rattle.icn_tree.proofs.LongestTokens.{longest_is}
+use Rattle.icn_tree.proofs.KeptByScans.{scan_skips, TokensSound, tokens_sound, choose_rows}
 
 -- No token has a blank
 
@@ -246,7 +246,7 @@ first_alone b rest tail kind e s =
     ap front_token (longest_is one_token (length (text ++ tail)) (length text) (text ++ tail) (Ok kind) (omega arith) (omega (arith, size))
     (ap one_token (take-append_seam text tail) ∙ e) (λ m l g. longer_none text tail m s l g))
 
-bare_step : (later : Option Literal → Scan) (line : SourceLine) (is_first : Bool) (text tail : List ℕ) (kind : Kind) → one_token text ≡ Some (Ok kind)
+bare_step : (later : Option OpenLiteral → Scan) (line : SourceLine) (is_first : Bool) (text tail : List ℕ) (kind : Kind) → one_token text ≡ Some (Ok kind)
     → Stops tail
     → bytes_from later line (Between is_first) zero (text ++ tail) ≡ before (piece_on line is_first kind) (bytes_from later line (Between false) zero tail)
 unfolding bytes_from one_token
@@ -259,7 +259,7 @@ bare_step later line is_first (b ∷ rest) tail kind e s =
     ∙ (ap (λ first. token_then line is_first first (λ count. bytes_from later line (Between false) (count - 1) (rest ++ tail)))
     (first_alone b rest tail kind e s)
     ∙ ap (before (piece_on line is_first kind))
-    (ap (λ k. bytes_from later line (Between false) k (rest ++ tail)) one ∙ (skip later line (Between false) (length rest) (rest ++ tail)
+    (ap (λ k. bytes_from later line (Between false) k (rest ++ tail)) one ∙ (scan_skips later line (Between false) (length rest) (rest ++ tail)
     ∙ ap (bytes_from later line (Between false) zero) (drop-append_seam rest tail))))))
 
 -- Literals
@@ -306,22 +306,22 @@ quote_not_backslash q h = by_quote (either (q == 34) (q == 39) h) where
   by_quote (inr e) = ap (λ n. 92 == n) (eqb-true q 39 e)
 
 -- more bytes of a literal
-with_bytes : Literal → List ℕ → Literal
+with_bytes : OpenLiteral → List ℕ → OpenLiteral
 with_bytes literal bytes = record literal { bytes = literal.bytes ++ bytes }
 
 quote_same : (n : ℕ) → (n == n) ≡ true
 quote_same n = grind arith
 
-special_step : (later : Option Literal → Scan) (line : SourceLine) (literal : Literal) (b : ℕ) (rest : List ℕ) → is_quote literal.quote ≡ true
+special_step : (later : Option OpenLiteral → Scan) (line : SourceLine) (literal : OpenLiteral) (b : ℕ) (rest : List ℕ) → is_quote literal.quote ≡ true
     → is_special b ≡ true
     → bytes_from later line (Inside literal) zero (92 ∷ b ∷ rest) ≡ bytes_from later line (Inside (with_byte literal b)) zero rest
 unfolding bytes_from
 special_step later line literal b rest q s =
     cond-false (92 == literal.quote) _ _ (quote_not_backslash literal.quote q)
     ∙ (ap (λ found. escape_found line found (λ byte count. bytes_from later line (Inside (with_byte literal byte)) count (b ∷ rest))) (special_escape b rest s)
-    ∙ skip later line (Inside (with_byte literal b)) 1 (b ∷ rest))
+    ∙ scan_skips later line (Inside (with_byte literal b)) 1 (b ∷ rest))
 
-plain_step : (later : Option Literal → Scan) (line : SourceLine) (literal : Literal) (b : ℕ) (rest : List ℕ) → is_quote literal.quote ≡ true
+plain_step : (later : Option OpenLiteral → Scan) (line : SourceLine) (literal : OpenLiteral) (b : ℕ) (rest : List ℕ) → is_quote literal.quote ≡ true
     → is_special b ≡ false
     → bytes_from later line (Inside literal) zero (b ∷ rest) ≡ bytes_from later line (Inside (with_byte literal b)) zero rest
 unfolding bytes_from
@@ -329,19 +329,20 @@ plain_step later line literal b rest q s =
     cond-false (b == literal.quote) _ _ (not_quote b literal.quote q s)
     ∙ (cond-false (b == 92) _ _ (not_backslash b s) ∙ cond-false (b == 95 && is_nothing rest) _ _ (rw (not_underscore b s) refl))
 
-quoted_step : (later : Option Literal → Scan) (line : SourceLine) (literal : Literal) (b : ℕ) (rest : List ℕ) (special : Bool) → is_quote literal.quote ≡ true
+quoted_step : (later : Option OpenLiteral → Scan) (line : SourceLine) (literal : OpenLiteral) (b : ℕ) (rest : List ℕ) (special : Bool)
+    → is_quote literal.quote ≡ true
     → is_special b ≡ special
     → bytes_from later line (Inside literal) zero (cond special (92 ∷ b ∷ []) (b ∷ []) ++ rest) ≡ bytes_from later line (Inside (with_byte literal b)) zero rest
 quoted_step later line literal b rest true q s = special_step later line literal b rest q s
 quoted_step later line literal b rest false q s = plain_step later line literal b rest q s
 
-at_close : (later : Option Literal → Scan) (line : SourceLine) (literal : Literal) (rest : List ℕ)
+at_close : (later : Option OpenLiteral → Scan) (line : SourceLine) (literal : OpenLiteral) (rest : List ℕ)
     → bytes_from later line (Inside literal) zero (literal.quote ∷ rest) ≡ closed_then literal (bytes_from later line (Between false) zero rest)
 unfolding bytes_from
 at_close later line literal rest = cond-true (literal.quote == literal.quote) _ _ (quote_same literal.quote)
 
 -- quoted bytes up to the closing quote
-inside_quoted : (later : Option Literal → Scan) (line : SourceLine) (literal : Literal) (bytes tail : List ℕ) → is_quote literal.quote ≡ true
+inside_quoted : (later : Option OpenLiteral → Scan) (line : SourceLine) (literal : OpenLiteral) (bytes tail : List ℕ) → is_quote literal.quote ≡ true
     → bytes_from later line (Inside literal) zero (with_backslashes bytes ++ literal.quote ∷ tail)
     ≡ closed_then (with_bytes literal bytes) (bytes_from later line (Between false) zero tail)
 unfolding with_bytes
@@ -355,7 +356,7 @@ inside_quoted later line literal (b ∷ rest) tail q =
     ∙ ap (λ bytes. closed_then (record literal { bytes = bytes }) (bytes_from later line (Between false) zero tail))
     (append_assoc literal.bytes (b ∷ []) rest)))
 
-literal_step : (later : Option Literal → Scan) (line : SourceLine) (is_first : Bool) (q : ℕ) (bytes tail : List ℕ) → is_space q ≡ false
+literal_step : (later : Option OpenLiteral → Scan) (line : SourceLine) (is_first : Bool) (q : ℕ) (bytes tail : List ℕ) → is_space q ≡ false
     → begins_comment q ≡ false → is_quote q ≡ true → length bytes ≤ 65535
     → bytes_from later line (Between is_first) zero (q ∷ (with_backslashes bytes ++ q ∷ []) ++ tail)
     ≡ before (piece_on line is_first (literal_kind q bytes)) (bytes_from later line (Between false) zero tail)
@@ -368,7 +369,7 @@ literal_step later line is_first q bytes tail s c h size =
       small : (n : ℕ) → n ≤ 65535 → nat_le n 65535 ≡ true
       small n h = grind (arith, nat_tests)
 
-spell_step : (later : Option Literal → Scan) (line : SourceLine) (is_first : Bool) (kind : Kind) (text tail : List ℕ) → Spells kind text → Stops tail
+spell_step : (later : Option OpenLiteral → Scan) (line : SourceLine) (is_first : Bool) (kind : Kind) (text tail : List ℕ) → Spells kind text → Stops tail
     → bytes_from later line (Between is_first) zero (text ++ tail) ≡ before (piece_on line is_first kind) (bytes_from later line (Between false) zero tail)
 spell_step later line is_first _ _ tail (bare kind text e) s = bare_step later line is_first text tail kind e s
 spell_step later line is_first _ _ tail (string bytes size) s = literal_step later line is_first 34 bytes tail refl refl refl size
@@ -376,20 +377,20 @@ spell_step later line is_first _ _ tail (cset bytes size) s = literal_step later
 
 -- All tokens
 
-pieces_of : SourceLine → Bool → List Kind → List Piece
+pieces_of : SourceLine → Bool → List Kind → List LineToken
 pieces_of line is_first [] = []
 pieces_of line is_first (kind ∷ kinds) = piece_on line is_first kind ∷ pieces_of line false kinds
 
-at_blank : (later : Option Literal → Scan) (line : SourceLine) (is_first : Bool) (rest : List ℕ)
+at_blank : (later : Option OpenLiteral → Scan) (line : SourceLine) (is_first : Bool) (rest : List ℕ)
     → bytes_from later line (Between is_first) zero (32 ∷ rest) ≡ bytes_from later line (Between is_first) zero rest
 unfolding bytes_from
 at_blank later line is_first rest = refl
 
-at_end : (later : Option Literal → Scan) (line : SourceLine) (is_first : Bool) → bytes_from later line (Between is_first) zero [] ≡ later None
+at_end : (later : Option OpenLiteral → Scan) (line : SourceLine) (is_first : Bool) → bytes_from later line (Between is_first) zero [] ≡ later None
 unfolding bytes_from
 at_end later line is_first = refl
 
-all_steps : (later : Option Literal → Scan) (line : SourceLine) (is_first : Bool) (kinds : List Kind) (text : List ℕ) → later None ≡ Found []
+all_steps : (later : Option OpenLiteral → Scan) (line : SourceLine) (is_first : Bool) (kinds : List Kind) (text : List ℕ) → later None ≡ Found []
     → SpellsAll kinds text
     → bytes_from later line (Between is_first) zero text ≡ Found (pieces_of line is_first kinds)
 unfolding pieces_of

@@ -6,11 +6,11 @@ use Rattle.icn_tree.specs.declared.token.Word.{Word}
 use Rattle.icn_tree.specs.declared.token.Word.TheVariants as Words
 use Rattle.icn_tree.specs.declared.token.Punctuation.TheVariants.{OpenParenthesis, CloseParenthesis, OpenBracket, CloseBracket, Comma, Semicolon}
 use Rattle.icn_tree.specs.declared.tree.Name.{Name}
-use Rattle.icn_tree.specs.declared.tree.Item.{Item}
-use Rattle.icn_tree.specs.declared.tree.Item.TheVariants.{Identifier, Text}
+use Rattle.icn_tree.specs.declared.tree.DeclItem.{DeclItem}
+use Rattle.icn_tree.specs.declared.tree.DeclItem.TheVariants.{Identifier, Text}
 use Rattle.icn_tree.specs.declared.tree.LocalKind.{LocalKind}
 use Rattle.icn_tree.specs.declared.tree.LocalKind.TheVariants.{Local, Static}
-use Rattle.icn_tree.specs.Trees.{Tree, Trees, NoTrees, More, Locals, Initial, NoInitial, Initially, Declaration, Global, Link, Invocable, Record, ProcedureOf}
+use Rattle.icn_tree.specs.Trees.{Tree, Trees, NoTrees, More, LocalDecl, Initial, NoInitial, Initially, Declaration, Global, Link, Invocable, Record, ProcedureOf}
 use Rattle.icn_tree.specs.Phrases.{Phrase, nothing, sign_at, ◌⨾◌}
 use Rattle.icn_tree.specs.Grammar.{Part, Spells, identifier, mark, word, word_at}
 
@@ -34,7 +34,7 @@ SpellsMaybeNames [] = nothing
 SpellsMaybeNames (name ∷ names) = SpellsNames (name ∷ names)
 
 -- ID, STRING
-abbrev pub SpellsItem : Item → Phrase
+abbrev pub SpellsItem : DeclItem → Phrase
 SpellsItem (Identifier name) = identifier name
 SpellsItem (Text name) = sign_at name.place (TextKind name.text)
 
@@ -49,7 +49,7 @@ local_word Local = Words.Local
 local_word Static = Words.Static
 
 -- local ID , ID ; and so with static, any number of them
-abbrev pub SpellsLocals : List Locals → Phrase
+abbrev pub SpellsLocals : List LocalDecl → Phrase
 SpellsLocals [] = nothing
 SpellsLocals (locals ∷ others) = word_at locals.place (local_word locals.kind) ⨾ SpellsNames locals.names
     ⨾ mark Semicolon ⨾ SpellsLocals others

@@ -5,7 +5,7 @@ pub mod Grammar
 pub mod Levels
 pub mod Literals
 pub mod NameSets
-pub mod Numbers
+pub mod IntegerLiterals
 pub mod Phrases
 pub mod Pieces
 pub mod Rules

@@ -6,11 +6,11 @@ use Rattle.icn_tree.specs.declared.token.Kind.{Kind}
 use Rattle.icn_tree.specs.declared.token.Kind.TheVariants.{Text, Cset}
 use Rattle.icn_tree.specs.ByteSets.{members_of}
 use Rattle.icn_tree.specs.Characters.{is_octal, is_hexadecimal}
-use Rattle.icn_tree.specs.Numbers.{number_in}
+use Rattle.icn_tree.specs.IntegerLiterals.{number_in}
 
 -- A literal that is not closed yet: its quote, the bytes that it stands for so far, the place where it begins, and
 -- whether it is the first token on that line.
-pub record Literal : Type 0 where
+pub record OpenLiteral : Type 0 where
   pub quote : ℕ
   pub bytes : List ℕ
   pub line : ℕ
@@ -18,7 +18,7 @@ pub record Literal : Type 0 where
   pub is_first : Bool
 
 -- the literal with one byte more
-abbrev pub with_byte : Literal → ℕ → Literal
+abbrev pub with_byte : OpenLiteral → ℕ → OpenLiteral
 with_byte literal b = record literal { bytes = literal.bytes ++ b ∷ [] }
 
 -- what it is, once it is closed

@@ -11,7 +11,7 @@ use Rattle.icn_tree.specs.declared.token.Punctuation.TheVariants.{OpenParenthesi
 use Rattle.icn_tree.specs.declared.token.Token.{Token}
 
 -- a token, and whether it is the first on its line, so that a newline lies between it and the token before
-pub record Piece : Type 0 where
+pub record LineToken : Type 0 where
   pub token : Token
   pub is_first : Bool
 
@@ -116,11 +116,11 @@ semicolon_at token = record { kind = PunctuationKind Semicolon; line = token.lin
 
 -- what stands between two neighbours: a semicolon exactly where a newline lies between them, the first is an ender and
 -- the second a beginner
-abbrev pub between : Token → Piece → List Token
+abbrev pub between : Token → LineToken → List Token
 between a b = if b.is_first && is_ender a.kind && is_beginner b.token.kind then semicolon_at a ∷ [] else []
 
 -- the tokens, with the semicolons that the ends of lines stand for
-abbrev pub with_semicolons : List Piece → List Token
+abbrev pub with_semicolons : List LineToken → List Token
 with_semicolons [] = []
 with_semicolons (a ∷ []) = a.token ∷ []
 with_semicolons (a ∷ b ∷ rest) = a.token ∷ between a.token b ++ with_semicolons (b ∷ rest)

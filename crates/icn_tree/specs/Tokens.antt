@@ -12,9 +12,9 @@ use Rattle.icn_tree.specs.declared.token.Kind.TheVariants.{Operator}
 use Rattle.icn_tree.specs.declared.token.Operator.TheVariants.{Dot}
 use Rattle.icn_tree.specs.declared.token.Token.{Token}
 use Rattle.icn_tree.specs.Characters.{is_space, is_blank, begins_comment, begins_identifier, is_digit, continues_identifier, is_quote}
-use Rattle.icn_tree.specs.Literals.{Literal, with_byte, literal_kind, escape_of}
-use Rattle.icn_tree.specs.Numbers.{is_nothing, number, within_size}
-use Rattle.icn_tree.specs.Semicolons.{Piece, with_semicolons}
+use Rattle.icn_tree.specs.Literals.{OpenLiteral, with_byte, literal_kind, escape_of}
+use Rattle.icn_tree.specs.IntegerLiterals.{is_nothing, number, within_size}
+use Rattle.icn_tree.specs.Semicolons.{LineToken, with_semicolons}
 use Rattle.icn_tree.specs.Spellings.{lookup_text, name_of, marks_of}
 
 -- One token, where no literal begins
@@ -67,16 +67,16 @@ first_of bytes = front_token (longest one_token (length bytes) bytes)
 
 -- the tokens from some place on, or the first fault
 pub data Scan : Type 0 where
-  Found : List Piece → Scan
+  Found : List LineToken → Scan
   Broken : Rule → (line file : ℕ) → Scan
 
 -- a piece in front of others
-abbrev pub before : Piece → Scan → Scan
+abbrev pub before : LineToken → Scan → Scan
 before piece (Found pieces) = Found (piece ∷ pieces)
 before piece (Broken rule line file) = Broken rule line file
 
 -- a token that begins on a line
-abbrev pub piece_on : SourceLine → Bool → Kind → Piece
+abbrev pub piece_on : SourceLine → Bool → Kind → LineToken
 piece_on line is_first kind =
     record { token = record { kind = kind; line = line.number; file = line.file }; is_first = is_first }
 
@@ -86,16 +86,16 @@ token_then line is_first (Ok first) later = before (piece_on line is_first first
 token_then line is_first (Err rule) later = Broken rule line.number line.file
 
 -- a literal that begins with a quote on a line
-abbrev pub open_literal : SourceLine → Bool → ℕ → Literal
+abbrev pub open_literal : SourceLine → Bool → ℕ → OpenLiteral
 open_literal line is_first quote =
     record { quote = quote; bytes = []; line = line.number; file = line.file; is_first = is_first }
 
 -- a literal that is not closed before the end of the file
-abbrev pub unclosed_literal : Literal → Scan
+abbrev pub unclosed_literal : OpenLiteral → Scan
 unclosed_literal literal = Broken L2 literal.line literal.file
 
 -- the piece of a literal that is closed
-abbrev pub literal_piece : Literal → Piece
+abbrev pub literal_piece : OpenLiteral → LineToken
 literal_piece literal = record {
   token =
       record { kind = literal_kind literal.quote literal.bytes; line = literal.line; file = literal.file };
@@ -103,7 +103,7 @@ literal_piece literal = record {
 }
 
 -- a literal at its closing quote, and what the bytes behind it give
-abbrev pub closed_then : Literal → Scan → Scan
+abbrev pub closed_then : OpenLiteral → Scan → Scan
 closed_then literal later =
     if nat_le (length literal.bytes) most_bytes_of_name then before (literal_piece literal) later
     else Broken L7 literal.line literal.file
@@ -114,18 +114,18 @@ escape_found line None later = Broken L3 line.number line.file
 escape_found line (Some found) later = later found.0 found.1
 
 -- an escape of a literal, and what comes behind it; a backslash at the end of the file leaves the literal open
-abbrev pub escape_then : SourceLine → Literal → List ℕ → (ℕ → ℕ → Scan) → Scan
+abbrev pub escape_then : SourceLine → OpenLiteral → List ℕ → (ℕ → ℕ → Scan) → Scan
 escape_then line literal [] later = unclosed_literal literal
 escape_then line literal (b ∷ rest) later = escape_found line (escape_of (b ∷ rest)) later
 
 -- what comes next: a token, which is the first on its line or not, or more of a literal
-pub data State : Type 0 where
-  Between : Bool → State
-  Inside : Literal → State
+pub data ScanState : Type 0 where
+  Between : Bool → ScanState
+  Inside : OpenLiteral → ScanState
 
 -- What the rest of a line gives, before what later lines give. So many of its first bytes belong to what was read. A
 -- literal goes on over the line's end where its last byte is a `_` of its own.
-unfoldable pub bytes_from : (Option Literal → Scan) → SourceLine → State → ℕ → List ℕ → Scan
+unfoldable pub bytes_from : (Option OpenLiteral → Scan) → SourceLine → ScanState → ℕ → List ℕ → Scan
 bytes_from later line (Between is_first) taken [] = later None
 bytes_from later line (Inside literal) taken [] = unclosed_literal literal
 bytes_from later line state (suc taken) (b ∷ rest) = bytes_from later line state taken rest
@@ -147,26 +147,26 @@ abbrev pub after_blanks : List ℕ → List ℕ
 after_blanks bytes = drop (prefix_len is_blank bytes) bytes
 
 -- what a line gives, before what later lines give: a literal goes on from the line before, or none does
-abbrev pub line_from : (Option Literal → Scan) → SourceLine → Option Literal → Scan
+abbrev pub line_from : (Option OpenLiteral → Scan) → SourceLine → Option OpenLiteral → Scan
 line_from later line None = bytes_from later line (Between true) zero line.bytes
 line_from later line (Some literal) = bytes_from later line (Inside literal) zero (after_blanks line.bytes)
 
 -- the pieces of lines, where a literal may be open from the line before
-unfoldable pub lines_from : List SourceLine → Option Literal → Scan
+unfoldable pub lines_from : List SourceLine → Option OpenLiteral → Scan
 lines_from [] None = Found []
 lines_from [] (Some literal) = unclosed_literal literal
 lines_from (line ∷ lines) begun = line_from (λ literal. lines_from lines literal) line begun
 
 -- the tokens with their semicolons, or the first fault: its rule, file and line
-pub data Outcome : Type 0 where
-  Scanned : List Token → Outcome
-  Fault : Rule → (file line : ℕ) → Outcome
+pub data Tokenized : Type 0 where
+  Scanned : List Token → Tokenized
+  Fault : Rule → (file line : ℕ) → Tokenized
 
 -- the tokens of pieces, with the semicolons between them
-abbrev pub finish_scan : Scan → Outcome
+abbrev pub finish_scan : Scan → Tokenized
 finish_scan (Found pieces) = Scanned (with_semicolons pieces)
 finish_scan (Broken rule line file) = Fault rule file line
 
 -- the tokens of all lines, or the first rule that is broken, with its file and line
-unfoldable pub tokens_of : List SourceLine → Outcome
+unfoldable pub tokens_of : List SourceLine → Tokenized
 tokens_of lines = finish_scan (lines_from lines None)

@@ -6,13 +6,13 @@ use Rattle.icn_tree.specs.declared.tree.Clause.TheVariants as C
 use Rattle.icn_tree.specs.declared.tree.Clause.{Clause as ClauseExpr}
 use Rattle.icn_tree.specs.declared.tree.Clause.TheBlock.{Held-Expr-To-3, Row_of-Expr, Row_of-Clause, end_of-Expr, more_of-Expr, end_of-Clause, more_of-Clause}
 use Rattle.icn_tree.specs.declared.tree.Clause.TheBlock as Block
-use Rattle.icn_tree.specs.declared.tree.Locals.{Locals as LocalsItem}
+use Rattle.icn_tree.specs.declared.tree.LocalDecl.{LocalDecl as LocalsItem}
 use Rattle.icn_tree.specs.declared.tree.Initial.{Initial as InitialItem}
 use Rattle.icn_tree.specs.declared.tree.Procedure.{Procedure as ProcedureItem}
 use Rattle.icn_tree.specs.declared.tree.Decl.{Decl}
 use Rattle.icn_tree.specs.declared.tree.Decl.TheVariants as D
-use Rattle.icn_tree.specs.declared.tree.File.{File}
-use Rattle.icn_tree.specs.Trees.{Locals, Initial, NoInitial, Initially, Procedure, Declaration, Global, Link, Invocable, Record, ProcedureOf, Tree, MaybeTree, Trees, Clause, Clauses, Empty, Constant, Identifier, Keyword, Parentheses, Listing, Compound, Call, CoCall, Subscript, Section, Field, Prefix, Not, Binary, To, If, Case, Loop, Repeat, Create, Next, Fail, Break, Return, Suspend, Absent, Present, NoTrees, More, Default, Guarded, NoClauses, MoreClauses}
+use Rattle.icn_tree.specs.declared.tree.SourceFile.{SourceFile}
+use Rattle.icn_tree.specs.Trees.{LocalDecl, Initial, NoInitial, Initially, Procedure, Declaration, Global, Link, Invocable, Record, ProcedureOf, Tree, MaybeTree, Trees, Clause, Clauses, Empty, Constant, Identifier, Keyword, Parentheses, Listing, Compound, Call, CoCall, Subscript, Section, Field, Prefix, Not, Binary, To, If, Case, Loop, Repeat, Create, Next, Fail, Break, Return, Suspend, Absent, Present, NoTrees, More, Default, Guarded, NoClauses, MoreClauses}
 
 abbrev mutual
   -- an expression of the program, as definitions see it
@@ -78,7 +78,7 @@ all_clauses_of [] = NoClauses
 all_clauses_of (clause ∷ clauses) = MoreClauses (clause_of clause) (all_clauses_of clauses)
 
 -- a declaration of locals or statics
-abbrev pub locals_of : LocalsItem → Locals
+abbrev pub locals_of : LocalsItem → LocalDecl
 locals_of locals = record { place = locals.place; kind = locals.kind; names = locals.names.items }
 
 -- the `initial` of a procedure, if it has one
@@ -107,5 +107,5 @@ declaration_of (D.Record place name fields) = Record place name fields.items
 declaration_of (D.Procedure p) = ProcedureOf (procedure_of p)
 
 -- the declarations of a program text
-abbrev pub declarations_of : File → List Declaration
+abbrev pub declarations_of : SourceFile → List Declaration
 declarations_of file = map declaration_of file.decls.items

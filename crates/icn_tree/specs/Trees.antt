@@ -8,7 +8,7 @@ use Rattle.icn_tree.specs.declared.tree.Infix.{Infix}
 use Rattle.icn_tree.specs.declared.tree.SectionKind.{SectionKind}
 use Rattle.icn_tree.specs.declared.tree.LoopKind.{LoopKind}
 use Rattle.icn_tree.specs.declared.tree.LocalKind.{LocalKind}
-use Rattle.icn_tree.specs.declared.tree.Item.{Item}
+use Rattle.icn_tree.specs.declared.tree.DeclItem.{DeclItem}
 
 -- a place is that of the form's first token
 mutual
@@ -67,7 +67,7 @@ elements_of (More Empty NoTrees) = NoTrees
 elements_of trees = trees
 
 -- `local` or `static` with names
-pub record Locals : Type 0 where
+pub record LocalDecl : Type 0 where
   pub place : Place
   pub kind : LocalKind
   pub names : List Name
@@ -84,14 +84,14 @@ pub record Procedure : Type 0 where
   pub name : Name
   pub parameters : List Name
   pub is_variadic : Bool
-  pub locals : List Locals
+  pub locals : List LocalDecl
   pub initial : Initial
   pub body : Trees
 
 -- a declaration of a file, one case for each kind; its place is that of its first word
 pub data Declaration : Type 0 where
   Global : Place → List Name → Declaration
-  Link : Place → List Item → Declaration
-  Invocable : Place → List Item → Declaration
+  Link : Place → List DeclItem → Declaration
+  Invocable : Place → List DeclItem → Declaration
   Record : Place → Name → List Name → Declaration
   ProcedureOf : Procedure → Declaration

@@ -23,6 +23,6 @@ pub use rule::Rule;
 pub use token::{Kind, Operator, Punctuation, Token, Word};
 pub use token_laws::{scan_rules, semicolons_inserted, tokens_bounded, tokens_spelled_again};
 pub use tree::{
-    Clause, Decl, Expr, File, Infix, Initial, Item, Literal, LocalKind, Locals, LoopKind, Name,
-    Place, Procedure, SectionKind,
+    Clause, Decl, DeclItem, Expr, Infix, Initial, Literal, LocalDecl, LocalKind, LoopKind, Name,
+    Place, Procedure, SectionKind, SourceFile,
 };

@@ -6,7 +6,7 @@ ghost use Rattle.icn_tree.specs.declared.token.Kind.{Kind};
 ghost use Rattle.icn_tree.specs.declared.token.Kind.TheVariants.{Word as WordKind};
 ghost use Rattle.icn_tree.specs.declared.token.Token.{Token};
 ghost use Rattle.icn_tree.specs.declared.token.Word.TheVariants.{By, Do, Else, Of, Then, To};
-ghost use Rattle.icn_tree.specs.Semicolons.{Piece, is_beginner, is_ender, with_semicolons};
+ghost use Rattle.icn_tree.specs.Semicolons.{LineToken, is_beginner, is_ender, with_semicolons};
 ghost use Rattle.icn_tree.specs.SourceTexts.{joined_len};
 ghost use Rattle.icn_tree.specs.TokenBounds.{IsFormed, IsScanRule, IsSized};
 ghost use Rattle.icn_tree.specs.TokenSpellings.{SpellsAll};
@@ -15,10 +15,10 @@ ghost use Rattle.icn_tree.specs.Tokens.{Fault, Scanned, tokens_of};
 /// No semicolon comes in before a token that can begin no expression, as `then`, `do`, `of` and `to`, and none behind one
 /// that can end none: such neighbours are cut apart with nothing between them.
 pub fn semicolons_inserted()
-    ensures before { (front rest : List Piece) (a b : Piece) → is_beginner b.token.kind ≡ false
+    ensures before { (front rest : List LineToken) (a b : LineToken) → is_beginner b.token.kind ≡ false
         → with_semicolons (front ++ a ∷ b ∷ rest)
         ≡ with_semicolons (front ++ a ∷ []) ++ with_semicolons (b ∷ rest) }
-    ensures behind { (front rest : List Piece) (a b : Piece) → is_ender a.token.kind ≡ false
+    ensures behind { (front rest : List LineToken) (a b : LineToken) → is_ender a.token.kind ≡ false
         → with_semicolons (front ++ a ∷ b ∷ rest)
         ≡ with_semicolons (front ++ a ∷ []) ++ with_semicolons (b ∷ rest) }
     ensures words { All (λ word. is_beginner (WordKind word) ≡ false) (Then ∷ Do ∷ Of ∷ To ∷ By ∷ Else ∷ []) }

@@ -227,7 +227,7 @@ pub enum Clause {
 
 /// What `link` or `invocable` names.
 #[derive(Debug, Drop)]
-pub enum Item {
+pub enum DeclItem {
     /// An identifier.
     Identifier(Name),
     /// A string literal.
@@ -245,7 +245,7 @@ pub enum LocalKind {
 
 /// `local a, b;` or `static a, b;`.
 #[derive(Drop)]
-pub struct Locals {
+pub struct LocalDecl {
     /// Where its word stands.
     pub place: Place,
     /// Which word it is.
@@ -275,7 +275,7 @@ pub struct Procedure {
     /// Whether its last parameter, of one at least, gets a list of the arguments that are left.
     pub is_variadic: bool,
     /// The names that it declares, in their order.
-    pub locals: Vec<Locals>,
+    pub locals: Vec<LocalDecl>,
     /// What it does in the first call alone.
     pub initial: Option<Initial>,
     /// The expressions of its body in their order.
@@ -293,12 +293,12 @@ pub enum Decl {
     /// `link a, "b"`.
     Link {
         place: Place,
-        items: Vec<Item>,
+        items: Vec<DeclItem>,
     },
     /// `invocable a, "b"`.
     Invocable {
         place: Place,
-        items: Vec<Item>,
+        items: Vec<DeclItem>,
     },
     /// `record a(b, c)`.
     Record {
@@ -312,7 +312,7 @@ pub enum Decl {
 
 /// A program text.
 #[derive(Drop)]
-pub struct File {
+pub struct SourceFile {
     /// The base name of its file.
     pub name: Bytes,
     /// Its declarations in their order.

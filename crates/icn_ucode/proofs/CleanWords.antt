@@ -8,14 +8,14 @@ use Rattle.icn_tree.specs.Characters.{begins_identifier, continues_identifier}
 use Rattle.icn_unit.specs.OperandViews.{is_in_line}
 use Rattle.icn_unit.specs.UnitOperands.{behind, first_field, is_inside, is_name}
 use Rattle.icn_ucode.specs.UnitReading.{each_line, then_step}
-use Rattle.icn_ucode.proofs.Differing.{and_true, both}
+use Rattle.icn_ucode.proofs.ListTests.{and_intro, and_parts}
 
 -- neither a blank nor a newline
 abbrev pub is_word_byte : ℕ → Bool
 is_word_byte b = is_inside b && is_in_line b
 
-abbrev pub clean : List ℕ → Bool
-clean text = list_all is_word_byte text
+abbrev pub is_clean : List ℕ → Bool
+is_clean text = list_all is_word_byte text
 
 abbrev pub in_line : List ℕ → Bool
 in_line text = list_all is_in_line text
@@ -27,7 +27,7 @@ no_other b n e = ap (λ test. cond test false true) e
 
 pub word_byte : (b : ℕ) → 33 ≤ b → is_word_byte b ≡ true
 word_byte b h =
-    and_true (is_inside b) (is_in_line b) (no_other b 32 (ne_eqb b 32 (λ e. omega (arith, h)))) (no_other b 10 (ne_eqb b 10 (λ e. omega (arith, h))))
+    and_intro (is_inside b) (is_in_line b) (no_other b 32 (ne_eqb b 32 (λ e. omega (arith, h)))) (no_other b 10 (ne_eqb b 10 (λ e. omega (arith, h))))
 
 begins_word : (b : ℕ) → begins_identifier b ≡ true → 33 ≤ b
 begins_word b h = grind (arith, nat_tests)
@@ -38,22 +38,22 @@ continues_word b h = grind (arith, nat_tests)
 pub all_weaker : {A : Type 0} (p q : A → Bool) (xs : List A) → ((x : A) → p x ≡ true → q x ≡ true) → list_all p xs ≡ true → list_all q xs ≡ true
 all_weaker p q [] weaker h = refl
 all_weaker p q (x ∷ xs) weaker h =
-    let parts = both (p x) (list_all p xs) h in and_true (q x) (list_all q xs) (weaker x parts.0) (all_weaker p q xs weaker parts.1)
+    let parts = and_parts (p x) (list_all p xs) h in and_intro (q x) (list_all q xs) (weaker x parts.0) (all_weaker p q xs weaker parts.1)
 
 pub all_of_both : {A : Type 0} (p : A → Bool) (xs ys : List A) → list_all p xs ≡ true → list_all p ys ≡ true → list_all p (xs ++ ys) ≡ true
 all_of_both p [] ys h g = g
-all_of_both p (x ∷ xs) ys h g = let parts = both (p x) (list_all p xs) h in and_true (p x) (list_all p (xs ++ ys)) parts.0 (all_of_both p xs ys parts.1 g)
+all_of_both p (x ∷ xs) ys h g = let parts = and_parts (p x) (list_all p xs) h in and_intro (p x) (list_all p (xs ++ ys)) parts.0 (all_of_both p xs ys parts.1 g)
 
-pub name_clean : (name : List ℕ) → is_name name ≡ true → clean name ≡ true
+pub name_clean : (name : List ℕ) → is_name name ≡ true → is_clean name ≡ true
 name_clean [] h = refl
 name_clean (b ∷ rest) h =
-    let firsts = both (begins_identifier b && list_all continues_identifier rest) _ h in
-    let parts = both (begins_identifier b) (list_all continues_identifier rest) firsts.0 in
-    and_true (is_word_byte b) (clean rest) (word_byte b (begins_word b parts.0))
+    let firsts = and_parts (begins_identifier b && list_all continues_identifier rest) _ h in
+    let parts = and_parts (begins_identifier b) (list_all continues_identifier rest) firsts.0 in
+    and_intro (is_word_byte b) (is_clean rest) (word_byte b (begins_word b parts.0))
     (all_weaker continues_identifier is_word_byte rest (λ c t. word_byte c (continues_word c t)) parts.1)
 
-pub clean_in_line : (text : List ℕ) → clean text ≡ true → in_line text ≡ true
-clean_in_line text h = all_weaker is_word_byte is_in_line text (λ b t. (both (is_inside b) (is_in_line b) t).1) h
+pub clean_in_line : (text : List ℕ) → is_clean text ≡ true → in_line text ≡ true
+clean_in_line text h = all_weaker is_word_byte is_in_line text (λ b t. (and_parts (is_inside b) (is_in_line b) t).1) h
 
 -- Words of a line
 
@@ -62,18 +62,18 @@ cut_more b text h =
     let one : cond (is_inside b) (1 + prefix_len is_inside text) 0 ≡ suc (prefix_len is_inside text) = cond-true (is_inside b) _ _ h ∙ omega arith in
     ap (λ count. (take count (b ∷ text), behind (drop count (b ∷ text)))) one
 
-pub cut_word : (word rest : List ℕ) → clean word ≡ true → first_field (word ++ 32 ∷ rest) ≡ (word, Some rest)
+pub cut_word : (word rest : List ℕ) → is_clean word ≡ true → first_field (word ++ 32 ∷ rest) ≡ (word, Some rest)
 cut_word [] rest h = refl
 cut_word (b ∷ word) rest h =
-    let parts = both (is_word_byte b) (clean word) h in
-    cut_more b (word ++ 32 ∷ rest) (both (is_inside b) (is_in_line b) parts.0).0
+    let parts = and_parts (is_word_byte b) (is_clean word) h in
+    cut_more b (word ++ 32 ∷ rest) (and_parts (is_inside b) (is_in_line b) parts.0).0
     ∙ ap (λ (p : List ℕ × Option (List ℕ)). (b ∷ p.0, p.1)) (cut_word word rest parts.1)
 
-pub cut_last : (word : List ℕ) → clean word ≡ true → first_field word ≡ (word, None)
+pub cut_last : (word : List ℕ) → is_clean word ≡ true → first_field word ≡ (word, None)
 cut_last [] h = refl
 cut_last (b ∷ word) h =
-    let parts = both (is_word_byte b) (clean word) h in
-    cut_more b word (both (is_inside b) (is_in_line b) parts.0).0 ∙ ap (λ (p : List ℕ × Option (List ℕ)). (b ∷ p.0, p.1)) (cut_last word parts.1)
+    let parts = and_parts (is_word_byte b) (is_clean word) h in
+    cut_more b word (and_parts (is_inside b) (is_in_line b) parts.0).0 ∙ ap (λ (p : List ℕ × Option (List ℕ)). (b ∷ p.0, p.1)) (cut_last word parts.1)
 
 -- Lines that lead from a state to another
 
@@ -84,7 +84,7 @@ line_read : {S : Type 0} (step : S → List ℕ → Result S Rule) (state : S) (
     → each_line step state front (line ++ 10 ∷ rest) ≡ then_step (step state (front ++ line)) (λ next. each_line step next [] rest)
 line_read step state front [] rest h = ap (λ line. then_step (step state line) (λ next. each_line step next [] rest)) (sym (append-nil front))
 line_read step state front (b ∷ line) rest h =
-    let parts = both (is_in_line b) (in_line line) h in
+    let parts = and_parts (is_in_line b) (in_line line) h in
     cond-false (b == 10) _ _ (inside (b == 10) parts.0) ∙ (line_read step state (front ++ b ∷ []) line rest parts.1
     ∙ ap (λ line. then_step (step state line) (λ next. each_line step next [] rest)) (append_assoc front (b ∷ []) line)) where
       inside : (test : Bool) → cond test false true ≡ true → test ≡ false

@@ -18,18 +18,18 @@ use Rattle.icn_unit.specs.UnitOperands.{ascends, bytes_of, hexadecimal_bytes, is
 use Rattle.icn_unit.specs.UnitRules.{is_byte, is_byte_text, is_number, keeps_operand}
 use Rattle.icn_unit.specs.UnitTexts.{byte_text}
 use Rattle.icn_ucode.specs.UnitReading.{instr_of, operand_instr}
-use Rattle.icn_ucode.proofs.Differing.{and_true, both}
+use Rattle.icn_ucode.proofs.ListTests.{and_intro, and_parts}
 use Rattle.icn_ucode.proofs.Spelling.{AreBytes, bytes_spelled, found_if, guarded, hexadecimal_spelled, members_same, no_label}
 
 -- a number that is read is at most the greatest
 pub number_kept : (greatest : ℕ) (text : List ℕ) (n : ℕ) → number_of greatest text ≡ Some n → nat_le n greatest ≡ true
 number_kept greatest text n e =
     let found = found_if (nat_le (value_from 0 text) greatest && bytes_eq (decimal (value_from 0 text)) text) (value_from 0 text) n e in
-    ap (λ n. nat_le n greatest) (sym found.1) ∙ (both (nat_le (value_from 0 text) greatest) (bytes_eq (decimal (value_from 0 text)) text) found.0).0
+    ap (λ n. nat_le n greatest) (sym found.1) ∙ (and_parts (nat_le (value_from 0 text) greatest) (bytes_eq (decimal (value_from 0 text)) text) found.0).0
 
 are_bytes : (bytes : List ℕ) → AreBytes bytes → list_all is_byte bytes ≡ true
 are_bytes [] all = refl
-are_bytes (b ∷ rest) all = and_true (nat_lt b 256) (list_all is_byte rest) (below b all.0) (are_bytes rest all.1) where
+are_bytes (b ∷ rest) all = and_intro (nat_lt b 256) (list_all is_byte rest) (below b all.0) (are_bytes rest all.1) where
   below : (b : ℕ) → b < 256 → nat_lt b 256 ≡ true
   below b h = grind (arith, nat_tests)
 
@@ -46,8 +46,8 @@ bytes_kept text bytes e = by_dash (bytes_eq text (codes "-")) e where
       → is_byte_text bytes ≡ true
   by_len true t e =
       let found = hexadecimal_spelled text bytes e in
-      and_true (list_all is_byte bytes) (nat_le (length bytes) 65535) (are_bytes bytes found.1)
-      (short bytes text found.0 (both (nat_le 1 (length text)) (nat_le (length text) 131070) t).1)
+      and_intro (list_all is_byte bytes) (nat_le (length bytes) 65535) (are_bytes bytes found.1)
+      (short bytes text found.0 (and_parts (nat_le 1 (length text)) (nat_le (length text) 131070) t).1)
   by_len false t e = absurd (none-some bytes e)
 
   by_dash : (test : Bool) → cond test (Some []) (cond (nat_le 1 (length text) && nat_le (length text) 131070) (hexadecimal_bytes text) None) ≡ Some bytes
@@ -136,9 +136,9 @@ operand_kept Str text names instr e = mapped_kept names (λ bytes. IStr bytes) (
 operand_kept Cset text names instr e =
     guarded (bytes_of text) ascends (λ bytes. ICset (members_of bytes)) instr (λ instr. keeps_operand names instr ≡ true)
     (λ bytes f t. ap (λ members. is_byte_text members && ascends members) (members_same bytes t (bytes_spelled text bytes f).1)
-    ∙ and_true (is_byte_text bytes) (ascends bytes) (bytes_kept text bytes f) t) e
+    ∙ and_intro (is_byte_text bytes) (ascends bytes) (bytes_kept text bytes f) t) e
 operand_kept Var text names instr e = guarded (number_of 4294967295 text) (λ n. nat_lt n names) (λ n. IVar n) instr (λ instr. keeps_operand names instr ≡ true)
-    (λ n f t. and_true (nat_lt n names) (is_number n) t (number_kept 4294967295 text n f)) e
+    (λ n f t. and_intro (nat_lt n names) (is_number n) t (number_kept 4294967295 text n f)) e
 operand_kept Keywd text names instr e = mapped_kept names (λ keyword. IKeywd keyword) (keyword_of text) instr (λ keyword f. refl) e
 operand_kept Pop text names instr e = absurd (no_label (label_of text) instr e)
 operand_kept Dup text names instr e = absurd (no_label (label_of text) instr e)

@@ -1,12 +1,12 @@
 pub mod CleanWords
 pub mod DeclLines
-pub mod Differing
+pub mod ListTests
 pub mod FieldWords
 pub mod KeptInstrs
 pub mod KeptRules
 pub mod KnownNames
 pub mod ProcLines
-pub mod ReadAgain
+pub mod ReadProcsAgain
 pub mod ReadDeclsAgain
 pub mod SpelledDecls
 pub mod SpelledInstrs

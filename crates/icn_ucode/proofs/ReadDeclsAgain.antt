@@ -7,23 +7,23 @@ use Rattle.std.specs.Str.{bytes_eq}
 use Rattle.std.specs.Cmp.Lexicographic.{same_text}
 use Rattle.std.proofs.lemmas.Bool.{cond-true, cond-false, false≢true}
 use Rattle.icn_unit.specs.OperandViews.{is_in_line}
-use Rattle.icn_unit.specs.PlainUnits.{Decl, Global, Procedure, Link, Proc, Record, declared_name, declared_names, owned_name, owned_names, proc_names}
+use Rattle.icn_unit.specs.PlainUnits.{PlainDecl, Global, Procedure, Link, PlainProc, Record, declared_name, declared_names, owned_name, owned_names, proc_names}
 use Rattle.icn_unit.specs.UnitOperands.{first_field, is_inside, is_name}
 use Rattle.icn_unit.specs.UnitRules.{has_name, keeps_decl, keeps_decls, names_differ, same_names, same_texts}
 use Rattle.icn_unit.specs.UnitTexts.{behind_blank, bytes_text, decl_text, decls_text}
 use Rattle.icn_ucode.specs.UnitReading.{DeclHeading, Declaring, Ended, DeclStage, DeclsRead, decl_stage_line, declaring_line, decls_end, decls_line, decls_of, each_line, fields_from, fields_read, is_indented, name_read, or_bad, record_by, record_read, then_step, with_decl, with_field}
-use Rattle.icn_ucode.proofs.CleanWords.{Leads, all_of_both, clean, clean_in_line, cut_last, cut_word, in_line, is_word_byte, leads_all, leads_then, line_leads, name_clean}
-use Rattle.icn_ucode.proofs.Differing.{all_at, and_true, both, differs_at, differs_behind, is_not, neither, nor}
+use Rattle.icn_ucode.proofs.CleanWords.{Leads, all_of_both, is_clean, clean_in_line, cut_last, cut_word, in_line, is_word_byte, leads_all, leads_then, line_leads, name_clean}
+use Rattle.icn_ucode.proofs.ListTests.{all_at, and_intro, and_parts, differs_at, differs_behind, not_of_false, neither, nor}
 use Rattle.icn_ucode.proofs.KnownNames.{bytes_turned}
 use Rattle.icn_ucode.proofs.SpelledOperands.{bytes_again, bytes_clean}
 
-abbrev state : List Decl → DeclStage → DeclsRead
+abbrev state : List PlainDecl → DeclStage → DeclsRead
 state decls stage = record { decls = decls; stage = stage }
 
 abbrev LeadsDecls : List (List ℕ) → DeclsRead → List ℕ → DeclsRead → Type 0
 LeadsDecls procs from text to = Leads (decls_line procs) from text to
 
-stage_reads : (procs : List (List ℕ)) (decls : List Decl) (stage : DeclStage) (line : List ℕ) (next : DeclsRead) → in_line line ≡ true
+stage_reads : (procs : List (List ℕ)) (decls : List PlainDecl) (stage : DeclStage) (line : List ℕ) (next : DeclsRead) → in_line line ≡ true
     → is_indented line ≡ false → decl_stage_line procs decls stage line ≡ Ok next → LeadsDecls procs (state decls stage) (line ++ 10 ∷ []) next
 unfolding decls_line
 stage_reads procs decls stage line next h i e = line_leads (decls_line procs) (state decls stage) next line h (cond-false (is_indented line) _ _ i ∙ e)
@@ -33,14 +33,15 @@ stage_reads procs decls stage line next h i e = line_leads (decls_line procs) (s
 fields_in_line : (fields : List (List ℕ)) → list_all is_name fields ≡ true → in_line (flat_map behind_blank fields) ≡ true
 fields_in_line [] h = refl
 fields_in_line (field ∷ fields) h =
-    let parts = both (is_name field) (list_all is_name fields) h in
+    let parts = and_parts (is_name field) (list_all is_name fields) h in
     all_of_both is_in_line field (flat_map behind_blank fields) (clean_in_line field (name_clean field parts.0)) (fields_in_line fields parts.1)
 
-word_on : (done : List (List ℕ)) (front word text : List ℕ) → clean word ≡ true → fields_from done front (word ++ text) ≡ fields_from done (front ++ word) text
+word_on : (done : List (List ℕ)) (front word text : List ℕ) → is_clean word ≡ true
+    → fields_from done front (word ++ text) ≡ fields_from done (front ++ word) text
 word_on done front [] text h = ap (λ front. fields_from done front text) (sym (append-nil front))
 word_on done front (b ∷ word) text h =
-    let parts = both (is_word_byte b) (clean word) h in
-    let inside = both (is_inside b) (is_in_line b) parts.0 in
+    let parts = and_parts (is_word_byte b) (is_clean word) h in
+    let inside = and_parts (is_inside b) (is_in_line b) parts.0 in
     cond-false (b == 32) _ _ (other (b == 32) inside.0)
     ∙ (word_on done (front ++ b ∷ []) word text parts.1 ∙ ap (λ front. fields_from done front text) (append_assoc front (b ∷ []) word)) where
       other : (test : Bool) → cond test false true ≡ true → test ≡ false
@@ -49,7 +50,8 @@ word_on done front (b ∷ word) text h =
 
 field_taken : (done : List (List ℕ)) (field : List ℕ) → is_name field ≡ true → has_name done field ≡ false → with_field done field ≡ Some (done ++ field ∷ [])
 field_taken done field named free =
-    cond-true (is_name field && not (has_name done field)) _ _ (and_true (is_name field) (not (has_name done field)) named (is_not (has_name done field) free))
+    cond-true
+    (is_name field && not (has_name done field)) _ _ (and_intro (is_name field) (not (has_name done field)) named (not_of_false (has_name done field) free))
 
 field_again : (done : List (List ℕ)) (field : List ℕ) (rest : List (List ℕ)) → list_all is_name (done ++ field ∷ rest) ≡ true
     → names_differ (done ++ field ∷ rest) ≡ true → fields_from done [] (field ++ flat_map behind_blank rest) ≡ Some (done ++ field ∷ rest)
@@ -72,23 +74,24 @@ record_words name [] n h g = (None, ap first_field (append-nil name) ∙ cut_las
 record_words name (field ∷ fields) n h g =
     (Some (field ++ flat_map behind_blank fields), cut_word name (field ++ flat_map behind_blank fields) (name_clean name n), field_again [] field fields h g)
 
-record_again : (procs : List (List ℕ)) (decls : List Decl) (name : List ℕ) (fields : List (List ℕ))
+record_again : (procs : List (List ℕ)) (decls : List PlainDecl) (name : List ℕ) (fields : List (List ℕ))
     → keeps_decl (Record name fields) ≡ true → has_name procs name ≡ false → has_name (owned_names decls) name ≡ false
     → record_read procs decls (Some (name ++ flat_map behind_blank fields)) ≡ Some (Record name fields)
 record_again procs decls name fields h apart free =
-    let parts = both (is_name name && list_all is_name fields) (names_differ fields) h in
-    let firsts = both (is_name name) (list_all is_name fields) parts.0 in
+    let parts = and_parts (is_name name && list_all is_name fields) (names_differ fields) h in
+    let firsts = and_parts (is_name name) (list_all is_name fields) parts.0 in
     let words = record_words name fields firsts.0 firsts.1 parts.1 in
     ap (λ (words : List ℕ × Option (List ℕ)). record_by procs decls words.0 words.1) words.1
     ∙ (cond-true (is_name name && not (has_name procs name) && not (has_name (owned_names decls) name)) _ _
-    (and_true (is_name name && not (has_name procs name)) (not (has_name (owned_names decls) name))
-    (and_true (is_name name) (not (has_name procs name)) firsts.0 (is_not (has_name procs name) apart)) (is_not (has_name (owned_names decls) name) free))
+    (and_intro (is_name name && not (has_name procs name)) (not (has_name (owned_names decls) name))
+    (and_intro (is_name name) (not (has_name procs name)) firsts.0 (not_of_false (has_name procs name) apart))
+    (not_of_false (has_name (owned_names decls) name) free))
     ∙ ap (λ found. option_map (λ fields. Record name fields) found) words.2)
 
 -- Declarations
 
 -- the line of a declaration: its first word, and what stands behind it
-record DeclLine (procs : List (List ℕ)) (decls : List Decl) (decl : Decl) : Type 0 where
+record DeclLine (procs : List (List ℕ)) (decls : List PlainDecl) (decl : PlainDecl) : Type 0 where
   word : List ℕ
   operand : List ℕ
   spelled : decl_text decl ≡ (word ++ 32 ∷ operand) ++ 10 ∷ []
@@ -97,17 +100,17 @@ record DeclLine (procs : List (List ℕ)) (decls : List Decl) (decl : Decl) : Ty
   words : first_field (word ++ 32 ∷ operand) ≡ (word, Some operand)
   read : declaring_line procs decls word (Some operand) ≡ with_decl decls decl
 
-abbrev IsFree : List Decl → Decl → Type 0
+abbrev IsFree : List PlainDecl → PlainDecl → Type 0
 IsFree decls decl = list_all (λ name. not (has_name (owned_names decls) name)) (owned_name decl) ≡ true
 
 -- a record has another name than the procedures
-abbrev IsApart : List (List ℕ) → Decl → Type 0
+abbrev IsApart : List (List ℕ) → PlainDecl → Type 0
 IsApart procs (Global name) = Unit {0}
 IsApart procs (Procedure name) = Unit {0}
 IsApart procs (Link bytes) = Unit {0}
 IsApart procs (Record name fields) = has_name procs name ≡ false
 
-free_name : (decls : List Decl) (name : List ℕ) → (not (has_name (owned_names decls) name) && true) ≡ true → has_name (owned_names decls) name ≡ false
+free_name : (decls : List PlainDecl) (name : List ℕ) → (not (has_name (owned_names decls) name) && true) ≡ true → has_name (owned_names decls) name ≡ false
 free_name decls name h = by_test (has_name (owned_names decls) name) h where
   by_test : (test : Bool) → (not test && true) ≡ true → test ≡ false
   by_test true h = absurd (false≢true h)
@@ -116,7 +119,7 @@ free_name decls name h = by_test (has_name (owned_names decls) name) h where
 name_again : (name : List ℕ) → is_name name ≡ true → name_read (Some name) ≡ Some name
 name_again name h = cond-true (is_name name) _ _ h
 
-decl_line : (procs : List (List ℕ)) (decls : List Decl) (decl : Decl) → keeps_decl decl ≡ true → IsApart procs decl → IsFree decls decl
+decl_line : (procs : List (List ℕ)) (decls : List PlainDecl) (decl : PlainDecl) → keeps_decl decl ≡ true → IsApart procs decl → IsFree decls decl
     → DeclLine procs decls decl
 decl_line procs decls (Global name) h apart free = record {
   word = codes "global";
@@ -148,8 +151,8 @@ decl_line procs decls (Link bytes) h apart free = record {
   read = ap (λ found. or_bad (option_map (λ bytes. Link bytes) found) (with_decl decls)) (bytes_again bytes h);
 }
 decl_line procs decls (Record name fields) h apart free =
-    let parts = both (is_name name && list_all is_name fields) (names_differ fields) h in
-    let firsts = both (is_name name) (list_all is_name fields) parts.0 in
+    let parts = and_parts (is_name name && list_all is_name fields) (names_differ fields) h in
+    let firsts = and_parts (is_name name) (list_all is_name fields) parts.0 in
     record {
       word = codes "record";
       operand = name ++ flat_map behind_blank fields;
@@ -160,7 +163,7 @@ decl_line procs decls (Record name fields) h apart free =
       read = ap (λ found. or_bad found (with_decl decls)) (record_again procs decls name fields h apart (free_name decls name free));
     }
 
-decl_leads : (procs : List (List ℕ)) (decls : List Decl) (decl : Decl) → keeps_decl decl ≡ true → IsApart procs decl → IsFree decls decl
+decl_leads : (procs : List (List ℕ)) (decls : List PlainDecl) (decl : PlainDecl) → keeps_decl decl ≡ true → IsApart procs decl → IsFree decls decl
     → LeadsDecls procs (state decls Declaring) (decl_text decl) (state (decls ++ decl ∷ []) Declaring)
 decl_leads procs decls decl h apart free =
     let line = decl_line procs decls decl h apart free in
@@ -169,22 +172,23 @@ decl_leads procs decls decl h apart free =
     (stage_reads procs decls Declaring (line.word ++ 32 ∷ line.operand) next line.plain line.flush
     (ap (λ (words : List ℕ × Option (List ℕ)). declaring_line procs decls words.0 words.1) line.words ∙ line.read))
 
-owned_around : (done : List Decl) (decl : Decl) (rest : List Decl)
+owned_around : (done : List PlainDecl) (decl : PlainDecl) (rest : List PlainDecl)
     → owned_names (done ++ decl ∷ rest) ≡ owned_names done ++ (owned_name decl ++ owned_names rest)
 owned_around [] decl rest = refl
 owned_around (first ∷ done) decl rest = ap (λ names. owned_name first ++ names) (owned_around done decl rest)
     ∙ sym (append_assoc (owned_name first) (owned_names done) (owned_name decl ++ owned_names rest))
 
-decl_free : (done : List Decl) (decl : Decl) (more : List (List ℕ)) → names_differ (owned_names done ++ (owned_name decl ++ more)) ≡ true → IsFree done decl
+decl_free : (done : List PlainDecl) (decl : PlainDecl) (more : List (List ℕ)) → names_differ (owned_names done ++ (owned_name decl ++ more)) ≡ true
+    → IsFree done decl
 decl_free done (Global name) more h = refl
 decl_free done (Link bytes) more h = refl
-decl_free done (Procedure name) more h = and_true (not (has_name (owned_names done) name)) true
-    (is_not (has_name (owned_names done) name) (differs_at bytes_eq bytes_turned (owned_names done) name more h)) refl
-decl_free done (Record name fields) more h = and_true (not (has_name (owned_names done) name)) true
-    (is_not (has_name (owned_names done) name) (differs_at bytes_eq bytes_turned (owned_names done) name more h)) refl
+decl_free done (Procedure name) more h = and_intro (not (has_name (owned_names done) name)) true
+    (not_of_false (has_name (owned_names done) name) (differs_at bytes_eq bytes_turned (owned_names done) name more h)) refl
+decl_free done (Record name fields) more h = and_intro (not (has_name (owned_names done) name)) true
+    (not_of_false (has_name (owned_names done) name) (differs_at bytes_eq bytes_turned (owned_names done) name more h)) refl
 
 -- the names of procedures and records, without those of records
-subset : (decls : List Decl) (name : List ℕ) → has_name (owned_names decls) name ≡ false → has_name (declared_names decls) name ≡ false
+subset : (decls : List PlainDecl) (name : List ℕ) → has_name (owned_names decls) name ≡ false → has_name (declared_names decls) name ≡ false
 subset [] name h = refl
 subset (Global other ∷ decls) name h = subset decls name h
 subset (Link bytes ∷ decls) name h = subset decls name h
@@ -192,7 +196,7 @@ subset (Procedure other ∷ decls) name h = let parts = neither (bytes_eq name o
     nor (bytes_eq name other) (has_name (declared_names decls) name) parts.0 (subset decls name parts.1)
 subset (Record other fields ∷ decls) name h = subset decls name (neither (bytes_eq name other) (has_name (owned_names decls) name) h).1
 
-declared_around : (done : List Decl) (decl : Decl) (rest : List Decl)
+declared_around : (done : List PlainDecl) (decl : PlainDecl) (rest : List PlainDecl)
     → declared_names (done ++ decl ∷ rest) ≡ declared_names done ++ (declared_name decl ++ declared_names rest)
 declared_around [] decl rest = refl
 declared_around (first ∷ done) decl rest = ap (λ names. declared_name first ++ names) (declared_around done decl rest)
@@ -203,7 +207,8 @@ none_of_both [] ys name h g = g
 none_of_both (x ∷ xs) ys name h g =
     let parts = neither (bytes_eq name x) (has_name xs name) h in nor (bytes_eq name x) (has_name (xs ++ ys) name) parts.0 (none_of_both xs ys name parts.1 g)
 
-decl_apart : (done : List Decl) (decl : Decl) (rest : List Decl) → names_differ (owned_names done ++ (owned_name decl ++ owned_names rest)) ≡ true
+decl_apart : (done : List PlainDecl) (decl : PlainDecl) (rest : List PlainDecl)
+    → names_differ (owned_names done ++ (owned_name decl ++ owned_names rest)) ≡ true
     → IsApart (declared_names (done ++ decl ∷ rest)) decl
 decl_apart done (Global name) rest h = tt
 decl_apart done (Procedure name) rest h = tt
@@ -215,19 +220,19 @@ decl_apart done (Record name fields) rest h =
     ∙ none_of_both (declared_names done) (declared_names rest) name (subset done name before) (subset rest name behind)
 
 -- what is kept while declarations are read: they keep the rules, and the procedures are those that all of them name
-abbrev Kept : List (List ℕ) → List Decl → Type 0
+abbrev Kept : List (List ℕ) → List PlainDecl → Type 0
 Kept procs decls = (keeps_decls decls ≡ true) × (procs ≡ declared_names decls)
 
-next_leads : (procs : List (List ℕ)) (done : List Decl) (decl : Decl) (rest : List Decl) → Kept procs (done ++ decl ∷ rest)
+next_leads : (procs : List (List ℕ)) (done : List PlainDecl) (decl : PlainDecl) (rest : List PlainDecl) → Kept procs (done ++ decl ∷ rest)
     → LeadsDecls procs (state done Declaring) (decl_text decl) (state (done ++ decl ∷ []) Declaring)
 next_leads procs done decl rest h =
-    let parts = both (list_all keeps_decl (done ++ decl ∷ rest)) (names_differ (owned_names (done ++ decl ∷ rest))) h.0 in
+    let parts = and_parts (list_all keeps_decl (done ++ decl ∷ rest)) (names_differ (owned_names (done ++ decl ∷ rest))) h.0 in
     let differ : names_differ (owned_names done ++ (owned_name decl ++ owned_names rest))
     ≡ true = ap (λ names. names_differ names) (sym (owned_around done decl rest)) ∙ parts.1 in
     decl_leads procs done decl (all_at keeps_decl done decl rest parts.0)
     (subst (λ (procs : List (List ℕ)). IsApart procs decl) (sym h.1) (decl_apart done decl rest differ)) (decl_free done decl (owned_names rest) differ)
 
-all_lead : (procs : List (List ℕ)) (decls : List Decl) → Kept procs decls → LeadsDecls procs (state [] DeclHeading) (decls_text decls) (state decls Ended)
+all_lead : (procs : List (List ℕ)) (decls : List PlainDecl) → Kept procs decls → LeadsDecls procs (state [] DeclHeading) (decls_text decls) (state decls Ended)
 all_lead procs decls h =
     let heading : LeadsDecls procs (state [] DeclHeading) (codes "U9.2" ++ 10 ∷ []) (state [] Declaring) = stage_reads procs [] DeclHeading (codes "U9.2")
     (state [] Declaring) refl refl refl in
@@ -247,10 +252,10 @@ same_list [] [] h = refl
 same_list [] (y ∷ ys) h = absurd (false≢true h)
 same_list (x ∷ xs) [] h = absurd (false≢true h)
 same_list (x ∷ xs) (y ∷ ys) h =
-    let parts = both (bytes_eq x y) (same_texts xs ys) h in ap (λ x. x ∷ xs) (same_text x y (sym parts.0)) ∙ ap (λ xs. y ∷ xs) (same_list xs ys parts.1)
+    let parts = and_parts (bytes_eq x y) (same_texts xs ys) h in ap (λ x. x ∷ xs) (same_text x y (sym parts.0)) ∙ ap (λ xs. y ∷ xs) (same_list xs ys parts.1)
 
 -- declarations that keep the rules are read from their spelling, behind the procedures that they name
-pub decls_again : (procs : List Proc) (decls : List Decl) → keeps_decls decls ≡ true → same_names procs decls ≡ true
+pub decls_again : (procs : List PlainProc) (decls : List PlainDecl) → keeps_decls decls ≡ true → same_names procs decls ≡ true
     → decls_of (proc_names procs) (decls_text decls) ≡ Ok decls
 unfolding decls_of
 decls_again procs decls h n =

@@ -10,7 +10,7 @@ use Rattle.std.proofs.lemmas.Option.{none-some, same_Some}
 use Rattle.icn_tree.specs.declared.rule.Rule.{Rule}
 use Rattle.icn_tree.specs.declared.rule.Rule.TheVariants.{U1, U3, U6}
 use Rattle.icn_unit.specs.UnitOperands.{first_field, is_name}
-use Rattle.icn_unit.specs.PlainUnits.{Decl, Global, Procedure, Link, Record, owned_names}
+use Rattle.icn_unit.specs.PlainUnits.{PlainDecl, Global, Procedure, Link, Record, owned_names}
 use Rattle.icn_unit.specs.UnitRules.{has_name}
 use Rattle.icn_ucode.specs.UnitReading.{global_read, is_indented, link_read, DeclStage, DeclHeading, Declaring, Ended, DeclsRead, bytes_read, decl_stage_end, decl_stage_line, declaring_line, decls_end, decls_line, decls_of, each_line, ended_line, fields_from, fields_read, name_read, or_bad, procedure_read, record_by, record_read, then_step, with_decl, with_field}
 use Rattle.icn_unit.specs.UnitTexts.{behind_blank, bytes_text, decl_text, decls_text}
@@ -52,22 +52,24 @@ rest_spelled : (rest : Option (List ℕ)) (fields : List (List ℕ)) → fields_
 rest_spelled None fields e = ap (λ fields. flat_map behind_blank fields) (sym (same_Some [] fields e))
 rest_spelled (Some text) fields e = fields_spelled [] [] text fields e
 
-pub mapped_decl : {A : Type 0} (found : Option A) (make : A → Decl) (decl : Decl) → option_map make found ≡ Some decl
+pub mapped_decl : {A : Type 0} (found : Option A) (make : A → PlainDecl) (decl : PlainDecl) → option_map make found ≡ Some decl
     → (x : A) × (found ≡ Some x) × (make x ≡ decl)
 mapped_decl None make decl e = absurd (none-some decl e)
 mapped_decl (Some x) make decl e = (x, refl, same_Some (make x) decl e)
 
-global_line : (operand : Option (List ℕ)) (decl : Decl) → global_read operand ≡ Some decl → decl_text decl ≡ (codes "global" ++ rest_text operand) ++ 10 ∷ []
+global_line : (operand : Option (List ℕ)) (decl : PlainDecl) → global_read operand ≡ Some decl
+    → decl_text decl ≡ (codes "global" ++ rest_text operand) ++ 10 ∷ []
 global_line operand decl e =
     let found = mapped_decl (name_read operand) (λ name. Global name) decl e in
     ap decl_text (sym found.2) ∙ ap (λ xs. (codes "global" ++ xs) ++ 10 ∷ []) (sym (name_spelled operand found.0 found.1))
 
-link_line : (operand : Option (List ℕ)) (decl : Decl) → link_read operand ≡ Some decl → decl_text decl ≡ (codes "link" ++ rest_text operand) ++ 10 ∷ []
+link_line : (operand : Option (List ℕ)) (decl : PlainDecl) → link_read operand ≡ Some decl → decl_text decl ≡ (codes "link" ++ rest_text operand) ++ 10 ∷ []
 link_line operand decl e =
     let found = mapped_decl (bytes_read operand) (λ bytes. Link bytes) decl e in
     ap decl_text (sym found.2) ∙ ap (λ xs. (codes "link" ++ xs) ++ 10 ∷ []) (sym (link_spelled operand found.0 found.1))
 
-record_named : (procs : List (List ℕ)) (decls : List Decl) (name : List ℕ) (rest : Option (List ℕ)) (decl : Decl) → record_by procs decls name rest ≡ Some decl
+record_named : (procs : List (List ℕ)) (decls : List PlainDecl) (name : List ℕ) (rest : Option (List ℕ)) (decl : PlainDecl)
+    → record_by procs decls name rest ≡ Some decl
     → decl_text decl ≡ codes "record " ++ (name ++ rest_text rest) ++ 10 ∷ []
 record_named procs decls name rest decl e = by_test (is_name name && not (has_name procs name) && not (has_name (owned_names decls) name)) e where
   by_test : (test : Bool) → cond test (option_map (λ fields. Record name fields) (fields_read rest)) None ≡ Some decl
@@ -77,28 +79,28 @@ record_named procs decls name rest decl e = by_test (is_name name && not (has_na
       ap decl_text (sym found.2) ∙ ap (λ xs. codes "record " ++ (name ++ xs) ++ 10 ∷ []) (rest_spelled rest found.0 found.1)
   by_test false e = absurd (none-some decl e)
 
-record_spelled : (procs : List (List ℕ)) (decls : List Decl) (operand : Option (List ℕ)) (decl : Decl) → record_read procs decls operand ≡ Some decl
+record_spelled : (procs : List (List ℕ)) (decls : List PlainDecl) (operand : Option (List ℕ)) (decl : PlainDecl) → record_read procs decls operand ≡ Some decl
     → decl_text decl ≡ (codes "record" ++ rest_text operand) ++ 10 ∷ []
 record_spelled procs decls None decl e = absurd (none-some decl e)
 record_spelled procs decls (Some text) decl e =
     record_named procs decls (first_field text).0 (first_field text).1 decl e ∙ ap (λ xs. codes "record " ++ xs ++ 10 ∷ []) (sym (cut_all text))
 
-proc_spelled : (decls : List Decl) (operand : Option (List ℕ)) (decl : Decl) → procedure_read decls operand ≡ Some decl
+proc_spelled : (decls : List PlainDecl) (operand : Option (List ℕ)) (decl : PlainDecl) → procedure_read decls operand ≡ Some decl
     → decl_text decl ≡ (codes "proc" ++ rest_text operand) ++ 10 ∷ []
 proc_spelled decls operand decl e =
     let found = then_some (name_read operand) (λ name. cond (has_name (owned_names decls) name) None (Some (Procedure name))) decl e in
     ap decl_text (sym (unowned (has_name (owned_names decls) found.0) (Procedure found.0) decl found.2))
     ∙ ap (λ xs. (codes "proc" ++ xs) ++ 10 ∷ []) (sym (name_spelled operand found.0 found.1)) where
-      unowned : (test : Bool) (x y : Decl) → ◌≡◌ {A = Option Decl} (cond test None (Some x)) (Some y) → x ≡ y
+      unowned : (test : Bool) (x y : PlainDecl) → ◌≡◌ {A = Option PlainDecl} (cond test None (Some x)) (Some y) → x ≡ y
       unowned true x y e = absurd (none-some y e)
       unowned false x y e = same_Some x y e
 
 -- Lines
 
-abbrev declared : List Decl → List ℕ
+abbrev declared : List PlainDecl → List ℕ
 declared decls = codes "U9.2" ++ 10 ∷ flat_map decl_text decls
 
-abbrev stage_spelled : List Decl → DeclStage → List ℕ
+abbrev stage_spelled : List PlainDecl → DeclStage → List ℕ
 stage_spelled decls DeclHeading = []
 stage_spelled decls Declaring = declared decls
 stage_spelled decls Ended = decls_text decls
@@ -106,7 +108,7 @@ stage_spelled decls Ended = decls_text decls
 abbrev spelled_so_far : DeclsRead → List ℕ
 spelled_so_far read = stage_spelled read.decls read.stage
 
-abbrev StageGood : List Decl → DeclStage → Type 0
+abbrev StageGood : List PlainDecl → DeclStage → Type 0
 StageGood decls DeclHeading = decls ≡ []
 StageGood decls Declaring = Unit {0}
 StageGood decls Ended = Unit {0}
@@ -118,7 +120,7 @@ abbrev Adds : List ℕ → List ℕ → DeclsRead → Type 0
 Adds text line next = IsGood next × (spelled_so_far next ≡ text ++ line ++ 10 ∷ [])
 
 -- a declaration that is its line
-pushed : (decls : List Decl) (decl : Decl) (line : List ℕ) (next : DeclsRead) → decl_text decl ≡ line ++ 10 ∷ [] → with_decl decls decl ≡ Ok next
+pushed : (decls : List PlainDecl) (decl : PlainDecl) (line : List ℕ) (next : DeclsRead) → decl_text decl ≡ line ++ 10 ∷ [] → with_decl decls decl ≡ Ok next
     → Adds (declared decls) line next
 pushed decls decl line next is e =
     subst (λ (next : DeclsRead). Adds (declared decls) line next) (ok_same (record { decls = decls ++ decl ∷ []; stage = Declaring }) next e) (
@@ -127,7 +129,7 @@ pushed decls decl line next is e =
           ∙ going (codes "U9.2") (flat_map decl_text decls) line,
     )
 
-declaring_adds : (procs : List (List ℕ)) (decls : List Decl) (word : List ℕ) (operand : Option (List ℕ)) (next : DeclsRead)
+declaring_adds : (procs : List (List ℕ)) (decls : List PlainDecl) (word : List ℕ) (operand : Option (List ℕ)) (next : DeclsRead)
     → declaring_line procs decls word operand ≡ Ok next → Adds (declared decls) (word ++ rest_text operand) next
 declaring_adds procs decls word operand next e = by_global (bytes_eq word (codes "global")) refl e where
   line_is : (text : List ℕ) → bytes_eq word text ≡ true → (text ++ rest_text operand) ++ 10 ∷ [] ≡ (word ++ rest_text operand) ++ 10 ∷ []
@@ -180,7 +182,7 @@ declaring_adds procs decls word operand next e = by_global (bytes_eq word (codes
       pushed decls found.0 (word ++ rest_text operand) next (global_line operand found.0 found.1 ∙ line_is (codes "global") t) found.2
   by_global false t e = by_proc (bytes_eq word (codes "proc")) refl e
 
-stage_adds : (procs : List (List ℕ)) (decls : List Decl) (stage : DeclStage) (line : List ℕ) (next : DeclsRead) → StageGood decls stage
+stage_adds : (procs : List (List ℕ)) (decls : List PlainDecl) (stage : DeclStage) (line : List ℕ) (next : DeclsRead) → StageGood decls stage
     → decl_stage_line procs decls stage line ≡ Ok next → Adds (stage_spelled decls stage) line next
 stage_adds procs decls DeclHeading line next good e =
     let found = heading_line (codes "U9.2") line (record { decls = decls; stage = Declaring }) next e in
@@ -195,13 +197,14 @@ unfolding decls_line
 line_adds procs read line next good e =
     stage_adds procs read.decls read.stage line next good (not_chosen_step (is_indented line) (decl_stage_line procs read.decls read.stage line) U3 next e)
 
-stage_whole : (decls : List Decl) (stage : DeclStage) (found : List Decl) → decl_stage_end decls stage ≡ Ok found → stage_spelled decls stage ≡ decls_text found
+stage_whole : (decls : List PlainDecl) (stage : DeclStage) (found : List PlainDecl) → decl_stage_end decls stage ≡ Ok found
+    → stage_spelled decls stage ≡ decls_text found
 stage_whole decls DeclHeading found e = absurd (err_ok U1 found e)
 stage_whole decls Declaring found e = absurd (err_ok U6 found e)
 stage_whole decls Ended found e = ap decls_text (ok_same decls found e)
 
 -- a text that is read as declarations is their spelling
-pub decls_spelled : (procs : List (List ℕ)) (text : List ℕ) (decls : List Decl) → decls_of procs text ≡ Ok decls → decls_text decls ≡ text
+pub decls_spelled : (procs : List (List ℕ)) (text : List ℕ) (decls : List PlainDecl) → decls_of procs text ≡ Ok decls → decls_text decls ≡ text
 unfolding decls_of
 decls_spelled procs text decls e = by_read (each_line (decls_line procs) (record { decls = []; stage = DeclHeading }) [] text) refl e where
   by_read : (found : Result DeclsRead Rule) → each_line (decls_line procs) (record { decls = []; stage = DeclHeading }) [] text ≡ found

@@ -26,8 +26,8 @@ use Rattle.icn_defs.specs.Numbers.{op_of}
 use Rattle.icn_defs.proofs.OpNumbers.{op_back}
 use Rattle.icn_unit.proofs.Decimals.{keyword_again}
 use Rattle.icn_ucode.specs.UnitReading.{instr_of, is_indented}
-use Rattle.icn_ucode.proofs.CleanWords.{clean, name_clean}
-use Rattle.icn_ucode.proofs.Differing.{both}
+use Rattle.icn_ucode.proofs.CleanWords.{is_clean, name_clean}
+use Rattle.icn_ucode.proofs.ListTests.{and_parts}
 use Rattle.icn_ucode.proofs.Spelling.{AreBytes, members_same, rest_text}
 use Rattle.icn_ucode.proofs.SpelledOperands.{bytes_again, bytes_clean, decimal_clean, label_again, label_clean, number_again, small_again, small_clean}
 
@@ -72,7 +72,7 @@ word_again Coret = refl
 word_again Cofail = refl
 word_again Lab = refl
 
-pub word_clean : (word : InstrWord) → clean (word_text word) ≡ true
+pub word_clean : (word : InstrWord) → is_clean (word_text word) ≡ true
 word_clean Pnull = refl
 word_clean Int = refl
 word_clean Str = refl
@@ -233,7 +233,7 @@ op_small OpSectionPlus = refl
 op_small OpSectionMinus = refl
 op_small OpToBy = refl
 
-keyword_clean : (keyword : Keyword) → clean (keyword_name keyword) ≡ true
+keyword_clean : (keyword : Keyword) → is_clean (keyword_name keyword) ≡ true
 keyword_clean KeyAscii = refl
 keyword_clean KeyCset = refl
 keyword_clean KeyCurrent = refl
@@ -257,7 +257,7 @@ keyword_clean KeyUcase = refl
 
 abbrev pub CleanOperand : Option (List ℕ) → Type 0
 CleanOperand None = Unit {0}
-CleanOperand (Some text) = clean text ≡ true
+CleanOperand (Some text) = is_clean text ≡ true
 
 -- the line of an instruction, in a procedure of so many names
 pub record InstrLine (instr : UnitInstr) (names : ℕ) : Type 0 where
@@ -272,14 +272,15 @@ labelled_line instr names label s r h = record { operand = Some (label_text labe
 
 all_bytes : (bytes : List ℕ) → list_all is_byte bytes ≡ true → AreBytes bytes
 all_bytes [] h = tt
-all_bytes (b ∷ bytes) h = let parts = both (is_byte b) (list_all is_byte bytes) h in (below b parts.0, all_bytes bytes parts.1) where
+all_bytes (b ∷ bytes) h = let parts = and_parts (is_byte b) (list_all is_byte bytes) h in (below b parts.0, all_bytes bytes parts.1) where
   below : (b : ℕ) → is_byte b ≡ true → b < 256
   below b h = grind (arith, nat_tests)
 
 cset_again : (bytes : List ℕ) → is_byte_text bytes ≡ true → ascends bytes ≡ true → instr_of Cset (Some (bytes_text bytes)) 0 ≡ Some (ICset bytes)
 cset_again bytes h g =
     ap (λ found. option_and_then (λ bytes. cond (ascends bytes) (Some (ICset (members_of bytes))) None) found) (bytes_again bytes h)
-    ∙ (cond-true (ascends bytes) _ _ g ∙ ap (λ members. Some (ICset members)) (members_same bytes g (all_bytes bytes (both (list_all is_byte bytes) _ h).0)))
+    ∙ (cond-true (ascends bytes) _ _ g
+    ∙ ap (λ members. Some (ICset members)) (members_same bytes g (all_bytes bytes (and_parts (list_all is_byte bytes) _ h).0)))
 
 pub instr_line : (instr : UnitInstr) (names : ℕ) → keeps_operand names instr ≡ true → InstrLine instr names
 instr_line IPnull names h = record { operand = None; spelled = refl; clean = tt; read = refl }
@@ -297,10 +298,10 @@ instr_line (IStr bytes) names h = record {
   read = ap (λ found. option_map (λ bytes. IStr bytes) found) (bytes_again bytes h);
 }
 instr_line (ICset bytes) names h =
-    let parts = both (is_byte_text bytes) (ascends bytes) h in
+    let parts = and_parts (is_byte_text bytes) (ascends bytes) h in
     record { operand = Some (bytes_text bytes); spelled = refl; clean = bytes_clean bytes parts.0; read = cset_again bytes parts.0 parts.1 }
 instr_line (IVar k) names h =
-    let parts = both (nat_lt k names) (is_number k) h in
+    let parts = and_parts (nat_lt k names) (is_number k) h in
     record {
       operand = Some (decimal k);
       spelled = refl;

@@ -10,16 +10,16 @@ use Rattle.std.proofs.lemmas.Bool.{eqb-true}
 use Rattle.std.proofs.lemmas.Option.{none-some, same_Some}
 use Rattle.icn_tree.specs.declared.rule.Rule.{Rule}
 use Rattle.icn_tree.specs.declared.rule.Rule.TheVariants.{U1, U2, U3, U4, U5, U6}
-use Rattle.icn_tree.specs.Numbers.{is_nothing}
+use Rattle.icn_tree.specs.IntegerLiterals.{is_nothing}
 use Rattle.icn_unit.specs.declared.instr_word.InstrWord.{InstrWord}
 use Rattle.icn_unit.specs.declared.unit.NameKind.{NameKind}
 use Rattle.icn_unit.specs.declared.unit.NameKind.TheVariants.{Parameter, Local, Static, Undeclared}
 use Rattle.icn_unit.specs.declared.unit.UnitName.{UnitName}
 use Rattle.icn_unit.specs.InstrWords.{instr_word_of}
 use Rattle.icn_unit.specs.UnitOperands.{first_field, number_of, is_name}
-use Rattle.icn_unit.specs.PlainUnits.{Proc, entry_names, params_in, proc_names}
+use Rattle.icn_unit.specs.PlainUnits.{PlainProc, entry_names, params_in, proc_names}
 use Rattle.icn_unit.specs.UnitRules.{has_name, labels_placed, rank}
-use Rattle.icn_ucode.specs.UnitReading.{alone, with_heading, is_indented, Head, Stage, Heading, Outside, Naming, Coding, ProcsRead, empty_proc, collects_read, code_line, coding_line, each_line, end_line, entry_by, entry_named, entry_read, flag_of, head_by, head_read, instr_line, instr_of, is_repeated, kind_of, last_rank, naming_line, or_bad, outside_line, params_read, procs_end, procs_line, procs_of, stage_end, stage_line, then_step, with_entry, with_instr}
+use Rattle.icn_ucode.specs.UnitReading.{alone, with_heading, is_indented, UcodeHead, ProcStage, Heading, Outside, Naming, Coding, ProcsRead, empty_proc, collects_read, code_line, coding_line, each_line, end_line, entry_by, entry_named, entry_read, flag_of, head_by, head_read, instr_line, instr_of, is_repeated, kind_of, last_rank, naming_line, or_bad, outside_line, params_read, procs_end, procs_line, procs_of, stage_end, stage_line, then_step, with_entry, with_instr}
 use Rattle.icn_unit.specs.UnitTexts.{flag_text, instr_text, kind_text, name_text, proc_text, procs_text}
 use Rattle.icn_ucode.proofs.Spelling.{rest_text, cut_all, number_text, word_spelled, instr_spelled}
 
@@ -108,7 +108,7 @@ flag_spelled text flag e = by_zero (bytes_eq text (codes "0")) refl e where
   by_zero true t e = ap flag_text (sym (same_Some false flag e)) ∙ sym (same_text text (codes "0") (sym t))
   by_zero false t e = by_one (bytes_eq text (codes "1")) refl e
 
-collects_spelled : (name params : List ℕ) (collects : Option (List ℕ)) (head : Head) → collects_read name params collects ≡ Some head
+collects_spelled : (name params : List ℕ) (collects : Option (List ℕ)) (head : UcodeHead) → collects_read name params collects ≡ Some head
     → name ++ 32 ∷ params ++ rest_text collects ≡ head_line head.name head.params head.collects
 collects_spelled name params None head e = absurd (none-some head e)
 collects_spelled name params (Some text) head e =
@@ -117,16 +117,16 @@ collects_spelled name params (Some text) head e =
     let same = picked (is_name name && (not c.0 || nat_lt 0 p.0)) (record { name = name; params = p.0; collects = c.0 }) head c.2 in
     ap (λ xs. name ++ 32 ∷ xs ++ 32 ∷ text) (sym (number_text 4294967295 params p.0 p.1))
     ∙ (ap (λ xs. name ++ 32 ∷ decimal p.0 ++ 32 ∷ xs) (sym (flag_spelled text c.0 c.1))
-    ∙ ap (λ (head : Head). head_line head.name head.params head.collects) same)
+    ∙ ap (λ (head : UcodeHead). head_line head.name head.params head.collects) same)
 
-params_spelled : (name : List ℕ) (rest : Option (List ℕ)) (head : Head) → params_read name rest ≡ Some head
+params_spelled : (name : List ℕ) (rest : Option (List ℕ)) (head : UcodeHead) → params_read name rest ≡ Some head
     → name ++ rest_text rest ≡ head_line head.name head.params head.collects
 params_spelled name None head e = absurd (none-some head e)
 params_spelled name (Some text) head e =
     ap (λ xs. name ++ 32 ∷ xs) (cut_all text) ∙ (sym (append_assoc name (32 ∷ (first_field text).0) (rest_text (first_field text).1))
     ∙ collects_spelled name (first_field text).0 (first_field text).1 head e)
 
-head_spelled : (operand : Option (List ℕ)) (head : Head) → head_read operand ≡ Some head
+head_spelled : (operand : Option (List ℕ)) (head : UcodeHead) → head_read operand ≡ Some head
     → rest_text operand ≡ 32 ∷ head_line head.name head.params head.collects
 head_spelled None head e = absurd (none-some head e)
 head_spelled (Some text) head e = ap (λ xs. 32 ∷ xs) (cut_all text ∙ params_spelled (first_field text).0 (first_field text).1 head e)
@@ -175,10 +175,10 @@ entry_spelled names (Some text) entry e = ap (λ xs. 32 ∷ xs) (cut_all text �
 
 -- Procedures
 
-abbrev opened : ℕ → Proc → List ℕ
+abbrev opened : ℕ → PlainProc → List ℕ
 opened params proc = codes "proc" ++ 32 ∷ head_line proc.name params proc.collects ++ 10 ∷ flat_map name_text proc.names
 
-abbrev stage_spelled : List Proc → Stage → List ℕ
+abbrev stage_spelled : List PlainProc → ProcStage → List ℕ
 stage_spelled procs Heading = []
 stage_spelled procs Outside = procs_text procs
 stage_spelled procs (Naming params proc) = procs_text procs ++ opened params proc
@@ -187,7 +187,7 @@ stage_spelled procs (Coding proc) = procs_text procs ++ opened (params_in proc.n
 abbrev spelled_so_far : ProcsRead → List ℕ
 spelled_so_far read = stage_spelled read.procs read.stage
 
-abbrev StageGood : List Proc → Stage → Type 0
+abbrev StageGood : List PlainProc → ProcStage → Type 0
 StageGood procs Heading = procs ≡ []
 StageGood procs Outside = Unit {0}
 StageGood procs (Naming params proc) = proc.instrs ≡ []
@@ -200,7 +200,7 @@ IsGood read = StageGood read.procs read.stage
 abbrev Adds : List ℕ → List ℕ → ProcsRead → Type 0
 Adds text line next = IsGood next × (spelled_so_far next ≡ text ++ line ++ 10 ∷ [])
 
-proc_opened : (proc : Proc)
+proc_opened : (proc : PlainProc)
     → proc_text proc ≡ opened (params_in proc.names) proc ++ codes "code" ++ 10 ∷ flat_map instr_text proc.instrs ++ codes "end" ++ 10 ∷ []
 proc_opened proc =
     ap (λ x. x ++ codes "code" ++ 10 ∷ flat_map instr_text proc.instrs ++ codes "end" ++ 10 ∷ [])
@@ -229,12 +229,12 @@ pub heading_line : {A : Type 0} (heading line : List ℕ) (value next : A) → w
 heading_line heading line value next e =
     let found = headed_by heading (first_field line).0 (first_field line).1 value next e in (cut_all line ∙ found.0, found.1)
 
-heading_adds : (procs : List Proc) (line : List ℕ) (next : ProcsRead) → procs ≡ [] → stage_line procs Heading line ≡ Ok next → Adds [] line next
+heading_adds : (procs : List PlainProc) (line : List ℕ) (next : ProcsRead) → procs ≡ [] → stage_line procs Heading line ≡ Ok next → Adds [] line next
 heading_adds procs line next none e =
     let found = heading_line (codes "U9.1") line (record { procs = procs; stage = Outside }) next e in
     subst (λ (next : ProcsRead). Adds [] line next) found.1 (tt, ap procs_text none ∙ ap (λ l. l ++ 10 ∷ []) (sym found.0))
 
-outside_adds : (procs : List Proc) (word : List ℕ) (operand : Option (List ℕ)) (next : ProcsRead) → outside_line procs word operand ≡ Ok next
+outside_adds : (procs : List PlainProc) (word : List ℕ) (operand : Option (List ℕ)) (next : ProcsRead) → outside_line procs word operand ≡ Ok next
     → Adds (procs_text procs) (word ++ rest_text operand) next
 outside_adds procs word operand next e = by_word (bytes_eq word (codes "proc")) refl e where
   by_word : (test : Bool) → bytes_eq word (codes "proc") ≡ test
@@ -253,7 +253,7 @@ outside_adds procs word operand next e = by_word (bytes_eq word (codes "proc")) 
       (refl, ap (λ l. procs_text procs ++ (l ++ 10 ∷ [])) line ∙ sym (append_assoc (procs_text procs) (word ++ rest_text operand) (10 ∷ [])))
   by_word false t e = absurd (err_ok U1 next e)
 
-naming_adds : (procs : List Proc) (params : ℕ) (proc : Proc) (word : List ℕ) (operand : Option (List ℕ)) (next : ProcsRead) → proc.instrs ≡ []
+naming_adds : (procs : List PlainProc) (params : ℕ) (proc : PlainProc) (word : List ℕ) (operand : Option (List ℕ)) (next : ProcsRead) → proc.instrs ≡ []
     → naming_line procs params proc word operand ≡ Ok next
     → Adds (procs_text procs ++ opened params proc) (word ++ rest_text operand) next
 naming_adds procs params proc word operand next none e = by_name (bytes_eq word (codes "name")) refl e where
@@ -301,7 +301,8 @@ ending a f c b e =
 pub going : (a i w : List ℕ) → a ++ 10 ∷ (i ++ (w ++ 10 ∷ [])) ≡ ((a ++ 10 ∷ i) ++ w) ++ 10 ∷ []
 going a i w = sym (append_assoc (a ++ 10 ∷ i) w (10 ∷ []) ∙ append_assoc a (10 ∷ i) (w ++ 10 ∷ []))
 
-coding_adds : (procs : List Proc) (proc : Proc) (word : List ℕ) (operand : Option (List ℕ)) (next : ProcsRead) → coding_line procs proc word operand ≡ Ok next
+coding_adds : (procs : List PlainProc) (proc : PlainProc) (word : List ℕ) (operand : Option (List ℕ)) (next : ProcsRead)
+    → coding_line procs proc word operand ≡ Ok next
     → Adds (procs_text procs ++ opened (params_in proc.names) proc ++ codes "code" ++ 10 ∷ flat_map instr_text proc.instrs) (word ++ rest_text operand) next
 coding_adds procs proc word operand next e = by_end (bytes_eq word (codes "end")) refl e where
   ended : (operand : Option (List ℕ)) → word ≡ codes "end" → end_line procs proc operand ≡ Ok next
@@ -343,7 +344,7 @@ coding_adds procs proc word operand next e = by_end (bytes_eq word (codes "end")
   by_end true t e = ended operand (same_text word (codes "end") (sym t)) e
   by_end false t e = by_instr (instr_word_of word) refl e
 
-stage_adds : (procs : List Proc) (stage : Stage) (line : List ℕ) (next : ProcsRead) → StageGood procs stage → stage_line procs stage line ≡ Ok next
+stage_adds : (procs : List PlainProc) (stage : ProcStage) (line : List ℕ) (next : ProcsRead) → StageGood procs stage → stage_line procs stage line ≡ Ok next
     → Adds (stage_spelled procs stage) line next
 stage_adds procs Heading line next good e = heading_adds procs line next good e
 stage_adds procs Outside line next good e =
@@ -360,14 +361,15 @@ unfolding procs_line
 line_adds read line next good e =
     stage_adds read.procs read.stage line next good (not_chosen_step (is_indented line) (stage_line read.procs read.stage line) U3 next e)
 
-stage_whole : (procs : List Proc) (stage : Stage) (found : List Proc) → stage_end procs stage ≡ Ok found → stage_spelled procs stage ≡ procs_text found
+stage_whole : (procs : List PlainProc) (stage : ProcStage) (found : List PlainProc) → stage_end procs stage ≡ Ok found
+    → stage_spelled procs stage ≡ procs_text found
 stage_whole procs Heading found e = absurd (err_ok U1 found e)
 stage_whole procs Outside found e = ap procs_text (ok_same procs found e)
 stage_whole procs (Naming params proc) found e = absurd (err_ok U6 found e)
 stage_whole procs (Coding proc) found e = absurd (err_ok U6 found e)
 
 -- a text that is read as procedures is their spelling
-pub procs_spelled : (text : List ℕ) (procs : List Proc) → procs_of text ≡ Ok procs → procs_text procs ≡ text
+pub procs_spelled : (text : List ℕ) (procs : List PlainProc) → procs_of text ≡ Ok procs → procs_text procs ≡ text
 unfolding procs_of
 procs_spelled text procs e = by_read (each_line procs_line (record { procs = []; stage = Heading }) [] text) refl e where
   by_read : (found : Result ProcsRead Rule) → each_line procs_line (record { procs = []; stage = Heading }) [] text ≡ found

@@ -13,8 +13,8 @@ use Rattle.icn_unit.specs.UnitOperands.{bytes_of, hexadecimal_bytes, hexadecimal
 use Rattle.icn_unit.specs.UnitRules.{is_byte, is_byte_text, is_number}
 use Rattle.icn_unit.specs.UnitTexts.{byte_text, bytes_text, hexadecimal_digit, label_text}
 use Rattle.icn_unit.proofs.Decimals.{equal_texts, other_texts}
-use Rattle.icn_ucode.proofs.CleanWords.{all_of_both, clean, is_word_byte, word_byte}
-use Rattle.icn_ucode.proofs.Differing.{and_true, both}
+use Rattle.icn_ucode.proofs.CleanWords.{all_of_both, is_clean, is_word_byte, word_byte}
+use Rattle.icn_ucode.proofs.ListTests.{and_intro, and_parts}
 use Rattle.icn_ucode.proofs.KeptInstrs.{twice_as_long}
 
 -- Numbers
@@ -24,15 +24,15 @@ value_last n [] c = refl
 value_last n (b ∷ digits) c = value_last (n * 10 + (b - 48)) digits c
 
 abbrev IsDecimal : ℕ → List ℕ → Type 0
-IsDecimal n text = (value_from 0 text ≡ n) × (clean text ≡ true)
+IsDecimal n text = (value_from 0 text ≡ n) × (is_clean text ≡ true)
 
 one_digit : (n : ℕ) → n < 10 → IsDecimal n ((48 + n) ∷ [])
-one_digit n h = (omega arith, and_true (is_word_byte (48 + n)) true (word_byte (48 + n) (omega arith)) refl)
+one_digit n h = (omega arith, and_intro (is_word_byte (48 + n)) true (word_byte (48 + n) (omega arith)) refl)
 
 more_digits : (n : ℕ) (text : List ℕ) → 10 ≤ n → IsDecimal (n / 10) text → IsDecimal n (text ++ (48 + n % 10) ∷ [])
 more_digits n text h is = (
   value_last 0 text (48 + n % 10) ∙ (ap (λ m. m * 10 + (48 + n % 10 - 48)) is.0 ∙ omega arith),
-  all_of_both is_word_byte text ((48 + n % 10) ∷ []) is.1 (and_true (is_word_byte (48 + n % 10)) true (word_byte (48 + n % 10) (omega arith)) refl),
+  all_of_both is_word_byte text ((48 + n % 10) ∷ []) is.1 (and_intro (is_word_byte (48 + n % 10)) true (word_byte (48 + n % 10) (omega arith)) refl),
 )
 
 decimal_is : (n : ℕ) → n < 2 ^ 64 → IsDecimal n (decimal n)
@@ -45,9 +45,9 @@ pub number_again : (greatest n : ℕ) → nat_le n greatest ≡ true → greates
 number_again greatest n h g =
     ap (λ v. cond (nat_le v greatest && bytes_eq (decimal v) (decimal n)) (Some v) None) (decimal_is n (small n greatest h g)).0
     ∙ cond-true (nat_le n greatest && bytes_eq (decimal n) (decimal n))
-    _ _ (and_true (nat_le n greatest) (bytes_eq (decimal n) (decimal n)) h (equal_texts (decimal n) (decimal n) refl))
+    _ _ (and_intro (nat_le n greatest) (bytes_eq (decimal n) (decimal n)) h (equal_texts (decimal n) (decimal n) refl))
 
-pub decimal_clean : (greatest n : ℕ) → nat_le n greatest ≡ true → greatest ≤ 9223372036854775807 → clean (decimal n) ≡ true
+pub decimal_clean : (greatest n : ℕ) → nat_le n greatest ≡ true → greatest ≤ 9223372036854775807 → is_clean (decimal n) ≡ true
 decimal_clean greatest n h g = (decimal_is n (small n greatest h g)).1
 
 largest : 4294967295 ≤ 9223372036854775807
@@ -56,13 +56,13 @@ largest = omega arith
 pub small_again : (n : ℕ) → is_number n ≡ true → number_of 4294967295 (decimal n) ≡ Some n
 small_again n h = number_again 4294967295 n h largest
 
-pub small_clean : (n : ℕ) → is_number n ≡ true → clean (decimal n) ≡ true
+pub small_clean : (n : ℕ) → is_number n ≡ true → is_clean (decimal n) ≡ true
 small_clean n h = decimal_clean 4294967295 n h largest
 
 pub label_again : (n : ℕ) → is_number n ≡ true → label_of (label_text n) ≡ Some n
 label_again n h = small_again n h
 
-pub label_clean : (n : ℕ) → is_number n ≡ true → clean (label_text n) ≡ true
+pub label_clean : (n : ℕ) → is_number n ≡ true → is_clean (label_text n) ≡ true
 label_clean n h = small_clean n h
 
 -- Bytes
@@ -95,7 +95,7 @@ digit_read n h = by_small (nat_lt n 10) refl where
 
 byte_read : (a b : ℕ) (text : List ℕ) → is_hexadecimal a ≡ true → is_hexadecimal b ≡ true
     → hexadecimal_bytes (a ∷ b ∷ text) ≡ option_map (λ bytes. (hexadecimal_value a * 16 + hexadecimal_value b) ∷ bytes) (hexadecimal_bytes text)
-byte_read a b text h g = cond-true (is_hexadecimal a && is_hexadecimal b) _ _ (and_true (is_hexadecimal a) (is_hexadecimal b) h g)
+byte_read a b text h g = cond-true (is_hexadecimal a && is_hexadecimal b) _ _ (and_intro (is_hexadecimal a) (is_hexadecimal b) h g)
 
 below_256 : (b : ℕ) → is_byte b ≡ true → b < 256
 below_256 b h = grind (arith, nat_tests)
@@ -103,7 +103,7 @@ below_256 b h = grind (arith, nat_tests)
 hexadecimal_again : (bytes : List ℕ) → list_all is_byte bytes ≡ true → hexadecimal_bytes (flat_map byte_text bytes) ≡ Some bytes
 hexadecimal_again [] h = refl
 hexadecimal_again (b ∷ bytes) h =
-    let parts = both (is_byte b) (list_all is_byte bytes) h in
+    let parts = and_parts (is_byte b) (list_all is_byte bytes) h in
     let less = below_256 b parts.0 in
     let high = digit_read (b / 16) (omega (arith, less)) in
     let low = digit_read (b % 16) (omega arith) in
@@ -114,16 +114,16 @@ hexadecimal_again (b ∷ bytes) h =
     ∙ (ap (λ v. Some ((v * 16 + hexadecimal_value (hexadecimal_digit (b % 16))) ∷ bytes)) high.1
     ∙ (ap (λ v. Some ((b / 16 * 16 + v) ∷ bytes)) low.1 ∙ ap (λ v. Some (v ∷ bytes)) whole)))
 
-hexadecimal_clean : (bytes : List ℕ) → list_all is_byte bytes ≡ true → clean (flat_map byte_text bytes) ≡ true
+hexadecimal_clean : (bytes : List ℕ) → list_all is_byte bytes ≡ true → is_clean (flat_map byte_text bytes) ≡ true
 hexadecimal_clean [] h = refl
 hexadecimal_clean (b ∷ bytes) h =
-    let parts = both (is_byte b) (list_all is_byte bytes) h in
+    let parts = and_parts (is_byte b) (list_all is_byte bytes) h in
     let less = below_256 b parts.0 in
     let high = digit_read (b / 16) (omega (arith, less)) in
     let low = digit_read (b % 16) (omega arith) in
-    and_true (is_word_byte (hexadecimal_digit (b / 16))) (clean (hexadecimal_digit (b % 16) ∷ flat_map byte_text bytes))
+    and_intro (is_word_byte (hexadecimal_digit (b / 16))) (is_clean (hexadecimal_digit (b % 16) ∷ flat_map byte_text bytes))
     (word_byte (hexadecimal_digit (b / 16)) (omega (arith, high.2)))
-    (and_true (is_word_byte (hexadecimal_digit (b % 16))) (clean (flat_map byte_text bytes)) (word_byte (hexadecimal_digit (b % 16)) (omega (arith, low.2)))
+    (and_intro (is_word_byte (hexadecimal_digit (b % 16))) (is_clean (flat_map byte_text bytes)) (word_byte (hexadecimal_digit (b % 16)) (omega (arith, low.2)))
     (hexadecimal_clean bytes parts.1))
 
 no_dash : (text : List ℕ) → 2 ≤ length text → bytes_eq text (codes "-") ≡ false
@@ -133,7 +133,7 @@ some_bytes : (text bytes : List ℕ) → hexadecimal_bytes text ≡ Some bytes �
 some_bytes text bytes e h g =
     let least : nat_le 1 (length text) ≡ true = grind (arith, nat_tests, h) in
     cond-false (bytes_eq text (codes "-")) _ _ (no_dash text h)
-    ∙ (cond-true (nat_le 1 (length text) && nat_le (length text) 131070) _ _ (and_true (nat_le 1 (length text)) (nat_le (length text) 131070) least g) ∙ e)
+    ∙ (cond-true (nat_le 1 (length text) && nat_le (length text) 131070) _ _ (and_intro (nat_le 1 (length text)) (nat_le (length text) 131070) least g) ∙ e)
 
 long_enough : (bytes : List ℕ) → nat_le (length bytes) 65535 ≡ true → nat_le (length (flat_map byte_text bytes)) 131070 ≡ true
 long_enough bytes h = let twice = twice_as_long bytes in grind (arith, nat_tests, twice)
@@ -141,9 +141,9 @@ long_enough bytes h = let twice = twice_as_long bytes in grind (arith, nat_tests
 pub bytes_again : (bytes : List ℕ) → is_byte_text bytes ≡ true → bytes_of (bytes_text bytes) ≡ Some bytes
 bytes_again [] h = refl
 bytes_again (b ∷ bytes) h =
-    let parts = both (list_all is_byte (b ∷ bytes)) (nat_le (length (b ∷ bytes)) 65535) h in
+    let parts = and_parts (list_all is_byte (b ∷ bytes)) (nat_le (length (b ∷ bytes)) 65535) h in
     some_bytes (flat_map byte_text (b ∷ bytes)) (b ∷ bytes) (hexadecimal_again (b ∷ bytes) parts.0) (omega arith) (long_enough (b ∷ bytes) parts.1)
 
-pub bytes_clean : (bytes : List ℕ) → is_byte_text bytes ≡ true → clean (bytes_text bytes) ≡ true
+pub bytes_clean : (bytes : List ℕ) → is_byte_text bytes ≡ true → is_clean (bytes_text bytes) ≡ true
 bytes_clean [] h = refl
-bytes_clean (b ∷ bytes) h = hexadecimal_clean (b ∷ bytes) (both (list_all is_byte (b ∷ bytes)) (nat_le (length (b ∷ bytes)) 65535) h).0
+bytes_clean (b ∷ bytes) h = hexadecimal_clean (b ∷ bytes) (and_parts (list_all is_byte (b ∷ bytes)) (nat_le (length (b ∷ bytes)) 65535) h).0

@@ -14,7 +14,7 @@ use Rattle.icn_text.specs.declared.op.TheConstants.Op.{ALL as ops}
 use Rattle.icn_text.specs.Keywords.{keyword_name}
 use Rattle.icn_text.specs.Ops.{op_number}
 use Rattle.icn_defs.specs.Numbers.{op_of}
-use Rattle.icn_defs.proofs.FoundFacts.{numbered}
+use Rattle.icn_defs.proofs.FoundFacts.{found_number}
 use Rattle.icn_tree.specs.Spellings.{lookup_text}
 use Rattle.icn_unit.specs.declared.instr_word.InstrWord.{InstrWord}
 use Rattle.icn_unit.specs.declared.instr_word.InstrWord.TheVariants.{Pnull, Int, Str, Cset, Var, Keywd, Pop, Dup, Op, Llist, Field, Invoke, Appl, Mark, Mark0, Unmark, Eret, Esusp, Limit, Lsusp, Efail, Chfail, Goto, Loop, Bscan, Escan, Ccase, Init, Psusp, Pret, Pfail, Create, Coact, Coret, Cofail, Lab}
@@ -25,7 +25,7 @@ use Rattle.icn_ucode.specs.UnitReading.{instr_of, operand_instr}
 use Rattle.icn_tree.specs.ByteSets.{members_below, members_of}
 use Rattle.icn_tree.specs.Characters.{is_digit, is_between}
 use Rattle.icn_unit.specs.UnitOperands.{first_field, behind, is_inside, number_of, value_from, label_of, is_hexadecimal, hexadecimal_value, hexadecimal_bytes, bytes_of, ascends, is_name, keyword_of, keywords}
-use Rattle.icn_ucode.proofs.Differing.{both}
+use Rattle.icn_ucode.proofs.ListTests.{and_parts}
 use Rattle.icn_unit.specs.UnitTexts.{hexadecimal_digit, byte_text, bytes_text, label_text, operand_text}
 
 abbrev pub rest_text : Option (List ℕ) → List ℕ
@@ -50,7 +50,7 @@ found_if false x y e = absurd (none-some y e)
 pub number_text : (greatest : ℕ) (text : List ℕ) (n : ℕ) → number_of greatest text ≡ Some n → decimal n ≡ text
 number_text greatest text n e =
     let found = found_if (nat_le (value_from 0 text) greatest && bytes_eq (decimal (value_from 0 text)) text) (value_from 0 text) n e in
-    let same = (both (nat_le (value_from 0 text) greatest) (bytes_eq (decimal (value_from 0 text)) text) found.0).1 in
+    let same = (and_parts (nat_le (value_from 0 text) greatest) (bytes_eq (decimal (value_from 0 text)) text) found.0).1 in
     ap decimal (sym found.1) ∙ same_text (decimal (value_from 0 text)) text (sym same)
 
 pub label_spelled : (text : List ℕ) (n : ℕ) → label_of text ≡ Some n → label_text n ≡ text
@@ -101,7 +101,7 @@ hexadecimal_spelled (a ∷ b ∷ rest) bytes e =
           → cond test (option_map (λ more. (hexadecimal_value a * 16 + hexadecimal_value b) ∷ more) found) None ≡ Some bytes
           → (flat_map byte_text bytes ≡ a ∷ b ∷ rest) × AreBytes bytes
       by_test true t (Some more) f later e =
-          let parts = both (is_hexadecimal a) (is_hexadecimal b) t in
+          let parts = and_parts (is_hexadecimal a) (is_hexadecimal b) t in
           let below = later more f in
           let small : hexadecimal_value a * 16 + hexadecimal_value b < 256 = omega (arith, (digit_again a parts.0).1, (digit_again b parts.1).1) in
           subst (λ (bytes : List ℕ). (flat_map byte_text bytes ≡ a ∷ b ∷ rest) × AreBytes bytes) (same_Some _ bytes e)
@@ -119,7 +119,7 @@ bytes_spelled text bytes e = by_dash (bytes_eq text (codes "-")) refl e where
       → (bytes_text bytes ≡ text) × AreBytes bytes
   by_len true t e =
       let found = hexadecimal_spelled text bytes e in
-      let some : nat_le 1 (length text) ≡ true = (both (nat_le 1 (length text)) (nat_le (length text) 131070) t).0 in
+      let some : nat_le 1 (length text) ≡ true = (and_parts (nat_le 1 (length text)) (nat_le (length text) 131070) t).0 in
       let long : 1 ≤ length text = grind (arith, nat_tests) in
       (some_text bytes (omega (arith, ap length found.0)) ∙ found.0, found.1)
   by_len false t e = absurd (none-some bytes e)
@@ -161,13 +161,13 @@ lt_of a b h = grind (arith, nat_tests)
 from_next : (b : ℕ) (rest : List ℕ) → ascends (b ∷ rest) ≡ true → AreFrom (suc b) rest
 from_next b [] h = tt
 from_next b (c ∷ rest) h =
-    let parts = both (nat_lt b c) (ascends (c ∷ rest)) h in
+    let parts = and_parts (nat_lt b c) (ascends (c ∷ rest)) h in
     let less = lt_of b c parts.0 in
     (omega (arith, less), lower (suc b) (suc c) rest (omega (arith, less)) (from_next c rest parts.1))
 
 ascends_rest : (b : ℕ) (rest : List ℕ) → ascends (b ∷ rest) ≡ true → ascends rest ≡ true
 ascends_rest b [] h = refl
-ascends_rest b (c ∷ rest) h = (both (nat_lt b c) (ascends (c ∷ rest)) h).1
+ascends_rest b (c ∷ rest) h = (and_parts (nat_lt b c) (ascends (c ∷ rest)) h).1
 
 none_below : (n : ℕ) (bytes : List ℕ) → AreFrom n bytes → below n bytes ≡ []
 unfolding below
@@ -346,7 +346,7 @@ chained : (text : List ℕ) (found : Option ℕ) (instr : UnitInstr) → number_
 chained text None instr f e = absurd (none-some instr e)
 chained text (Some n) instr f e =
     mapped Op text (λ op. IOp op) (λ op. decimal (op_number op)) (op_of n) instr
-    (λ op o. ap decimal (numbered op_number ops n op o) ∙ number_text 4294967295 text n f) (λ op. refl) e
+    (λ op o. ap decimal (found_number op_number ops n op o) ∙ number_text 4294967295 text n f) (λ op. refl) e
 
 named : (text : List ℕ) (instr : UnitInstr) (test : Bool) → cond test (Some (IField text)) None ≡ Some instr → SpelledBy Field (32 ∷ text) instr
 named text instr true e = same_instr Field (32 ∷ text) (IField text) instr e refl

@@ -2,13 +2,13 @@
 use Rattle.std.specs.Prelude.{◌≡◌, ℕ, List, [], ◌∷◌, map, if◌then◌else◌, Option, Some, None, Result, Ok, Err, Vec}
 use Rattle.std.specs.Str.{bytes_eq}
 use Rattle.icn_tree.specs.declared.rule.Rule.{Rule}
-use Rattle.icn_unit.specs.declared.fault.Stop.{Stop}
+use Rattle.icn_unit.specs.declared.fault.UnitStop.{UnitStop}
 use Rattle.icn_unit.specs.declared.fault.UcodeFault.{UcodeFault}
 use Rattle.icn_unit.specs.declared.fault.UcodeFault.TheVariants.{Broken, NoMemory}
 use Rattle.icn_unit.specs.declared.unit.ProcCode.{ProcCode}
 use Rattle.icn_unit.specs.declared.unit.Unit.{Unit as UnitCode}
 use Rattle.icn_unit.specs.declared.unit.UnitDecl.{UnitDecl}
-use Rattle.icn_unit.specs.PlainUnits.{Decl}
+use Rattle.icn_unit.specs.PlainUnits.{PlainDecl}
 use Rattle.icn_unit.specs.UnitViews.{decl_seen, proc_seen}
 use Rattle.icn_ucode.specs.declared.decl_lists.DeclReading.{DeclReading}
 use Rattle.icn_ucode.specs.declared.decl_lists.DeclStage.{DeclStage as StageRead}
@@ -26,12 +26,12 @@ reading_seen reading =
     record { decls = map decl_seen reading.decls.decls.items; stage = stage_seen reading.stage }
 
 -- a line leads there, or breaks this rule
-abbrev pub LineIs : Result DeclReading Stop → Result DeclsRead Rule → Type 0
+abbrev pub LineIs : Result DeclReading UnitStop → Result DeclsRead Rule → Type 0
 LineIs (Ok reading) found = found ≡ Ok (reading_seen reading)
 LineIs (Err stop) found = StopIs stop found
 
 -- the declarations that the definition finds, or the rule that it finds broken; or memory was wanting
-abbrev pub DeclsAre : {Z : Type 0} → Result (Vec UnitDecl Z) Stop → Result (List Decl) Rule → Type 0
+abbrev pub DeclsAre : {Z : Type 0} → Result (Vec UnitDecl Z) UnitStop → Result (List PlainDecl) Rule → Type 0
 DeclsAre (Ok decls) found = found ≡ Ok (map decl_seen decls.items)
 DeclsAre (Err stop) found = StopIs stop found
 

@@ -2,10 +2,10 @@
 use Rattle.std.specs.Prelude.{ℕ, Bool, true, false, nat_eq, Option, None, Some, if◌then◌else◌}
 use Rattle.std.specs.Option.{option_map_or}
 use Rattle.std.specs.HashSet.{contains}
-use Rattle.icn_ucode.specs.declared.labels.Labels.{Labels}
+use Rattle.icn_ucode.specs.declared.labels.LabelSet.{LabelSet}
 
 -- a label is in the set
-abbrev pub holds : Labels → ℕ → Bool
+abbrev pub holds : LabelSet → ℕ → Bool
 holds labels label = contains nat_eq labels.labels label
 
 -- no label is in the set

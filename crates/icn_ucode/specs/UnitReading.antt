@@ -7,7 +7,7 @@ use Rattle.icn_defs.specs.Numbers.{op_of}
 use Rattle.icn_tree.specs.declared.rule.Rule.{Rule}
 use Rattle.icn_tree.specs.declared.rule.Rule.TheVariants.{U1, U2, U3, U4, U5, U6, U7}
 use Rattle.icn_tree.specs.ByteSets.{members_of}
-use Rattle.icn_tree.specs.Numbers.{is_nothing}
+use Rattle.icn_tree.specs.IntegerLiterals.{is_nothing}
 use Rattle.icn_unit.specs.declared.instr_word.InstrWord.{InstrWord}
 use Rattle.icn_unit.specs.declared.instr_word.InstrWord.TheVariants.{Int as WordInt, Str as WordStr, Cset as WordCset, Var as WordVar, Keywd as WordKeywd, Op as WordOp, Field as WordField, Llist as WordLlist, Invoke as WordInvoke}
 use Rattle.icn_unit.specs.declared.unit.UnitInstr.{UnitInstr}
@@ -16,7 +16,7 @@ use Rattle.icn_unit.specs.declared.unit.NameKind.{NameKind}
 use Rattle.icn_unit.specs.declared.unit.NameKind.TheVariants.{Parameter, Local, Static, Undeclared}
 use Rattle.icn_unit.specs.declared.unit.UnitName.{UnitName}
 use Rattle.icn_unit.specs.InstrWords.{instr_word_of, alone_of, labelled_of}
-use Rattle.icn_unit.specs.PlainUnits.{Proc, Decl, Global, Procedure, Link, Record, UnitRead, params_in, proc_names, entry_names, owned_names}
+use Rattle.icn_unit.specs.PlainUnits.{PlainProc, PlainDecl, Global, Procedure, Link, Record, UnitRead, params_in, proc_names, entry_names, owned_names}
 use Rattle.icn_unit.specs.UnitOperands.{first_field, number_of, label_of, is_name, bytes_of, ascends, keyword_of}
 use Rattle.icn_unit.specs.UnitRules.{has_name, has_label, labels_placed, own_label, placed_labels, rank, same_names}
 
@@ -74,7 +74,7 @@ is_repeated instrs instr =
 
 -- Procedures
 
-pub record Head : Type 0 where
+pub record UcodeHead : Type 0 where
   pub name : List ℕ
   pub params : ℕ
   pub collects : Bool
@@ -84,22 +84,22 @@ flag_of text =
     if bytes_eq text (codes "0") then Some false else (if bytes_eq text (codes "1") then Some true else None)
 
 -- a last parameter collects only where there is one
-abbrev pub head_by : List ℕ → ℕ → Bool → Option Head
+abbrev pub head_by : List ℕ → ℕ → Bool → Option UcodeHead
 head_by name params collects = if is_name name && (not collects || nat_lt 0 params)
     then Some (record { name = name; params = params; collects = collects }) else None
 
-abbrev pub collects_read : List ℕ → List ℕ → Option (List ℕ) → Option Head
+abbrev pub collects_read : List ℕ → List ℕ → Option (List ℕ) → Option UcodeHead
 collects_read name params None = None
 collects_read name params (Some collects) =
     option_and_then (λ p. option_and_then (λ c. head_by name p c) (flag_of collects))
     (number_of greatest_number params)
 
-abbrev pub params_read : List ℕ → Option (List ℕ) → Option Head
+abbrev pub params_read : List ℕ → Option (List ℕ) → Option UcodeHead
 params_read name None = None
 params_read name (Some text) = let words = first_field text in collects_read name words.0 words.1
 
 -- `NAME P C`
-abbrev pub head_read : Option (List ℕ) → Option Head
+abbrev pub head_read : Option (List ℕ) → Option UcodeHead
 head_read None = None
 head_read (Some text) = let words = first_field text in params_read words.0 words.1
 
@@ -126,58 +126,59 @@ entry_read names None = None
 entry_read names (Some text) = let words = first_field text in entry_named names words.0 words.1
 
 -- what the lines so far come to, and what the next may be: the heading, a procedure, a name or an instruction of one
-pub data Stage : Type 0 where
-  Heading : Stage
-  Outside : Stage
-  Naming : ℕ → Proc → Stage
-  Coding : Proc → Stage
+pub data ProcStage : Type 0 where
+  Heading : ProcStage
+  Outside : ProcStage
+  Naming : ℕ → PlainProc → ProcStage
+  Coding : PlainProc → ProcStage
 
 pub record ProcsRead : Type 0 where
-  pub procs : List Proc
-  pub stage : Stage
+  pub procs : List PlainProc
+  pub stage : ProcStage
 
 -- a procedure of which only the head was read
-abbrev pub empty_proc : Head → Proc
+abbrev pub empty_proc : UcodeHead → PlainProc
 empty_proc head = record { name = head.name; collects = head.collects; names = []; instrs = [] }
 
-abbrev pub outside_line : List Proc → List ℕ → Option (List ℕ) → Result ProcsRead Rule
+abbrev pub outside_line : List PlainProc → List ℕ → Option (List ℕ) → Result ProcsRead Rule
 outside_line procs word operand =
     if bytes_eq word (codes "proc")
     then or_bad (head_read operand) (λ head. if has_name (proc_names procs) head.name then Err U3
     else Ok (record { procs = procs; stage = Naming head.params (empty_proc head) }))
     else Err U1
 
-abbrev pub code_line : List Proc → ℕ → Proc → Option (List ℕ) → Result ProcsRead Rule
+abbrev pub code_line : List PlainProc → ℕ → PlainProc → Option (List ℕ) → Result ProcsRead Rule
 code_line procs params proc None =
     if params_in proc.names == params then Ok (record { procs = procs; stage = Coding proc }) else Err U3
 code_line procs params proc (Some text) = Err U3
 
 -- the procedure with one name more
-abbrev pub with_entry : Proc → UnitName → Proc
+abbrev pub with_entry : PlainProc → UnitName → PlainProc
 with_entry proc entry = record proc { names = proc.names ++ entry ∷ [] }
 
-abbrev pub naming_line : List Proc → ℕ → Proc → List ℕ → Option (List ℕ) → Result ProcsRead Rule
+abbrev pub naming_line : List PlainProc → ℕ → PlainProc → List ℕ → Option (List ℕ) → Result ProcsRead Rule
 naming_line procs params proc word operand =
     if bytes_eq word (codes "name") then or_bad (entry_read proc.names operand)
     (λ entry. Ok (record { procs = procs; stage = Naming params (with_entry proc entry) }))
     else (if bytes_eq word (codes "code") then code_line procs params proc operand else Err U1)
 
-abbrev pub end_line : List Proc → Proc → Option (List ℕ) → Result ProcsRead Rule
+abbrev pub end_line : List PlainProc → PlainProc → Option (List ℕ) → Result ProcsRead Rule
 end_line procs proc None =
     if labels_placed proc.instrs then Ok (record { procs = procs ++ proc ∷ []; stage = Outside }) else Err U4
 end_line procs proc (Some text) = Err U3
 
 -- the procedure with one instruction more
-abbrev pub with_instr : Proc → UnitInstr → Proc
+abbrev pub with_instr : PlainProc → UnitInstr → PlainProc
 with_instr proc instr = record proc { instrs = proc.instrs ++ instr ∷ [] }
 
-abbrev pub instr_line : List Proc → Proc → Option InstrWord → Option (List ℕ) → Result ProcsRead Rule
+abbrev pub instr_line : List PlainProc → PlainProc → Option InstrWord → Option (List ℕ)
+    → Result ProcsRead Rule
 instr_line procs proc None operand = Err U2
 instr_line procs proc (Some word) operand =
     or_bad (instr_of word operand (length proc.names)) (λ instr. if is_repeated proc.instrs instr then Err U5
     else Ok (record { procs = procs; stage = Coding (with_instr proc instr) }))
 
-abbrev pub coding_line : List Proc → Proc → List ℕ → Option (List ℕ) → Result ProcsRead Rule
+abbrev pub coding_line : List PlainProc → PlainProc → List ℕ → Option (List ℕ) → Result ProcsRead Rule
 coding_line procs proc word operand = if bytes_eq word (codes "end") then end_line procs proc operand
     else instr_line procs proc (instr_word_of word) operand
 
@@ -190,7 +191,7 @@ alone (Some text) value = Err U3
 abbrev pub with_heading : {B : Type 0} → List ℕ → List ℕ → Option (List ℕ) → B → Result B Rule
 with_heading heading word operand value = if bytes_eq word heading then alone operand value else Err U1
 
-abbrev pub stage_line : List Proc → Stage → List ℕ → Result ProcsRead Rule
+abbrev pub stage_line : List PlainProc → ProcStage → List ℕ → Result ProcsRead Rule
 stage_line procs Heading line = let words = first_field line in
     with_heading (codes "U9.1") words.0 words.1 (record { procs = procs; stage = Outside })
 stage_line procs Outside line = let words = first_field line in outside_line procs words.0 words.1
@@ -202,17 +203,17 @@ unfoldable pub procs_line : ProcsRead → List ℕ → Result ProcsRead Rule
 procs_line read line = if is_indented line then Err U3 else stage_line read.procs read.stage line
 
 -- what stands at the end of the text
-abbrev pub stage_end : List Proc → Stage → Result (List Proc) Rule
+abbrev pub stage_end : List PlainProc → ProcStage → Result (List PlainProc) Rule
 stage_end procs Heading = Err U1
 stage_end procs Outside = Ok procs
 stage_end procs (Naming params proc) = Err U6
 stage_end procs (Coding proc) = Err U6
 
-abbrev pub procs_end : ProcsRead → Result (List Proc) Rule
+abbrev pub procs_end : ProcsRead → Result (List PlainProc) Rule
 procs_end read = stage_end read.procs read.stage
 
 -- the procedures of a first text, or the rule of its first fault
-unfoldable pub procs_of : List ℕ → Result (List Proc) Rule
+unfoldable pub procs_of : List ℕ → Result (List PlainProc) Rule
 procs_of text = then_step (each_line procs_line (record { procs = []; stage = Heading }) [] text) procs_end
 
 -- Declarations
@@ -240,23 +241,23 @@ abbrev pub bytes_read : Option (List ℕ) → Option (List ℕ)
 bytes_read None = None
 bytes_read (Some text) = bytes_of text
 
-abbrev pub global_read : Option (List ℕ) → Option Decl
+abbrev pub global_read : Option (List ℕ) → Option PlainDecl
 global_read operand = option_map (λ name. Global name) (name_read operand)
 
-abbrev pub link_read : Option (List ℕ) → Option Decl
+abbrev pub link_read : Option (List ℕ) → Option PlainDecl
 link_read operand = option_map (λ bytes. Link bytes) (bytes_read operand)
 
-abbrev pub record_by : List (List ℕ) → List Decl → List ℕ → Option (List ℕ) → Option Decl
+abbrev pub record_by : List (List ℕ) → List PlainDecl → List ℕ → Option (List ℕ) → Option PlainDecl
 record_by procs decls name rest =
     if is_name name && not (has_name procs name) && not (has_name (owned_names decls) name)
     then option_map (λ fields. Record name fields) (fields_read rest) else None
 
 -- `NAME` and its fields, where procedures have names
-abbrev pub record_read : List (List ℕ) → List Decl → Option (List ℕ) → Option Decl
+abbrev pub record_read : List (List ℕ) → List PlainDecl → Option (List ℕ) → Option PlainDecl
 record_read procs decls None = None
 record_read procs decls (Some text) = let words = first_field text in record_by procs decls words.0 words.1
 
-abbrev pub procedure_read : List Decl → Option (List ℕ) → Option Decl
+abbrev pub procedure_read : List PlainDecl → Option (List ℕ) → Option PlainDecl
 procedure_read decls operand =
     option_and_then (λ name. if has_name (owned_names decls) name then None else Some (Procedure name))
     (name_read operand)
@@ -267,17 +268,17 @@ pub data DeclStage : Type 0 where
   Ended : DeclStage
 
 pub record DeclsRead : Type 0 where
-  pub decls : List Decl
+  pub decls : List PlainDecl
   pub stage : DeclStage
 
-abbrev pub with_decl : List Decl → Decl → Result DeclsRead Rule
+abbrev pub with_decl : List PlainDecl → PlainDecl → Result DeclsRead Rule
 with_decl decls decl = Ok (record { decls = decls ++ decl ∷ []; stage = Declaring })
 
-abbrev pub ended_line : List Decl → Option (List ℕ) → Result DeclsRead Rule
+abbrev pub ended_line : List PlainDecl → Option (List ℕ) → Result DeclsRead Rule
 ended_line decls None = Ok (record { decls = decls; stage = Ended })
 ended_line decls (Some text) = Err U3
 
-abbrev pub declaring_line : List (List ℕ) → List Decl → List ℕ → Option (List ℕ) → Result DeclsRead Rule
+abbrev pub declaring_line : List (List ℕ) → List PlainDecl → List ℕ → Option (List ℕ) → Result DeclsRead Rule
 declaring_line procs decls word operand =
     if bytes_eq word (codes "global") then or_bad (global_read operand) (with_decl decls)
     else (if bytes_eq word (codes "proc") then or_bad (procedure_read decls operand) (with_decl decls)
@@ -285,7 +286,7 @@ declaring_line procs decls word operand =
     else (if bytes_eq word (codes "record") then or_bad (record_read procs decls operand) (with_decl decls)
     else (if bytes_eq word (codes "end") then ended_line decls operand else Err U1))))
 
-abbrev pub decl_stage_line : List (List ℕ) → List Decl → DeclStage → List ℕ → Result DeclsRead Rule
+abbrev pub decl_stage_line : List (List ℕ) → List PlainDecl → DeclStage → List ℕ → Result DeclsRead Rule
 decl_stage_line procs decls DeclHeading line = let words = first_field line in
     with_heading (codes "U9.2") words.0 words.1 (record { decls = decls; stage = Declaring })
 decl_stage_line procs decls Declaring line =
@@ -297,16 +298,16 @@ unfoldable pub decls_line : List (List ℕ) → DeclsRead → List ℕ → Resul
 decls_line procs read line =
     if is_indented line then Err U3 else decl_stage_line procs read.decls read.stage line
 
-abbrev pub decl_stage_end : List Decl → DeclStage → Result (List Decl) Rule
+abbrev pub decl_stage_end : List PlainDecl → DeclStage → Result (List PlainDecl) Rule
 decl_stage_end decls DeclHeading = Err U1
 decl_stage_end decls Declaring = Err U6
 decl_stage_end decls Ended = Ok decls
 
-abbrev pub decls_end : DeclsRead → Result (List Decl) Rule
+abbrev pub decls_end : DeclsRead → Result (List PlainDecl) Rule
 decls_end read = decl_stage_end read.decls read.stage
 
 -- the declarations of a second text, beside these procedures; or the rule of its first fault
-unfoldable pub decls_of : List (List ℕ) → List ℕ → Result (List Decl) Rule
+unfoldable pub decls_of : List (List ℕ) → List ℕ → Result (List PlainDecl) Rule
 decls_of procs text =
     then_step (each_line (decls_line procs) (record { decls = []; stage = DeclHeading }) [] text) decls_end
 
@@ -317,15 +318,15 @@ pub data UnitOutcome : Type 0 where
   Whole : UnitRead → UnitOutcome
   Faulty : Rule → Bool → UnitOutcome
 
-abbrev pub matched_unit : List ℕ → List Proc → List Decl → UnitOutcome
+abbrev pub matched_unit : List ℕ → List PlainProc → List PlainDecl → UnitOutcome
 matched_unit name procs decls = if same_names procs decls
     then Whole (record { name = name; procs = procs; decls = decls }) else Faulty U7 true
 
-abbrev pub with_decls : List ℕ → List Proc → Result (List Decl) Rule → UnitOutcome
+abbrev pub with_decls : List ℕ → List PlainProc → Result (List PlainDecl) Rule → UnitOutcome
 with_decls name procs (Err rule) = Faulty rule true
 with_decls name procs (Ok decls) = matched_unit name procs decls
 
-abbrev pub with_procs : List ℕ → Result (List Proc) Rule → List ℕ → UnitOutcome
+abbrev pub with_procs : List ℕ → Result (List PlainProc) Rule → List ℕ → UnitOutcome
 with_procs name (Err rule) u2 = Faulty rule false
 with_procs name (Ok procs) u2 = with_decls name procs (decls_of (proc_names procs) u2)
 

@@ -62,18 +62,18 @@ impl<'a> Decls<'a> {
 
 // The fields of a record so far.
 #[derive(Drop)]
-pub struct Fields<'a> {
+pub struct RecordFields<'a> {
     pub fields: Vec<Bytes>,
     names: NameSet<'a>,
     ghost known: { has names ≡ has_name fields.items },
 }
 
-impl<'a> Fields<'a> {
+impl<'a> RecordFields<'a> {
     // None.
     pub fn new(alloc: Global) -> Self
         ensures { result.fields.items ≡ [] }
     {
-        Fields {
+        RecordFields {
             fields: Vec::new(alloc),
             names: NameSet::new(alloc),
         }
@@ -89,13 +89,13 @@ impl<'a> Fields<'a> {
     pub fn with(self, alloc: Global, name: &'a [u8]) -> Result<Self, AllocError>
         ensures { IfOk result (λ more. more.fields.items ≡ self.entry.fields.items ++ name.now ∷ []) }
     {
-        let Fields {
+        let RecordFields {
             mut fields,
             mut names,
         } = self;
         names.meet(name)?;
         fields.push(Bytes::from_slice(alloc, name)?)?;
-        Ok(Fields { fields, names })
+        Ok(RecordFields { fields, names })
     }
 }
 

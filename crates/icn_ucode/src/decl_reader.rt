@@ -8,11 +8,11 @@ ghost use Rattle.icn_unit.specs.UnitViews.{decl_seen, proc_seen};
 ghost use Rattle.icn_ucode.specs.DeclViews.{DeclsAre, LineIs, reading_seen, stage_seen};
 ghost use Rattle.icn_ucode.specs.UnitReading.{Declaring, bytes_read, decl_stage_end, decl_stage_line, decls_line, decls_of, ended_line, fields_read, global_read, with_heading, link_read, name_read, or_bad, procedure_read, record_read, with_decl};
 
-use crate::decl_lists::{DeclReading, DeclStage, Decls, Fields};
+use crate::decl_lists::{DeclReading, DeclStage, Decls, RecordFields};
 use crate::proc_lists::Procs;
 use crate::proc_reader::is_indented;
 use icn_tree::{Bytes, Rule};
-use icn_unit::{Stop, UnitDecl, byte_text, cut, cut_line, is_name};
+use icn_unit::{UnitDecl, UnitStop, byte_text, cut, cut_line, is_name};
 use std::alloc::{AllocError, Global};
 
 // A name alone.
@@ -42,7 +42,7 @@ fn read_fields(alloc: Global, operand: Option<&[u8]>) -> Result<Option<Vec<Bytes
     ensures { IfOk result
         (λ found. option_map (λ v. v.items) found ≡ fields_read (option_copied operand.entry)) }
 {
-    let mut fields = Fields::new(alloc);
+    let mut fields = RecordFields::new(alloc);
     let mut rest = operand;
     while let Some(text) = rest {
         let (name, behind) = cut(text);
@@ -56,7 +56,7 @@ fn read_fields(alloc: Global, operand: Option<&[u8]>) -> Result<Option<Vec<Bytes
 }
 
 // Whether a word is a name that is not among fields.
-fn is_further<'a>(fields: &Fields<'a>, name: &'a [u8]) -> bool
+fn is_further<'a>(fields: &RecordFields<'a>, name: &'a [u8]) -> bool
     ensures { result ≡ (is_name name.now && not (has_name fields.now.fields.items name.now)) }
 {
     is_name(name) && !fields.has(name)
@@ -67,14 +67,14 @@ fn global_line<'a>(
     alloc: Global,
     decls: Decls<'a>,
     operand: Option<&[u8]>,
-) -> Result<DeclReading<'a>, Stop>
+) -> Result<DeclReading<'a>, UnitStop>
     ensures { LineIs result (or_bad (global_read (option_copied operand.entry))
         (with_decl (map decl_seen decls.entry.decls.items))) }
 {
     let Some(name) = read_name(alloc, operand)? else {
-        return Err(Stop::Broken(Rule::U3));
+        return Err(UnitStop::Broken(Rule::U3));
     };
-    Ok(declaring(decls.with(UnitDecl::Global(name))?))
+    Ok(decls_so_far(decls.with(UnitDecl::Global(name))?))
 }
 
 // Takes the line of a link.
@@ -82,14 +82,14 @@ fn link_line<'a>(
     alloc: Global,
     decls: Decls<'a>,
     operand: Option<&[u8]>,
-) -> Result<DeclReading<'a>, Stop>
+) -> Result<DeclReading<'a>, UnitStop>
     ensures { LineIs result (or_bad (link_read (option_copied operand.entry))
         (with_decl (map decl_seen decls.entry.decls.items))) }
 {
     let Some(bytes) = read_bytes(alloc, operand)? else {
-        return Err(Stop::Broken(Rule::U3));
+        return Err(UnitStop::Broken(Rule::U3));
     };
-    Ok(declaring(decls.with(UnitDecl::Link(bytes))?))
+    Ok(decls_so_far(decls.with(UnitDecl::Link(bytes))?))
 }
 
 // Takes the line of a procedure.
@@ -97,16 +97,16 @@ fn proc_line<'a>(
     alloc: Global,
     decls: Decls<'a>,
     operand: Option<&'a [u8]>,
-) -> Result<DeclReading<'a>, Stop>
+) -> Result<DeclReading<'a>, UnitStop>
     ensures { LineIs result (or_bad (procedure_read (map decl_seen decls.entry.decls.items)
         (option_copied operand.entry)) (with_decl (map decl_seen decls.entry.decls.items))) }
 {
     match operand {
         Some(name) if is_name(name) && !decls.has(name) => {
             let decl = UnitDecl::Proc(Bytes::from_slice(alloc, name)?);
-            Ok(declaring(decls.with_owner(name, decl)?))
+            Ok(decls_so_far(decls.with_owner(name, decl)?))
         }
-        _ => Err(Stop::Broken(Rule::U3)),
+        _ => Err(UnitStop::Broken(Rule::U3)),
     }
 }
 
@@ -116,26 +116,26 @@ fn record_line<'a>(
     procs: &Procs<'a>,
     decls: Decls<'a>,
     operand: Option<&'a [u8]>,
-) -> Result<DeclReading<'a>, Stop>
+) -> Result<DeclReading<'a>, UnitStop>
     ensures { LineIs result (or_bad (record_read (proc_names (map proc_seen procs.now.procs.items))
         (map decl_seen decls.entry.decls.items) (option_copied operand.entry))
         (with_decl (map decl_seen decls.entry.decls.items))) }
 {
     let Some(text) = operand else {
-        return Err(Stop::Broken(Rule::U3));
+        return Err(UnitStop::Broken(Rule::U3));
     };
     let (name, rest) = cut(text);
     if !is_name(name) || procs.has(name) || decls.has(name) {
-        return Err(Stop::Broken(Rule::U3));
+        return Err(UnitStop::Broken(Rule::U3));
     }
     let Some(fields) = read_fields(alloc, rest)? else {
-        return Err(Stop::Broken(Rule::U3));
+        return Err(UnitStop::Broken(Rule::U3));
     };
     let decl = UnitDecl::Record(Bytes::from_slice(alloc, name)?, fields);
-    Ok(declaring(decls.with_owner(name, decl)?))
+    Ok(decls_so_far(decls.with_owner(name, decl)?))
 }
 
-fn declaring(decls: Decls<'_>) -> DeclReading<'_>
+fn decls_so_far(decls: Decls<'_>) -> DeclReading<'_>
     ensures decls { result.decls.decls.items ≡ decls.entry.decls.items }
     ensures stage { stage_seen result.stage ≡ Declaring }
 {
@@ -151,7 +151,7 @@ fn decl_line<'a>(
     procs: &Procs<'a>,
     decls: Decls<'a>,
     line: &'a [u8],
-) -> Result<DeclReading<'a>, Stop>
+) -> Result<DeclReading<'a>, UnitStop>
     ensures { LineIs result (decl_stage_line (proc_names (map proc_seen procs.now.procs.items))
         (map decl_seen decls.entry.decls.items) Declaring line.now) }
 {
@@ -167,11 +167,11 @@ fn decl_line<'a>(
     } else if word == b"end".as_slice() {
         end(decls, operand)
     } else {
-        Err(Stop::Broken(Rule::U1))
+        Err(UnitStop::Broken(Rule::U1))
     }
 }
 
-fn end<'a>(decls: Decls<'a>, operand: Option<&[u8]>) -> Result<DeclReading<'a>, Stop>
+fn end<'a>(decls: Decls<'a>, operand: Option<&[u8]>) -> Result<DeclReading<'a>, UnitStop>
     ensures { LineIs result
         (ended_line (map decl_seen decls.entry.decls.items) (option_copied operand.entry)) }
 {
@@ -180,21 +180,21 @@ fn end<'a>(decls: Decls<'a>, operand: Option<&[u8]>) -> Result<DeclReading<'a>, 
             decls,
             stage: DeclStage::Ended,
         }),
-        Some(_) => Err(Stop::Broken(Rule::U3)),
+        Some(_) => Err(UnitStop::Broken(Rule::U3)),
     }
 }
 
-fn heading<'a>(decls: Decls<'a>, line: &[u8]) -> Result<DeclReading<'a>, Stop>
+fn heading_line<'a>(decls: Decls<'a>, line: &[u8]) -> Result<DeclReading<'a>, UnitStop>
     ensures { LineIs result (with_heading (codes "U9.2") (first_field line.now).0 (first_field line.now).1
         (record { decls = map decl_seen decls.entry.decls.items; stage = Declaring })) }
 {
     let (word, operand) = cut(line);
     if word != b"U9.2".as_slice() {
-        return Err(Stop::Broken(Rule::U1));
+        return Err(UnitStop::Broken(Rule::U1));
     }
     match operand {
-        None => Ok(declaring(decls)),
-        Some(_) => Err(Stop::Broken(Rule::U3)),
+        None => Ok(decls_so_far(decls)),
+        Some(_) => Err(UnitStop::Broken(Rule::U3)),
     }
 }
 
@@ -205,18 +205,18 @@ fn take_line<'a>(
     procs: &Procs<'a>,
     reading: DeclReading<'a>,
     line: &'a [u8],
-) -> Result<DeclReading<'a>, Stop>
+) -> Result<DeclReading<'a>, UnitStop>
     ensures { LineIs result (decls_line (proc_names (map proc_seen procs.now.procs.items))
         (reading_seen reading.entry) line.now) }
 {
     if is_indented(line) {
-        return Err(Stop::Broken(Rule::U3));
+        return Err(UnitStop::Broken(Rule::U3));
     }
     let DeclReading { decls, stage } = reading;
     match stage {
-        DeclStage::Heading => heading(decls, line),
+        DeclStage::Heading => heading_line(decls, line),
         DeclStage::Declaring => decl_line(alloc, procs, decls, line),
-        DeclStage::Ended => Err(Stop::Broken(Rule::U1)),
+        DeclStage::Ended => Err(UnitStop::Broken(Rule::U1)),
     }
 }
 
@@ -225,7 +225,7 @@ pub fn read_decls<'a>(
     alloc: Global,
     procs: &Procs<'a>,
     text: &'a [u8],
-) -> Result<Vec<UnitDecl>, Stop>
+) -> Result<Vec<UnitDecl>, UnitStop>
     ensures { DeclsAre result (decls_of (proc_names (map proc_seen procs.now.procs.items)) text.now) }
 {
     let mut reading = DeclReading {
@@ -237,20 +237,20 @@ pub fn read_decls<'a>(
         let (line, behind) = cut_line(rest);
         reading = take_line(alloc, procs, reading, line)?;
         let Some(behind) = behind else {
-            return Err(Stop::Broken(Rule::U3));
+            return Err(UnitStop::Broken(Rule::U3));
         };
         rest = behind;
     }
     finish(reading)
 }
 
-fn finish(reading: DeclReading<'_>) -> Result<Vec<UnitDecl>, Stop>
+fn finish(reading: DeclReading<'_>) -> Result<Vec<UnitDecl>, UnitStop>
     ensures { DeclsAre result
         (decl_stage_end (map decl_seen reading.entry.decls.decls.items) (stage_seen reading.entry.stage)) }
 {
     match reading.stage {
-        DeclStage::Heading => Err(Stop::Broken(Rule::U1)),
-        DeclStage::Declaring => Err(Stop::Broken(Rule::U6)),
+        DeclStage::Heading => Err(UnitStop::Broken(Rule::U1)),
+        DeclStage::Declaring => Err(UnitStop::Broken(Rule::U6)),
         DeclStage::Ended => Ok(reading.decls.decls),
     }
 }

@@ -8,8 +8,8 @@ use icn_defs::op_numbered;
 use icn_profile::GREATEST_INTEGER;
 use icn_tree::{ByteSet, Bytes};
 use icn_unit::{
-    InstrWord, UnitInstr, alone, ascends, byte_text, is_name, keyword, label, labelled, number,
-    small_number,
+    InstrWord, UnitInstr, ascends, byte_text, instr_alone, instr_with_label, is_name, keyword,
+    label, number, small_number,
 };
 use std::alloc::{AllocError, Global};
 
@@ -23,7 +23,7 @@ pub fn instr(
     ensures { IfOk result (λ found. found ≡ instr_of word (option_copied operand.entry) names) }
 {
     match operand {
-        None => Ok(alone(word)),
+        None => Ok(instr_alone(word)),
         Some(text) => operand_instr(alloc, word, text, names),
     }
 }
@@ -131,5 +131,5 @@ fn label_instr(word: InstrWord, text: &[u8]) -> Option<UnitInstr>
     ensures { result ≡ label_read word text.now }
 {
     let label = label(text)?;
-    labelled(word, label)
+    instr_with_label(word, label)
 }

@@ -7,18 +7,18 @@ use std::collections::HashSet;
 
 // Labels.
 #[derive(Drop)]
-pub struct Labels {
+pub struct LabelSet {
     labels: HashSet<u32>,
 }
 
-impl Labels {
+impl LabelSet {
     ghost use Rattle.icn_ucode.specs.LabelSets.{holds};
 
     // None.
     pub fn new(alloc: Global) -> Self
         ensures { holds result ≡ no_labels }
     {
-        Labels {
+        LabelSet {
             labels: HashSet::new(alloc),
         }
     }

@@ -8,7 +8,7 @@ ghost use Rattle.icn_ucode.specs.LabelSets.{has_place, holds, known_label, with_
 ghost use Rattle.icn_tree.specs.NameSets.{has};
 ghost use Rattle.icn_ucode.specs.UnitReading.{empty_proc, is_repeated, with_entry, with_instr};
 
-use crate::labels::Labels;
+use crate::labels::LabelSet;
 use icn_tree::{Bytes, NameSet};
 use icn_unit::{NameKind, ProcCode, UnitInstr, UnitName};
 use std::alloc::{AllocError, Global};
@@ -130,7 +130,7 @@ impl<'a> Begun<'a> {
         Coded {
             proc: self.proc,
             name: self.name,
-            labels: Labels::new(alloc),
+            labels: LabelSet::new(alloc),
         }
     }
 }
@@ -140,7 +140,7 @@ impl<'a> Begun<'a> {
 pub struct Coded<'a> {
     pub proc: ProcCode,
     name: &'a [u8],
-    labels: Labels,
+    labels: LabelSet,
     ghost named: { name.now ≡ proc.name },
     ghost known: { holds labels ≡ has_label (placed_labels proc.instrs.items) },
 }
@@ -183,7 +183,7 @@ impl<'a> Coded<'a> {
 }
 
 // Whether an instruction is the place of one of the labels.
-fn has_place(labels: &Labels, instr: &UnitInstr) -> bool
+fn has_place(labels: &LabelSet, instr: &UnitInstr) -> bool
     ensures { result ≡ has_place (holds labels.now) (own_label instr.now) }
 {
     match instr {
@@ -193,7 +193,7 @@ fn has_place(labels: &Labels, instr: &UnitInstr) -> bool
 }
 
 // Whether an instruction goes to no label, or to one of these.
-fn is_known(labels: &Labels, instr: &UnitInstr) -> bool
+fn is_known(labels: &LabelSet, instr: &UnitInstr) -> bool
     ensures { result ≡ known_label (holds labels.now) (label_in instr.now) }
 {
     match instr {
@@ -207,14 +207,14 @@ fn is_known(labels: &Labels, instr: &UnitInstr) -> bool
     }
 }
 
-fn are_known(labels: &Labels, instrs: &[UnitInstr]) -> bool
+fn are_known(labels: &LabelSet, instrs: &[UnitInstr]) -> bool
     ensures { result ≡ list_all (λ instr. known_label (holds labels.now) (label_in instr)) instrs.now }
 {
     instrs.iter().all(|instr| is_known(labels, instr))
 }
 
 // Adds the label that has its place there.
-fn add_place(labels: &mut Labels, instr: &UnitInstr) -> Result<(), AllocError>
+fn add_place(labels: &mut LabelSet, instr: &UnitInstr) -> Result<(), AllocError>
     ensures { OnOk result (holds labels.new ≡ with_place (holds labels.old) (own_label instr.now)) }
 {
     match instr {
@@ -225,7 +225,7 @@ fn add_place(labels: &mut Labels, instr: &UnitInstr) -> Result<(), AllocError>
 
 // What the lines so far come to, and what the next may be.
 #[derive(Drop)]
-pub enum Stage<'a> {
+pub enum ProcStage<'a> {
     Heading,
     Outside,
     Naming(Begun<'a>),
@@ -233,7 +233,7 @@ pub enum Stage<'a> {
 }
 
 #[derive(Drop)]
-pub struct Reading<'a> {
+pub struct ProcReading<'a> {
     pub procs: Procs<'a>,
-    pub stage: Stage<'a>,
+    pub stage: ProcStage<'a>,
 }

@@ -1,2 +1,2 @@
 pub mod Decimals
-pub mod Writing
+pub mod GrowingTexts

@@ -1,8 +1,8 @@
 -- How contracts see the parts of operands.
 use Rattle.std.specs.Prelude.{◌==◌, ℕ, ◌+◌, ◌*◌, Bool, true, false, ◌&&◌, nat_le, nat_lt, List, [], ◌∷◌, Option, Some, None, if◌then◌else◌}
 use Rattle.icn_profile.specs.Numbers.{greatest_integer}
-use Rattle.icn_unit.specs.declared.fault.Stop.{Stop}
-use Rattle.icn_unit.specs.declared.fault.Stop.TheVariants.{Broken as StopBroken, NoMemory as StopNoMemory}
+use Rattle.icn_unit.specs.declared.fault.UnitStop.{UnitStop}
+use Rattle.icn_unit.specs.declared.fault.UnitStop.TheVariants.{Broken as StopBroken, NoMemory as StopNoMemory}
 use Rattle.icn_unit.specs.declared.fault.UcodeFault.{UcodeFault}
 use Rattle.icn_unit.specs.declared.fault.UcodeFault.TheVariants.{Broken, NoMemory}
 use Rattle.icn_unit.specs.UnitOperands.{value_from, is_hexadecimal, hexadecimal_value}
@@ -26,6 +26,6 @@ abbrev pub is_in_line : ℕ → Bool
 is_in_line b = if b == 10 then false else true
 
 -- why the first or the second text of a unit could not be read
-abbrev pub fault_in : Bool → Stop → UcodeFault
+abbrev pub fault_in : Bool → UnitStop → UcodeFault
 fault_in second (StopBroken rule) = Broken rule second
 fault_in second StopNoMemory = NoMemory

@@ -6,23 +6,23 @@ use Rattle.icn_unit.specs.declared.unit.NameKind.TheVariants.{Parameter, Local, 
 use Rattle.icn_unit.specs.declared.unit.UnitInstr.{UnitInstr}
 use Rattle.icn_unit.specs.declared.unit.UnitName.{UnitName}
 
-pub record Proc : Type 0 where
+pub record PlainProc : Type 0 where
   pub name : List ℕ
   pub collects : Bool
   pub names : List UnitName
   pub instrs : List UnitInstr
 
-pub data Decl : Type 0 where
-  Global : List ℕ → Decl
-  Procedure : List ℕ → Decl
-  Link : List ℕ → Decl
-  Record : List ℕ → List (List ℕ) → Decl
+pub data PlainDecl : Type 0 where
+  Global : List ℕ → PlainDecl
+  Procedure : List ℕ → PlainDecl
+  Link : List ℕ → PlainDecl
+  Record : List ℕ → List (List ℕ) → PlainDecl
 
 -- a unit: its name, the code of its procedures, and its declarations
 pub record UnitRead : Type 0 where
   pub name : List ℕ
-  pub procs : List Proc
-  pub decls : List Decl
+  pub procs : List PlainProc
+  pub decls : List PlainDecl
 
 abbrev pub is_parameter : NameKind → Bool
 is_parameter Parameter = true
@@ -35,7 +35,7 @@ abbrev pub params_in : List UnitName → ℕ
 params_in names = count_by (λ name. is_parameter name.kind) names
 
 -- the names of the procedures
-abbrev pub proc_names : List Proc → List (List ℕ)
+abbrev pub proc_names : List PlainProc → List (List ℕ)
 proc_names procs = map (λ proc. proc.name) procs
 
 -- the names in a procedure's table of names
@@ -43,22 +43,22 @@ abbrev pub entry_names : List UnitName → List (List ℕ)
 entry_names names = map (λ entry. entry.name) names
 
 -- the name of a procedure or a record
-abbrev pub owned_name : Decl → List (List ℕ)
+abbrev pub owned_name : PlainDecl → List (List ℕ)
 owned_name (Global name) = []
 owned_name (Procedure name) = name ∷ []
 owned_name (Link bytes) = []
 owned_name (Record name fields) = name ∷ []
 
 -- the names of the procedures and the records that are declared
-abbrev pub owned_names : List Decl → List (List ℕ)
+abbrev pub owned_names : List PlainDecl → List (List ℕ)
 owned_names decls = flat_map owned_name decls
 
 -- the name of a procedure
-abbrev pub declared_name : Decl → List (List ℕ)
+abbrev pub declared_name : PlainDecl → List (List ℕ)
 declared_name (Procedure name) = name ∷ []
 declared_name (Global name) = []
 declared_name (Link bytes) = []
 declared_name (Record name fields) = []
 
-abbrev pub declared_names : List Decl → List (List ℕ)
+abbrev pub declared_names : List PlainDecl → List (List ℕ)
 declared_names decls = flat_map declared_name decls

@@ -10,7 +10,7 @@ use Rattle.icn_unit.specs.declared.unit.UnitInstr.{UnitInstr}
 use Rattle.icn_unit.specs.declared.unit.UnitInstr.TheVariants.{Int, Str, Cset, Var, Llist, Field, Invoke, Mark, Chfail, Goto, Loop, Init, Create, Lab}
 use Rattle.icn_unit.specs.declared.unit.UnitInstr.TheVariants as I
 use Rattle.icn_unit.specs.declared.unit.UnitName.{UnitName}
-use Rattle.icn_unit.specs.PlainUnits.{Proc, Decl, Global, Procedure, Link, Record, params_in, proc_names, entry_names, owned_names, declared_names}
+use Rattle.icn_unit.specs.PlainUnits.{PlainProc, PlainDecl, Global, Procedure, Link, Record, params_in, proc_names, entry_names, owned_names, declared_names}
 use Rattle.icn_unit.specs.UnitOperands.{is_name, ascends}
 
 -- Texts and numbers
@@ -153,22 +153,22 @@ keeps_names names = list_all is_name (entry_names names) && names_differ (entry_
 abbrev pub keeps_head : List ℕ → ℕ → Bool → Bool
 keeps_head name params collects = is_name name && is_number params && (not collects || nat_lt 0 params)
 
-abbrev pub keeps_proc : Proc → Bool
+abbrev pub keeps_proc : PlainProc → Bool
 keeps_proc proc = keeps_head proc.name (params_in proc.names) proc.collects && keeps_names proc.names
     && keeps_code (length proc.names) proc.instrs
 
-abbrev pub keeps_procs : List Proc → Bool
+abbrev pub keeps_procs : List PlainProc → Bool
 keeps_procs procs = list_all keeps_proc procs && names_differ (proc_names procs)
 
 -- Declarations
 
-abbrev pub keeps_decl : Decl → Bool
+abbrev pub keeps_decl : PlainDecl → Bool
 keeps_decl (Global name) = is_name name
 keeps_decl (Procedure name) = is_name name
 keeps_decl (Link bytes) = is_byte_text bytes
 keeps_decl (Record name fields) = is_name name && list_all is_name fields && names_differ fields
 
-abbrev pub keeps_decls : List Decl → Bool
+abbrev pub keeps_decls : List PlainDecl → Bool
 keeps_decls decls = list_all keeps_decl decls && names_differ (owned_names decls)
 
 -- Units
@@ -180,9 +180,9 @@ same_texts (x ∷ xs) [] = false
 same_texts (x ∷ xs) (y ∷ ys) = bytes_eq x y && same_texts xs ys
 
 -- the procedures in their order, by name, are those that the declarations name
-abbrev pub same_names : List Proc → List Decl → Bool
+abbrev pub same_names : List PlainProc → List PlainDecl → Bool
 same_names procs decls = same_texts (proc_names procs) (declared_names decls)
 
 -- the procedures and the declarations of a unit keep all rules
-unfoldable pub keeps_rules : List Proc → List Decl → Bool
+unfoldable pub keeps_rules : List PlainProc → List PlainDecl → Bool
 keeps_rules procs decls = keeps_procs procs && keeps_decls decls && same_names procs decls

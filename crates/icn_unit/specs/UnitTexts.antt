@@ -10,7 +10,7 @@ use Rattle.icn_unit.specs.declared.unit.UnitInstr.{UnitInstr}
 use Rattle.icn_unit.specs.declared.unit.UnitInstr.TheVariants.{Int, Str, Cset, Var, Keywd, Op, Field, Llist, Invoke, Mark, Chfail, Goto, Loop, Init, Create, Lab}
 use Rattle.icn_unit.specs.declared.unit.UnitName.{UnitName}
 use Rattle.icn_unit.specs.InstrWords.{word_of, word_text}
-use Rattle.icn_unit.specs.PlainUnits.{Proc, Decl, Global, Procedure, Link, Record, params_in}
+use Rattle.icn_unit.specs.PlainUnits.{PlainProc, PlainDecl, Global, Procedure, Link, Record, params_in}
 
 -- a digit of hexadecimal, in lower case
 abbrev pub hexadecimal_digit : ℕ → ℕ
@@ -67,24 +67,24 @@ abbrev pub flag_text : Bool → List ℕ
 flag_text false = codes "0"
 flag_text true = codes "1"
 
-abbrev pub head_text : Proc → List ℕ
+abbrev pub head_text : PlainProc → List ℕ
 head_text proc = codes "proc " ++ proc.name ++ 32 ∷ decimal (params_in proc.names) ++ 32
     ∷ flag_text proc.collects ++ 10 ∷ []
 
-abbrev pub proc_text : Proc → List ℕ
+abbrev pub proc_text : PlainProc → List ℕ
 proc_text proc = head_text proc ++ flat_map name_text proc.names ++ codes "code" ++ 10
     ∷ flat_map instr_text proc.instrs ++ codes "end" ++ 10 ∷ []
 
 -- the first text
-abbrev pub procs_text : List Proc → List ℕ
+abbrev pub procs_text : List PlainProc → List ℕ
 procs_text procs = codes "U9.1" ++ 10 ∷ flat_map proc_text procs
 
-abbrev pub decl_text : Decl → List ℕ
+abbrev pub decl_text : PlainDecl → List ℕ
 decl_text (Global name) = codes "global " ++ name ++ 10 ∷ []
 decl_text (Procedure name) = codes "proc " ++ name ++ 10 ∷ []
 decl_text (Link bytes) = codes "link " ++ bytes_text bytes ++ 10 ∷ []
 decl_text (Record name fields) = codes "record " ++ name ++ flat_map behind_blank fields ++ 10 ∷ []
 
 -- the second
-abbrev pub decls_text : List Decl → List ℕ
+abbrev pub decls_text : List PlainDecl → List ℕ
 decls_text decls = codes "U9.2" ++ 10 ∷ flat_map decl_text decls ++ codes "end" ++ 10 ∷ []

@@ -2,10 +2,10 @@
 use Rattle.icn_unit.specs.declared.unit.ProcCode.{ProcCode}
 use Rattle.icn_unit.specs.declared.unit.UnitDecl.{UnitDecl}
 use Rattle.icn_unit.specs.declared.unit.UnitDecl.TheVariants.{Global as GlobalDecl, Proc as ProcDecl, Link as LinkDecl, Record as RecordDecl}
-use Rattle.icn_unit.specs.PlainUnits.{Proc, Decl, Global, Procedure, Link, Record}
+use Rattle.icn_unit.specs.PlainUnits.{PlainProc, PlainDecl, Global, Procedure, Link, Record}
 
 -- the code of a procedure, as plain lists
-abbrev pub proc_seen : ProcCode → Proc
+abbrev pub proc_seen : ProcCode → PlainProc
 proc_seen proc = record {
   name = proc.name;
   collects = proc.collects;
@@ -14,7 +14,7 @@ proc_seen proc = record {
 }
 
 -- a declaration of a unit, as plain lists
-abbrev pub decl_seen : UnitDecl → Decl
+abbrev pub decl_seen : UnitDecl → PlainDecl
 decl_seen (GlobalDecl name) = Global name
 decl_seen (ProcDecl name) = Procedure name
 decl_seen (LinkDecl bytes) = Link bytes

@@ -1,7 +1,7 @@
 // Why two texts are no unit.
 ghost use Rattle.std.specs.Prelude.{◌≡◌};
 ghost use Rattle.icn_unit.specs.OperandViews.{fault_in};
-ghost use Rattle.icn_unit.specs.declared.fault.Stop.TheVariants.{NoMemory};
+ghost use Rattle.icn_unit.specs.declared.fault.UnitStop.TheVariants.{NoMemory};
 
 use icn_tree::Rule;
 use std::alloc::{AllocError, AllocFailed};
@@ -18,37 +18,37 @@ pub enum UcodeFault {
 
 /// Why one of the two texts can't be read on.
 #[derive(Clone, Copy, Debug, PartialEq, Eq)]
-pub enum Stop {
+pub enum UnitStop {
     /// A line breaks a rule.
     Broken(Rule),
     /// Memory ran out.
     NoMemory,
 }
 
-impl Stop {
+impl UnitStop {
     /// The fault of two texts, where this is that of one of them.
     pub fn in_text(self, second: bool) -> UcodeFault
         ensures { result ≡ fault_in second self }
     {
         match self {
-            Stop::Broken(rule) => UcodeFault::Broken { rule, second },
-            Stop::NoMemory => UcodeFault::NoMemory,
+            UnitStop::Broken(rule) => UcodeFault::Broken { rule, second },
+            UnitStop::NoMemory => UcodeFault::NoMemory,
         }
     }
 }
 
-impl From<AllocError> for Stop {
+impl From<AllocError> for UnitStop {
     ghost from_gives = { λ _ stop. stop ≡ NoMemory };
 
     fn from(_: AllocError) -> Self {
-        Stop::NoMemory
+        UnitStop::NoMemory
     }
 }
 
-impl<T: Drop> From<AllocFailed<T>> for Stop {
+impl<T: Drop> From<AllocFailed<T>> for UnitStop {
     ghost from_gives = { λ _ stop. stop ≡ NoMemory };
 
     fn from(_: AllocFailed<T>) -> Self {
-        Stop::NoMemory
+        UnitStop::NoMemory
     }
 }

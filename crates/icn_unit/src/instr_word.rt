@@ -343,7 +343,7 @@ fn word_in_v(text: &[u8]) -> Option<InstrWord>
 }
 
 /// The instruction of a word that stands alone.
-pub fn alone(word: InstrWord) -> Option<UnitInstr>
+pub fn instr_alone(word: InstrWord) -> Option<UnitInstr>
     ensures { result ≡ alone_of word }
 {
     match word {
@@ -372,7 +372,7 @@ pub fn alone(word: InstrWord) -> Option<UnitInstr>
 }
 
 /// The instruction of a word before a label.
-pub fn labelled(word: InstrWord, label: u32) -> Option<UnitInstr>
+pub fn instr_with_label(word: InstrWord, label: u32) -> Option<UnitInstr>
     ensures { result ≡ labelled_of word label }
 {
     match word {

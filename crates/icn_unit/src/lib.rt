@@ -7,8 +7,8 @@ mod operand;
 mod unit;
 mod writer;
 
-pub use fault::{Stop, UcodeFault};
-pub use instr_word::{InstrWord, alone, labelled, word_named};
+pub use fault::{UcodeFault, UnitStop};
+pub use instr_word::{InstrWord, instr_alone, instr_with_label, word_named};
 pub use operand::{
     ascends, byte_text, cut, cut_line, is_name, keyword, label, number, small_number,
 };

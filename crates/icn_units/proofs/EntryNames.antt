@@ -11,7 +11,7 @@ use Rattle.icn_tree.specs.declared.rule.Rule.TheVariants.{C1, C8}
 use Rattle.icn_tree.specs.declared.tree.Name.{Name}
 use Rattle.icn_tree.specs.declared.tree.LocalKind.{LocalKind}
 use Rattle.icn_tree.specs.declared.tree.LocalKind.TheVariants as Kept
-use Rattle.icn_tree.specs.Trees.{Locals, Procedure}
+use Rattle.icn_tree.specs.Trees.{LocalDecl, Procedure}
 use Rattle.icn_decls.specs.Contexts.{fault, outermost}
 use Rattle.icn_decls.specs.Faults.{fault_if_met, all_repeated, too_many, declared_names, initial_faults, all_faults, procedure_faults}
 use Rattle.icn_tree.specs.NameSets.{NameTest, none_met, with_name}
@@ -23,11 +23,11 @@ use Rattle.icn_unit.specs.declared.unit.UnitName.{UnitName}
 use Rattle.icn_unit.specs.PlainUnits.{entry_names}
 use Rattle.icn_unit.specs.UnitRules.{names_differ, in_order, rank}
 use Rattle.icn_translate.specs.ProcCodes.{entry_of, texts_of, kind_of, local_entries, local_texts, declared_entries, declared_texts, first_draft, draft_of, undeclared_in, proc_code}
-use Rattle.icn_units.proofs.Forms.{none_before, none_behind}
-use Rattle.icn_units.proofs.Naming.{once_each, nor_of, is_not, Names, naming, naming_asks, are_named}
-use Rattle.icn_units.proofs.Procedures.{procedure_leads}
-use Rattle.icn_units.proofs.Chains.{variable_in}
-use Rattle.icn_units.proofs.Variables.{Below, AllBelow, Vars, variables, variables_asks, have_vars}
+use Rattle.icn_units.proofs.KeptByForms.{none_before, none_behind}
+use Rattle.icn_units.proofs.DraftNames.{once_each, nor_of, is_not, Names, naming, naming_asks, are_named}
+use Rattle.icn_units.proofs.ProcedureLabels.{procedure_leads}
+use Rattle.icn_units.proofs.DraftChains.{variable_in}
+use Rattle.icn_units.proofs.DraftVariables.{Below, AllBelow, Vars, variables, variables_asks, have_vars}
 use Rattle.icn_units.specs.CodeNames.{variable_is_named, variables_are_named}
 
 -- Names that none of which is declared twice
@@ -82,16 +82,16 @@ texts_differ rule met (name ∷ names) h =
 
 -- The texts of names that are declared
 
-local_names : (locals : List Locals) → texts_of (flat_map (λ (l : Locals). l.names) locals)
+local_names : (locals : List LocalDecl) → texts_of (flat_map (λ (l : LocalDecl). l.names) locals)
     ≡ flat_map local_texts locals
 local_names [] = refl
 local_names (l ∷ locals) = map-append (λ (name : Name). name.text) l.names
-    (flat_map (λ (l : Locals). l.names) locals) ∙ ap (λ texts. local_texts l ++ texts) (local_names locals)
+    (flat_map (λ (l : LocalDecl). l.names) locals) ∙ ap (λ texts. local_texts l ++ texts) (local_names locals)
 
 pub names_declared : (procedure : Procedure) → texts_of (declared_names procedure) ≡ declared_texts procedure
 names_declared procedure =
     map-append (λ (name : Name). name.text) procedure.parameters
-    (flat_map (λ (l : Locals). l.names) procedure.locals)
+    (flat_map (λ (l : LocalDecl). l.names) procedure.locals)
     ∙ ap (λ texts. texts_of procedure.parameters ++ texts) (local_names procedure.locals)
 
 entries_named : (kind : NameKind) (names : List Name)
@@ -99,7 +99,7 @@ entries_named : (kind : NameKind) (names : List Name)
 entries_named kind [] = refl
 entries_named kind (name ∷ names) = ap (λ texts. name.text ∷ texts) (entries_named kind names)
 
-locals_named : (locals : List Locals) → entry_names (flat_map local_entries locals) ≡ flat_map local_texts locals
+locals_named : (locals : List LocalDecl) → entry_names (flat_map local_entries locals) ≡ flat_map local_texts locals
 locals_named [] = refl
 locals_named (l ∷ locals) =
     map-append (λ (entry : UnitName). entry.name) (local_entries l) (flat_map local_entries locals)
@@ -157,7 +157,7 @@ local_rank : (kind : LocalKind) → rank (kind_of kind) ≡ 1
 local_rank Kept.Local = refl
 local_rank Kept.Static = refl
 
-locals_from : (locals : List Locals) (others : List UnitName) → From 1 others
+locals_from : (locals : List LocalDecl) (others : List UnitName) → From 1 others
     → From 1 (flat_map local_entries locals ++ others)
 locals_from [] others f = f
 locals_from (l ∷ locals) others f =

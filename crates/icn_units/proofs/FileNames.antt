@@ -4,20 +4,20 @@ use Rattle.std.specs.List.{flat_map, list_all, list_any}
 use Rattle.std.specs.Str.{bytes_eq}
 use Rattle.std.proofs.lemmas.Grind.{flat_map-append}
 use Rattle.icn_tree.specs.declared.rule.Rule.TheVariants.{C6, C8}
-use Rattle.icn_tree.specs.declared.tree.Item.{Item}
+use Rattle.icn_tree.specs.declared.tree.DeclItem.{DeclItem}
 use Rattle.icn_tree.specs.declared.tree.Name.{Name}
 use Rattle.icn_tree.specs.Trees.{Declaration, Global, Link, Invocable, Record, ProcedureOf}
-use Rattle.icn_decls.specs.Contexts.{Fault, fault}
+use Rattle.icn_decls.specs.Contexts.{BrokenRule, fault}
 use Rattle.icn_decls.specs.Faults.{fault_if_met, names_after, declaration_faults, declarations_faults, all_repeated, too_many}
 use Rattle.icn_tree.specs.NameSets.{NameTest, with_name, none_met}
-use Rattle.icn_unit.specs.PlainUnits.{Decl, proc_names, owned_name, owned_names, declared_name, declared_names}
+use Rattle.icn_unit.specs.PlainUnits.{PlainDecl, proc_names, owned_name, owned_names, declared_name, declared_names}
 use Rattle.icn_unit.specs.PlainUnits.{Global as GlobalLine, Link as LinkLine}
 use Rattle.icn_unit.specs.UnitRules.{names_differ, same_texts, same_names}
 use Rattle.icn_translate.specs.FileUnits.{proc_codes, item_text, lines_in, unit_decls}
 use Rattle.icn_translate.specs.ProcCodes.{texts_of}
 use Rattle.icn_units.specs.CodeNames.{fields_differ}
-use Rattle.icn_units.proofs.Forms.{none_before, none_behind}
-use Rattle.icn_units.proofs.Naming.{both_of, neither_of, nor_of, is_not, was_not}
+use Rattle.icn_units.proofs.KeptByForms.{none_before, none_behind}
+use Rattle.icn_units.proofs.DraftNames.{both_of, neither_of, nor_of, is_not, was_not}
 use Rattle.icn_units.proofs.EntryNames.{texts_differ, same_text, met_again, met_now, differs}
 
 -- procedures and records, and procedures alone, by their names
@@ -39,14 +39,14 @@ procedures (ProcedureOf procedure ∷ others) = procedure.name.text ∷ procedur
 
 -- They are those of the unit
 
-no_names : {A : Type 0} (line : A → Decl) (given : Decl → List (List ℕ)) → ((x : A) → given (line x) ≡ [])
+no_names : {A : Type 0} (line : A → PlainDecl) (given : PlainDecl → List (List ℕ)) → ((x : A) → given (line x) ≡ [])
     → (xs : List A) → flat_map given (map line xs) ≡ []
 no_names line given h [] = refl
 no_names line given h (x ∷ xs) = ap (λ names. names ++ flat_map given (map line xs)) (h x)
     ∙ no_names line given h xs
 
 -- what the lines of a declaration give, in front of those of others
-in_front : (given : Decl → List (List ℕ)) (declaration : Declaration) (others : List Declaration)
+in_front : (given : PlainDecl → List (List ℕ)) (declaration : Declaration) (others : List Declaration)
     (here rest : List (List ℕ))
     → flat_map given (lines_in declaration) ≡ here → flat_map given (unit_decls others) ≡ rest
     → flat_map given (unit_decls (declaration ∷ others)) ≡ here ++ rest
@@ -61,7 +61,7 @@ unit_owners (Global place names ∷ others) =
     (no_names (λ (name : Name). GlobalLine name.text) owned_name (λ name. refl) names) (unit_owners others)
 unit_owners (Link place items ∷ others) =
     in_front owned_name (Link place items) others [] (owners others)
-    (no_names (λ (item : Item). LinkLine (item_text item)) owned_name (λ item. refl) items) (unit_owners others)
+    (no_names (λ (item : DeclItem). LinkLine (item_text item)) owned_name (λ item. refl) items) (unit_owners others)
 unit_owners (Invocable place items ∷ others) =
     in_front owned_name (Invocable place items) others [] (owners others) refl (unit_owners others)
 unit_owners (Record place name fields ∷ others) =
@@ -78,7 +78,7 @@ unit_declared (Global place names ∷ others) =
     (no_names (λ (name : Name). GlobalLine name.text) declared_name (λ name. refl) names) (unit_declared others)
 unit_declared (Link place items ∷ others) =
     in_front declared_name (Link place items) others [] (procedures others)
-    (no_names (λ (item : Item). LinkLine (item_text item)) declared_name (λ item. refl) items)
+    (no_names (λ (item : DeclItem). LinkLine (item_text item)) declared_name (λ item. refl) items)
     (unit_declared others)
 unit_declared (Invocable place items ∷ others) =
     in_front declared_name (Invocable place items) others [] (procedures others) refl (unit_declared others)
@@ -120,7 +120,7 @@ not_owned met name h = by (met name.text) h
     by false h = refl
 
 -- the name of a declaration was not met, where it breaks no rule
-record_new : (met : NameTest) (name : Name) (many fields : List Fault) → many ++ (fault_if_met C8 met name ++ fields) ≡ []
+record_new : (met : NameTest) (name : Name) (many fields : List BrokenRule) → many ++ (fault_if_met C8 met name ++ fields) ≡ []
     → met name.text ≡ false
 record_new met name many fields h = not_owned met name
     (none_before (fault_if_met C8 met name) fields (none_behind many (fault_if_met C8 met name ++ fields) h))
@@ -231,7 +231,7 @@ all_pass : {A B : Type 0} (test : B → Bool) (line : A → B) → ((x : A) → 
 all_pass test line h [] = refl
 all_pass test line h (x ∷ xs) = ap (λ b. b && list_all test (map line xs)) (h x) ∙ all_pass test line h xs
 
-record_fields : (met : NameTest) (name : Name) (many : List Fault) (fields : List Name)
+record_fields : (met : NameTest) (name : Name) (many : List BrokenRule) (fields : List Name)
     → many ++ (fault_if_met C8 met name ++ all_repeated C6 none_met fields) ≡ [] → names_differ (texts_of fields) ≡ true
 record_fields met name many fields h =
     texts_differ C6 none_met fields (none_behind (fault_if_met C8 met name) (all_repeated C6 none_met fields)
@@ -241,7 +241,7 @@ line_fields : (met : NameTest) (declaration : Declaration) → declaration_fault
     → list_all fields_differ (lines_in declaration) ≡ true
 line_fields met (Global place names) h =
     all_pass fields_differ (λ (name : Name). GlobalLine name.text) (λ name. refl) names
-line_fields met (Link place items) h = all_pass fields_differ (λ (item : Item). LinkLine (item_text item))
+line_fields met (Link place items) h = all_pass fields_differ (λ (item : DeclItem). LinkLine (item_text item))
     (λ item. refl) items
 line_fields met (Invocable place items) h = refl
 line_fields met (Record place name fields) h =

@@ -5,11 +5,11 @@ use Rattle.std.specs.Str.{bytes_eq}
 use Rattle.icn_unit.specs.declared.unit.UnitInstr.{UnitInstr}
 use Rattle.icn_unit.specs.declared.unit.UnitInstr.TheVariants as I
 use Rattle.icn_unit.specs.UnitOperands.{is_name}
-use Rattle.icn_translate.specs.declared.builder.Ways.{Ways}
+use Rattle.icn_translate.specs.declared.builder.LoopLabels.{LoopLabels}
 use Rattle.icn_translate.specs.Drafts.{Draft, put, with_label, with_number, name_index, put_variable, no_ways, in_loop, outside_loop, innermost, next_number, with_next, put_next, last_number, with_last, put_last, case_end, in_case, outside_case, end_number, with_end, put_end}
 use Rattle.icn_translate.specs.Translation.{loop_end}
 use Rattle.icn_units.specs.Written.{operand_fits}
-use Rattle.icn_units.proofs.Chains.{Keeps, Told}
+use Rattle.icn_units.proofs.DraftChains.{Keeps, Told}
 
 all_last : {A : Type 0} (test : A → Bool) (xs : List A) (x : A) → list_all test xs ≡ true → test x ≡ true
     → list_all test (xs ++ x ∷ []) ≡ true
@@ -55,7 +55,7 @@ module _ (texts_pass : List ℕ → Bool) where
   numbered_kept None d = label_kept d
   numbered_kept (Some n) d = kept_same d d [] refl refl
 
-  in_kept : (w : Ways) (d : Draft) → Kept d (in_loop w d) []
+  in_kept : (w : LoopLabels) (d : Draft) → Kept d (in_loop w d) []
   unfolding in_loop
   in_kept w d = kept_same d (in_loop w d) [] refl refl
 

@@ -3,16 +3,16 @@ use Rattle.std.proofs.Common.{◌≤◌, ◌<◌, ℕ, suc, ◌+◌, Bool, true,
 use Rattle.std.proofs.Math.Bool.{Bool-set}
 use Rattle.std.proofs.Math.Logic.{∥∥₁_elim}
 use Rattle.icn_tree.specs.declared.tree.Name.{Name}
-use Rattle.icn_tree.specs.declared.tree.Item.{Item}
-use Rattle.icn_tree.specs.declared.tree.Item.TheVariants as Items
+use Rattle.icn_tree.specs.declared.tree.DeclItem.{DeclItem}
+use Rattle.icn_tree.specs.declared.tree.DeclItem.TheVariants as Items
 use Rattle.icn_tree.specs.Phrases.{Phrase}
 use Rattle.icn_tree.specs.Grammar.{identifier}
 use Rattle.icn_tree.specs.Declarations.{MoreWithCommas, WithCommas, SpellsMaybeNames, SpellsItem, SpellsParameters, SpellsLocals, SpellsInitial, SpellsBody, SpellsDeclaration, SpellsFile}
-use Rattle.icn_tree.specs.Trees.{Initial, NoInitial, Initially, Trees, NoTrees, More, Locals, Declaration, Global, Link, Invocable, Record, ProcedureOf}
-use Rattle.icn_translate.specs.Numbers.{all_numbers, initial_numbers, local_numbers, procedure_numbers, HaveRoom}
-use Rattle.icn_decls.specs.Spelled.{IsSpelled}
+use Rattle.icn_tree.specs.Trees.{Initial, NoInitial, Initially, Trees, NoTrees, More, LocalDecl, Declaration, Global, Link, Invocable, Record, ProcedureOf}
+use Rattle.icn_translate.specs.NumbersTaken.{all_numbers, initial_numbers, local_numbers, procedure_numbers, HaveRoom}
+use Rattle.icn_decls.specs.CheckedTexts.{IsSpelled}
 use Rattle.icn_units.proofs.WrittenFiles.{of_outcome}
-use Rattle.icn_units.proofs.WrittenTrees.{le_test, le_by}
+use Rattle.icn_units.proofs.WrittenTrees.{nat_le_of_le, le_of_nat_le}
 use Rattle.icn_units.proofs.RoomOfTrees.{Room, room_less, room_nothing, room_sign_at, room_sign, room_then, room_part, tree_room, weight_by}
 
 commas_room : {A : Type 0} (spells : A → Phrase) → ((x : A) → Room 16 (spells x)) → (xs : List A)
@@ -33,7 +33,7 @@ maybe_names_room : (names : List Name) → Room (length names) (SpellsMaybeNames
 maybe_names_room [] = room_nothing
 maybe_names_room (name ∷ names) = all_room identifier name_room (name ∷ names)
 
-item_room : (item : Item) → Room 16 (SpellsItem item)
+item_room : (item : DeclItem) → Room 16 (SpellsItem item)
 item_room (Items.Identifier name) = name_room name
 item_room (Items.Text name) = room_sign_at name.place _
 
@@ -42,7 +42,7 @@ parameters_room names false = maybe_names_room names
 parameters_room names true =
     room_less (room_then (all_room identifier name_room names) (room_then (room_sign _) (room_sign _))) (omega arith)
 
-locals_room : (locals : List Locals) → Room (local_numbers locals) (SpellsLocals locals)
+locals_room : (locals : List LocalDecl) → Room (local_numbers locals) (SpellsLocals locals)
 locals_room [] = room_nothing
 locals_room (l ∷ others) = room_less
     (room_then (room_sign_at l.place _) (room_then (all_room identifier name_room l.names)
@@ -105,7 +105,7 @@ spelled_numbers file h = omega
 
 -- a bound that something gives of which it is only known that there is one: a bound is a test
 le_known : (a b : ℕ) {X : Type 0} → ∥ X ∥₁ → (X → a ≤ b) → a ≤ b
-le_known a b h f = le_by a b (∥∥₁_elim h (Bool-set _ _) (λ x. le_test a b (f x)))
+le_known a b h f = le_of_nat_le a b (∥∥₁_elim h (Bool-set _ _) (λ x. nat_le_of_le a b (f x)))
 
 -- The numbers of the code of a file that is spelled so have 32 bits.
 pub spelled_room : (file : List Declaration) → IsSpelled file → HaveRoom file

@@ -13,7 +13,7 @@ use Rattle.icn_tree.specs.Phrases.{Phrase, nothing, sign_at, sign, ◌⨾◌, st
 use Rattle.icn_tree.specs.Grammar.{Part, Spells, SpellsList, SpellsMore, SpellsClause, SpellsClauses, SpellsMoreClauses, IsPrefix, Separator, ByComma, BySemicolon, literal_kind, keyword, infix_sign, before}
 use Rattle.icn_tree.specs.Trees.{Tree, Trees, Clause, Clauses, Empty, Constant, Identifier, Keyword, Parentheses, Listing, Compound, Call, CoCall, Subscript, Section, Field, Prefix, Not, Binary, To, If, Case, Loop, Repeat, Create, Next, Fail, Break, Return, Suspend, Absent, Present, NoTrees, More, Default, Guarded, NoClauses, MoreClauses}
 use Rattle.icn_expr.specs.Reading.{operator_weight, kind_weight, weight}
-use Rattle.icn_translate.specs.Numbers.{numbers, all_numbers, clause_numbers}
+use Rattle.icn_translate.specs.NumbersTaken.{numbers, all_numbers, clause_numbers}
 
 -- Weights: a token counts for each operator before an operand that it can be
 

@@ -7,19 +7,19 @@ use Rattle.std.proofs.lemmas.Bool.Decides.{leb_tells}
 use Rattle.std.proofs.lemmas.List.Folds.{list_all-append}
 use Rattle.std.proofs.lemmas.List.Sums.{count_by-le-length, sum_by-append, sum_by-cons}
 use Rattle.icn_tree.specs.declared.rule.Rule.TheVariants.{C1, C7, C8}
-use Rattle.icn_tree.specs.declared.tree.Item.{Item}
-use Rattle.icn_tree.specs.declared.tree.Item.TheVariants as Items
+use Rattle.icn_tree.specs.declared.tree.DeclItem.{DeclItem}
+use Rattle.icn_tree.specs.declared.tree.DeclItem.TheVariants as Items
 use Rattle.icn_tree.specs.declared.tree.Name.{Name}
 use Rattle.icn_tree.specs.Trees.{Procedure, Declaration, Global, Link, Invocable, Record, ProcedureOf}
 use Rattle.icn_decls.specs.Contexts.{fault, outermost}
 use Rattle.icn_decls.specs.Faults.{names_after, declared_names, too_many, fault_if_met, all_repeated, initial_faults, all_faults, procedure_faults, declarations_faults, context_faults}
 use Rattle.icn_tree.specs.NameSets.{NameTest, none_met}
-use Rattle.icn_decls.specs.Spelled.{IsSpelled}
+use Rattle.icn_decls.specs.CheckedTexts.{IsSpelled}
 use Rattle.icn_unit.specs.declared.unit.UnitInstr.{UnitInstr}
 use Rattle.icn_unit.specs.declared.unit.UnitInstr.TheVariants as I
 use Rattle.icn_unit.specs.declared.unit.NameKind.TheVariants.{Parameter, Undeclared}
 use Rattle.icn_unit.specs.declared.unit.UnitName.{UnitName}
-use Rattle.icn_unit.specs.PlainUnits.{Proc, Decl, is_parameter, params_in}
+use Rattle.icn_unit.specs.PlainUnits.{PlainProc, PlainDecl, is_parameter, params_in}
 use Rattle.icn_unit.specs.PlainUnits.{Global as GlobalLine, Link as LinkLine}
 use Rattle.icn_unit.specs.UnitOperands.{is_name, ascends}
 use Rattle.icn_unit.specs.UnitRules.{is_byte, is_number, keeps_operand, keeps_proc, keeps_decl, keeps_rules, names_differ}
@@ -28,10 +28,10 @@ use Rattle.icn_translate.specs.ProcCodes.{entry_of, texts_of, local_entries, dec
 use Rattle.icn_units.specs.CodeNames.{variable_is_named, fields_differ}
 use Rattle.icn_units.specs.TypeBounds.{number_fits, numbers_fit, bytes_fit}
 use Rattle.icn_units.specs.Written.{is_short, name_fits, names_fit, item_fits, operand_fits, procedure_fits, collects_fits, declaration_fits, file_fits, all_locals_fit, initial_fits, trees_fit}
-use Rattle.icn_units.proofs.Forms.{none_before}
-use Rattle.icn_units.proofs.WrittenTrees.{both, first_of, second_of, le_test, le_by}
+use Rattle.icn_units.proofs.KeptByForms.{none_before}
+use Rattle.icn_units.proofs.WrittenTrees.{and_intro, and_first, and_second, nat_le_of_le, le_of_nat_le}
 use Rattle.icn_units.proofs.WrittenFiles.{spelled_fits}
-use Rattle.icn_units.proofs.Procedures.{differ, are_placed}
+use Rattle.icn_units.proofs.ProcedureLabels.{labels_are_distinct, are_placed}
 use Rattle.icn_units.proofs.EntryNames.{declared_named, names_declared, names_length, code_names_differ, code_names_in_order, code_variables_named}
 use Rattle.icn_units.proofs.CodeTexts.{code_names_fit, code_operands_fit, texts_fit}
 use Rattle.icn_units.proofs.FileNames.{first_faultless, others_faultless, names_are_same, unit_fields_differ, unit_owners_differ, unit_procedures_differ}
@@ -41,28 +41,28 @@ use Rattle.icn_units.proofs.FileNames.{first_faultless, others_faultless, names_
 -- bytes that ascend are few
 few_bytes : (low : ℕ) (members : List ℕ) → ascends (low ∷ members) ≡ true → list_all is_byte (low ∷ members) ≡ true
     → low + length members < 256
-few_bytes low [] a h = let k = le_by (suc low) 256 (first_of (is_byte low) true h) in omega arith
+few_bytes low [] a h = let k = le_of_nat_le (suc low) 256 (and_first (is_byte low) true h) in omega arith
 few_bytes low (b ∷ members) a h =
-    let up = le_by (suc low) b (first_of (nat_lt low b) (ascends (b ∷ members)) a) in
-    let rest = few_bytes b members (second_of (nat_lt low b) (ascends (b ∷ members)) a)
-    (second_of (is_byte low) (list_all is_byte (b ∷ members)) h) in
+    let up = le_of_nat_le (suc low) b (and_first (nat_lt low b) (ascends (b ∷ members)) a) in
+    let rest = few_bytes b members (and_second (nat_lt low b) (ascends (b ∷ members)) a)
+    (and_second (is_byte low) (list_all is_byte (b ∷ members)) h) in
     omega arith
 
 short_set : (members : List ℕ) → ascends members ≡ true → list_all is_byte members ≡ true
     → nat_le (length members) 65535 ≡ true
 short_set [] a h = refl
 short_set (b ∷ members) a h = let few = few_bytes b members a h in
-    le_test (suc (length members)) 65535 (omega arith)
+    nat_le_of_le (suc (length members)) 65535 (omega arith)
 
 operand_kept : (names : ℕ) (i : UnitInstr) → operand_fits is_short i ≡ true → number_fits i ≡ true
     → variable_is_named names i ≡ true → keeps_operand names i ≡ true
 operand_kept names (I.Int n) o n' v = o
-operand_kept names (I.Str bytes) o n v = both n o
+operand_kept names (I.Str bytes) o n v = and_intro n o
 operand_kept names (I.Cset members) o n v =
-    let bytes = first_of (list_all is_byte members) (ascends members) o in
-    let up = second_of (list_all is_byte members) (ascends members) o in
-    both (both bytes (short_set members up bytes)) up
-operand_kept names (I.Var k) o n v = both v n
+    let bytes = and_first (list_all is_byte members) (ascends members) o in
+    let up = and_second (list_all is_byte members) (ascends members) o in
+    and_intro (and_intro bytes (short_set members up bytes)) up
+operand_kept names (I.Var k) o n v = and_intro v n
 operand_kept names (I.Field name) o n v = o
 operand_kept names (I.Llist k) o n v = n
 operand_kept names (I.Invoke k) o n v = n
@@ -80,12 +80,12 @@ operands_kept : (names : ℕ) (is : List UnitInstr) → list_all (operand_fits i
     → list_all (keeps_operand names) is ≡ true
 operands_kept names [] o n v = refl
 operands_kept names (i ∷ is) o n v =
-    both (operand_kept names i (first_of (operand_fits is_short i) (list_all (operand_fits is_short) is) o)
-    (first_of (number_fits i) (list_all number_fits is) n)
-    (first_of (variable_is_named names i) (list_all (variable_is_named names) is) v))
-    (operands_kept names is (second_of (operand_fits is_short i) (list_all (operand_fits is_short) is) o)
-    (second_of (number_fits i) (list_all number_fits is) n)
-    (second_of (variable_is_named names i) (list_all (variable_is_named names) is) v))
+    and_intro (operand_kept names i (and_first (operand_fits is_short i) (list_all (operand_fits is_short) is) o)
+    (and_first (number_fits i) (list_all number_fits is) n)
+    (and_first (variable_is_named names i) (list_all (variable_is_named names) is) v))
+    (operands_kept names is (and_second (operand_fits is_short i) (list_all (operand_fits is_short) is) o)
+    (and_second (number_fits i) (list_all number_fits is) n)
+    (and_second (variable_is_named names i) (list_all (variable_is_named names) is) v))
 
 -- Parameters
 
@@ -128,7 +128,7 @@ some_params procedure h = by procedure.is_variadic h
     by : (b : Bool) → (not b || nat_lt 0 (length procedure.parameters)) ≡ true
         → (not b || nat_lt 0 (params_in (proc_code procedure).names)) ≡ true
     by false h = refl
-    by true h = le_test 1 (params_in (proc_code procedure).names)
+    by true h = nat_le_of_le 1 (params_in (proc_code procedure).names)
         (some_counted procedure.parameters (flat_map local_entries procedure.locals)
         (map (entry_of Undeclared) (undeclared_in procedure)) h)
 
@@ -148,7 +148,7 @@ module _ (met : NameTest) (procedure : Procedure) (faultless : procedure_faults 
       let same : length (declared_entries procedure) ≡ length (declared_names procedure) =
       sym (names_length (declared_entries procedure)) ∙ ap length (declared_named procedure)
       ∙ ap length (sym (names_declared procedure)) ∙ texts_length (declared_names procedure) in
-      le_test (params_in (proc_code procedure).names) 4294967295 (omega arith)
+      nat_le_of_le (params_in (proc_code procedure).names) 4294967295 (omega arith)
     where
       texts_length : (names : List Name) → length (texts_of names) ≡ length names
       texts_length [] = refl
@@ -157,16 +157,16 @@ module _ (met : NameTest) (procedure : Procedure) (faultless : procedure_faults 
   proc_kept : keeps_proc (proc_code procedure) ≡ true
   proc_kept =
       let proc = proc_code procedure in
-      let named = first_of (name_fits procedure.name)
+      let named = and_first (name_fits procedure.name)
       (names_fit procedure.parameters && (all_locals_fit procedure.locals &&
       (initial_fits is_short procedure.initial && trees_fit is_short procedure.body))) written in
-      both (both (both (both named few_params) (some_params procedure collects))
-      (both (both (code_names_fit is_short met procedure faultless written) (code_names_differ met procedure faultless))
+      and_intro (and_intro (and_intro (and_intro named few_params) (some_params procedure collects))
+      (and_intro (and_intro (code_names_fit is_short met procedure faultless written) (code_names_differ met procedure faultless))
       (code_names_in_order met procedure faultless)))
-      (both (both (operands_kept (length proc.names) proc.instrs
+      (and_intro (and_intro (operands_kept (length proc.names) proc.instrs
       (code_operands_fit is_short met procedure faultless written) numbers
       (code_variables_named met procedure faultless))
-      (differ met procedure faultless)) (are_placed met procedure faultless))
+      (labels_are_distinct met procedure faultless)) (are_placed met procedure faultless))
 
 -- A whole text
 
@@ -176,51 +176,51 @@ codes_kept : (met : NameTest) (file : List Declaration) → declarations_faults 
 codes_kept met [] f w n = refl
 codes_kept met (Global place names ∷ others) f w n =
     codes_kept met others (others_faultless met (Global place names) others f)
-    (second_of (declaration_fits is_short (Global place names)) (file_fits is_short others) w) n
+    (and_second (declaration_fits is_short (Global place names)) (file_fits is_short others) w) n
 codes_kept met (Link place items ∷ others) f w n =
     codes_kept met others (others_faultless met (Link place items) others f)
-    (second_of (declaration_fits is_short (Link place items)) (file_fits is_short others) w) n
+    (and_second (declaration_fits is_short (Link place items)) (file_fits is_short others) w) n
 codes_kept met (Invocable place items ∷ others) f w n =
     codes_kept met others (others_faultless met (Invocable place items) others f)
-    (second_of true (file_fits is_short others) w) n
+    (and_second true (file_fits is_short others) w) n
 codes_kept met (Record place name fields ∷ others) f w n =
     codes_kept (names_after met (Record place name fields)) others
     (others_faultless met (Record place name fields) others f)
-    (second_of (declaration_fits is_short (Record place name fields)) (file_fits is_short others) w) n
+    (and_second (declaration_fits is_short (Record place name fields)) (file_fits is_short others) w) n
 codes_kept met (ProcedureOf p ∷ others) f w n =
-    let here = first_of (declaration_fits is_short (ProcedureOf p)) (file_fits is_short others) w in
-    both (proc_kept met p (first_faultless met (ProcedureOf p) others f)
-    (first_of (procedure_fits is_short p) (collects_fits p) here) (second_of (procedure_fits is_short p) (collects_fits p) here)
-    (first_of (numbers_fit (proc_code p)) (list_all numbers_fit (proc_codes others)) n))
+    let here = and_first (declaration_fits is_short (ProcedureOf p)) (file_fits is_short others) w in
+    and_intro (proc_kept met p (first_faultless met (ProcedureOf p) others f)
+    (and_first (procedure_fits is_short p) (collects_fits p) here) (and_second (procedure_fits is_short p) (collects_fits p) here)
+    (and_first (numbers_fit (proc_code p)) (list_all numbers_fit (proc_codes others)) n))
     (codes_kept (names_after met (ProcedureOf p)) others (others_faultless met (ProcedureOf p) others f)
-    (second_of (declaration_fits is_short (ProcedureOf p)) (file_fits is_short others) w)
-    (second_of (numbers_fit (proc_code p)) (list_all numbers_fit (proc_codes others)) n))
+    (and_second (declaration_fits is_short (ProcedureOf p)) (file_fits is_short others) w)
+    (and_second (numbers_fit (proc_code p)) (list_all numbers_fit (proc_codes others)) n))
 
 short_name : (text : List ℕ) → is_name text ≡ true → nat_le (length text) 65535 ≡ true
 short_name [] h = absurd (cc)
-short_name (b ∷ rest) h = let k = le_by (length rest) 65534 (second_of _ (nat_le (length rest) 65534) h) in
-    le_test (suc (length rest)) 65535 (omega arith)
+short_name (b ∷ rest) h = let k = le_of_nat_le (length rest) 65534 (and_second _ (nat_le (length rest) 65534) h) in
+    nat_le_of_le (suc (length rest)) 65535 (omega arith)
 
-short_item : (item : Item) → item_fits is_short item ≡ true → nat_le (length (item_text item)) 65535 ≡ true
+short_item : (item : DeclItem) → item_fits is_short item ≡ true → nat_le (length (item_text item)) 65535 ≡ true
 short_item (Items.Identifier name) h = short_name name.text h
 short_item (Items.Text name) h = h
 
 globals_kept : (names : List Name) → names_fit names ≡ true
     → list_all keeps_decl (map (λ (name : Name). GlobalLine name.text) names) ≡ true
 globals_kept [] h = refl
-globals_kept (name ∷ names) h = both (first_of (name_fits name) (names_fit names) h)
-    (globals_kept names (second_of (name_fits name) (names_fit names) h))
+globals_kept (name ∷ names) h = and_intro (and_first (name_fits name) (names_fit names) h)
+    (globals_kept names (and_second (name_fits name) (names_fit names) h))
 
-links_kept : (items : List Item) → list_all (item_fits is_short) items ≡ true
-    → list_all bytes_fit (map (λ (item : Item). LinkLine (item_text item)) items) ≡ true
-    → list_all keeps_decl (map (λ (item : Item). LinkLine (item_text item)) items) ≡ true
+links_kept : (items : List DeclItem) → list_all (item_fits is_short) items ≡ true
+    → list_all bytes_fit (map (λ (item : DeclItem). LinkLine (item_text item)) items) ≡ true
+    → list_all keeps_decl (map (λ (item : DeclItem). LinkLine (item_text item)) items) ≡ true
 links_kept [] h b = refl
 links_kept (item ∷ items) h b =
-    let rest = list_all bytes_fit (map (λ (item : Item). LinkLine (item_text item)) items) in
-    both (both (first_of (list_all is_byte (item_text item)) rest b)
-    (short_item item (first_of (item_fits is_short item) (list_all (item_fits is_short) items) h)))
-    (links_kept items (second_of (item_fits is_short item) (list_all (item_fits is_short) items) h)
-    (second_of (list_all is_byte (item_text item)) rest b))
+    let rest = list_all bytes_fit (map (λ (item : DeclItem). LinkLine (item_text item)) items) in
+    and_intro (and_intro (and_first (list_all is_byte (item_text item)) rest b)
+    (short_item item (and_first (item_fits is_short item) (list_all (item_fits is_short) items) h)))
+    (links_kept items (and_second (item_fits is_short item) (list_all (item_fits is_short) items) h)
+    (and_second (list_all is_byte (item_text item)) rest b))
 
 lines_kept : (declaration : Declaration) → declaration_fits is_short declaration ≡ true
     → list_all fields_differ (lines_in declaration) ≡ true → list_all bytes_fit (lines_in declaration) ≡ true
@@ -229,22 +229,22 @@ lines_kept (Global place names) h f b = globals_kept names h
 lines_kept (Link place items) h f b = links_kept items h b
 lines_kept (Invocable place items) h f b = refl
 lines_kept (Record place name fields) h f b =
-    both (both (both (first_of (name_fits name) (names_fit fields) h)
-    (texts_fit fields (second_of (name_fits name) (names_fit fields) h)))
-    (first_of (names_differ (texts_of fields)) true f)) refl
+    and_intro (and_intro (and_intro (and_first (name_fits name) (names_fit fields) h)
+    (texts_fit fields (and_second (name_fits name) (names_fit fields) h)))
+    (and_first (names_differ (texts_of fields)) true f)) refl
 lines_kept (ProcedureOf p) h f b =
-    both (first_of (name_fits p.name) (names_fit p.parameters &&
+    and_intro (and_first (name_fits p.name) (names_fit p.parameters &&
     (all_locals_fit p.locals && (initial_fits is_short p.initial && trees_fit is_short p.body)))
-    (first_of (procedure_fits is_short p) (collects_fits p) h)) refl
+    (and_first (procedure_fits is_short p) (collects_fits p) h)) refl
 
 -- both parts of a list
 front_all : {A : Type 0} (test : A → Bool) (xs ys : List A) → list_all test (xs ++ ys) ≡ true → list_all test xs
     ≡ true
-front_all test xs ys h = first_of (list_all test xs) (list_all test ys) (sym (list_all-append test xs ys) ∙ h)
+front_all test xs ys h = and_first (list_all test xs) (list_all test ys) (sym (list_all-append test xs ys) ∙ h)
 
 back_all : {A : Type 0} (test : A → Bool) (xs ys : List A) → list_all test (xs ++ ys) ≡ true → list_all test ys
     ≡ true
-back_all test xs ys h = second_of (list_all test xs) (list_all test ys) (sym (list_all-append test xs ys) ∙ h)
+back_all test xs ys h = and_second (list_all test xs) (list_all test ys) (sym (list_all-append test xs ys) ∙ h)
 
 decls_kept : (file : List Declaration) → file_fits is_short file ≡ true → list_all fields_differ (unit_decls file) ≡ true
     → list_all bytes_fit (unit_decls file) ≡ true
@@ -254,9 +254,9 @@ decls_kept (declaration ∷ others) w f b =
     let here = lines_in declaration in
     let later = unit_decls others in
     list_all-append keeps_decl here later
-    ∙ both (lines_kept declaration (first_of (declaration_fits is_short declaration) (file_fits is_short others) w)
+    ∙ and_intro (lines_kept declaration (and_first (declaration_fits is_short declaration) (file_fits is_short others) w)
     (front_all fields_differ here later f) (front_all bytes_fit here later b))
-    (decls_kept others (second_of (declaration_fits is_short declaration) (file_fits is_short others) w)
+    (decls_kept others (and_second (declaration_fits is_short declaration) (file_fits is_short others) w)
     (back_all fields_differ here later f) (back_all bytes_fit here later b))
 
 pub unit_keeps_rules : (file : List Declaration) → IsSpelled file → context_faults file ≡ []
@@ -265,13 +265,13 @@ pub unit_keeps_rules : (file : List Declaration) → IsSpelled file → context_
 unfolding keeps_rules
 unit_keeps_rules file spelled f n b =
     let w = spelled_fits file spelled in
-    both (both (both (codes_kept none_met file f w n) (unit_procedures_differ none_met file f))
-    (both (decls_kept file w (unit_fields_differ none_met file f) b) (unit_owners_differ none_met file f)))
+    and_intro (and_intro (and_intro (codes_kept none_met file f w n) (unit_procedures_differ none_met file f))
+    (and_intro (decls_kept file w (unit_fields_differ none_met file f) b) (unit_owners_differ none_met file f)))
     (names_are_same file)
 
 -- The same of lists that are these, where it is only known that there is a spelling: that rules are kept is a test.
 pub checked_keeps_rules : (file : List Declaration) → ∥ IsSpelled file ∥₁ → context_faults file ≡ []
-    → (procs : List Proc) (decls : List Decl) → procs ≡ proc_codes file → decls ≡ unit_decls file
+    → (procs : List PlainProc) (decls : List PlainDecl) → procs ≡ proc_codes file → decls ≡ unit_decls file
     → list_all numbers_fit procs ≡ true → list_all bytes_fit decls ≡ true → keeps_rules procs decls ≡ true
 checked_keeps_rules file spelled f procs decls p d n b =
     ∥∥₁_elim spelled (Bool-set _ _)

@@ -19,17 +19,20 @@ use Rattle.icn_tree.specs.Trees.{Tree, Trees, Clause, Clauses, Empty, Constant, 
 use Rattle.icn_unit.specs.UnitOperands.{is_name, ascends}
 use Rattle.icn_units.specs.Written.{TextPasses, name_fits, literal_fits, tree_fits, trees_fit, clause_fits, clauses_fit}
 
-pub both : {a b : Bool} → a ≡ true → b ≡ true → (a && b) ≡ true
-both {a = true} h g = g
-both {a = false} h g = absurd (cc)
+-- a conjunction of what is true is true
+pub and_intro : {a b : Bool} → a ≡ true → b ≡ true → (a && b) ≡ true
+and_intro {a = true} h g = g
+and_intro {a = false} h g = absurd (cc)
 
-pub first_of : (a b : Bool) → (a && b) ≡ true → a ≡ true
-first_of true b h = refl
-first_of false b h = absurd (cc)
+-- the first part of a conjunction that is true is true
+pub and_first : (a b : Bool) → (a && b) ≡ true → a ≡ true
+and_first true b h = refl
+and_first false b h = absurd (cc)
 
-pub second_of : (a b : Bool) → (a && b) ≡ true → b ≡ true
-second_of true b h = h
-second_of false b h = absurd (cc)
+-- so is the second
+pub and_second : (a b : Bool) → (a && b) ≡ true → b ≡ true
+and_second true b h = h
+and_second false b h = absurd (cc)
 
 -- Tokens as the scanner gives them
 
@@ -50,15 +53,15 @@ are_scanned passes (token ∷ tokens) h g t = (
       (λ k d l. h (suc k) d (omega arith)) (λ k d l. g (suc k) d (omega arith)) (λ k d l. t (suc k) d (omega arith)),
 )
 
-pub le_test : (a b : ℕ) → a ≤ b → nat_le a b ≡ true
-le_test a b h = by (leb_tells a b)
+pub nat_le_of_le : (a b : ℕ) → a ≤ b → nat_le a b ≡ true
+nat_le_of_le a b h = by (leb_tells a b)
   where
     by : ((nat_le a b ≡ true) × (a ≤ b)) ⊎ ((nat_le a b ≡ false) × (b < a)) → nat_le a b ≡ true
     by (inl t) = t.0
     by (inr t) = let k = t.1 in absurd (omega arith)
 
-pub le_by : (a b : ℕ) → nat_le a b ≡ true → a ≤ b
-le_by a b h = by (leb_tells a b)
+pub le_of_nat_le : (a b : ℕ) → nat_le a b ≡ true → a ≤ b
+le_of_nat_le a b h = by (leb_tells a b)
   where
     by : ((nat_le a b ≡ true) × (a ≤ b)) ⊎ ((nat_le a b ≡ false) × (b < a)) → a ≤ b
     by (inl t) = t.1
@@ -66,7 +69,7 @@ le_by a b h = by (leb_tells a b)
 
 name_by : (text : List ℕ) → length text ≤ 65535 → Bounds.is_name text ≡ true → is_name text ≡ true
 name_by [] h g = absurd (cc)
-name_by (b ∷ rest) h g = both g (le_test (length rest) 65534 (omega arith))
+name_by (b ∷ rest) h g = and_intro g (nat_le_of_le (length rest) 65534 (omega arith))
 
 same_ascends : (members : List ℕ) → Bounds.ascends members ≡ ascends members
 same_ascends [] = refl
@@ -74,10 +77,10 @@ same_ascends (a ∷ []) = refl
 same_ascends (a ∷ b ∷ rest) = ap (λ t. nat_lt a b && t) (same_ascends (b ∷ rest))
 
 literal_by : (passes : List ℕ → Bool) (value : Literal) → Scanned passes (literal_kind value) → literal_fits passes value ≡ true
-literal_by passes (Literals.Integer (pos n)) h = le_test n 9223372036854775807 h.0
+literal_by passes (Literals.Integer (pos n)) h = nat_le_of_le n 9223372036854775807 h.0
 literal_by passes (Literals.Integer (negsuc n)) h = absurd h.0
 literal_by passes (Literals.Text bytes) h = h.2
-literal_by passes (Literals.Cset members) h = both h.1.1 (sym (same_ascends members) ∙ h.1.0)
+literal_by passes (Literals.Cset members) h = and_intro h.1.1 (sym (same_ascends members) ∙ h.1.0)
 
 -- Phrases
 
@@ -158,53 +161,53 @@ module _ (passes : List ℕ → Bool) where
         (λ x. x.1.0)
     fits (Call place f es) = keeps_map
         (keeps_starts place (keeps_then (keeps_part 13 (fits f))
-        (keeps_then (keeps_sign _) (keeps_then (fits_list ByComma es) (keeps_sign _))))) (λ x. both x.0 x.1.1.0)
+        (keeps_then (keeps_sign _) (keeps_then (fits_list ByComma es) (keeps_sign _))))) (λ x. and_intro x.0 x.1.1.0)
     fits (CoCall place f es) = keeps_map
         (keeps_starts place (keeps_then (keeps_part 13 (fits f))
-        (keeps_then (keeps_sign _) (keeps_then (fits_list ByComma es) (keeps_sign _))))) (λ x. both x.0 x.1.1.0)
+        (keeps_then (keeps_sign _) (keeps_then (fits_list ByComma es) (keeps_sign _))))) (λ x. and_intro x.0 x.1.1.0)
     fits (Subscript place x es) =
         keeps_map (keeps_starts place (keeps_then (keeps_part 13 (fits x))
-        (keeps_then (keeps_sign _) (keeps_then (fits_list ByComma es) (keeps_sign _))))) (λ x. both x.0 x.1.1.0)
+        (keeps_then (keeps_sign _) (keeps_then (fits_list ByComma es) (keeps_sign _))))) (λ x. and_intro x.0 x.1.1.0)
     fits (Section place kind x a b) =
         keeps_map (keeps_starts place (keeps_then (keeps_part 13 (fits x))
         (keeps_then (keeps_sign _) (keeps_then (keeps_part 1 (fits a))
         (keeps_then (keeps_sign _) (keeps_then (keeps_part 1 (fits b)) (keeps_sign _)))))))
-        (λ x. both x.0 (both x.1.1.0 x.1.1.1.1.0))
+        (λ x. and_intro x.0 (and_intro x.1.1.0 x.1.1.1.1.0))
     fits (Field place x name) = keeps_map
         (keeps_starts place (keeps_then (keeps_part 13 (fits x))
-        (keeps_then (keeps_sign _) (name_keeps name)))) (λ x. both x.0 x.1.1)
+        (keeps_then (keeps_sign _) (name_keeps name)))) (λ x. and_intro x.0 x.1.1)
     fits (Prefix place o e) = keeps_map (keeps_then (keeps_prefix place o) (keeps_part 12 (fits e))) (λ x. x.1)
     fits (Not place e) = keeps_map (keeps_then (keeps_sign_at place _) (keeps_part 12 (fits e))) (λ x. x.1)
     fits (Binary place o a b) = keeps_map
         (keeps_starts place (keeps_then (keeps_part _ (fits a))
-        (keeps_then (keeps_infix o) (keeps_part _ (fits b))))) (λ x. both x.0 x.1.1)
+        (keeps_then (keeps_infix o) (keeps_part _ (fits b))))) (λ x. and_intro x.0 x.1.1)
     fits (To place a b Absent) = keeps_map
         (keeps_starts place (keeps_then (keeps_part 4 (fits a))
-        (keeps_then (keeps_sign _) (keeps_part 5 (fits b))))) (λ x. both x.0 (both x.1.1 refl))
+        (keeps_then (keeps_sign _) (keeps_part 5 (fits b))))) (λ x. and_intro x.0 (and_intro x.1.1 refl))
     fits (To place a b (Present c)) =
         keeps_map (keeps_starts place (keeps_then (keeps_part 4 (fits a))
         (keeps_then (keeps_sign _) (keeps_then (keeps_part 5 (fits b))
-        (keeps_then (keeps_sign _) (keeps_part 5 (fits c))))))) (λ x. both x.0 (both x.1.1.0 x.1.1.1.1))
+        (keeps_then (keeps_sign _) (keeps_part 5 (fits c))))))) (λ x. and_intro x.0 (and_intro x.1.1.0 x.1.1.1.1))
     fits (If place c a Absent) = keeps_map
         (keeps_then (keeps_sign_at place _)
         (keeps_then (keeps_part 1 (fits c)) (keeps_then (keeps_sign _) (keeps_part 1 (fits a)))))
-        (λ x. both x.1.0 (both x.1.1.1 refl))
+        (λ x. and_intro x.1.0 (and_intro x.1.1.1 refl))
     fits (If place c a (Present b)) =
         keeps_map (keeps_then (keeps_sign_at place _)
         (keeps_then (keeps_part 1 (fits c))
         (keeps_then (keeps_sign _) (keeps_then (keeps_part 1 (fits a))
-        (keeps_then (keeps_sign _) (keeps_part 1 (fits b))))))) (λ x. both x.1.0 (both x.1.1.1.0 x.1.1.1.1.1))
+        (keeps_then (keeps_sign _) (keeps_part 1 (fits b))))))) (λ x. and_intro x.1.0 (and_intro x.1.1.1.0 x.1.1.1.1.1))
     fits (Case place e cases) = keeps_map
         (keeps_then (keeps_sign_at place _)
         (keeps_then (keeps_part 1 (fits e))
         (keeps_then (keeps_sign _) (keeps_then (keeps_sign _)
-        (keeps_then (fits_clauses cases) (keeps_sign _)))))) (λ x. both x.1.0 x.1.1.1.1.0)
+        (keeps_then (fits_clauses cases) (keeps_sign _)))))) (λ x. and_intro x.1.0 x.1.1.1.1.0)
     fits (Loop place kind c Absent) =
-        keeps_map (keeps_then (keeps_sign_at place _) (keeps_part 1 (fits c))) (λ x. both x.1 refl)
+        keeps_map (keeps_then (keeps_sign_at place _) (keeps_part 1 (fits c))) (λ x. and_intro x.1 refl)
     fits (Loop place kind c (Present b)) =
         keeps_map (keeps_then (keeps_sign_at place _)
         (keeps_then (keeps_part 1 (fits c)) (keeps_then (keeps_sign _) (keeps_part 1 (fits b)))))
-        (λ x. both x.1.0 x.1.1.1)
+        (λ x. and_intro x.1.0 x.1.1.1)
     fits (Repeat place b) = keeps_map (keeps_then (keeps_sign_at place _) (keeps_part 1 (fits b)))
         (λ x. x.1)
     fits (Create place e) = keeps_map (keeps_then (keeps_sign_at place _) (keeps_part 1 (fits e)))
@@ -215,20 +218,20 @@ module _ (passes : List ℕ → Bool) where
     fits (Return place e) = keeps_map (keeps_then (keeps_sign_at place _) (keeps_part 0 (fits e)))
         (λ x. x.1)
     fits (Suspend place e Absent) =
-        keeps_map (keeps_then (keeps_sign_at place _) (keeps_part 0 (fits e))) (λ x. both x.1 refl)
+        keeps_map (keeps_then (keeps_sign_at place _) (keeps_part 0 (fits e))) (λ x. and_intro x.1 refl)
     fits (Suspend place e (Present b)) =
         keeps_map (keeps_then (keeps_sign_at place _)
         (keeps_then (keeps_part 0 (fits e)) (keeps_then (keeps_sign _) (keeps_part 1 (fits b)))))
-        (λ x. both x.1.0 x.1.1.1)
+        (λ x. and_intro x.1.0 x.1.1.1)
 
     fits_list : (by : Separator) (es : Trees) → Keeps passes (SpellsList by es) (trees_fit passes es ≡ true)
     fits_list by NoTrees = record { gives = λ here after h s. absurd s }
-    fits_list by (More e es) = keeps_map (keeps_then (keeps_part 0 (fits e)) (fits_more by es)) (λ x. both x.0 x.1)
+    fits_list by (More e es) = keeps_map (keeps_then (keeps_part 0 (fits e)) (fits_more by es)) (λ x. and_intro x.0 x.1)
 
     fits_more : (by : Separator) (es : Trees) → Keeps passes (SpellsMore by es) (trees_fit passes es ≡ true)
     fits_more by NoTrees = keeps_map keeps_nothing (λ x. refl)
     fits_more by (More e es) = keeps_map
-        (keeps_then (keeps_sign _) (keeps_then (keeps_part 0 (fits e)) (fits_more by es))) (λ x. both x.1.0 x.1.1)
+        (keeps_then (keeps_sign _) (keeps_then (keeps_part 0 (fits e)) (fits_more by es))) (λ x. and_intro x.1.0 x.1.1)
 
     fits_clause : (clause : Clause) → Keeps passes (SpellsClause clause) (clause_fits passes clause ≡ true)
     fits_clause (Default place e) =
@@ -236,15 +239,15 @@ module _ (passes : List ℕ → Bool) where
         (λ x. x.1.1)
     fits_clause (Guarded place c e) =
         keeps_map (keeps_starts place (keeps_then (keeps_part 1 (fits c))
-        (keeps_then (keeps_sign _) (keeps_part 1 (fits e))))) (λ x. both x.0 x.1.1)
+        (keeps_then (keeps_sign _) (keeps_part 1 (fits e))))) (λ x. and_intro x.0 x.1.1)
 
     fits_clauses : (cases : Clauses) → Keeps passes (SpellsClauses cases) (clauses_fit passes cases ≡ true)
     fits_clauses NoClauses = record { gives = λ here after h s. absurd s }
     fits_clauses (MoreClauses clause cases) =
-        keeps_map (keeps_then (fits_clause clause) (fits_more_clauses cases)) (λ x. both x.0 x.1)
+        keeps_map (keeps_then (fits_clause clause) (fits_more_clauses cases)) (λ x. and_intro x.0 x.1)
 
     fits_more_clauses : (cases : Clauses) → Keeps passes (SpellsMoreClauses cases) (clauses_fit passes cases ≡ true)
     fits_more_clauses NoClauses = keeps_map keeps_nothing (λ x. refl)
     fits_more_clauses (MoreClauses clause cases) =
         keeps_map (keeps_then (keeps_sign _) (keeps_then (fits_clause clause) (fits_more_clauses cases)))
-        (λ x. both x.1.0 x.1.1)
+        (λ x. and_intro x.1.0 x.1.1)

@@ -3,7 +3,7 @@ use Rattle.std.specs.Prelude.{Bool, true}
 use Rattle.std.specs.List.{list_all}
 use Rattle.icn_unit.specs.declared.unit.UnitInstr.{UnitInstr}
 use Rattle.icn_unit.specs.declared.unit.UnitInstr.TheVariants as I
-use Rattle.icn_unit.specs.PlainUnits.{Proc, Decl, Global, Procedure, Link, Record}
+use Rattle.icn_unit.specs.PlainUnits.{PlainProc, PlainDecl, Global, Procedure, Link, Record}
 use Rattle.icn_unit.specs.UnitRules.{is_byte, is_number}
 
 abbrev pub number_fits : UnitInstr → Bool
@@ -45,11 +45,11 @@ number_fits I.Coret = true
 number_fits I.Cofail = true
 
 -- the numbers of all instructions fit their types
-abbrev pub numbers_fit : Proc → Bool
+abbrev pub numbers_fit : PlainProc → Bool
 numbers_fit proc = list_all number_fits proc.instrs
 
 -- the text of a link declaration is of bytes
-abbrev pub bytes_fit : Decl → Bool
+abbrev pub bytes_fit : PlainDecl → Bool
 bytes_fit (Global name) = true
 bytes_fit (Procedure name) = true
 bytes_fit (Link text) = list_all is_byte text

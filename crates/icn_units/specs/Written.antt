@@ -7,9 +7,9 @@ use Rattle.icn_tree.specs.declared.token.Kind.TheVariants.{Text as TextToken}
 use Rattle.icn_tree.specs.declared.tree.Literal.{Literal}
 use Rattle.icn_tree.specs.declared.tree.Literal.TheVariants.{Integer, Text, Cset}
 use Rattle.icn_tree.specs.declared.tree.Name.{Name}
-use Rattle.icn_tree.specs.declared.tree.Item.{Item}
-use Rattle.icn_tree.specs.declared.tree.Item.TheVariants as Items
-use Rattle.icn_tree.specs.Trees.{Initial, NoInitial, Initially, Tree, MaybeTree, Trees, Clause, Clauses, Empty, Constant, Identifier, Keyword, Parentheses, Listing, Compound, Call, CoCall, Subscript, Section, Field, Prefix, Not, Binary, To, If, Case, Loop, Repeat, Create, Next, Fail, Break, Return, Suspend, Absent, Present, NoTrees, More, Default, Guarded, NoClauses, MoreClauses, Locals, Procedure, Declaration, Global, Link, Invocable, Record, ProcedureOf}
+use Rattle.icn_tree.specs.declared.tree.DeclItem.{DeclItem}
+use Rattle.icn_tree.specs.declared.tree.DeclItem.TheVariants as Items
+use Rattle.icn_tree.specs.Trees.{Initial, NoInitial, Initially, Tree, MaybeTree, Trees, Clause, Clauses, Empty, Constant, Identifier, Keyword, Parentheses, Listing, Compound, Call, CoCall, Subscript, Section, Field, Prefix, Not, Binary, To, If, Case, Loop, Repeat, Create, Next, Fail, Break, Return, Suspend, Absent, Present, NoTrees, More, Default, Guarded, NoClauses, MoreClauses, LocalDecl, Procedure, Declaration, Global, Link, Invocable, Record, ProcedureOf}
 use Rattle.icn_unit.specs.declared.unit.UnitInstr.{UnitInstr}
 use Rattle.icn_unit.specs.declared.unit.UnitInstr.TheVariants as I
 use Rattle.icn_unit.specs.UnitOperands.{is_name, ascends}
@@ -86,12 +86,12 @@ initial_fits passes NoInitial = true
 initial_fits passes (Initially place value) = tree_fits passes value
 
 -- a linked file is named by an identifier or a text
-abbrev pub item_fits : (List ℕ → Bool) → Item → Bool
+abbrev pub item_fits : (List ℕ → Bool) → DeclItem → Bool
 item_fits passes (Items.Identifier name) = name_fits name
 item_fits passes (Items.Text name) = passes name.text
 
-abbrev pub all_locals_fit : List Locals → Bool
-all_locals_fit locals = list_all (λ (l : Locals). names_fit l.names) locals
+abbrev pub all_locals_fit : List LocalDecl → Bool
+all_locals_fit locals = list_all (λ (l : LocalDecl). names_fit l.names) locals
 
 -- the names and literals of a procedure are such as its unit may have, where its texts pass this test
 abbrev pub procedure_fits : (List ℕ → Bool) → Procedure → Bool

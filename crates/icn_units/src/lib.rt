@@ -2,10 +2,10 @@
 #![tactic(auto)]
 
 mod bounds;
-mod laws;
+mod code_laws;
 mod making;
 
-pub use laws::{
+pub use code_laws::{
     code_texts_fit, codes_have_room, file_names_differ, labels_have_one_place,
     names_and_literals_fit, names_stand_once, units_keep_rules,
 };

@@ -49,6 +49,7 @@ other_at a i small within = ap (λ n. n == 1) (bit_at_not w8 a i small within) �
 
 -- Lists of bytes, changed from the first on
 
+-- one bit more is as it is to be
 pub done_more : (now : List ℕ) (target : ℕ → ℕ) (place x : ℕ) → place < length now → x ≡ target place → ((k : ℕ) → k < place → slice_index now k ≡ target k)
     → (k : ℕ) → k < place + 1 → slice_index (slice_set now place x) k ≡ target k
 done_more now target place x within is before k below = at (cases_lt k place)
@@ -57,6 +58,7 @@ done_more now target place x within is before k below = at (cases_lt k place)
     at (inl less) = get_or-set_other now place k x 0 (λ same. absurd (omega (arith, same))) ∙ before k less
     at (inr more) = let same : k ≡ place = omega arith in rw same (get_or-set_same now place x 0 within ∙ is)
 
+-- the bits ahead are as before
 pub ahead_more : (now : List ℕ) (old : ℕ → ℕ) (place x : ℕ) → ((k : ℕ) → place ≤ k → slice_index now k ≡ old k) → (k : ℕ) → place + 1 ≤ k
     → slice_index (slice_set now place x) k ≡ old k
 ahead_more now old place x before k beyond = get_or-set_other now place k x 0 (λ same. absurd (omega (arith, same))) ∙ before k (omega arith)

@@ -8,7 +8,7 @@ use Rattle.std.specs.Ordering.{ordering_then, nat_cmp, int_cmp, is_eq}
 use Rattle.std.proofs.lemmas.Cmp.{nat_cmp_total, int_cmp_total, nat_list_cmp_total, on_total, then_total, tied_itself, eq_by_cmp_equiv, on_equiv}
 use Rattle.std.proofs.lemmas.Map.Lookups.{CmpEqualImpliesEq, exact_bytes, exact_signed, exact_unsigned}
 use Rattle.icn_value.specs.Values.{Value, Null, Integer, Text, Chars, Std, Procedure, ARecord, AList, ASet, ATable, ACoexp, File, Input, Output, Errout}
-use Rattle.icn_value.specs.Sameness.{Shape, shape_of, shape_cmp, same}
+use Rattle.icn_value.specs.Sameness.{ValueRank, shape_of, shape_cmp, same}
 
 -- the value of a shape
 natural : ℤ → ℕ
@@ -18,7 +18,7 @@ natural (negsuc n) = 0
 file_at : ℕ → File
 file_at n = cond (n == 0) Errout (cond (n == 1) Input Output)
 
-valued : Shape → Value
+valued : ValueRank → Value
 valued shape =
     cond (shape.rank == 0) Null (cond (shape.rank == 1) (Integer shape.number) (cond (shape.rank == 2) (Text shape.text)
     (cond (shape.rank == 3) (Chars shape.text) (cond (shape.rank == 4) (Std (file_at (natural shape.number)))
@@ -51,11 +51,12 @@ by_equal : {X : Type 0} (cmp : X → X → Ordering) → CmpEqualImpliesEq cmp �
 by_equal cmp exact x y is = exact x y ((Equal-is (cmp x y)).0 is)
 
 shape_by : {rank rank' : ℕ} {text text' : List ℕ} {number number' : ℤ} → rank ≡ rank' → text ≡ text' → number ≡ number'
-    → (let a : Shape = record { rank = rank; text = text; number = number } in a) ≡ (let b : Shape = record { rank = rank'; text = text'; number = number' } in
+    → (let a : ValueRank = record { rank = rank; text = text; number = number } in a)
+    ≡ (let b : ValueRank = record { rank = rank'; text = text'; number = number' } in
     b)
 shape_by rank text number = cc
 
-same_shape : (a b : Shape) → is_eq (shape_cmp a b) ≡ true → a ≡ b
+same_shape : (a b : ValueRank) → is_eq (shape_cmp a b) ≡ true → a ≡ b
 same_shape a b is =
     let first = both (nat_cmp a.rank b.rank) _ is in
     let second = both (slice_cmp nat_cmp a.text b.text) _ first.1 in
@@ -69,8 +70,8 @@ pub same_is : (a b : Value) → same a b ≡ true → a ≡ b
 same_is a b is = sym (back a) ∙ (ap valued (same_shape (shape_of a) (shape_of b) is) ∙ back b)
 
 shapes : IsTotalOrder shape_cmp
-shapes = then_total (on_total (λ (shape : Shape). shape.rank) nat_cmp_total)
-    (then_total (on_total (λ (shape : Shape). shape.text) nat_list_cmp_total) (on_total (λ (shape : Shape). shape.number) int_cmp_total))
+shapes = then_total (on_total (λ (shape : ValueRank). shape.rank) nat_cmp_total)
+    (then_total (on_total (λ (shape : ValueRank). shape.text) nat_list_cmp_total) (on_total (λ (shape : ValueRank). shape.number) int_cmp_total))
 
 -- a value is the same as itself
 pub same_self : (a : Value) → same a a ≡ true

@@ -7,7 +7,7 @@ use Rattle.std.specs.Cmp.Lexicographic.{slice_cmp}
 use Rattle.icn_value.specs.Values.{Value, Null, Integer, Text, Chars, Std, Procedure, ARecord, AList, ASet, ATable, ACoexp, File, Input, Output, Errout}
 
 -- what tells the values of a type apart: a text or a number; and the type's rank in sorted lists
-pub record Shape : Type 0 where
+pub record ValueRank : Type 0 where
   pub rank : ℕ
   pub text : List ℕ
   pub number : ℤ
@@ -17,7 +17,7 @@ file_rank Errout = 0
 file_rank Input = 1
 file_rank Output = 2
 
-abbrev pub shape_of : Value → Shape
+abbrev pub shape_of : Value → ValueRank
 shape_of Null = record { rank = 0; text = []; number = pos 0 }
 shape_of (Integer n) = record { rank = 1; text = []; number = n }
 shape_of (Text bytes) = record { rank = 2; text = bytes; number = pos 0 }
@@ -31,7 +31,7 @@ shape_of (ATable id) = record { rank = 9; text = []; number = pos id }
 shape_of (ARecord id) = record { rank = 10; text = []; number = pos id }
 
 -- by the rank, then by the text, then by the number
-abbrev pub shape_cmp : Shape → Shape → Ordering
+abbrev pub shape_cmp : ValueRank → ValueRank → Ordering
 shape_cmp a b = ordering_then (nat_cmp a.rank b.rank)
     (ordering_then (slice_cmp nat_cmp a.text b.text) (int_cmp a.number b.number))
 

@@ -5,17 +5,17 @@ use Rattle.icn_value.specs.Values.{Value, Null, Integer, Text, Chars, Std, Proce
 use Rattle.icn_value.specs.Store.{Heap, list_at, set_at, table_at, record_at, count_at}
 
 -- Values by what their elements are: bytes, or those of a structure
-pub data Group : Type 0 where
-  Textual : List ℕ → Group
-  Listed : ℕ → Group
-  Collected : ℕ → Group
-  Tabled : ℕ → Group
-  Recorded : ℕ → Group
-  Filed : File → Group
-  Activated : ℕ → Group
-  Single : Group
+pub data ValueGroup : Type 0 where
+  Textual : List ℕ → ValueGroup
+  Listed : ℕ → ValueGroup
+  Collected : ℕ → ValueGroup
+  Tabled : ℕ → ValueGroup
+  Recorded : ℕ → ValueGroup
+  Filed : File → ValueGroup
+  Activated : ℕ → ValueGroup
+  Single : ValueGroup
 
-abbrev pub group_of : Value → Group
+abbrev pub group_of : Value → ValueGroup
 group_of Null = Single
 group_of (Integer n) = Textual (signed_decimal n)
 group_of (Text bytes) = Textual bytes
@@ -28,7 +28,7 @@ group_of (ASet id) = Collected id
 group_of (ATable id) = Tabled id
 group_of (ACoexp id) = Activated id
 
-abbrev pub size_in : Heap → Group → Option ℕ
+abbrev pub size_in : Heap → ValueGroup → Option ℕ
 size_in heap (Textual bytes) = Some (length bytes)
 size_in heap (Listed id) = Some (length ((list_at heap id).items))
 size_in heap (Collected id) = Some (length (set_at heap id))

@@ -8,8 +8,8 @@ use Rattle.icn_value.specs.Values.{Value, Null, Integer, Text, Chars, Std, Proce
 use Rattle.icn_value.specs.Store.{Setting}
 use Rattle.icn_defs.specs.Calls.{ComesTo, GoesOn}
 use Rattle.icn_defs.specs.Conversions.{held_text, text_of}
-use Rattle.icn_defs.specs.Facts.{can_hold}
-use Rattle.icn_defs.specs.Reading.{undoes_exchange, assigns_both, assigns_or, assigns_root, move_part, moved_by_left, moved_by_right, part_length, reads_text, with_part, root_value}
+use Rattle.icn_defs.specs.RowFacts.{can_hold}
+use Rattle.icn_defs.specs.ReadAndAssign.{undoes_exchange, assigns_both, assigns_or, assigns_root, move_part, moved_by_left, moved_by_right, part_length, reads_text, with_part, root_value}
 use Rattle.icn_defs.specs.Rows.{Row, Finds, Error, Mover, Neither, Left, Right, check, costs_bytes, costs_text, present, wrong}
 use Rattle.icn_heap.specs.Extents.{Extent}
 use Rattle.icn_vars.specs.declared.stop.Stop.{Stop}

@@ -11,8 +11,8 @@ use Rattle.icn_value.specs.declared.item.VarRef.TheVariants.{Whole as HeldWhole,
 use Rattle.icn_value.specs.declared.item.Item.{Item as HeldItem}
 use Rattle.icn_value.specs.declared.item.Item.TheVariants.{Val as ValItem, Var as VarItem}
 use Rattle.icn_value.specs.Values.{Key, Whole, Part, Val, Var}
-use Rattle.icn_heap.specs.Extents.{Keeps}
-use Rattle.icn_heap.proofs.Keeping.{keeps_all, keeps_then}
+use Rattle.icn_heap.specs.Extents.{KeepsValues}
+use Rattle.icn_heap.proofs.GrowingHeaps.{keeps_refl, keeps_trans}
 use Rattle.icn_vars.specs.Worlds.{IsLiveItem, IsLiveRoot, IsLiveVariable, ItemBy, KeepsFields, KeepsItems, Reach, RootBy, VariableBy, item_in, root_in, variable_in}
 
 -- How worlds keep items
@@ -25,16 +25,19 @@ pub fields_then : (a b c : List ℕ) → KeepsFields a b → KeepsFields b c →
 fields_then a b c first second = record { more = λ id. (let low = first.more id in let high = second.more id in omega arith) }
 
 -- a world keeps its items where its heap and its records keep theirs, and there are as many globals, statics and locals
-pub keeps_items : (old new : Reach) → Keeps old.extent new.extent → KeepsFields old.fields new.fields → new.globals ≡ old.globals → new.statics ≡ old.statics
+pub keeps_items : (old new : Reach) → KeepsValues old.extent new.extent → KeepsFields old.fields new.fields → new.globals ≡ old.globals
+    → new.statics ≡ old.statics
     → new.locals ≡ old.locals → KeepsItems old new
 keeps_items old new extent fields globals statics locals = record { extent = extent; fields = fields; globals = globals; statics = statics; locals = locals }
 
-pub items_all : (a : Reach) → KeepsItems a a
-items_all a = record { extent = keeps_all a.extent; fields = same_fields a.fields a.fields refl; globals = refl; statics = refl; locals = refl }
+-- a world keeps its own items
+pub keeps_items_refl : (a : Reach) → KeepsItems a a
+keeps_items_refl a = record { extent = keeps_refl a.extent; fields = same_fields a.fields a.fields refl; globals = refl; statics = refl; locals = refl }
 
-pub items_then : (a b c : Reach) → KeepsItems a b → KeepsItems b c → KeepsItems a c
-items_then a b c first second = record {
-  extent = keeps_then first.extent second.extent;
+-- items that two changes keep one after the other are kept by both
+pub keeps_items_trans : (a b c : Reach) → KeepsItems a b → KeepsItems b c → KeepsItems a c
+keeps_items_trans a b c first second = record {
+  extent = keeps_trans first.extent second.extent;
   fields = fields_then a.fields b.fields c.fields first.fields second.fields;
   globals = second.globals ∙ first.globals;
   statics = second.statics ∙ first.statics;
@@ -67,6 +70,7 @@ module _ {old new : Reach} (keeps : KeepsItems old new) where
   item_by (ValItem val) is = keeps.extent.live val is
   item_by (VarItem variable) is = variable_stays variable is
 
+  -- an item of the world before is one of the world after
   pub item_stays : (item : HeldItem) → IsLiveItem old item → IsLiveItem new item
   item_stays item is = record { live = item_by item is.live }
 
@@ -98,6 +102,7 @@ module _ {old new : Reach} (keeps : KeepsItems old new) where
   same_item_by (ValItem val) is = ap Val (keeps.extent.value val is)
   same_item_by (VarItem variable) is = ap Var (variable_kept variable is)
 
+  -- and it stands for the same item
   pub item_kept : (item : HeldItem) → IsLiveItem old item → item_in new.extent item ≡ item_in old.extent item
   item_kept item is = same_item_by item is.live
 

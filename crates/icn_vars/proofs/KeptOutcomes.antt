@@ -13,10 +13,10 @@ use Rattle.icn_value.specs.declared.residual.Residual.TheVariants.{TextBytes as 
 use Rattle.icn_value.specs.Members.{members_of}
 use Rattle.icn_value.specs.Values.{Value, Variable}
 use Rattle.icn_value.specs.Store.{Setting}
-use Rattle.icn_defs.specs.Facts.{can_hold}
+use Rattle.icn_defs.specs.RowFacts.{can_hold}
 use Rattle.icn_defs.specs.Rows.{Mover, TextBytes, VariableBytes, UndoAssign, UndoExchange, Balanced, Found, Among, Gives, Suspends}
 use Rattle.icn_heap.specs.Extents.{IsLive, text_in, value_in}
-use Rattle.icn_heap.proofs.Keeping.{optional_kept}
+use Rattle.icn_heap.proofs.GrowingHeaps.{optional_kept}
 use Rattle.icn_vars.specs.declared.outcome.Outcome.{Outcome as HeldOutcome}
 use Rattle.icn_vars.specs.declared.outcome.Outcome.TheVariants.{Fails as HeldFails, Gives as HeldGives, Suspends as HeldSuspends}
 use Rattle.icn_vars.specs.declared.outcome.Halt.{Halt}

@@ -4,12 +4,12 @@ use Rattle.std.specs.List.{All}
 use Rattle.std.proofs.lemmas.List.Elements.{All-weaker}
 use Rattle.icn_value.specs.declared.val.Val.{Val}
 use Rattle.icn_value.specs.declared.item.Item.{Item}
-use Rattle.icn_heap.specs.Extents.{IsLive, Keeps}
+use Rattle.icn_heap.specs.Extents.{IsLive, KeepsValues}
 use Rattle.icn_heap.specs.Heaps.{extent_of, heap_of}
 use Rattle.icn_vars.specs.declared.world.World.{World}
 use Rattle.icn_vars.specs.SettingFacts.{IsSoundSetting}
 use Rattle.icn_vars.specs.Worlds.{IsLiveItem, KeepsFields, KeepsItems, field_counts, reach_of}
-use Rattle.icn_vars.proofs.Growing.{locals_grow}
+use Rattle.icn_vars.proofs.GrowingWorlds.{locals_grow}
 use Rattle.icn_vars.proofs.KeptItems.{item_stays, keeps_items}
 
 pub setting_stays : (old new : World) (before after : List Val) (items : List Item) → KeepsItems (reach_of old before) (reach_of new after)
@@ -22,7 +22,7 @@ setting_stays old new before after items keeps live is = record {
 }
 
 -- where the heap grows, and there are as many globals and statics
-pub setting_grows : (old new : World) (locals : List Val) (items : List Item) → Keeps (extent_of old.heap) (extent_of new.heap)
+pub setting_grows : (old new : World) (locals : List Val) (items : List Item) → KeepsValues (extent_of old.heap) (extent_of new.heap)
     → KeepsFields (field_counts (heap_of old.heap)) (field_counts (heap_of new.heap))
     → length new.globals.items ≡ length old.globals.items → length new.statics.items ≡ length old.statics.items
     → IsSoundSetting old locals items → IsSoundSetting new locals items

@@ -1,12 +1,12 @@
 pub mod ReadValues
-pub mod Growing
+pub mod GrowingWorlds
 pub mod KeptItems
 pub mod KeptSettings
 pub mod KeptOutcomes
-pub mod Changing
+pub mod HeapChanges
 pub mod RootChanges
 pub mod PartChanges
 pub mod Exchanges
-pub mod Starting
-pub mod Holding
+pub mod StartWorlds
+pub mod HeldValues
 pub mod HeapRows

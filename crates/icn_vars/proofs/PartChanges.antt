@@ -6,7 +6,7 @@ use Rattle.icn_value.specs.Values.{Value, Text, Root, Variable, Whole, Part, Ran
 use Rattle.icn_value.specs.Store.{Setting, having_random, having_subject}
 use Rattle.icn_defs.specs.Calls.{GoesOn, Passes}
 use Rattle.icn_defs.specs.Conversions.{integer_of, text_of}
-use Rattle.icn_defs.specs.Reading.{assigns_keyword, assigns_or, assigns_root, reads_text, with_part, undoes}
+use Rattle.icn_defs.specs.ReadAndAssign.{assigns_keyword, assigns_or, assigns_root, reads_text, with_part, undoes}
 use Rattle.icn_defs.specs.Rows.{Row, Finds, changes, costs_bytes, costs_text, present, wrong}
 use Rattle.icn_heap.specs.Extents.{Extent}
 use Rattle.icn_vars.specs.declared.stop.Stop.{Stop}

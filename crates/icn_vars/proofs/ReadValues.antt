@@ -5,14 +5,14 @@ use Rattle.std.specs.List.{All}
 use Rattle.std.specs.Option.{option_map}
 use Rattle.std.proofs.lemmas.Option.{slice_get-map}
 use Rattle.icn_structs.specs.Numbered.{NumberedList, item_at, item_numbered}
-use Rattle.icn_heap.specs.Parts.{list_in}
+use Rattle.icn_heap.specs.HeapParts.{list_in}
 use Rattle.icn_heap.proofs.ListChanges.{get_live}
 use Rattle.std.specs.Prelude.{ℤ, pos, negsuc, ◌-ℤ◌, IfSome, unwrap_or, slice_index, IsErrAnd, MatchResult}
 use Rattle.icn_value.specs.declared.val.Val.{Val as HeldVal}
 use Rattle.icn_value.specs.Values.{Value, Text, Root, Part}
 use Rattle.icn_value.specs.Store.{Record, Setting, value_at}
 use Rattle.icn_defs.specs.Calls.{GoesOn}
-use Rattle.icn_defs.specs.Reading.{reads, reads_text}
+use Rattle.icn_defs.specs.ReadAndAssign.{reads, reads_text}
 use Rattle.icn_heap.specs.Extents.{Extent, IsLive, value_in}
 use Rattle.icn_vars.specs.declared.stop.Stop.{Stop}
 use Rattle.icn_vars.specs.declared.stop.Stop.TheVariants.{Error as StopError, NoMemory}

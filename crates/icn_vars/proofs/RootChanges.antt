@@ -13,17 +13,17 @@ use Rattle.icn_value.specs.Values.{Value, Null, Element, Field, Global, Key, Loc
 use Rattle.icn_value.specs.Store.{Heap, Outside, Setting, Table, having_heap, list_at, new_list, table_at, with_list, with_table}
 use Rattle.icn_value.specs.Changes.{ChangedHeap, Refuses, and_then, charged_unless, value_at_key, stored_in, with_field, with_pair}
 use Rattle.icn_defs.specs.Conversions.{same}
-use Rattle.icn_defs.specs.Reading.{assigns_root, costs_unless}
+use Rattle.icn_defs.specs.ReadAndAssign.{assigns_root, costs_unless}
 use Rattle.icn_defs.specs.Rows.{Row, Error, changes_heap, check}
 use Rattle.icn_heap.specs.declared.heap.Heap.{Heap as HeldHeap}
-use Rattle.icn_heap.specs.Extents.{Extent, IsLive, Keeps, value_in}
+use Rattle.icn_heap.specs.Extents.{Extent, IsLive, KeepsValues, value_in}
 use Rattle.icn_heap.specs.Heaps.{extent_of, heap_of}
-use Rattle.icn_vars.specs.Facts.{IsSoundWorld}
+use Rattle.icn_vars.specs.WorldFacts.{IsSoundWorld}
 use Rattle.icn_vars.specs.declared.stop.Stop.{Stop}
 use Rattle.icn_vars.specs.Assignments.{RootAssigned}
 use Rattle.icn_vars.specs.Stops.{StopsPassing, stop_of}
-use Rattle.icn_vars.proofs.Changing.{charged_then, unless_change}
-use Rattle.icn_vars.proofs.Growing.{heap_changed, setting_over}
+use Rattle.icn_vars.proofs.HeapChanges.{charged_then, unless_change}
+use Rattle.icn_vars.proofs.GrowingWorlds.{heap_changed, setting_over}
 
 -- Globals, statics and locals
 
@@ -78,7 +78,8 @@ element_gone heap id number value gone =
     ap (λ list. with_list id list heap) (numbered_gone (list_at heap id) number value gone)
     ∙ ap (λ lists. let one : Heap = record heap { lists = lists } in one) (put_back heap.lists id (new_list []))
 
-module _ (outside : Outside) (old new : HeldHeap) (pair : Pair) (random : ℕ) (globals statics locals : List Val) (keeps : Keeps (extent_of old) (extent_of new))
+module _ (outside : Outside) (old new : HeldHeap) (pair : Pair) (random : ℕ) (globals statics locals : List Val)
+    (keeps : KeepsValues (extent_of old) (extent_of new))
     (sound : IsSoundWorld (extent_of old) pair random globals statics) (live : All (IsLive (extent_of old)) locals) (id : ℕ) where
   pub element_assigned : (number : ℤ) (value : Value) → is_some (item_numbered (list_at (heap_of old) id) number) ≡ true
       → heap_of new ≡ with_list id (with_numbered (list_at (heap_of old) id) number value) (heap_of old)
@@ -137,12 +138,15 @@ key_refused all setting id key value full step refused =
     by : (full : Full) → StopsPassing all (costs_unless (is_some (value_at_key setting.world.heap id key))) setting setting (stop_of full)
         → StopsPassing all (assigns_root refused (Key id key) value) setting setting (stop_of full)
     by (Strings sum limit) is = λ next. is
-        (changes_heap (with_table id (record (table_at setting.world.heap id) { pairs = with_value_of same (table_at setting.world.heap id).pairs key value })) next)
+        (changes_heap (with_table id (record (table_at setting.world.heap id) { pairs = with_value_of same (table_at setting.world.heap id).pairs key value }))
+        next)
     by (Cells sum limit) is = λ next. is
-        (changes_heap (with_table id (record (table_at setting.world.heap id) { pairs = with_value_of same (table_at setting.world.heap id).pairs key value })) next)
+        (changes_heap (with_table id (record (table_at setting.world.heap id) { pairs = with_value_of same (table_at setting.world.heap id).pairs key value }))
+        next)
     by NoMemory is = tt
 
-pub key_stops : (outside : Outside) (old new : HeldHeap) (pair : Pair) (random : ℕ) (globals statics locals : List Val) → Keeps (extent_of old) (extent_of new)
+pub key_stops : (outside : Outside) (old new : HeldHeap) (pair : Pair) (random : ℕ) (globals statics locals : List Val)
+    → KeepsValues (extent_of old) (extent_of new)
     → IsSoundWorld (extent_of old) pair random globals statics
     → All (IsLive (extent_of old)) locals → (all : Extent) (id : ℕ) (key value : Value) (full : Full) → heap_of new ≡ heap_of old
     → Refuses (stored_in (heap_of old) id key value) full

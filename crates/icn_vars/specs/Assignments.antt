@@ -5,8 +5,8 @@ use Rattle.icn_value.specs.declared.item.VarRef.TheVariants.{Whole as HeldWhole,
 use Rattle.icn_value.specs.Values.{Value, Text, Root, Global, Static, Local, Element, Field, Key, Keyword, Variable, Whole, Part}
 use Rattle.icn_value.specs.Store.{Setting}
 use Rattle.icn_defs.specs.Calls.{ComesTo, GoesOn}
-use Rattle.icn_defs.specs.Facts.{can_hold}
-use Rattle.icn_defs.specs.Reading.{assigns_both, assigns_or, move_part, moved_by_right, mover_of, part_length, root_value}
+use Rattle.icn_defs.specs.RowFacts.{can_hold}
+use Rattle.icn_defs.specs.ReadAndAssign.{assigns_both, assigns_or, move_part, moved_by_right, mover_of, part_length, root_value}
 use Rattle.icn_defs.specs.Rows.{◌>>=◌, Row, Finds, Mover, Left, Error as ErrorOutcome}
 use Rattle.icn_heap.specs.Extents.{Extent}
 use Rattle.icn_vars.specs.declared.assignment.Assignment.{Assignment}

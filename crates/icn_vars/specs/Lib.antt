@@ -1,7 +1,7 @@
-pub mod Facts
+pub mod WorldFacts
 pub mod Stops
 pub mod Worlds
 pub mod SettingFacts
-pub mod Finding
+pub mod FoundValues
 pub mod Outcomes
 pub mod Assignments

@@ -11,7 +11,7 @@ use Rattle.icn_value.specs.declared.residual.Residual.{Residual as HeldResidual}
 use Rattle.icn_value.specs.declared.residual.Residual.TheVariants.{TextBytes as HeldTextBytes, VariableBytes as HeldVariableBytes, ListItems as HeldListItems, SetMembers as HeldSetMembers, TableValues as HeldTableValues, TableKeys as HeldTableKeys, RecordFields as HeldRecordFields, InputLines as HeldInputLines, UndoAssign as HeldUndoAssign, UndoExchange as HeldUndoExchange, UndoPosition as HeldUndoPosition, Counting as HeldCounting, Sequence as HeldSequence, Balanced as HeldBalanced, Found as HeldFound, Among as HeldAmong}
 use Rattle.icn_value.specs.Members.{members_of}
 use Rattle.icn_value.specs.Store.{Setting}
-use Rattle.icn_defs.specs.Facts.{can_hold}
+use Rattle.icn_defs.specs.RowFacts.{can_hold}
 use Rattle.icn_defs.specs.Rows.{Row, Mover, Neither, Left, Right, Residual, TextBytes, VariableBytes, ListItems, SetMembers, TableValues, TableKeys, RecordFields, InputLines, UndoAssign, UndoExchange, UndoPosition, Counting, Sequence, Balanced, Found, Among, Outcome, Fails, Gives, Suspends, Error, Ends}
 use Rattle.icn_heap.specs.Extents.{Extent, IsLive, IsText, text_in, value_in}
 use Rattle.icn_vars.specs.declared.outcome.Outcome.{Outcome as HeldOutcome}

@@ -6,7 +6,7 @@ use Rattle.icn_value.specs.declared.item.Item.{Item}
 use Rattle.icn_heap.specs.Extents.{IsLive}
 use Rattle.icn_heap.specs.Heaps.{extent_of}
 use Rattle.icn_vars.specs.declared.world.World.{World}
-use Rattle.icn_vars.specs.Facts.{IsSoundWorld}
+use Rattle.icn_vars.specs.WorldFacts.{IsSoundWorld}
 use Rattle.icn_vars.specs.Worlds.{IsLiveItem, reach_of}
 
 -- The world is sound, and what the locals and the items name is of it. The type of a world keeps the first, a call says the second of the

@@ -13,7 +13,7 @@ use Rattle.icn_value.specs.declared.item.Item.TheVariants.{Val as HeldVal, Var a
 use Rattle.icn_value.specs.Values.{KeywordVariable, Subject, Position, Random, Root, Global, Static, Local, Element, Field, Key, Keyword, Variable, Whole, Part, Item, Val as ItemVal, Var as ItemVar}
 use Rattle.icn_value.specs.Store.{Heap, Record, Outside, Setting, World as StoreWorld}
 use Rattle.icn_heap.specs.declared.heap.Heap.{Heap as HeldHeap}
-use Rattle.icn_heap.specs.Extents.{Extent, IsLive, Keeps, text_in, value_in}
+use Rattle.icn_heap.specs.Extents.{Extent, IsLive, KeepsValues, text_in, value_in}
 use Rattle.icn_heap.specs.Heaps.{extent_of, heap_of}
 use Rattle.icn_vars.specs.declared.world.World.{World}
 
@@ -134,7 +134,7 @@ pub record KeepsFields (old new : List ℕ) : Type 0 where
 
 -- every item stays of the world, and stands for the same
 pub record KeepsItems (old new : Reach) : Type 0 where
-  pub extent : Keeps old.extent new.extent
+  pub extent : KeepsValues old.extent new.extent
   pub fields : KeepsFields old.fields new.fields
   pub globals : new.globals ≡ old.globals
   pub statics : new.statics ≡ old.statics

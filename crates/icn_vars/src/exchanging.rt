@@ -3,7 +3,7 @@ ghost use Rattle.std.specs.Prelude.{◌≡◌, ◌<◌, ◌-◌, ◌^◌, List, 
 ghost use Rattle.std.specs.List.{All};
 ghost use Rattle.icn_value.specs.Store.{Outside};
 ghost use Rattle.icn_value.specs.Values.{Text};
-ghost use Rattle.icn_defs.specs.Reading.{assigns_both};
+ghost use Rattle.icn_defs.specs.ReadAndAssign.{assigns_both};
 ghost use Rattle.icn_heap.specs.Extents.{IsLive, value_in};
 ghost use Rattle.icn_heap.specs.Heaps.{extent_of};
 ghost use Rattle.icn_vars.specs.Assignments.{ExchangesAs, HoldAlike, HoldsShort, IsLiveExchange, assigns_moved, assigns_right, exchange_of};
@@ -14,7 +14,7 @@ ghost use Rattle.icn_vars.specs.declared.stop.Stop.TheVariants.{NoMemory};
 use crate::assigning::assign;
 use crate::assignment::{Assignment, Exchange, Moved};
 use crate::locals::Locals;
-use crate::movers::{moved, mover_of, part_length};
+use crate::movers::{move_part, mover_of, part_length};
 use crate::reading::read_root;
 use crate::stop::Stop;
 use crate::world::World;
@@ -113,7 +113,7 @@ fn assign_moved<L: Locals>(
     ensures locals { All (IsLive (extent_of w.new.heap)) (L.items l.new) }
     ensures kept { KeepsItems (reach_of w.old (L.items l.old)) (reach_of w.new (L.items l.new)) }
 {
-    match moved(old, part_length(left), right) {
+    match move_part(old, part_length(left), right) {
         Moved::To(right) => assign_right(w, l, Mover::Left, left, right, to_right),
         Moved::BeforeText => Err(Stop::Error(205, None)),
         Moved::BehindTexts => {
@@ -151,7 +151,7 @@ fn assign_right<L: Locals>(
         Assignment::Done(now) => match mover {
             Mover::Neither => Ok(Exchange::Done(left, now)),
             Mover::Left => Ok(Exchange::Done(left, now)),
-            Mover::Right => match moved(part_length(right), part_length(now), left) {
+            Mover::Right => match move_part(part_length(right), part_length(now), left) {
                 Moved::To(left) => Ok(Exchange::Done(left, now)),
                 Moved::BeforeText => Err(Stop::Error(205, None)),
                 Moved::BehindTexts => unreachable!(),

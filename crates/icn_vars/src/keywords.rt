@@ -3,8 +3,8 @@ ghost use Rattle.std.specs.Prelude.{◌≡◌, ◌≤◌, ◌+◌, ◌-◌, ◌<
 ghost use Rattle.std.specs.List.{All};
 ghost use Rattle.icn_value.specs.Store.{Outside};
 ghost use Rattle.icn_defs.specs.Conversions.{held_text, place_of};
-ghost use Rattle.icn_defs.specs.Facts.{word_holds};
-ghost use Rattle.icn_defs.specs.Reading.{assigns_keyword};
+ghost use Rattle.icn_defs.specs.RowFacts.{word_holds};
+ghost use Rattle.icn_defs.specs.ReadAndAssign.{assigns_keyword};
 ghost use Rattle.icn_heap.specs.Extents.{IsLive, value_in};
 ghost use Rattle.icn_heap.specs.Heaps.{extent_of};
 ghost use Rattle.icn_value.specs.Values.{Subject as SubjectWord, Position as PositionWord, Random as RandomWord};
@@ -46,7 +46,7 @@ pub fn assign_keyword<L: Locals>(
 }
 
 // Assigns to `&subject`, and sets `&pos` to 1.
-#[tactic(auto, using(crate::proofs::KeptItems::items_all))]
+#[tactic(auto, using(crate::proofs::KeptItems::keeps_items_refl))]
 fn assign_subject<L: Locals>(w: &mut World, l: &L, val: Val) -> Result<bool, Stop>
     requires locals { All (IsLive (extent_of w.old.heap)) (L.items l.now) }
     requires value { IsLive (extent_of w.old.heap) val }
@@ -79,7 +79,7 @@ fn assign_subject<L: Locals>(w: &mut World, l: &L, val: Val) -> Result<bool, Sto
 }
 
 // Assigns to `&pos`. `false` comes exactly where it would be out of range.
-#[tactic(auto, using(crate::proofs::KeptItems::items_all))]
+#[tactic(auto, using(crate::proofs::KeptItems::keeps_items_refl))]
 fn assign_position<L: Locals>(w: &mut World, l: &L, val: Val) -> Result<bool, Stop>
     requires locals { All (IsLive (extent_of w.old.heap)) (L.items l.now) }
     requires value { IsLive (extent_of w.old.heap) val }
@@ -106,7 +106,7 @@ fn assign_position<L: Locals>(w: &mut World, l: &L, val: Val) -> Result<bool, St
 }
 
 // Assigns to `&random`.
-#[tactic(auto, using(crate::proofs::KeptItems::items_all))]
+#[tactic(auto, using(crate::proofs::KeptItems::keeps_items_refl))]
 fn assign_random<L: Locals>(w: &mut World, l: &L, val: Val) -> Result<bool, Stop>
     requires locals { All (IsLive (extent_of w.old.heap)) (L.items l.now) }
     requires value { IsLive (extent_of w.old.heap) val }

@@ -3,9 +3,9 @@
 
 mod assigning;
 mod assignment;
+mod change_laws;
 mod exchanging;
 mod keywords;
-mod laws;
 mod locals;
 mod movers;
 mod outcome;
@@ -18,9 +18,11 @@ mod world;
 
 pub use assigning::assign;
 pub use assignment::{Assignment, Exchange};
+pub use change_laws::{
+    coexpressions_are_made, fields_are_assigned, results_are_counted, settings_stay,
+};
 pub use exchanging::exchange;
 pub use keywords::place_of;
-pub use laws::{coexpressions_are_made, fields_are_assigned, results_are_counted, settings_stay};
 pub use locals::Locals;
 pub use movers::mover_of;
 pub use outcome::{Halt, Outcome};

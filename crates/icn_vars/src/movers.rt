@@ -1,7 +1,7 @@
 // Which side of an exchange moves the other, and how far.
 ghost use Rattle.std.specs.Prelude.{◌≡◌};
 ghost use Rattle.std.specs.List.{All};
-ghost use Rattle.icn_defs.specs.Reading.{mover_of as defined_mover, part_length, root_key, root_number, root_place, same_root};
+ghost use Rattle.icn_defs.specs.ReadAndAssign.{mover_of as defined_mover, part_length, root_key, root_number, root_place, same_root};
 ghost use Rattle.icn_heap.specs.Extents.{Extent, IsLive, value_in};
 ghost use Rattle.icn_heap.specs.Heaps.{extent_of};
 ghost use Rattle.icn_vars.specs.Assignments.{HoldsMoved, IsLiveMoved, MovesTo};
@@ -109,7 +109,7 @@ pub fn part_length(variable: VarRef) -> u64
 }
 
 // A part that moves by the change of length of another one.
-pub fn moved(old: u64, new: u64, variable: VarRef) -> Moved
+pub fn move_part(old: u64, new: u64, variable: VarRef) -> Moved
     ensures moved { MovesTo old new variable result }
     ensures live { (reach : Reach) → IsLiveVariable reach variable → IsLiveMoved reach result }
     ensures holds { HoldsMoved variable result }

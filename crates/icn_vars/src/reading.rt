@@ -8,10 +8,10 @@ ghost use Rattle.icn_value.specs.declared.val.Val.{Val};
 ghost use Rattle.icn_value.specs.declared.val.Val.TheVariants.{Integer as IntegerVal, List as ListVal, Table as TableVal};
 ghost use Rattle.icn_vars.specs.declared.stop.Stop.TheVariants.{NoMemory};
 ghost use Rattle.icn_defs.specs.Calls.{GoesOn};
-ghost use Rattle.icn_defs.specs.Reading.{keyword_value, reads, reads_text, root_value, table_value, the_value};
+ghost use Rattle.icn_defs.specs.ReadAndAssign.{keyword_value, reads, reads_text, root_value, table_value, the_value};
 ghost use Rattle.icn_heap.specs.Extents.{IsLive, IsText, text_in, value_in};
 ghost use Rattle.icn_heap.specs.Heaps.{extent_of, heap_of};
-ghost use Rattle.icn_vars.specs.Finding.{IsGone};
+ghost use Rattle.icn_vars.specs.FoundValues.{IsGone};
 ghost use Rattle.icn_vars.specs.Stops.{IsLiveStop, StopsFinding};
 ghost use Rattle.icn_vars.specs.Worlds.{IsLiveItem, IsLiveRoot, IsLiveVariable, IsShort, IsShortItem, item_in, reach_of, root_in, setting_of, variable_in, word_of};
 

@@ -4,8 +4,8 @@ ghost use Rattle.std.specs.List.{All};
 ghost use Rattle.icn_value.specs.Store.{Outside};
 ghost use Rattle.icn_value.specs.declared.val.Val.TheVariants.{List as ListVal, Table as TableVal};
 ghost use Rattle.icn_value.specs.Values.{Element, Key};
-ghost use Rattle.icn_defs.specs.Facts.{root_holds};
-ghost use Rattle.icn_defs.specs.Reading.{assigns_root};
+ghost use Rattle.icn_defs.specs.RowFacts.{root_holds};
+ghost use Rattle.icn_defs.specs.ReadAndAssign.{assigns_root};
 ghost use Rattle.icn_heap.specs.Extents.{IsLive, value_in};
 ghost use Rattle.icn_heap.specs.Heaps.{extent_of};
 ghost use Rattle.icn_vars.specs.Assignments.{IsError, RootAssigned, is_in_place};
@@ -19,7 +19,7 @@ use crate::world::World;
 use icn_value::{Root, Val};
 
 // Assigns to a whole variable. `false` comes exactly where `&pos` would be out of range.
-#[tactic(auto, using(crate::proofs::Growing::grows, crate::proofs::Growing::locals_grow, crate::proofs::KeptItems::items_all))]
+#[tactic(auto, using(crate::proofs::GrowingWorlds::grows, crate::proofs::GrowingWorlds::locals_grow, crate::proofs::KeptItems::keeps_items_refl))]
 pub fn assign_root<L: Locals>(w: &mut World, l: &mut L, root: Root, val: Val) -> Result<bool, Stop>
     requires locals { All (IsLive (extent_of w.old.heap)) (L.items l.old) }
     requires root { IsLiveRoot (reach_of w.old (L.items l.old)) root }
@@ -58,7 +58,7 @@ pub fn assign_root<L: Locals>(w: &mut World, l: &mut L, root: Root, val: Val) ->
 }
 
 // Assigns to the element of a list with this number.
-#[tactic(auto, using(crate::proofs::Growing::grows, crate::proofs::Growing::locals_grow))]
+#[tactic(auto, using(crate::proofs::GrowingWorlds::grows, crate::proofs::GrowingWorlds::locals_grow))]
 fn assign_element<L: Locals>(
     w: &mut World,
     l: &L,
@@ -85,7 +85,7 @@ fn assign_element<L: Locals>(
 }
 
 // Stores a value at a key of a table.
-#[tactic(auto, using(crate::proofs::Growing::grows, crate::proofs::Growing::locals_grow))]
+#[tactic(auto, using(crate::proofs::GrowingWorlds::grows, crate::proofs::GrowingWorlds::locals_grow))]
 fn assign_key<L: Locals>(w: &mut World, l: &L, table: u32, key: Val, val: Val) -> Result<bool, Stop>
     requires locals { All (IsLive (extent_of w.old.heap)) (L.items l.now) }
     requires table { IsLive (extent_of w.old.heap) (TableVal table) }

@@ -4,7 +4,7 @@ ghost use Rattle.std.specs.List.{All};
 ghost use Rattle.icn_value.specs.Store.{Outside};
 ghost use Rattle.icn_defs.specs.Calls.{Passes};
 ghost use Rattle.icn_defs.specs.Conversions.{text_of};
-ghost use Rattle.icn_defs.specs.Reading.{with_part};
+ghost use Rattle.icn_defs.specs.ReadAndAssign.{with_part};
 ghost use Rattle.icn_defs.specs.Rows.{costs_bytes, costs_text};
 ghost use Rattle.icn_heap.specs.Extents.{Extent, IsLive, IsText, text_in, value_in};
 ghost use Rattle.icn_heap.specs.Heaps.{extent_of};
@@ -27,7 +27,7 @@ pub fn has_text(val: Val) -> bool
 }
 
 // The text of a value that has one. A text that is made is charged.
-#[tactic(auto, using(crate::proofs::Growing::grows, crate::proofs::Growing::locals_grow))]
+#[tactic(auto, using(crate::proofs::GrowingWorlds::grows, crate::proofs::GrowingWorlds::locals_grow))]
 pub fn made_text<L: Locals>(w: &mut World, l: &L, val: Val) -> Result<Span, Stop>
     requires locals { All (IsLive (extent_of w.old.heap)) (L.items l.now) }
     requires live { IsLive (extent_of w.old.heap) val }
@@ -71,7 +71,7 @@ fn replaced_bytes(
 }
 
 // A text with another in the place of a part of it, which is charged.
-#[tactic(auto, using(crate::proofs::Growing::grows, crate::proofs::Growing::locals_grow))]
+#[tactic(auto, using(crate::proofs::GrowingWorlds::grows, crate::proofs::GrowingWorlds::locals_grow))]
 pub fn replace<L: Locals>(
     w: &mut World,
     l: &L,

@@ -3,7 +3,7 @@ ghost use Rattle.std.specs.Prelude.{◌≡◌, true, IfErr, MatchResult};
 ghost use Rattle.std.specs.List.{All};
 ghost use Rattle.icn_value.specs.Store.{Outside};
 ghost use Rattle.icn_defs.specs.Calls.{Passes};
-ghost use Rattle.icn_defs.specs.Reading.{undoes, undoes_exchange};
+ghost use Rattle.icn_defs.specs.ReadAndAssign.{undoes, undoes_exchange};
 ghost use Rattle.icn_heap.specs.Extents.{IsLive, value_in};
 ghost use Rattle.icn_heap.specs.Heaps.{extent_of};
 ghost use Rattle.icn_vars.specs.Assignments.{IsError, takes_no_memory};

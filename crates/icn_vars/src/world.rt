@@ -1,6 +1,6 @@
 // The world of a program: what it has beside its stacks.
 ghost use Rattle.icn_heap.specs.Heaps.{extent_of};
-ghost use Rattle.icn_vars.specs.Facts.{IsSoundWorld, IsSoundWorld-prop};
+ghost use Rattle.icn_vars.specs.WorldFacts.{IsSoundWorld, IsSoundWorld-prop};
 
 use icn_heap::{Heap, empty_text};
 use icn_value::{Pair, Span, Val};
@@ -35,7 +35,7 @@ impl World {
 
     /// The world of a heap, with these globals and statics, an empty subject, `&pos` 1 and `&random` 0. Of a heap in which nothing
     /// is made yet, and null statics, it is the world with which a run begins.
-    #[tactic(auto, using(crate::proofs::Starting::new_sound))]
+    #[tactic(auto, using(crate::proofs::StartWorlds::new_sound))]
     pub fn new(heap: Heap, globals: Vec<Val>, statics: Vec<Val>) -> World
         requires globals { All (IsLive (extent_of heap)) globals.items }
         requires statics { All (IsLive (extent_of heap)) statics.items }

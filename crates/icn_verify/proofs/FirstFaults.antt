@@ -7,14 +7,14 @@ use Rattle.icn_tree.specs.declared.rule.Rule.TheVariants.{V1, V2, V3, V4}
 use Rattle.icn_code.specs.declared.instr.Instr.{Instr}
 use Rattle.icn_verify.specs.Shapes.{PlainShape, start_shape, look_of}
 use Rattle.icn_verify.specs.Rows.{row_of, lacks, meets, fits, after, next, forward, strays}
-use Rattle.icn_verify.specs.Reaching.{Reaches, starts, goes, Carries, AreWithin}
+use Rattle.icn_verify.specs.ReachingShapes.{Reaches, starts, goes, Carries, AreWithin}
 use Rattle.icn_verify.specs.Faults.{Breaks, IsFirstOf, IsSound, number_of}
 use Rattle.icn_verify.specs.Passing.{Arrival, unseen, one, several, seen_at, with_arrival, rule_at, rule_at_end, pass_on, at_address, first_placed, first_fault, first_table, fault_of}
-use Rattle.icn_verify.proofs.Same.{is_true_or_false}
-use Rattle.icn_verify.proofs.Seeing.{Sums, IsOnly, SumUp, Adds, sums_as, sums_arrived, length_arrived}
-use Rattle.icn_verify.proofs.Ways.{next_is, forward_past, forward_within}
-use Rattle.icn_verify.proofs.Arriving.{Arrives, IsSent, reaches_arrives, arrives_reaches, arrives_more, arrives_sent, arrives_split}
-use Rattle.icn_verify.proofs.Judging.{IsLeast, IsLeastRule, unreached, least_several, least_one, least_end, none_past}
+use Rattle.icn_verify.proofs.SameShapes.{is_true_or_false}
+use Rattle.icn_verify.proofs.ShapeSums.{Sums, IsOnly, SumUp, Adds, sums_as, sums_arrived, length_arrived}
+use Rattle.icn_verify.proofs.InstructionWays.{next_address, forward_past, forward_within}
+use Rattle.icn_verify.proofs.ArrivingShapes.{Arrives, IsSent, reaches_arrives, arrives_reaches, arrives_more, arrives_sent, arrives_split}
+use Rattle.icn_verify.proofs.LeastRules.{IsLeast, IsLeastRule, unreached, least_several, least_one, least_end, none_past}
 
 none_some : {A : Type 0} (a : A) → let none : Option A = None in (none ≡ Some a) → ⊥
 none_some a h = cc
@@ -128,7 +128,7 @@ module _ (instrs : List Instr) where
 
         carries_next : (q : ℕ) (shape : PlainShape) → next instr place only ≡ Some (q, shape) → Carries instrs place only q shape
         carries_next q shape h =
-            let is = next_is (row_of instr).way place (after (row_of instr) only) q shape h in
+            let is = next_address (row_of instr).way place (after (row_of instr) only) q shape h in
             record { instr = instr; stands = stands; fit = fit; later = omega arith; leads = inl h }
 
         carries_forward : (q : ℕ) (shape : PlainShape) → forward instr only ≡ Some (q, shape) → Carries instrs place only q shape
@@ -193,7 +193,7 @@ module _ (instrs : List Instr) where
       where
         by : (next carries.instr place shape ≡ Some (to, carried)) ⊎ (forward carries.instr shape ≡ Some (to, carried)) → to ≤ length instrs
         by (inl h) =
-            let is = next_is (row_of carries.instr).way place (after (row_of carries.instr) shape) to carried h in
+            let is = next_address (row_of carries.instr).way place (after (row_of carries.instr) shape) to carried h in
             let lt = some_within instrs place carries.instr carries.stands in
             omega arith
         by (inr h) = forward_within (row_of carries.instr).way (length instrs) shape (after (row_of carries.instr) shape) to carried

@@ -1,16 +1,16 @@
-mod Same
-mod Seeing
-mod Ways
-mod Arriving
-mod Judging
+mod SameShapes
+mod ShapeSums
+mod InstructionWays
+mod ArrivingShapes
+mod LeastRules
 mod FirstFaults
-mod Giving
-mod Stacking
-mod Entering
-mod Looking
-mod Tables
-mod Rising
-mod Bounding
-mod Checking
-mod Lawful
-pub mod Deciding
+mod SoundInstructions
+mod KeptStacks
+mod EntryTests
+mod BaseLevels
+mod SlotTables
+mod RisingCounts
+mod TableRules
+mod ProcedureChecks
+mod ShapeLaws
+pub mod DecidedFaults

@@ -6,7 +6,7 @@ use Rattle.icn_code.specs.declared.instr.Instr.{Instr}
 use Rattle.icn_code.specs.Codes.{Proc, Tables}
 use Rattle.icn_verify.specs.Shapes.{PlainShape, look_of}
 use Rattle.icn_verify.specs.Rows.{row_of, lacks, meets, back, strays}
-use Rattle.icn_verify.specs.Reaching.{Reaches}
+use Rattle.icn_verify.specs.ReachingShapes.{Reaches}
 
 module _ (instrs : List Instr) (address : ℕ) where
   -- this instruction stands at the address, and this shape reaches it

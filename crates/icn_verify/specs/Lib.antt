@@ -1,11 +1,11 @@
 pub mod Shapes
 pub mod Rows
-pub mod Reaching
+pub mod ReachingShapes
 pub mod Faults
 pub mod Given
-pub mod Laws
+pub mod ShapeLaws
 pub mod Passing
 pub mod Refusals
-pub mod Entries
+pub mod KeptOnce
 pub mod Stacks
-pub mod Counting
+pub mod ShapeCounts

@@ -4,7 +4,7 @@ use Rattle.icn_profile.specs.Numbers.{most_entries}
 use Rattle.icn_code.specs.Codes.{Proc}
 use Rattle.icn_verify.specs.declared.fault.VerifyFault.{VerifyFault}
 use Rattle.icn_verify.specs.declared.fault.VerifyFault.TheVariants.{V, NoMemory}
-use Rattle.icn_verify.specs.Reaching.{AreWithin}
+use Rattle.icn_verify.specs.ReachingShapes.{AreWithin}
 use Rattle.icn_verify.specs.Faults.{IsFirstFault}
 
 -- a rule is the first that is broken; want of memory says nothing

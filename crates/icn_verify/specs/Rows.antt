@@ -7,36 +7,36 @@ use Rattle.icn_code.specs.declared.instr.Instr.{Instr}
 use Rattle.icn_code.specs.declared.instr.Instr.TheVariants.{Pnull, Int, Str, Cset, Local, Static, Global, Keywd, Pop, Dup, Op, Llist, Field, Invoke, Appl, Mark, Mark0, Unmark, Eret, Esusp, Limit, Lsusp, Efail, Chfail, Goto, Loop, Bscan, Escan, Ccase, Init, Psusp, Pret, Pfail, Create, Coact, Coret, Cofail}
 use Rattle.icn_verify.specs.declared.shape.Level.{Level}
 use Rattle.icn_verify.specs.declared.shape.LevelKind.TheVariants.{Plain as PlainMark, Limit as LimitMark}
-use Rattle.icn_verify.specs.declared.shape.Look.{Look}
+use Rattle.icn_verify.specs.declared.shape.ShapeView.{ShapeView}
 use Rattle.icn_verify.specs.declared.rows.Asks.{Asks}
 use Rattle.icn_verify.specs.declared.rows.Asks.TheVariants.{Nothing, OpenMark, EndedMark, EndedPlain, EndedLimit, OpenPlain, OpenScan, OperandOutside, OutsideCreate, InsideCreate}
-use Rattle.icn_verify.specs.declared.rows.Change.{Change}
-use Rattle.icn_verify.specs.declared.rows.Change.TheVariants.{Keeps, OpensPlain, OpensLimit, Drops, OpensScan, ClosesScan}
+use Rattle.icn_verify.specs.declared.rows.LevelChange.{LevelChange}
+use Rattle.icn_verify.specs.declared.rows.LevelChange.TheVariants.{Keeps, OpensPlain, OpensLimit, Drops, OpensScan, ClosesScan}
 use Rattle.icn_verify.specs.declared.rows.Way.{Way}
 use Rattle.icn_verify.specs.declared.rows.Way.TheVariants.{On, Ends, Fails, Jumps, Returns, Retries, Skips, Forks}
-use Rattle.icn_verify.specs.declared.rows.Row.{Row}
+use Rattle.icn_verify.specs.declared.rows.StackEffect.{StackEffect}
 use Rattle.icn_verify.specs.Shapes.{PlainShape, start_shape, look_of, with_fewer, with_more, with_scan, without_scan, with_mark, before_mark, same_kind}
 
 -- operands taken and left, and on to the next instruction
-abbrev pub works : ℕ → ℕ → Row
+abbrev pub works : ℕ → ℕ → StackEffect
 works takes leaves = record { takes = takes; leaves = leaves; asks = Nothing; change = Keeps; way = On }
 
 -- the same, where something is asked for
-abbrev pub work_where : Asks → ℕ → ℕ → Row
+abbrev pub work_where : Asks → ℕ → ℕ → StackEffect
 work_where asks takes leaves =
     record { takes = takes; leaves = leaves; asks = asks; change = Keeps; way = On }
 
 -- the same, with a change of the levels
-abbrev pub work_changing : Asks → Change → ℕ → ℕ → Row
+abbrev pub work_changing : Asks → LevelChange → ℕ → ℕ → StackEffect
 work_changing asks change takes leaves =
     record { takes = takes; leaves = leaves; asks = asks; change = change; way = On }
 
 -- an instruction that goes on in another way, and takes and leaves no operand
-abbrev pub way_only : Asks → Way → Row
+abbrev pub way_only : Asks → Way → StackEffect
 way_only asks way = record { takes = 0; leaves = 0; asks = asks; change = Keeps; way = way }
 
 -- the row of an instruction in the table
-abbrev pub row_of : Instr → Row
+abbrev pub row_of : Instr → StackEffect
 row_of Pnull = works 0 1
 row_of (Int index) = works 0 1
 row_of (Str index) = works 0 1
@@ -87,7 +87,7 @@ abbrev pub has_operand : Level → Bool
 has_operand level = nat_lt 0 level.operands
 
 -- what is asked for is there
-abbrev pub meets : Asks → Look → Bool
+abbrev pub meets : Asks → ShapeView → Bool
 meets Nothing look = true
 meets OpenMark look = is_some look.outside
 meets EndedMark look = is_some look.outside && is_ended look.inner
@@ -104,7 +104,7 @@ abbrev pub fits : PlainShape → Instr → Bool
 fits shape instr = not (lacks instr shape) && meets (row_of instr).asks (look_of shape)
 
 -- what the change leaves of the levels
-abbrev pub change_levels : Change → PlainShape → PlainShape
+abbrev pub change_levels : LevelChange → PlainShape → PlainShape
 change_levels Keeps shape = shape
 change_levels OpensPlain shape = with_mark PlainMark shape
 change_levels OpensLimit shape = with_mark LimitMark shape
@@ -114,7 +114,7 @@ change_levels ClosesScan shape = without_scan shape
 
 -- the shape that the instruction leaves: operands are taken, the levels change, and operands are left on the level that is
 -- innermost then
-abbrev pub after : Row → PlainShape → PlainShape
+abbrev pub after : StackEffect → PlainShape → PlainShape
 after row shape = with_more row.leaves (change_levels row.change (with_fewer row.takes shape))
 
 -- the next instruction, if the code goes on there, and the shape there

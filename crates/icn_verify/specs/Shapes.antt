@@ -3,7 +3,7 @@ use Rattle.std.specs.Prelude.{ℕ, ◌+◌, ◌-◌, Bool, true, false, ◌&&◌
 use Rattle.icn_verify.specs.declared.shape.Level.{Level}
 use Rattle.icn_verify.specs.declared.shape.LevelKind.{LevelKind}
 use Rattle.icn_verify.specs.declared.shape.LevelKind.TheVariants.{Base, Plain, Limit}
-use Rattle.icn_verify.specs.declared.shape.Look.{Look}
+use Rattle.icn_verify.specs.declared.shape.ShapeView.{ShapeView}
 use Rattle.icn_verify.specs.declared.shape.Shape.{Shape}
 
 -- a shape: whether the address is in a create body, the innermost level, and the levels outside it, the next one first. The
@@ -25,7 +25,7 @@ abbrev pub outside : PlainShape → Option Level
 outside shape = slice_get shape.outer 0
 
 -- what an instruction can see of a shape
-abbrev pub look_of : PlainShape → Look
+abbrev pub look_of : PlainShape → ShapeView
 look_of shape = record { in_create = shape.in_create; inner = shape.inner; outside = outside shape }
 
 -- the shape whose innermost level has so many operands fewer, or more

@@ -2,7 +2,7 @@
 use Rattle.std.specs.Prelude.{◌≡◌, ℕ, ◌+◌, ◌<◌, List, [], ◌∷◌, ◌++◌, Option, Some, All, length, map, slice_get, slice_index_or}
 use Rattle.std.specs.Option.{option_map}
 use Rattle.icn_verify.specs.declared.shape.Level.{Level}
-use Rattle.icn_verify.specs.declared.arena.Entry.{Entry}
+use Rattle.icn_verify.specs.declared.arena.StackedLevel.{StackedLevel}
 use Rattle.icn_verify.specs.declared.flat.Flat.{Flat}
 use Rattle.icn_verify.specs.declared.table.Slot.{Slot}
 use Rattle.icn_verify.specs.declared.table.Slot.TheVariants.{Free, One, Several}
@@ -14,24 +14,24 @@ abbrev pub stack_at : List (List Level) → ℕ → List Level
 stack_at stacks number = slice_index_or stacks number []
 
 -- each entry is a level on an earlier stack
-abbrev pub stacks_with : List (List Level) → List Entry → List (List Level)
+abbrev pub stacks_with : List (List Level) → List StackedLevel → List (List Level)
 stacks_with stacks [] = stacks
 stacks_with stacks (entry ∷ entries) =
     stacks_with (stacks ++ (entry.level ∷ stack_at stacks entry.outer) ∷ []) entries
 
 -- the stacks of these entries by their numbers, the empty one first
-abbrev pub stacks_of : List Entry → List (List Level)
+abbrev pub stacks_of : List StackedLevel → List (List Level)
 stacks_of entries = stacks_with ([] ∷ []) entries
 
 -- each stack is there once, and each entry's own stack is where it says
-pub record IsOnce (entries : List Entry) : Type 0 where
+pub record IsOnce (entries : List StackedLevel) : Type 0 where
   pub differ : (i j : ℕ) → i < length (stacks_of entries) → j < length (stacks_of entries)
       → stack_at (stacks_of entries) i ≡ stack_at (stacks_of entries) j → i ≡ j
-  pub built : (k : ℕ) (entry : Entry) → slice_get entries k ≡ Some entry → (entry.outer < k + 1)
+  pub built : (k : ℕ) (entry : StackedLevel) → slice_get entries k ≡ Some entry → (entry.outer < k + 1)
       × (stack_at (stacks_of entries) (k + 1) ≡ entry.level ∷ stack_at (stacks_of entries) entry.outer)
 
 -- more stacks may have come; those that were there are as they were
-pub record Grows (old new : List (List Level)) : Type 0 where
+pub record StacksGrow (old new : List (List Level)) : Type 0 where
   pub more : List (List Level)
   pub is : new ≡ old ++ more
 

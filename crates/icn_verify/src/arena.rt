@@ -1,18 +1,18 @@
 // The stacks of levels that stand outside others.
 ghost use Rattle.std.specs.Prelude.{◌≡◌, [], ◌∷◌, ◌+◌, ◌^◌, ◌<◌, ◌≤◌, length, slice_get, IfOk, OnOk, OnErr, IfSome};
 ghost use Rattle.std.specs.Option.{option_map};
-ghost use Rattle.icn_verify.specs.Entries.{IsEntered};
+ghost use Rattle.icn_verify.specs.KeptOnce.{IsEntered};
 ghost use Rattle.icn_verify.specs.Shapes.{look_of, before_mark, start_shape};
 
 use crate::flat::Flat;
-use crate::shape::{Level, LevelKind, Look};
+use crate::shape::{Level, LevelKind, ShapeView};
 use indexmap::IndexSet;
 use std::alloc::{AllocError, Global};
 use std::marker::Model;
 
 /// A level on an earlier stack.
 #[derive(Clone, Copy, Debug, PartialEq, Eq, Hash)]
-pub struct Entry {
+pub struct StackedLevel {
     pub level: Level,
     /// The number of the stack below.
     pub outer: u32,
@@ -24,7 +24,7 @@ pub struct Entry {
 /// A clause sees the list of the stacks, each with the level next outside first.
 #[derive(Drop)]
 pub struct Arena {
-    entries: IndexSet<Entry>,
+    entries: IndexSet<StackedLevel>,
 }
 
 impl Model for Arena {
@@ -41,7 +41,10 @@ impl Model for Arena {
 }
 
 // The index of an entry, which goes last if it is new.
-fn entered(entries: &mut IndexSet<Entry>, entry: Entry) -> Result<usize, AllocError>
+fn enter_level(
+    entries: &mut IndexSet<StackedLevel>,
+    entry: StackedLevel,
+) -> Result<usize, AllocError>
     ensures entered { OnOk result (IsEntered entries.old.keys entry entries.new.keys) }
     ensures index { IfOk result (λ index. slice_get entries.new.keys index ≡ Some entry) }
     ensures unchanged { OnErr result (entries.new.keys ≡ entries.old.keys) }
@@ -59,7 +62,7 @@ fn number_of(index: usize) -> u32
 }
 
 impl Arena {
-    ghost use Rattle.icn_verify.specs.Stacks.{stack_at, shape_in, sent_in, IsHeld, Grows};
+    ghost use Rattle.icn_verify.specs.Stacks.{stack_at, shape_in, sent_in, IsHeld, StacksGrow};
     ghost use Rattle.icn_verify.specs.Passing.{same_shape};
 
     /// The empty stack alone.
@@ -88,12 +91,12 @@ impl Arena {
     pub fn nest(&mut self, level: Level, outer: u32) -> Result<u32, AllocError>
         requires held { outer < length self.old }
         requires room { length self.old < 2 ^ 32 }
-        ensures grows { IfOk result (λ _. Grows self.old self.new) }
+        ensures grows { IfOk result (λ _. StacksGrow self.old self.new) }
         ensures more { OnOk result (length self.new ≤ length self.old + 1) }
         ensures held { IfOk result (λ number. number < length self.new) }
         ensures stack { IfOk result (λ number. stack_at self.new number ≡ level ∷ stack_at self.old outer) }
     {
-        let index = entered(&mut self.entries, Entry { level, outer })?;
+        let index = enter_level(&mut self.entries, StackedLevel { level, outer })?;
         Ok(number_of(index))
     }
 
@@ -124,11 +127,11 @@ impl Arena {
     }
 
     /// What an instruction can see of a shape.
-    pub fn look(&self, flat: Flat) -> Look
+    pub fn look(&self, flat: Flat) -> ShapeView
         requires { IsHeld self.now flat }
         ensures { result ≡ look_of (shape_in self.now flat) }
     {
-        Look {
+        ShapeView {
             in_create: flat.in_create,
             inner: flat.inner,
             outside: self.before_mark(flat).map(|outer| outer.inner),

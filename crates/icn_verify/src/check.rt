@@ -1,15 +1,15 @@
 // The check of code.
 ghost use Rattle.std.specs.Prelude.{◌≡◌, ◌<◌, ◌≤◌, ◌^◌, length, IfOk, IfErr, IfSome, OnOk, MatchOption};
 ghost use Rattle.icn_code.specs.Codes.{procs_of};
-ghost use Rattle.icn_code.specs.Seen.{tables_of};
-ghost use Rattle.icn_verify.specs.Reaching.{AreWithin};
+ghost use Rattle.icn_code.specs.CodeTables.{tables_of};
+ghost use Rattle.icn_verify.specs.ReachingShapes.{AreWithin};
 ghost use Rattle.icn_verify.specs.Faults.{AreSound, IsSound, IsFirstOf, IsVerified};
 ghost use Rattle.icn_verify.specs.Refusals.{Refuses, AreBounded};
 
 use crate::fault::VerifyFault;
 use crate::pass::fault_of;
 use crate::verified::Verified;
-use icn_code::{Code, Instr, Procedure};
+use icn_code::{Code, Instr, LinkedProcedure};
 use icn_tree::Rule;
 use std::alloc::{AllocError, Global};
 
@@ -25,7 +25,7 @@ fn first_fault(alloc: Global, instrs: &[Instr]) -> Result<Option<(Rule, usize)>,
 }
 
 // Refuses procedures that break a rule.
-fn check_procs(alloc: Global, procs: &[Procedure]) -> Result<(), VerifyFault>
+fn check_procs(alloc: Global, procs: &[LinkedProcedure]) -> Result<(), VerifyFault>
     requires { AreBounded (procs_of procs.now) }
     ensures sound { OnOk result (AreSound (procs_of procs.now)) }
     ensures refused { IfErr result (Refuses (procs_of procs.now)) }

@@ -6,15 +6,15 @@ mod arena;
 mod check;
 mod fault;
 mod flat;
-mod laws;
 mod pass;
 mod rows;
 mod shape;
 mod table;
+mod verification_laws;
 mod verified;
 
 pub use check::verify;
 pub use fault::VerifyFault;
-pub use laws::{least_shapes, one_fault};
 pub use shape::{Level, LevelKind, Shape, fits};
+pub use verification_laws::{least_shapes, one_fault};
 pub use verified::Verified;

@@ -4,13 +4,13 @@ ghost use Rattle.std.specs.Option.{ForSome};
 ghost use Rattle.icn_verify.specs.declared.shape.Level.{Level as OneLevel};
 ghost use Rattle.icn_verify.specs.Shapes.{with_mark};
 ghost use Rattle.icn_verify.specs.Rows.{change_levels, after, next_by, forward_by, back_by, row_of, strays_by};
-ghost use Rattle.icn_verify.specs.Counting.{FindsRoom, HasRoom, IsLowTable};
+ghost use Rattle.icn_verify.specs.ShapeCounts.{FindsRoom, HasRoom, IsLowTable};
 ghost use Rattle.icn_verify.specs.Passing.{misses, rule_of_one, rule_at, pass_on, seen_at, rule_at_end, first_table, first_fault, fault_of, one};
-ghost use Rattle.icn_verify.specs.Stacks.{shape_in, table_in, sent_in, seen_in, IsHeld, AreKept, Grows};
+ghost use Rattle.icn_verify.specs.Stacks.{shape_in, table_in, sent_in, seen_in, IsHeld, AreKept, StacksGrow};
 
 use crate::arena::Arena;
 use crate::flat::Flat;
-use crate::rows::{Change, Row, Way, meets, row_of};
+use crate::rows::{LevelChange, StackEffect, Way, meets, row_of};
 use crate::shape::{Level, LevelKind};
 use crate::table::{Slot, arrive, holds, slot_at};
 use icn_code::Instr;
@@ -21,7 +21,7 @@ use std::alloc::{AllocError, Global};
 fn with_mark(arena: &mut Arena, kind: LevelKind, flat: Flat) -> Result<Flat, AllocError>
     requires held { IsHeld arena.old flat }
     requires room { length arena.old < 2 ^ 32 }
-    ensures grows { OnOk result (Grows arena.old arena.new) }
+    ensures grows { OnOk result (StacksGrow arena.old arena.new) }
     ensures more { OnOk result (length arena.new ≤ length arena.old + 1) }
     ensures held { IfOk result (λ marked. IsHeld arena.new marked) }
     ensures shape { IfOk result
@@ -60,41 +60,41 @@ fn with_operands(flat: Flat, operands: u32) -> Flat
 }
 
 // What a change leaves of the levels.
-fn changed(arena: &mut Arena, change: Change, flat: Flat) -> Result<Flat, AllocError>
+fn apply_change(arena: &mut Arena, change: LevelChange, flat: Flat) -> Result<Flat, AllocError>
     requires held { IsHeld arena.old flat }
     requires room { length arena.old < 2 ^ 32 }
     requires scans { flat.inner.scans + 1 < 2 ^ 32 }
-    ensures grows { OnOk result (Grows arena.old arena.new) }
+    ensures grows { OnOk result (StacksGrow arena.old arena.new) }
     ensures more { OnOk result (length arena.new ≤ length arena.old + 1) }
     ensures held { IfOk result (λ left. IsHeld arena.new left) }
     ensures shape { IfOk result
         (λ left. shape_in arena.new left ≡ change_levels change (shape_in arena.old flat)) }
 {
     match change {
-        Change::Keeps => Ok(flat),
-        Change::OpensPlain => with_mark(arena, LevelKind::Plain, flat),
-        Change::OpensLimit => with_mark(arena, LevelKind::Limit, flat),
-        Change::Drops => match arena.before_mark(flat) {
+        LevelChange::Keeps => Ok(flat),
+        LevelChange::OpensPlain => with_mark(arena, LevelKind::Plain, flat),
+        LevelChange::OpensLimit => with_mark(arena, LevelKind::Limit, flat),
+        LevelChange::Drops => match arena.before_mark(flat) {
             Some(before) => Ok(before),
             None => Ok(flat),
         },
-        Change::OpensScan => Ok(with_scans(flat, flat.inner.scans + 1)),
-        Change::ClosesScan => Ok(with_scans(flat, flat.inner.scans.saturating_sub(1))),
+        LevelChange::OpensScan => Ok(with_scans(flat, flat.inner.scans + 1)),
+        LevelChange::ClosesScan => Ok(with_scans(flat, flat.inner.scans.saturating_sub(1))),
     }
 }
 
 // The shape that an instruction leaves.
-fn after(arena: &mut Arena, row: Row, flat: Flat) -> Result<Flat, AllocError>
+fn shape_after(arena: &mut Arena, row: StackEffect, flat: Flat) -> Result<Flat, AllocError>
     requires held { IsHeld arena.old flat }
     requires room { length arena.old < 2 ^ 32 }
     requires counts { HasRoom row (shape_in arena.old flat) }
-    ensures grows { OnOk result (Grows arena.old arena.new) }
+    ensures grows { OnOk result (StacksGrow arena.old arena.new) }
     ensures more { OnOk result (length arena.new ≤ length arena.old + 1) }
     ensures held { IfOk result (λ left. IsHeld arena.new left) }
     ensures shape { IfOk result (λ left. shape_in arena.new left ≡ after row (shape_in arena.old flat)) }
 {
     let kept = u64::from(flat.inner.operands).saturating_sub(row.takes);
-    let flat = changed(arena, row.change, with_operands(flat, kept as u32))?;
+    let flat = apply_change(arena, row.change, with_operands(flat, kept as u32))?;
     Ok(with_operands(flat, flat.inner.operands + row.leaves))
 }
 
@@ -233,7 +233,7 @@ fn send_one(
     ensures kept { OnOk result (AreKept arena.new slots.new) }
 {
     let row = row_of(instr);
-    let left = after(arena, row, flat)?;
+    let left = shape_after(arena, row, flat)?;
     arrive(arena, slots, next_by(arena, row.way, address, left));
     arrive(arena, slots, forward_by(row.way, flat, left));
     Ok(())

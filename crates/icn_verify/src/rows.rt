@@ -2,7 +2,7 @@
 ghost use Rattle.std.specs.Prelude.{◌≡◌};
 ghost use Rattle.icn_verify.specs.Rows.{works, work_where, work_changing, way_only, row_of, meets, is_ended, has_operand};
 
-use crate::shape::{Level, LevelKind, Look};
+use crate::shape::{Level, LevelKind, ShapeView};
 use icn_code::Instr;
 use icn_defs::arity;
 
@@ -32,7 +32,7 @@ pub enum Asks {
 
 /// What an instruction does to the levels.
 #[derive(Clone, Copy)]
-pub enum Change {
+pub enum LevelChange {
     Keeps,
     OpensPlain,
     OpensLimit,
@@ -64,34 +64,34 @@ pub enum Way {
 
 /// A row of the table.
 #[derive(Clone, Copy)]
-pub struct Row {
+pub struct StackEffect {
     /// How many operands the instruction takes from the innermost level.
     pub takes: u64,
     /// How many it leaves in the level that is innermost then.
     pub leaves: u32,
     pub asks: Asks,
-    pub change: Change,
+    pub change: LevelChange,
     pub way: Way,
 }
 
-impl Row {
+impl StackEffect {
     // Operands taken and left, and on to the next instruction.
-    fn works(takes: u64, leaves: u32) -> Row
+    fn works(takes: u64, leaves: u32) -> StackEffect
         ensures { result ≡ works takes leaves }
     {
-        Row::asking(Asks::Nothing, takes, leaves)
+        StackEffect::row_that_asks(Asks::Nothing, takes, leaves)
     }
 
-    fn asking(asks: Asks, takes: u64, leaves: u32) -> Row
+    fn row_that_asks(asks: Asks, takes: u64, leaves: u32) -> StackEffect
         ensures { result ≡ work_where asks takes leaves }
     {
-        Row::changing(asks, Change::Keeps, takes, leaves)
+        StackEffect::row_that_changes(asks, LevelChange::Keeps, takes, leaves)
     }
 
-    fn changing(asks: Asks, change: Change, takes: u64, leaves: u32) -> Row
+    fn row_that_changes(asks: Asks, change: LevelChange, takes: u64, leaves: u32) -> StackEffect
         ensures { result ≡ work_changing asks change takes leaves }
     {
-        Row {
+        StackEffect {
             takes,
             leaves,
             asks,
@@ -101,21 +101,21 @@ impl Row {
     }
 
     // On in another way, without operands.
-    fn leading(asks: Asks, way: Way) -> Row
+    fn row_that_leads(asks: Asks, way: Way) -> StackEffect
         ensures { result ≡ way_only asks way }
     {
-        Row {
+        StackEffect {
             takes: 0,
             leaves: 0,
             asks,
-            change: Change::Keeps,
+            change: LevelChange::Keeps,
             way,
         }
     }
 }
 
 /// The row of an instruction.
-pub fn row_of(instr: Instr) -> Row
+pub fn row_of(instr: Instr) -> StackEffect
     ensures { result ≡ row_of instr }
 {
     match instr {
@@ -126,44 +126,49 @@ pub fn row_of(instr: Instr) -> Row
         | Instr::Local(_)
         | Instr::Static(_)
         | Instr::Global(_)
-        | Instr::Keywd(_) => Row::works(0, 1),
-        Instr::Pop => Row::works(1, 0),
-        Instr::Dup => Row::works(1, 2),
-        Instr::Op(op) => Row::works(u64::from(arity(op)), 1),
-        Instr::Llist(count) => Row::works(u64::from(count), 1),
-        Instr::Field(_) => Row::works(1, 1),
-        Instr::Invoke(count) => Row::works(u64::from(count) + 1, 1),
-        Instr::Appl | Instr::Coact => Row::works(2, 1),
-        Instr::Mark(label) => Row {
+        | Instr::Keywd(_) => StackEffect::works(0, 1),
+        Instr::Pop => StackEffect::works(1, 0),
+        Instr::Dup => StackEffect::works(1, 2),
+        Instr::Op(op) => StackEffect::works(u64::from(arity(op)), 1),
+        Instr::Llist(count) => StackEffect::works(u64::from(count), 1),
+        Instr::Field(_) => StackEffect::works(1, 1),
+        Instr::Invoke(count) => StackEffect::works(u64::from(count) + 1, 1),
+        Instr::Appl | Instr::Coact => StackEffect::works(2, 1),
+        Instr::Mark(label) => StackEffect {
             way: Way::Fails(label),
-            ..Row::changing(Asks::Nothing, Change::OpensPlain, 0, 0)
+            ..StackEffect::row_that_changes(Asks::Nothing, LevelChange::OpensPlain, 0, 0)
         },
-        Instr::Mark0 => Row::changing(Asks::Nothing, Change::OpensPlain, 0, 0),
-        Instr::Unmark => Row::changing(Asks::OpenMark, Change::Drops, 0, 0),
-        Instr::Eret => Row::changing(Asks::EndedMark, Change::Drops, 1, 1),
-        Instr::Esusp => Row::changing(Asks::EndedPlain, Change::Drops, 1, 1),
-        Instr::Limit => Row::changing(Asks::Nothing, Change::OpensLimit, 1, 0),
-        Instr::Lsusp => Row::changing(Asks::EndedLimit, Change::Drops, 1, 1),
-        Instr::Efail => Row::leading(Asks::Nothing, Way::Ends),
-        Instr::Chfail(label) => Row::leading(Asks::OpenPlain, Way::Retries(label)),
-        Instr::Goto(label) => Row::leading(Asks::Nothing, Way::Jumps(label)),
-        Instr::Loop(label) => Row::leading(Asks::Nothing, Way::Returns(label)),
-        Instr::Bscan => Row::changing(Asks::Nothing, Change::OpensScan, 1, 0),
-        Instr::Escan => Row::changing(Asks::OpenScan, Change::ClosesScan, 1, 1),
-        Instr::Ccase => Row::asking(Asks::OperandOutside, 0, 1),
-        Instr::Init(label) => Row::leading(Asks::OutsideCreate, Way::Skips(label)),
-        Instr::Psusp => Row::asking(Asks::OutsideCreate, 1, 1),
-        Instr::Pret => Row {
+        Instr::Mark0 => StackEffect::row_that_changes(Asks::Nothing, LevelChange::OpensPlain, 0, 0),
+        Instr::Unmark => StackEffect::row_that_changes(Asks::OpenMark, LevelChange::Drops, 0, 0),
+        Instr::Eret => StackEffect::row_that_changes(Asks::EndedMark, LevelChange::Drops, 1, 1),
+        Instr::Esusp => StackEffect::row_that_changes(Asks::EndedPlain, LevelChange::Drops, 1, 1),
+        Instr::Limit => StackEffect::row_that_changes(Asks::Nothing, LevelChange::OpensLimit, 1, 0),
+        Instr::Lsusp => StackEffect::row_that_changes(Asks::EndedLimit, LevelChange::Drops, 1, 1),
+        Instr::Efail => StackEffect::row_that_leads(Asks::Nothing, Way::Ends),
+        Instr::Chfail(label) => StackEffect::row_that_leads(Asks::OpenPlain, Way::Retries(label)),
+        Instr::Goto(label) => StackEffect::row_that_leads(Asks::Nothing, Way::Jumps(label)),
+        Instr::Loop(label) => StackEffect::row_that_leads(Asks::Nothing, Way::Returns(label)),
+        Instr::Bscan => StackEffect::row_that_changes(Asks::Nothing, LevelChange::OpensScan, 1, 0),
+        Instr::Escan => StackEffect::row_that_changes(
+            Asks::OpenScan,
+            LevelChange::ClosesScan,
+            1,
+            1,
+        ),
+        Instr::Ccase => StackEffect::row_that_asks(Asks::OperandOutside, 0, 1),
+        Instr::Init(label) => StackEffect::row_that_leads(Asks::OutsideCreate, Way::Skips(label)),
+        Instr::Psusp => StackEffect::row_that_asks(Asks::OutsideCreate, 1, 1),
+        Instr::Pret => StackEffect {
             way: Way::Ends,
-            ..Row::asking(Asks::OutsideCreate, 1, 0)
+            ..StackEffect::row_that_asks(Asks::OutsideCreate, 1, 0)
         },
-        Instr::Pfail => Row::leading(Asks::OutsideCreate, Way::Ends),
-        Instr::Create(label) => Row {
+        Instr::Pfail => StackEffect::row_that_leads(Asks::OutsideCreate, Way::Ends),
+        Instr::Create(label) => StackEffect {
             way: Way::Forks(label),
-            ..Row::works(0, 1)
+            ..StackEffect::works(0, 1)
         },
-        Instr::Coret => Row::asking(Asks::InsideCreate, 1, 1),
-        Instr::Cofail => Row::leading(Asks::InsideCreate, Way::Ends),
+        Instr::Coret => StackEffect::row_that_asks(Asks::InsideCreate, 1, 1),
+        Instr::Cofail => StackEffect::row_that_leads(Asks::InsideCreate, Way::Ends),
     }
 }
 
@@ -181,7 +186,7 @@ fn has_operand(level: Level) -> bool
 }
 
 /// Whether what an instruction asks for is there.
-pub fn meets(asks: Asks, look: Look) -> bool
+pub fn meets(asks: Asks, look: ShapeView) -> bool
     ensures { result ≡ meets asks look }
 {
     let is_open = look.outside.is_some();

@@ -51,18 +51,18 @@ pub struct Shape {
 
 /// What an instruction can see of a shape: the innermost level and the one outside it.
 #[derive(Clone, Copy)]
-pub struct Look {
+pub struct ShapeView {
     pub in_create: bool,
     pub inner: Level,
     pub outside: Option<Level>,
 }
 
 /// What an instruction can see of this shape.
-fn look_at(shape: &Shape) -> Look
+fn look_at(shape: &Shape) -> ShapeView
     ensures { result ≡ look_of (plain_of shape.now) }
 {
     let Some((base, marks)) = shape.marks.split_first() else {
-        return Look {
+        return ShapeView {
             in_create: shape.in_create,
             inner: Level::empty(LevelKind::Base),
             outside: None,
@@ -74,7 +74,7 @@ fn look_at(shape: &Shape) -> Look
         outside = Some(inner);
         inner = *mark;
     }
-    Look {
+    ShapeView {
         in_create: shape.in_create,
         inner,
         outside,

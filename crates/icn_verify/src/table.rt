@@ -23,7 +23,7 @@ pub fn slot_at(slots: &[Slot], address: usize) -> Slot
     slots.get(address).copied().unwrap_or(Slot::Free)
 }
 
-fn joined(arena: &Arena, slot: Slot, flat: Flat) -> Slot
+fn join_slots(arena: &Arena, slot: Slot, flat: Flat) -> Slot
     requires kept { IsKept arena.now slot }
     requires held { IsHeld arena.now flat }
     ensures seen { seen_in arena.now result ≡ with_shape (seen_in arena.now slot) (shape_in arena.now flat) }
@@ -51,7 +51,7 @@ pub fn arrive(arena: &Arena, slots: &mut [Slot], to: Option<(usize, Flat)>)
     ensures kept { AreKept arena.now slots.new }
 {
     if let Some((address, flat)) = to {
-        let slot = joined(arena, slot_at(slots, address), flat);
+        let slot = join_slots(arena, slot_at(slots, address), flat);
         if address < slots.len() {
             slots[address] = slot;
         }

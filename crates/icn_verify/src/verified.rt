@@ -1,5 +1,5 @@
 // Verified code.
-ghost use Rattle.icn_code.specs.Seen.{tables_of};
+ghost use Rattle.icn_code.specs.CodeTables.{tables_of};
 ghost use Rattle.icn_verify.specs.Faults.{IsVerified};
 ghost use Rattle.icn_verify.specs.Given.{HaveShapes};
 

@@ -8,25 +8,25 @@ use Rattle.icn_host.specs.Sinks.{SinkState}
 use Rattle.icn_answer.specs.declared.answer.Answer.{Answer}
 use Rattle.icn_answer.specs.declared.answer.Answer.TheVariants.{Wrote, Ran, Command, FileFault, ReadFault, WriteFault, NoMemory}
 use Rattle.icn_answer.specs.Answers.{IsFault, IsRefusal, IsAbsence, IsCommand}
-use Rattle.icn_answer.specs.Refusing.{Refuses as PutsRefusal, put, own, write_fault, want}
+use Rattle.icn_answer.specs.Refusing.{PutsItsLine as PutsRefusal, put, own, write_fault, want}
 use Rattle.icn_defs.specs.declared.ending.Ending.{Ending}
 use Rattle.icont_words.specs.declared.words.WordsFault.{WordsFault}
 use Rattle.icont_words.specs.declared.words.WordsFault.TheVariants as WordsFaults
 use Rattle.icont_words.specs.declared.words.Task.{Task as TaskHeld}
 use Rattle.icont_words.specs.Asking.{IsReading}
 use Rattle.icont_words.specs.Words.{Faulty, WordsReading, ComeTo, Asks, Task}
-use Rattle.icont_units.specs.Fetching.{IsOfLoading}
-use Rattle.icont_units.specs.Files.{File}
+use Rattle.icont_units.specs.FetchedFiles.{IsOfLoading}
+use Rattle.icont_units.specs.Files.{CommandFile}
 use Rattle.icont_units.specs.Units.{Load, Member}
-use Rattle.icont_units.proofs.Matching.{same_Ok, ok-err}
+use Rattle.icont_units.proofs.EqualResults.{ok_injective, ok_is_not_err}
 use Rattle.icont_units.proofs.OneLoading.{one_load}
-use Rattle.icont_top.specs.declared.loading.Program.{Program}
+use Rattle.icont_top.specs.declared.loading.LoadedProgram.{LoadedProgram}
 use Rattle.icont_top.specs.Answered.{IsCommanded}
 use Rattle.icont_top.specs.Asking.{IsProgramOf, IsTold, words_answer}
 use Rattle.icont_top.specs.Job.{first_base, wrong_words}
 use Rattle.icont_top.specs.Outcomes.{HasWritten}
 use Rattle.icont_top.specs.Usage.{usage}
-use Rattle.icont_top.proofs.Topmost.{Asked, fault_given, given_none}
+use Rattle.icont_top.proofs.CallOutcomes.{Asked, fault_given, given_none}
 
 -- Files and units
 
@@ -159,18 +159,18 @@ told_by before now later l (inl r) = inl (rose_later before now later r l)
 told_by before now later l (inr t) = inr t
 
 -- what is told of the members that the files come to is told of each list that they come to
-pub told_again : (before now later : ℕ) (files : FileMap) (named : List File) (members other : List Member) → Load files named (Ok members)
+pub told_again : (before now later : ℕ) (files : FileMap) (named : List CommandFile) (members other : List Member) → Load files named (Ok members)
     → IsTold (Rose before now) members → now ≤ later → Load files named (Ok other) → IsTold (Rose before later) other
 told_again before now later files named members other load told l again =
-    subst (IsTold (Rose before later)) (same_Ok members other (one_load files named (Ok members) (Ok other) load again))
+    subst (IsTold (Rose before later)) (ok_injective members other (one_load files named (Ok members) (Ok other) load again))
     (λ unit name e. told_by before now later l (told unit name e))
 
-pub told_refused : (before now : ℕ) (files : FileMap) (named : List File) (answer : Answer) (other : List Member)
-    → let found : Result Program Answer = Err answer in IsProgramOf (Load files named) (Rose before now) found → Load files named (Ok other)
+pub told_refused : (before now : ℕ) (files : FileMap) (named : List CommandFile) (answer : Answer) (other : List Member)
+    → let found : Result LoadedProgram Answer = Err answer in IsProgramOf (Load files named) (Rose before now) found → Load files named (Ok other)
     → IsFault answer ⊎ IsTold (Rose before now) other
 told_refused before now files named answer other (inl f) again = inl f
 told_refused before now files named answer other (inr (inl load)) again =
-    absurd (ok-err other answer (one_load files named (Ok other) (Err answer) again load))
+    absurd (ok_is_not_err other answer (one_load files named (Ok other) (Err answer) again load))
 told_refused before now files named answer other (inr (inr some)) again =
     inr (told_again before now now files named some.0 other some.1.0 some.1.1.0 (omega arith) again)
 

@@ -7,7 +7,7 @@ use Rattle.std.proofs.lemmas.Bool.Decides.{nat_tests}
 use Rattle.std.proofs.lemmas.Option.{none-some, same_Some}
 use Rattle.icn_text.specs.WordNumbers.{is_digit, number_within, value_from, within}
 use Rattle.icont_words.specs.Words.{Order, WordsReading, Run, Task, Translate, Link, Generate, Asks, Faulty, ComeTo, behind_run, bound_of, files_task, number_of, order_of, own_words, run_of, task_of, wrong_kind}
-use Rattle.icont_units.proofs.ShortTexts.{both_second}
+use Rattle.icont_units.proofs.ShortTexts.{and_second}
 
 chosen : (test : Bool) (m n : ℕ) → (if test then Some m else None) ≡ Some n → (test ≡ true) × (m ≡ n)
 chosen true m n e = (refl, same_Some m n e)
@@ -16,7 +16,7 @@ chosen false m n e = absurd (none-some n e)
 within_high : (low high m n : ℕ) → within low high m ≡ Some n → n ≤ high
 within_high low high m n e =
     let is = chosen (nat_le low m && nat_le m high) m n e in
-    let high_test : nat_le m high ≡ true = both_second (nat_le low m) (nat_le m high) is.0 in
+    let high_test : nat_le m high ≡ true = and_second (nat_le low m) (nat_le m high) is.0 in
     let same : m ≡ n = is.1 in
     let most : m ≤ high = grind (arith, nat_tests) in omega (arith, same, most)
 

@@ -5,10 +5,10 @@ use Rattle.std.specs.List.{flat_map, list_all}
 use Rattle.std.specs.Fmt.{decimal}
 use Rattle.std.proofs.lemmas.Bool.{and_from, and_parts}
 use Rattle.std.proofs.lemmas.List.Folds.{list_all-append}
-use Rattle.source_bytes.specs.Bytes.{are_bytes}
-use Rattle.source_bytes.specs.LineBytes.{lines_are_of_bytes}
-use Rattle.source_bytes.proofs.ByteLists.{AreBytes, bytes_joined}
-use Rattle.source_bytes.proofs.Decimals.{decimal_bytes}
+use Rattle.law_source.specs.Bytes.{are_bytes}
+use Rattle.law_source.specs.LineBytes.{lines_are_of_bytes}
+use Rattle.law_source.proofs.ByteLists.{AreBytes, bytes_joined}
+use Rattle.law_source.proofs.Decimals.{decimal_bytes}
 use Rattle.icont_units.specs.Generated.{numbers, procedure_lines, sum_line, program_lines, numbered_from, generated_lines}
 
 all_of : (x : List ℕ) (xs : List (List ℕ)) → AreBytes x → list_all are_bytes xs ≡ true

@@ -1,5 +1,5 @@
 mod AnswersGiven
-mod Completing
+mod RefusedJobs
 mod FewNumbers
 mod FirstBase
 mod GeneratedBytes
@@ -8,11 +8,11 @@ mod LoadedProgram
 mod UnitPrograms
 mod OneJob
 mod RunsUnder
-mod Sizes
+mod SizesLine
 mod SomeJob
 mod SoundSources
 mod SourceUnits
-mod Topmost
+mod CallOutcomes
 mod UnitsAgain
 mod WrittenUnits
 mod WrittenTexts

@@ -5,7 +5,7 @@ use Rattle.std.specs.List.{sum_by}
 use Rattle.std.specs.Option.{option_map, option_or}
 use Rattle.std.proofs.lemmas.Bool.Decides.{nat_tests}
 use Rattle.std.proofs.lemmas.Option.{none-some}
-use Rattle.icn_unit.specs.PlainUnits.{Proc, Decl, UnitRead}
+use Rattle.icn_unit.specs.PlainUnits.{PlainProc, PlainDecl, UnitRead}
 use Rattle.icn_image.specs.Spelling.{image_of}
 use Rattle.icn_link.specs.declared.fault.LinkFault.{LinkFault}
 use Rattle.icn_link.specs.declared.fault.LinkFault.TheVariants.{NoMemory}
@@ -41,43 +41,43 @@ over_none : (most : ℕ) (counts : List ℕ) → IsNoWant (over most counts)
 over_none most counts = mapped count_fault (find (λ count. nat_lt most count) counts) (λ n e. cc)
 
 -- the parts of what may be too large, in their order, and what stands behind each
-abbrev instrs : List Proc → Option LinkFault
+abbrev instrs : List PlainProc → Option LinkFault
 instrs procs = over 16777216 (sum_by size_of procs ∷ [])
 
-abbrev entries : List Decl → List Proc → Option LinkFault
+abbrev entries : List PlainDecl → List PlainProc → Option LinkFault
 entries decls procs = over 65535 (table_sizes (all_mentions decls procs) decls procs)
 
-abbrev operands : List Proc → Option LinkFault
+abbrev operands : List PlainProc → Option LinkFault
 operands procs = over 65535 (mentioned_by operands_in procs)
 
-abbrev fields : List Decl → Option LinkFault
+abbrev fields : List PlainDecl → Option LinkFault
 fields decls = over 65535 (record_sizes decls)
 
-abbrev locals : List Decl → List Proc → Option LinkFault
+abbrev locals : List PlainDecl → List PlainProc → Option LinkFault
 locals decls procs = over 65535 (local_counts (globals decls procs) procs)
 
-abbrev statics : List Decl → List Proc → Option LinkFault
+abbrev statics : List PlainDecl → List PlainProc → Option LinkFault
 statics decls procs = over 65535 (static_counts (globals decls procs) procs)
 
-abbrev bytes : List Decl → List Proc → Option LinkFault
+abbrev bytes : List PlainDecl → List PlainProc → Option LinkFault
 bytes decls procs = over 1073741824 (length (image_of (joined_of decls procs)) ∷ [])
 
-abbrev behind_locals : List Decl → List Proc → Option LinkFault
+abbrev behind_locals : List PlainDecl → List PlainProc → Option LinkFault
 behind_locals decls procs = option_or (statics decls procs) (bytes decls procs)
 
-abbrev behind_fields : List Decl → List Proc → Option LinkFault
+abbrev behind_fields : List PlainDecl → List PlainProc → Option LinkFault
 behind_fields decls procs = option_or (locals decls procs) (behind_locals decls procs)
 
-abbrev behind_operands : List Decl → List Proc → Option LinkFault
+abbrev behind_operands : List PlainDecl → List PlainProc → Option LinkFault
 behind_operands decls procs = option_or (fields decls) (behind_fields decls procs)
 
-abbrev behind_entries : List Decl → List Proc → Option LinkFault
+abbrev behind_entries : List PlainDecl → List PlainProc → Option LinkFault
 behind_entries decls procs = option_or (operands procs) (behind_operands decls procs)
 
-abbrev behind_instrs : List Decl → List Proc → Option LinkFault
+abbrev behind_instrs : List PlainDecl → List PlainProc → Option LinkFault
 behind_instrs decls procs = option_or (entries decls procs) (behind_entries decls procs)
 
-large_none : (decls : List Decl) (procs : List Proc) → IsNoWant (too_large_of decls procs)
+large_none : (decls : List PlainDecl) (procs : List PlainProc) → IsNoWant (too_large_of decls procs)
 large_none D P = or_none (instrs P) (behind_instrs D P) (over_none 16777216 (sum_by size_of P ∷ []))
     (or_none (entries D P) (behind_entries D P) (over_none 65535 (table_sizes (all_mentions D P) D P))
     (or_none (operands P) (behind_operands D P) (over_none 65535 (mentioned_by operands_in P))
@@ -109,7 +109,7 @@ within_count most count e = by_test (nat_lt most count) refl where
   by_test true t = absurd (none-some (count_fault count) (sym e ∙ ap (λ test. option_map count_fault (cond test (Some count) None)) t))
   by_test false t = grind (arith, nat_tests)
 
-image_counted : (decls : List Decl) (procs : List Proc) → too_large_of decls procs ≡ None → bytes decls procs ≡ None
+image_counted : (decls : List PlainDecl) (procs : List PlainProc) → too_large_of decls procs ≡ None → bytes decls procs ≡ None
 image_counted D P e = right_none (statics D P) (bytes D P) (right_none (locals D P) (behind_locals D P) (right_none (fields D) (behind_fields D P)
     (right_none (operands P) (behind_operands D P) (right_none (entries D P) (behind_entries D P) (right_none (instrs P) (behind_instrs D P) e)))))
 

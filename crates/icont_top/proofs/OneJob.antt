@@ -10,17 +10,17 @@ use Rattle.icn_defs.specs.Running.{Launch, Observation}
 use Rattle.icn_link.specs.LinkFaults.{first_fault}
 use Rattle.icn_meaning.specs.Meaning.{Means}
 use Rattle.icn_meaning.specs.Program.{Program, program}
-use Rattle.icn_run.proofs.Observing.{flat_once}
+use Rattle.icn_run.proofs.OneObservation.{flat_once}
 use Rattle.icn_verify.specs.Faults.{IsFirstFault, IsVerified}
-use Rattle.icn_verify.specs.Laws.{HaveOneFault, HaveNoFault}
+use Rattle.icn_verify.specs.ShapeLaws.{HaveOneFault, HaveNoFault}
 use Rattle.icn_answer.specs.declared.answer.Answer.{Answer}
 use Rattle.icn_answer.specs.declared.answer.Answer.TheVariants.{BadUcode, Command}
 use Rattle.icont_words.specs.Words.{WordsReading, Run, Translate, Link, Generate, Asks, Faulty, ComeTo}
 use Rattle.icont_units.specs.Files.{files_named, first_name, sources_in}
 use Rattle.icont_units.specs.Generated.{GeneratedComes}
-use Rattle.icont_units.specs.Units.{Member, Come, Load, units_of, link_answer}
+use Rattle.icont_units.specs.Units.{Member, FilesCome, Load, units_of, link_answer}
 use Rattle.icont_units.proofs.OneLoading.{one_come, one_generated, one_load}
-use Rattle.icont_top.specs.Job.{Job, Plan, Plans, IsPlanned, Refuses, IsJob, refusal, files_job, run_job, image_file, ucode_files, run_launch, behind}
+use Rattle.icont_top.specs.Job.{Job, Plan, Plans, IsPlanned, RefusesCommand, IsJob, refusal, files_job, run_job, image_file, ucode_files, run_launch, behind}
 use Rattle.icont_top.specs.Programs.{Links, linked_code, link_refusal, first_ucode, files_of, RunsBy, Behaves}
 
 -- What units come to
@@ -142,7 +142,7 @@ OfPlan left plan AreThere job = (result : Result (List Member) Answer) × (AreTh
 abbrev pub JobBy : FileMap → List ℕ → WordsReading → Job → Type 0
 JobBy files left (Faulty kind) job = job ≡ refusal left (Command kind)
 JobBy files left (Asks (Translate names)) job =
-    (result : Result (List Member) Answer) × (Come files (sources_in (files_named names)) result) × (job ≡ of_units left result)
+    (result : Result (List Member) Answer) × (FilesCome files (sources_in (files_named names)) result) × (job ≡ of_units left result)
 JobBy files left (Asks (Link names image run)) job = OfPlan left (plan_of_files image run) (Load files (files_named names)) job
 JobBy files left (Asks (Generate number turns)) job = OfPlan left (plan_of_number number turns) (GeneratedComes number) job
 
@@ -157,11 +157,11 @@ module _ (words : List (List ℕ)) (files : FileMap) (left : List ℕ) where
   of_plan _ _ job (Plans.of_files names image run result e x) by = record { reading = Asks (Link names image run); comes = e; by = (result, x, by) }
   of_plan _ _ job (Plans.of_number number turns result e x) by = record { reading = Asks (Generate number turns); comes = e; by = (result, x, by) }
 
-  of_refusal : (answer : Answer) → Refuses words files answer → AsksJob words files left (refusal left answer)
-  of_refusal _ (Refuses.wrong_words kind e) = record { reading = Faulty kind; comes = e; by = refl }
-  of_refusal _ (Refuses.no_units answer x) = record { reading = Asks (Translate x.names); comes = x.asks; by = (Err answer, x.come, refl) }
-  of_refusal _ (Refuses.no_members plan answer x) = of_plan plan (Err answer) (refusal left answer) x refl
-  of_refusal _ (Refuses.no_program plan members answer x y) = of_plan plan (Ok members) (refusal left answer) x (Err answer, y, refl)
+  of_refusal : (answer : Answer) → RefusesCommand words files answer → AsksJob words files left (refusal left answer)
+  of_refusal _ (RefusesCommand.wrong_words kind e) = record { reading = Faulty kind; comes = e; by = refl }
+  of_refusal _ (RefusesCommand.no_units answer x) = record { reading = Asks (Translate x.names); comes = x.asks; by = (Err answer, x.come, refl) }
+  of_refusal _ (RefusesCommand.no_members plan answer x) = of_plan plan (Err answer) (refusal left answer) x refl
+  of_refusal _ (RefusesCommand.no_program plan members answer x y) = of_plan plan (Ok members) (refusal left answer) x (Err answer, y, refl)
 
   with_run : (plan : Plan) (members : List Member) (tables : Tables) (job : Job) (run : Option Run) → IsPlanned words files plan members tables
       → plan.run ≡ run → OfRun left plan run members tables job → AsksJob words files left job

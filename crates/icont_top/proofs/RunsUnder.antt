@@ -9,10 +9,10 @@ use Rattle.icn_running.specs.declared.fault.RunFault.{RunFault}
 use Rattle.icn_running.specs.Reported.{ending_seen}
 use Rattle.icn_running.specs.Runs.{EndsAtFirst as RunEnds, IsBrokenOff, RunsTo}
 use Rattle.icn_answer.specs.declared.answer.Answer.TheVariants.{Ran}
-use Rattle.icn_run_answer.specs.Faulting.{of_run}
+use Rattle.icn_run_answer.specs.FaultAnswers.{of_run}
 use Rattle.icn_answer.specs.Refusing.{PutsOwn}
 use Rattle.icn_run_answer.specs.Reporting.{PutsSome}
-use Rattle.icn_run_answer.specs.Telling.{with_errors}
+use Rattle.icn_run_answer.specs.ToldObjects.{with_errors}
 use Rattle.icn_run_answer.proofs.Reports.{broken_puts, puts_own}
 use Rattle.icont_words.specs.Words.{Run}
 use Rattle.icont_top.specs.Job.{bounds_with, run_launch}

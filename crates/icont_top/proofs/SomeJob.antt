@@ -17,21 +17,21 @@ use Rattle.icn_link.specs.declared.fault.LinkFault.TheVariants.{K1, K2, K3, NoMe
 use Rattle.icn_link.specs.Joined.{joined_code}
 use Rattle.icn_link.specs.LinkFaults.{first_fault}
 use Rattle.icn_verify.specs.Faults.{IsVerified}
-use Rattle.icn_verify.specs.Laws.{IsSoundOrBroken, AreSoundOrBroken, HaveNoFault}
-use Rattle.icn_run_safe.specs.Ended.{AreOver}
-use Rattle.icn_simulation.specs.Faultless.{IsFaultless}
-use Rattle.icn_simulation.specs.Joined.{IsJoined}
-use Rattle.icn_simulation.specs.Law.{IsLinked, FilesMean}
-use Rattle.link_laws.specs.TranslatedUnits.{translated_units}
+use Rattle.icn_verify.specs.ShapeLaws.{IsSoundOrBroken, AreSoundOrBroken, HaveNoFault}
+use Rattle.law_safe.specs.Ended.{AreOver}
+use Rattle.law_simulation.specs.Faultless.{IsFaultless}
+use Rattle.law_simulation.specs.JoinedFiles.{IsJoined}
+use Rattle.law_simulation.specs.FirstLaw.{IsLinked, FilesMean}
+use Rattle.law_link.specs.TranslatedUnits.{translated_units}
 use Rattle.icn_answer.specs.declared.answer.Answer.{Answer}
 use Rattle.icont_words.specs.Words.{WordsReading, Run, Translate, Link, Generate, Asks, Faulty, ComeTo}
 use Rattle.icont_units.specs.Files.{files_named, sources_in}
 use Rattle.icont_units.specs.Generated.{GeneratedComes}
-use Rattle.icont_units.specs.Units.{Member, FromSource, FromUcode, Come, Load, units_of, link_answer}
-use Rattle.icont_units.proofs.ShortTexts.{both_are}
+use Rattle.icont_units.specs.Units.{Member, FromSource, FromUcode, FilesCome, Load, units_of, link_answer}
+use Rattle.icont_units.proofs.ShortTexts.{and_intro}
 use Rattle.icont_units.proofs.SomeLoading.{AreSpelled, KeepRules, some_come, some_generated, some_load}
 use Rattle.icont_units.proofs.SoundMembers.{Each, OfAll}
-use Rattle.icont_top.specs.Job.{Job, Plan, Plans, IsPlanned, Refuses, IsJob, run_launch}
+use Rattle.icont_top.specs.Job.{Job, Plan, Plans, IsPlanned, RefusesCommand, IsJob, run_launch}
 use Rattle.icont_top.specs.Programs.{Links, linked_code, first_ucode, files_of, with_file, RunsBy, Behaves}
 use Rattle.icont_top.proofs.LinkingRules.{faults_are_rules}
 
@@ -108,8 +108,8 @@ module _ (is_joinable : UnitRead → Bool) (laws : Laws is_joinable) where
   all_joinable : (members : List Member) → Each (IsSound is_joinable) members → list_all is_joinable (units_of members) ≡ true
   all_joinable [] h = refl
   all_joinable (FromSource base file ∷ members) h =
-      both_are (is_joinable (translated_unit base file)) (list_all is_joinable (units_of members)) h.0.1 (all_joinable members h.1)
-  all_joinable (FromUcode unit ∷ members) h = both_are (is_joinable unit) (list_all is_joinable (units_of members)) h.0 (all_joinable members h.1)
+      and_intro (is_joinable (translated_unit base file)) (list_all is_joinable (units_of members)) h.0.1 (all_joinable members h.1)
+  all_joinable (FromUcode unit ∷ members) h = and_intro (is_joinable unit) (list_all is_joinable (units_of members)) h.0 (all_joinable members h.1)
 
   -- What members are linked to
 
@@ -169,18 +169,18 @@ module _ (is_joinable : UnitRead → Bool) (laws : Laws is_joinable) where
 
     with_linking : (plan : Plan) (members : List Member) → Each (IsSound is_joinable) members → Plans words files plan (Ok members) → Linking members
         → (job : Job) × IsJob words files left job
-    with_linking plan members sound x (breaks answer y) = (_, IsJob.refuses answer (Refuses.no_program plan members answer x y))
+    with_linking plan members sound x (breaks answer y) = (_, IsJob.refuses answer (RefusesCommand.no_program plan members answer x y))
     with_linking plan members sound x (runs_as fits rules verified) =
         with_run plan members sound rules verified (record { plans = x; links = Links.is_program fits verified }) plan.run refl
 
     with_members : (plan : Plan) (result : Result (List Member) Answer) → Plans words files plan result → OfAll (IsSound is_joinable) result
         → (job : Job) × IsJob words files left job
-    with_members plan (Err answer) x sound = (_, IsJob.refuses answer (Refuses.no_members plan answer x))
+    with_members plan (Err answer) x sound = (_, IsJob.refuses answer (RefusesCommand.no_members plan answer x))
     with_members plan (Ok members) x sound = with_linking plan members sound x (some_links members sound)
 
     with_units : (names : List (List ℕ)) (result : Result (List Member) Answer) → ComeTo words (Asks (Translate names))
-        → Come files (sources_in (files_named names)) result → (job : Job) × IsJob words files left job
-    with_units names (Err answer) e x = (_, IsJob.refuses answer (Refuses.no_units answer (record { names = names; asks = e; come = x })))
+        → FilesCome files (sources_in (files_named names)) result → (job : Job) × IsJob words files left job
+    with_units names (Err answer) e x = (_, IsJob.refuses answer (RefusesCommand.no_units answer (record { names = names; asks = e; come = x })))
     with_units names (Ok members) e x = (_, IsJob.translates members (record { names = names; asks = e; come = x }))
 
     -- what is loaded, and the lines of a number, are sound
@@ -189,7 +189,7 @@ module _ (is_joinable : UnitRead → Bool) (laws : Laws is_joinable) where
         (makes : (number turns : ℕ) (result : Result (List Member) Answer) → ComeTo words (Asks (Generate number turns)) → GeneratedComes number result
         → OfAll (IsSound is_joinable) result) where
       pub by_reading : (reading : WordsReading) → ComeTo words reading → (job : Job) × IsJob words files left job
-      by_reading (Faulty kind) e = (_, IsJob.refuses _ (Refuses.wrong_words kind e))
+      by_reading (Faulty kind) e = (_, IsJob.refuses _ (RefusesCommand.wrong_words kind e))
       by_reading (Asks (Translate names)) e = let some = some_come files (sources_in (files_named names)) in with_units names some.0 e some.1
       by_reading (Asks (Link names image run)) e =
           let some = some_load laws.rules laws.spelled files (files_named names) in

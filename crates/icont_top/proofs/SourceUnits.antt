@@ -9,10 +9,10 @@ use Rattle.icn_unit.specs.declared.unit.Unit.{Unit as HeldUnit}
 use Rattle.icn_translate.specs.FileUnits.{translated_unit}
 use Rattle.icn_link.specs.Joined.{joined_code}
 use Rattle.icn_link.specs.Units.{units_seen}
-use Rattle.icn_simulation.specs.Faultless.{IsFaultless}
-use Rattle.icn_simulation.specs.Joined.{IsJoined}
-use Rattle.icn_simulation.specs.Law.{IsLinked}
-use Rattle.link_laws.specs.TranslatedUnits.{translated_units}
+use Rattle.law_simulation.specs.Faultless.{IsFaultless}
+use Rattle.law_simulation.specs.JoinedFiles.{IsJoined}
+use Rattle.law_simulation.specs.FirstLaw.{IsLinked}
+use Rattle.law_link.specs.TranslatedUnits.{translated_units}
 use Rattle.icont_units.specs.Loading.{IsFaultlessMember, ucode_index}
 use Rattle.icont_units.specs.Units.{Member, FromSource, FromUcode, unit_named, units_of}
 use Rattle.icont_top.specs.Programs.{files_of, first_ucode, linked_code, with_file}

@@ -4,7 +4,7 @@ use Rattle.std.specs.Option.{option_and_then}
 use Rattle.icn_tree.specs.declared.rule.Rule.{Rule}
 use Rattle.icn_tree.specs.Trees.{Declaration}
 use Rattle.icn_code.specs.Codes.{Tables}
-use Rattle.icn_code.specs.Seen.{tables_of}
+use Rattle.icn_code.specs.CodeTables.{tables_of}
 use Rattle.icn_image.specs.Spelling.{image_of}
 use Rattle.icn_unit.specs.declared.unit.Unit.{Unit as HeldUnit}
 use Rattle.icn_link.specs.Joined.{joined_code}
@@ -14,15 +14,15 @@ use Rattle.icn_verify.specs.declared.fault.VerifyFault.{VerifyFault}
 use Rattle.icn_verify.specs.declared.fault.VerifyFault.TheVariants.{V}
 use Rattle.icn_verify.specs.Faults.{IsVerified}
 use Rattle.icn_verify.specs.Refusals.{Refuses}
-use Rattle.icn_simulation.specs.Law.{IsLinked}
+use Rattle.law_simulation.specs.FirstLaw.{IsLinked}
 use Rattle.icn_answer.specs.declared.answer.Answer.{Answer}
 use Rattle.icn_answer.specs.declared.answer.Answer.TheVariants.{BadUcode, NoMemory}
 use Rattle.icont_units.specs.declared.members.Members.{Members}
 use Rattle.icont_units.specs.Files.{first_name}
-use Rattle.icont_units.specs.Loading.{IsSound, Stands}
+use Rattle.icont_units.specs.Loading.{AreSoundMembers, HoldsMembers}
 use Rattle.icont_units.specs.Units.{Member, link_answer, unit_named, units_of}
-use Rattle.icont_top.specs.declared.programs.Made.{Made}
-use Rattle.icont_top.specs.Making.{IsMade, RefusesCode, RefusesLink, wants, breaks}
+use Rattle.icont_top.specs.declared.programs.MadeProgram.{MadeProgram}
+use Rattle.icont_top.specs.MadeUnits.{IsMadeProgram, RefusesCode, RefusesLink, wants, breaks}
 use Rattle.icont_top.specs.Programs.{Links, is_program, linked_code, not_linked, unverified}
 use Rattle.icont_top.proofs.SourceUnits.{AllJoin, all_files, first_named, sources_join}
 
@@ -32,7 +32,7 @@ abbrev pub AllVerified : Type 0
 AllVerified = (files : List (List Declaration)) (tables : Tables) → IsLinked files tables → IsVerified tables
 
 -- where no unit was read as ucode, the code breaks no rule of verified code
-pub sources_verified : AllJoin → AllVerified → (held : Members) (tables : Tables) → IsSound held → tables ≡ joined_code (units_seen held.units.items)
+pub sources_verified : AllJoin → AllVerified → (held : Members) (tables : Tables) → AreSoundMembers held → tables ≡ joined_code (units_seen held.units.items)
     → held.first_ucode ≡ None → IsVerified tables
 sources_verified joins verifies held tables sound e none =
     let stands = sound.stands in
@@ -42,13 +42,13 @@ sources_verified joins verifies held tables sound e none =
 
 -- What the units stand for
 
-pub link_refused : (held : Members) (members : List Member) (answer : Answer) → Stands held members → RefusesLink (units_seen held.units.items) answer
+pub link_refused : (held : Members) (members : List Member) (answer : Answer) → HoldsMembers held members → RefusesLink (units_seen held.units.items) answer
     → (answer ≡ NoMemory) ⊎ Links members (Err answer)
 link_refused held members answer stands (inl e) = inl e
 link_refused held members answer stands (inr e) =
     inr (not_linked answer (subst (λ units. option_and_then (link_answer units) (first_fault units) ≡ Some answer) stands.units e))
 
-pub code_refused : (held : Members) (members : List Member) (tables : Tables) (answer : Answer) → Stands held members
+pub code_refused : (held : Members) (members : List Member) (tables : Tables) (answer : Answer) → HoldsMembers held members
     → tables ≡ joined_code (units_seen held.units.items) → first_fault (units_seen held.units.items) ≡ None
     → RefusesCode (units_seen held.units.items) held.first_ucode tables answer → (answer ≡ NoMemory) ⊎ Links members (Err answer)
 code_refused held members tables answer stands e fits (wants same) = inl same
@@ -61,9 +61,9 @@ code_refused held members tables answer stands e fits (breaks first rule number 
     inr (subst (λ (a : Answer). Links members (Err a)) (sym told) (unverified base rule number place fits_all
     (first_named members first (sym stands.place ∙ at)) (rw code at fault)))
 
-pub made_of : AllJoin → (held : Members) (members : List Member) (made : Made) (tables : Tables) → Stands held members
+pub made_of : AllJoin → (held : Members) (members : List Member) (made : MadeProgram) (tables : Tables) → HoldsMembers held members
     → tables ≡ joined_code (units_seen held.units.items) → first_fault (units_seen held.units.items) ≡ None → IsVerified tables
-    → tables_of made.code.code ≡ tables → made.image.items ≡ image_of tables → IsMade members made
+    → tables_of made.code.code ≡ tables → made.image.items ≡ image_of tables → IsMadeProgram members made
 made_of joins held members made tables stands e fits verified code bytes =
     let same : tables ≡ linked_code members = e ∙ ap joined_code stands.units in
     record {

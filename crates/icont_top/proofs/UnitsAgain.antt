@@ -13,9 +13,9 @@ use Rattle.icn_link.specs.Joined.{joined_code}
 use Rattle.icn_link.specs.LinkFaults.{first_fault, unit_names}
 use Rattle.icn_verify.specs.Faults.{IsVerified}
 use Rattle.icn_answer.specs.declared.answer.Answer.{Answer}
-use Rattle.icont_units.specs.Files.{File, ucode}
-use Rattle.icont_units.specs.Units.{Member, FromUcode, unit_of, units_of, both_texts, unit_found, texts_held, is_there, links_of, links_in, AreJudged, Comes, Come, IsAbsent, IsHeld, Gather, Load}
-use Rattle.icont_units.proofs.Matching.{same_Ok, ok-err}
+use Rattle.icont_units.specs.Files.{CommandFile, ucode}
+use Rattle.icont_units.specs.Units.{Member, FromUcode, unit_of, units_of, both_texts, unit_found, texts_held, is_there, links_of, links_in, AreJudged, FileComes, FilesCome, IsAbsent, IsHeld, Gather, Load}
+use Rattle.icont_units.proofs.EqualResults.{ok_injective, ok_is_not_err}
 use Rattle.icont_units.proofs.OneLoading.{one_come}
 use Rattle.icont_units.proofs.SomeLoading.{kept_there}
 use Rattle.icont_top.specs.Job.{WrittenFile, first_base, image_file}
@@ -31,9 +31,9 @@ judged_again unit files h e = subst (λ result. AreJudged unit.name (procs_text 
     (AreJudged.read h.fits.first h.fits.second)
 
 comes_again : (unit : UnitRead) (files : FileMap) → HoldsUnit files unit → unit_read unit.name (procs_text unit.procs) (decls_text unit.decls) ≡ Whole unit
-    → Comes files (ucode unit.name) (Ok (FromUcode unit))
+    → FileComes files (ucode unit.name) (Ok (FromUcode unit))
 comes_again unit files h e =
-    Comes.read unit.name (procs_text unit.procs) (decls_text unit.decls) unit (ap₂ (both_texts unit.name) h.first h.second) (judged_again unit files h e)
+    FileComes.read unit.name (procs_text unit.procs) (decls_text unit.decls) unit (ap₂ (both_texts unit.name) h.first h.second) (judged_again unit files h e)
 
 abbrev IsHeldIn : FileMap → Member → Type 0
 IsHeldIn files member = HoldsUnit files (unit_of member)
@@ -45,10 +45,10 @@ others_of : (P : Member → Type 0) (member : Member) (members : List Member) �
 others_of P member members h i d l = h (suc i) d (omega (arith, l))
 
 pub come_again : (members : List Member) (files : FileMap) → All IsReadBack members → AreHeld files members
-    → Come files (ucode_named members) (Ok (ucode_members members))
-come_again [] files h k = Come.none
+    → FilesCome files (ucode_named members) (Ok (ucode_members members))
+come_again [] files h k = FilesCome.none
 come_again (member ∷ members) files h k =
-    Come.one_more (ucode (unit_of member).name) (ucode_named members) (FromUcode (unit_of member)) (ucode_members members)
+    FilesCome.one_more (ucode (unit_of member).name) (ucode_named members) (FromUcode (unit_of member)) (ucode_members members)
     (comes_again (unit_of member) files (first_of (IsHeldIn files) member members k) (first_of IsReadBack member members h))
     (come_again members files (others_of IsReadBack member members h) (others_of (IsHeldIn files) member members k))
 
@@ -120,11 +120,11 @@ same_linked a b e = ap joined_code e
 
 program_again : (members other : List Member) (result : Result Tables Answer) (tables : Tables) → units_of other ≡ units_of members → Links members result
     → result ≡ Ok tables → Links other (Ok tables)
-program_again members other _ tables e (Links.not_linked answer n) same = absurd (ok-err tables answer (sym same))
-program_again members other _ tables e (Links.unverified base rule number place n f x) same = absurd (ok-err tables _ (sym same))
+program_again members other _ tables e (Links.not_linked answer n) same = absurd (ok_is_not_err tables answer (sym same))
+program_again members other _ tables e (Links.unverified base rule number place n f x) same = absurd (ok_is_not_err tables _ (sym same))
 program_again members other _ tables e (Links.is_program n v) same =
     let code : linked_code other ≡ linked_code members = same_linked other members e in
-    subst (λ t. Links other (Ok t)) (code ∙ same_Ok (linked_code members) tables same)
+    subst (λ t. Links other (Ok t)) (code ∙ ok_injective (linked_code members) tables same)
     (Links.is_program (ap first_fault e ∙ n) (subst IsVerified (sym code) v))
 
 first_name_of : List UnitRead → List ℕ
@@ -159,15 +159,15 @@ gathered_again before after members more found tables back held others x e links
       image = λ name. same_image found_again.0 more name tables found_again.2;
     }
 
-loaded_again : (before after : FileMap) (named : List File) (members more : List Member) (found : Result (List Member) Answer) (tables : Tables)
-    → Come before named (Ok members) → All IsReadBack members → AreHeld after members → HoldTheOthers members before after → Load before named found
+loaded_again : (before after : FileMap) (named : List CommandFile) (members more : List Member) (found : Result (List Member) Answer) (tables : Tables)
+    → FilesCome before named (Ok members) → All IsReadBack members → AreHeld after members → HoldTheOthers members before after → Load before named found
     → found ≡ Ok more → Links more (Ok tables) → LinksAlike after (ucode_named members) more tables
-loaded_again before after named members more _ tables come back held others (Load.refused answer x) e links = absurd (ok-err more answer (sym e))
+loaded_again before after named members more _ tables come back held others (Load.refused answer x) e links = absurd (ok_is_not_err more answer (sym e))
 loaded_again before after named members more found tables come back held others (Load.gathered found_members _ x y) e links =
-    let same : found_members ≡ members = same_Ok found_members members (one_come before named (Ok found_members) (Ok members) x come) in
+    let same : found_members ≡ members = ok_injective found_members members (one_come before named (Ok found_members) (Ok members) x come) in
     gathered_again before after members more found tables back held others (subst (λ list. Gather before list (links_in list) found) same y) e links
 
-pub program_alike : (before after : FileMap) (named : List File) (members more : List Member) (tables : Tables) → Come before named (Ok members)
+pub program_alike : (before after : FileMap) (named : List CommandFile) (members more : List Member) (tables : Tables) → FilesCome before named (Ok members)
     → All IsReadBack members → AreHeld after members → HoldTheOthers members before after → Load before named (Ok more) → Links more (Ok tables)
     → LinksAlike after (ucode_named members) more tables
 program_alike before after named members more tables come back held others load links =

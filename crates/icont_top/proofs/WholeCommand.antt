@@ -6,15 +6,15 @@ use Rattle.icn_host.specs.Sinks.{SinkState}
 use Rattle.icn_answer.specs.declared.answer.Answer.{Answer}
 use Rattle.icn_answer.specs.declared.answer.Answer.TheVariants.{NoMemory}
 use Rattle.icn_answer.specs.Answers.{IsFault, IsAbsence}
-use Rattle.icn_run_answer.specs.Causes.{EndsAtFirst, outside}
-use Rattle.icn_answer.specs.Refusing.{Refuses as PutsRefusal}
+use Rattle.icn_run_answer.specs.CountCauses.{EndsAtFirst, outside}
+use Rattle.icn_answer.specs.Refusing.{PutsItsLine as PutsRefusal}
 use Rattle.icn_run_answer.specs.Reporting.{Reports}
-use Rattle.icn_run_answer.specs.Telling.{CallObjects, call_objects}
+use Rattle.icn_run_answer.specs.ToldObjects.{CallObjects, call_objects}
 use Rattle.icn_answer.proofs.FaultCounts.{no_cause, unmoved}
-use Rattle.icn_run_answer.proofs.Counts.{refused_ends, absence_of}
+use Rattle.icn_run_answer.proofs.CountCauses.{refused_ends, absence_of}
 use Rattle.icn_run_answer.proofs.Reports.{reports_of}
 use Rattle.icn_streams.specs.Handed.{call_streams}
-use Rattle.icn_verify.specs.Laws.{HaveOneFault, HaveNoFault}
+use Rattle.icn_verify.specs.ShapeLaws.{HaveOneFault, HaveNoFault}
 use Rattle.icont_words.specs.declared.words.Task.{Task as TaskHeld}
 use Rattle.icont_words.specs.declared.words.WordsFault.{WordsFault}
 use Rattle.icont_words.specs.declared.words.WordsFault.TheVariants as WordsFaults
@@ -26,11 +26,11 @@ use Rattle.icont_units.specs.Units.{Load, Member}
 use Rattle.icont_top.specs.Answered.{IsAnswered, IsCommanded, MissesText}
 use Rattle.icont_top.specs.Answering.{IsDone}
 use Rattle.icont_top.specs.Asking.{IsTold, words_answer}
-use Rattle.icont_top.specs.Outcomes.{HasWritten, HoldsWritten, IsComplete, LeavesFiles, Outcome}
+use Rattle.icont_top.specs.Outcomes.{HasWritten, HoldsWritten, IsComplete, LeavesFiles, AnswersCommand}
 use Rattle.icont_top.specs.Usage.{usage}
 use Rattle.icont_top.proofs.AnswersGiven.{OneReading, words_asked, words_commanded, words_no_absence, words_no_file, words_no_image, words_no_read, words_no_run, words_no_write}
-use Rattle.icont_top.proofs.Completing.{complete_of}
-use Rattle.icont_top.proofs.Topmost.{fault_given, refused_done}
+use Rattle.icont_top.proofs.RefusedJobs.{complete_of}
+use Rattle.icont_top.proofs.CallOutcomes.{fault_given, refused_done}
 
 -- Words
 
@@ -52,7 +52,7 @@ module _ (words : List (List ℕ)) (answer : Answer) (before after : CallObjects
   DoneBy held = IfSome held (λ files. IsDone words files answer before after)
 
   pub outcome_of : (held : Option FileMap) → DoneBy held
-      → IfSome held (λ files. IfSome before.streams.left (λ left. Outcome words files left answer before after))
+      → IfSome held (λ files. IfSome before.streams.left (λ left. AnswersCommand words files left answer before after))
   outcome_of None is = tt
   outcome_of (Some files) is = is.outcome
 

@@ -5,7 +5,7 @@ use Rattle.std.specs.List.{flat_map}
 use Rattle.std.specs.Map.{update}
 use Rattle.std.specs.Str.{bytes_eq}
 use Rattle.std.proofs.lemmas.Option.{none-some, same_Some}
-use Rattle.icn_host.specs.FileMaps.{FileMap, Follows, IsLeftBehind, Sets, SetsPart}
+use Rattle.icn_host.specs.FileMaps.{FileMap, Follows, IsLeftBehind, SetsFile, SetsPart}
 use Rattle.icn_unit.specs.PlainUnits.{UnitRead}
 use Rattle.icn_unit.specs.UnitRules.{keeps_rules}
 use Rattle.icn_unit.specs.UnitTexts.{decls_text, procs_text}
@@ -13,12 +13,12 @@ use Rattle.icn_unit.specs.declared.unit.Unit.{Unit as HeldUnit}
 use Rattle.icn_ucode.specs.UnitReading.{Whole, unit_read}
 use Rattle.icn_link.specs.LinkFaults.{unit_names}
 use Rattle.icn_link.specs.Units.{unit_seen, units_seen}
-use Rattle.icont_units.specs.declared.files.File.{File as HeldFile}
-use Rattle.icont_units.specs.Fetching.{files_seen}
+use Rattle.icont_units.specs.declared.files.CommandFile.{CommandFile as HeldFile}
+use Rattle.icont_units.specs.FetchedFiles.{files_seen}
 use Rattle.icont_units.specs.Units.{Member, unit_of, unit_texts, units_of}
 use Rattle.icont_top.specs.Job.{WrittenFile, as_written, ucode_files}
 use Rattle.icont_top.specs.Outcomes.{IsReadBack, WritesAll, WritesPart, written_over}
-use Rattle.icont_top.specs.declared.writing.Text.{Text}
+use Rattle.icont_top.specs.declared.writing.FileToWrite.{FileToWrite}
 use Rattle.icont_top.specs.Writing.{bases, text_seen, texts_seen, unit_written, units_written}
 
 -- Texts
@@ -133,7 +133,7 @@ update_alike a b name content q e = updated (bytes_eq name q) content (a q) (b q
 
 pub wrote_more : {before now after : Option FileMap} {all : List WrittenFile} (next : WrittenFile) (rest : List WrittenFile)
     → WritesSome before now all (next ∷ rest)
-    → Sets now after next.name next.bytes → WritesSome before after all rest
+    → SetsFile now after next.name next.bytes → WritesSome before after all rest
 wrote_more {before = before} {now} {after} {all} next rest some sets = record {
   done = some.done ++ next ∷ [];
   are = some.are ∙ sym (append_assoc some.done (next ∷ []) rest);
@@ -183,15 +183,15 @@ wrote_part {before = before} {now} {after} {all} next rest some sets = record {
 
 -- a text of a list of texts
 
-pub text_more : {before now after : Option FileMap} {all : List WrittenFile} (text : Text) (others rest : List Text) (name bytes : List ℕ)
+pub text_more : {before now after : Option FileMap} {all : List WrittenFile} (text : FileToWrite) (others rest : List FileToWrite) (name bytes : List ℕ)
     → WritesSome before now all (texts_seen rest) → rest ≡ text ∷ others → name ≡ string_bytes text.name → bytes ≡ text.bytes.items
-    → Sets now after name bytes → WritesSome before after all (texts_seen others)
+    → SetsFile now after name bytes → WritesSome before after all (texts_seen others)
 text_more {before} {now} {after} {all} text others rest name bytes some e n b sets =
     let from : WritesSome before now all (texts_seen (text ∷ others)) = subst (λ list. WritesSome before now all (texts_seen list)) e some in
-    let set : Sets now after (string_bytes text.name) text.bytes.items = rw (n, b) at sets in
+    let set : SetsFile now after (string_bytes text.name) text.bytes.items = rw (n, b) at sets in
     wrote_more (text_seen text) (texts_seen others) from set
 
-pub text_part : {before now after : Option FileMap} {all : List WrittenFile} (text : Text) (others rest : List Text) (name bytes : List ℕ)
+pub text_part : {before now after : Option FileMap} {all : List WrittenFile} (text : FileToWrite) (others rest : List FileToWrite) (name bytes : List ℕ)
     → WritesSome before now all (texts_seen rest) → rest ≡ text ∷ others → name ≡ string_bytes text.name → bytes ≡ text.bytes.items
     → SetsPart now after name bytes → WritesPart before after all
 text_part {before} {now} {after} {all} text others rest name bytes some e n b sets =

@@ -12,13 +12,13 @@ use Rattle.icn_host.specs.FileMaps.{FileMap}
 use Rattle.icn_unit.specs.PlainUnits.{UnitRead}
 use Rattle.icn_unit.specs.UnitTexts.{decls_text, procs_text}
 use Rattle.icn_link.specs.LinkFaults.{unit_names}
-use Rattle.icn_simulation.specs.Mentions.{firsts}
+use Rattle.law_simulation.specs.Mentions.{firsts}
 use Rattle.icn_answer.specs.declared.answer.Answer.{Answer}
-use Rattle.icont_units.specs.Files.{File, file_named, files_named, first_name, is_source_file, same_base, second_name, sources_in}
-use Rattle.icont_units.specs.Units.{Member, both_texts, unit_of, unit_texts, units_of, Comes, Come}
-use Rattle.icont_units.proofs.ShortTexts.{has}
+use Rattle.icont_units.specs.Files.{CommandFile, file_named, files_named, first_name, is_source_file, same_base, second_name, sources_in}
+use Rattle.icont_units.specs.Units.{Member, both_texts, unit_of, unit_texts, units_of, FileComes, FilesCome}
+use Rattle.icont_units.proofs.ShortTexts.{is_listed}
 use Rattle.icont_units.proofs.SomeLoading.{AreSpelled, judged_read}
-use Rattle.icont_top.specs.Job.{IsTranslated, WrittenFile, as_written, ucode_files}
+use Rattle.icont_top.specs.Job.{AsksForUnits, WrittenFile, as_written, ucode_files}
 use Rattle.icont_top.specs.Outcomes.{WritesAll, written_over}
 use Rattle.icont_top.specs.Relinking.{AllFit, AreHeld, StandAgain}
 
@@ -26,7 +26,7 @@ use Rattle.icont_top.specs.Relinking.{AllFit, AreHeld, StandAgain}
 
 abbrev Differ : List (List ℕ) → Type 0
 Differ [] = Unit {0}
-Differ (name ∷ names) = (has names name ≡ false) × Differ names
+Differ (name ∷ names) = (is_listed names name ≡ false) × Differ names
 
 first_false : (a b : Bool) → (a || b) ≡ false → a ≡ false
 first_false true b e = e
@@ -40,43 +40,46 @@ both_false : (a b : Bool) → a ≡ false → b ≡ false → (a || b) ≡ false
 both_false true b e f = e
 both_false false b e f = f
 
-abbrev bases : List File → List (List ℕ)
+abbrev bases : List CommandFile → List (List ℕ)
 bases files = map (λ file. file.base) files
 
 -- what is left of files has no name that they had not
-kept_name : (passes : Bool) (file : File) (files : List File) (name : List ℕ) → bytes_eq name file.base ≡ false → has (bases files) name ≡ false
-    → has (bases (cond passes (file ∷ files) files)) name ≡ false
-kept_name true file files name e f = both_false (bytes_eq name file.base) (has (bases files) name) e f
+kept_name : (passes : Bool) (file : CommandFile) (files : List CommandFile) (name : List ℕ) → bytes_eq name file.base ≡ false
+    → is_listed (bases files) name ≡ false
+    → is_listed (bases (cond passes (file ∷ files) files)) name ≡ false
+kept_name true file files name e f = both_false (bytes_eq name file.base) (is_listed (bases files) name) e f
 kept_name false file files name e f = f
 
-less_names : (test : File → Bool) (files : List File) (name : List ℕ) → has (bases files) name ≡ false → has (bases (filter test files)) name ≡ false
+less_names : (test : CommandFile → Bool) (files : List CommandFile) (name : List ℕ) → is_listed (bases files) name ≡ false
+    → is_listed (bases (filter test files)) name ≡ false
 less_names test [] name e = refl
 less_names test (file ∷ files) name e =
-    kept_name (test file) file (filter test files) name (first_false (bytes_eq name file.base) (has (bases files) name) e)
-    (less_names test files name (second_false (bytes_eq name file.base) (has (bases files) name) e))
+    kept_name (test file) file (filter test files) name (first_false (bytes_eq name file.base) (is_listed (bases files) name) e)
+    (less_names test files name (second_false (bytes_eq name file.base) (is_listed (bases files) name) e))
 
-kept_differ : (passes : Bool) (file : File) (files : List File) → has (bases files) file.base ≡ false → Differ (bases files)
+kept_differ : (passes : Bool) (file : CommandFile) (files : List CommandFile) → is_listed (bases files) file.base ≡ false → Differ (bases files)
     → Differ (bases (cond passes (file ∷ files) files))
 kept_differ true file files e h = (e, h)
 kept_differ false file files e h = h
 
-less_differ : (test : File → Bool) (files : List File) → Differ (bases files) → Differ (bases (filter test files))
+less_differ : (test : CommandFile → Bool) (files : List CommandFile) → Differ (bases files) → Differ (bases (filter test files))
 less_differ test [] h = tt
 less_differ test (file ∷ files) h =
     kept_differ (test file) file (filter test files) (less_names test files file.base h.0) (less_differ test files h.1)
 
 -- a base that is taken out is there no more
-taken_one : (same : Bool) (file : File) (files : List File) (name : List ℕ) → bytes_eq name file.base ≡ same → has (bases files) name ≡ false
-    → has (bases (cond (not same) (file ∷ files) files)) name ≡ false
+taken_one : (same : Bool) (file : CommandFile) (files : List CommandFile) (name : List ℕ) → bytes_eq name file.base ≡ same
+    → is_listed (bases files) name ≡ false
+    → is_listed (bases (cond (not same) (file ∷ files) files)) name ≡ false
 taken_one true file files name e f = f
-taken_one false file files name e f = both_false (bytes_eq name file.base) (has (bases files) name) e f
+taken_one false file files name e f = both_false (bytes_eq name file.base) (is_listed (bases files) name) e f
 
-taken_out : (first : File) (files : List File) → has (bases (filter (λ other. not (same_base first other)) files)) first.base ≡ false
+taken_out : (first : CommandFile) (files : List CommandFile) → is_listed (bases (filter (λ other. not (same_base first other)) files)) first.base ≡ false
 taken_out first [] = refl
 taken_out first (file ∷ files) =
     taken_one (bytes_eq first.base file.base) file (filter (λ other. not (same_base first other)) files) first.base refl (taken_out first files)
 
-firsts_differ : (files : List File) → Differ (bases (firsts same_base files))
+firsts_differ : (files : List CommandFile) → Differ (bases (firsts same_base files))
 firsts_differ [] = tt
 firsts_differ (file ∷ files) =
     (taken_out file (firsts same_base files), less_differ (λ other. not (same_base file other)) (firsts same_base files) (firsts_differ files))
@@ -86,29 +89,29 @@ sources_differ names = less_differ (λ file. is_source_file file.kind) (files_na
 
 -- Units have the names of their files
 
-abbrev OfName : File → Result Member Answer → Type 0
+abbrev OfName : CommandFile → Result Member Answer → Type 0
 OfName file (Ok member) = (unit_of member).name ≡ file.base
 OfName file (Err answer) = Unit {0}
 
-abbrev OfNames : List File → Result (List Member) Answer → Type 0
+abbrev OfNames : List CommandFile → Result (List Member) Answer → Type 0
 OfNames named (Ok members) = unit_names (units_of members) ≡ bases named
 OfNames named (Err answer) = Unit {0}
 
 module _ (spelled : AreSpelled) (files : FileMap) where
-  comes_named : {file : File} (found : Result Member Answer) → Comes files file found → OfName file found
-  comes_named _ (Comes.no_tokens base answer e) = tt
-  comes_named _ (Comes.broken base scan rule place e x) = tt
-  comes_named _ (Comes.translated base scan file e x) = refl
-  comes_named _ (Comes.not_there base name e) = tt
-  comes_named _ (Comes.not_read base first second answer e j) = tt
-  comes_named _ (Comes.read base first second unit e j) = (spelled base first second unit (judged_read j)).2
+  comes_named : {file : CommandFile} (found : Result Member Answer) → FileComes files file found → OfName file found
+  comes_named _ (FileComes.no_tokens base answer e) = tt
+  comes_named _ (FileComes.broken base scan rule place e x) = tt
+  comes_named _ (FileComes.translated base scan file e x) = refl
+  comes_named _ (FileComes.not_there base name e) = tt
+  comes_named _ (FileComes.not_read base first second answer e j) = tt
+  comes_named _ (FileComes.read base first second unit e j) = (spelled base first second unit (judged_read j)).2
 
-  come_named : {named : List File} (found : Result (List Member) Answer) → Come files named found → OfNames named found
-  come_named _ Come.none = refl
-  come_named _ (Come.one_more file others member members x y) =
+  come_named : {named : List CommandFile} (found : Result (List Member) Answer) → FilesCome files named found → OfNames named found
+  come_named _ FilesCome.none = refl
+  come_named _ (FilesCome.one_more file others member members x y) =
       ap₂ (λ (name : List ℕ) (names : List (List ℕ)). name ∷ names) (comes_named (Ok member) x) (come_named (Ok members) y)
-  come_named _ (Come.first_refused file others answer x) = tt
-  come_named _ (Come.later_refused file others member answer x y) = tt
+  come_named _ (FilesCome.first_refused file others answer x) = tt
+  come_named _ (FilesCome.later_refused file others member answer x y) = tt
 
 -- The names of texts
 
@@ -170,20 +173,20 @@ passed files unit name e f =
     cond-false (bytes_eq (second_name unit.name) name) (Some (decls_text unit.decls)) (with_first files unit name) f
     ∙ cond-false (bytes_eq (first_name unit.name) name) (Some (procs_text unit.procs)) (files name) e
 
-kept_first : (units : List UnitRead) (files : FileMap) (base : List ℕ) → has (unit_names units) base ≡ false
+kept_first : (units : List UnitRead) (files : FileMap) (base : List ℕ) → is_listed (unit_names units) base ≡ false
     → written_over files (texts_written units) (first_name base) ≡ files (first_name base)
 kept_first [] files base e = refl
 kept_first (unit ∷ units) files base e =
-    let other = first_false (bytes_eq base unit.name) (has (unit_names units) base) e in
-    kept_first units (with_both files unit) base (second_false (bytes_eq base unit.name) (has (unit_names units) base) e)
+    let other = first_false (bytes_eq base unit.name) (is_listed (unit_names units) base) e in
+    kept_first units (with_both files unit) base (second_false (bytes_eq base unit.name) (is_listed (unit_names units) base) e)
     ∙ passed files unit (first_name base) (other_first base unit.name other) (second_first base unit.name)
 
-kept_second : (units : List UnitRead) (files : FileMap) (base : List ℕ) → has (unit_names units) base ≡ false
+kept_second : (units : List UnitRead) (files : FileMap) (base : List ℕ) → is_listed (unit_names units) base ≡ false
     → written_over files (texts_written units) (second_name base) ≡ files (second_name base)
 kept_second [] files base e = refl
 kept_second (unit ∷ units) files base e =
-    let other = first_false (bytes_eq base unit.name) (has (unit_names units) base) e in
-    kept_second units (with_both files unit) base (second_false (bytes_eq base unit.name) (has (unit_names units) base) e)
+    let other = first_false (bytes_eq base unit.name) (is_listed (unit_names units) base) e in
+    kept_second units (with_both files unit) base (second_false (bytes_eq base unit.name) (is_listed (unit_names units) base) e)
     ∙ passed files unit (second_name base) (first_second base unit.name) (other_second base unit.name other)
 
 -- both texts of each unit
@@ -235,7 +238,7 @@ written_so before after members writes name =
     let now : after ≡ writes.follows.0 = same_Some after writes.follows.0 writes.follows.1 in
     ap (λ (files : FileMap). files name) now ∙ writes.follows.2 name
 
-pub stand_again : AreSpelled → (words : List (List ℕ)) (before after : FileMap) (members : List Member) → IsTranslated words before (Ok members)
+pub stand_again : AreSpelled → (words : List (List ℕ)) (before after : FileMap) (members : List Member) → AsksForUnits words before (Ok members)
     → WritesAll (Some before) (Some after) (ucode_files members) → AllFit members → StandAgain members before after
 stand_again spelled words before after members x writes fit =
     let names = come_named spelled before (Ok members) x.come in

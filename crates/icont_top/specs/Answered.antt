@@ -12,13 +12,13 @@ use Rattle.icn_answer.specs.Answers.{IsCommand, IsFault}
 use Rattle.icont_words.specs.Words.{Run, Task, Link, Asks, Faulty, ComeTo}
 use Rattle.icont_units.specs.Files.{files_named}
 use Rattle.icont_units.specs.Units.{Load, Member, units_of}
-use Rattle.icont_top.specs.Job.{IsPlanned, IsTranslated, Plan, Refuses}
+use Rattle.icont_top.specs.Job.{IsPlanned, AsksForUnits, Plan, RefusesCommand}
 
 -- A fault; or what the words and the files ask for, where a run may have any ending.
 pub data IsAnswered (words : List (List ℕ)) (files : FileMap) : Answer → Type 0 where
   fault : (answer : Answer) → IsFault answer → IsAnswered words files answer
-  refused : (answer : Answer) → Refuses words files answer → IsAnswered words files answer
-  translated : (members : List Member) → IsTranslated words files (Ok members) → IsAnswered words files Wrote
+  refused : (answer : Answer) → RefusesCommand words files answer → IsAnswered words files answer
+  translated : (members : List Member) → AsksForUnits words files (Ok members) → IsAnswered words files Wrote
   wrote : (plan : Plan) (members : List Member) (tables : Tables) → IsPlanned words files plan members tables
       → plan.run ≡ None
       → IsAnswered words files Wrote

@@ -13,7 +13,7 @@ use Rattle.icn_answer.specs.Endings.{ending_held}
 use Rattle.icont_words.specs.Words.{Run, Translate, Link, Generate, Asks, Faulty, ComeTo as WordsComeTo}
 use Rattle.icont_units.specs.Generated.{GeneratedComes, sizes_line}
 use Rattle.icont_units.specs.Files.{files_named, sources_in}
-use Rattle.icont_units.specs.Units.{Member, Come, Load, unit_texts, unit_of, units_of}
+use Rattle.icont_units.specs.Units.{Member, FilesCome, Load, unit_texts, unit_of, units_of}
 use Rattle.icont_top.specs.Programs.{Behaves, Links}
 use Rattle.icont_top.specs.Usage.{usage}
 
@@ -121,25 +121,26 @@ pub record IsPlanned (words : List (List ℕ)) (files : FileMap) (plan : Plan) (
   pub links : Links members (Ok tables)
 
 -- the words ask for units, and these are they
-pub record IsTranslated (words : List (List ℕ)) (files : FileMap)
+pub record AsksForUnits (words : List (List ℕ)) (files : FileMap)
     (result : Result (List Member) Answer) : Type 0 where
   pub names : List (List ℕ)
   pub asks : WordsComeTo words (Asks (Translate names))
-  pub come : Come files (sources_in (files_named names)) result
+  pub come : FilesCome files (sources_in (files_named names)) result
 
 -- what the words and the files are refused for
-pub data Refuses (words : List (List ℕ)) (files : FileMap) : Answer → Type 0 where
-  wrong_words : (kind : ℕ) → WordsComeTo words (Faulty kind) → Refuses words files (Command kind)
-  no_units : (answer : Answer) → IsTranslated words files (Err answer) → Refuses words files answer
+pub data RefusesCommand (words : List (List ℕ)) (files : FileMap) : Answer → Type 0 where
+  wrong_words : (kind : ℕ) → WordsComeTo words (Faulty kind) → RefusesCommand words files (Command kind)
+  no_units : (answer : Answer) → AsksForUnits words files (Err answer) → RefusesCommand words files answer
   no_members : (plan : Plan) (answer : Answer) → Plans words files plan (Err answer)
-      → Refuses words files answer
+      → RefusesCommand words files answer
   no_program : (plan : Plan) (members : List Member) (answer : Answer) → Plans words files plan (Ok members)
-      → Links members (Err answer) → Refuses words files answer
+      → Links members (Err answer) → RefusesCommand words files answer
 
 -- what the words, the files and the input ask for
 pub data IsJob (words : List (List ℕ)) (files : FileMap) (left : List ℕ) : Job → Type 0 where
-  refuses : (answer : Answer) → Refuses words files answer → IsJob words files left (refusal left answer)
-  translates : (members : List Member) → IsTranslated words files (Ok members)
+  refuses : (answer : Answer) → RefusesCommand words files answer
+      → IsJob words files left (refusal left answer)
+  translates : (members : List Member) → AsksForUnits words files (Ok members)
       → IsJob words files left (files_job (ucode_files members) left)
   writes : (plan : Plan) (members : List Member) (tables : Tables) → IsPlanned words files plan members tables
       → plan.run ≡ None

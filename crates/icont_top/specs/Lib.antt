@@ -1,11 +1,11 @@
 pub mod Usage
 pub mod Programs
-pub mod Making
+pub mod MadeUnits
 pub mod Job
 pub mod Outcomes
 pub mod Answered
 pub mod Writing
-pub mod Basing
+pub mod BaseNames
 pub mod Asking
 pub mod Running
 pub mod Answering

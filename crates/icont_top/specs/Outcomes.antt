@@ -4,7 +4,7 @@ use Rattle.std.specs.Map.{update}
 use Rattle.std.specs.Str.{bytes_eq}
 use Rattle.icn_profile.specs.Numbers.{most_bytes_of_image}
 use Rattle.icn_host.specs.FileMaps.{FileMap, Follows, IsLeftBehind}
-use Rattle.icn_host.specs.Puts.{BreaksOff, Puts, RunsShort}
+use Rattle.icn_host.specs.Puts.{FailsPutting, Puts, RunsShort}
 use Rattle.icn_host.specs.Sinks.{Gains, SinkState}
 use Rattle.icn_code.specs.Codes.{Tables}
 use Rattle.icn_defs.specs.Running.{Done, Launch, Observation}
@@ -12,7 +12,7 @@ use Rattle.icn_unit.specs.UnitTexts.{decls_text, procs_text}
 use Rattle.icn_ucode.specs.UnitReading.{Whole, unit_read}
 use Rattle.icn_image.specs.Reading.{image_read}
 use Rattle.icn_verify.specs.Faults.{IsVerified}
-use Rattle.icn_simulation.specs.Law.{RunsFlat}
+use Rattle.law_simulation.specs.FirstLaw.{RunsFlat}
 use Rattle.icn_streams.specs.Handed.{CallStreams}
 use Rattle.icn_defs.specs.declared.ending.Ending.{Ending}
 use Rattle.icn_running.specs.declared.fault.RunFault.{RunFault}
@@ -21,14 +21,14 @@ use Rattle.icn_running.specs.Runs.{EndsAtFirst, LeavesBy}
 use Rattle.icn_answer.specs.declared.answer.Answer.{Answer}
 use Rattle.icn_answer.specs.declared.answer.Answer.TheVariants.{Wrote, Ran, Refused, Command, Missing, BadUcode, BadImage, FileFault, ReadFault, WriteFault, NoMemory}
 use Rattle.icn_answer.specs.Answers.{IsFault}
-use Rattle.icn_run_answer.specs.Faulting.{of_run}
+use Rattle.icn_run_answer.specs.FaultAnswers.{of_run}
 use Rattle.icn_answer.specs.Lines.{fault_line}
-use Rattle.icn_run_answer.specs.Telling.{CallObjects, with_errors}
+use Rattle.icn_run_answer.specs.ToldObjects.{CallObjects, with_errors}
 use Rattle.icont_words.specs.Words.{Run}
 use Rattle.icont_units.specs.Generated.{sizes_line}
 use Rattle.icont_units.specs.Units.{Member, unit_of}
 use Rattle.icont_top.specs.Programs.{Behaves}
-use Rattle.icont_top.specs.Job.{IsJob, IsPlanned, IsTranslated, Job, Plan, WrittenFile, image_file, run_launch, ucode_files}
+use Rattle.icont_top.specs.Job.{IsJob, IsPlanned, AsksForUnits, Job, Plan, WrittenFile, image_file, run_launch, ucode_files}
 
 -- Files that are written
 
@@ -61,7 +61,7 @@ pub record Completes (job : Job) (answer : Answer) (before after : CallObjects) 
 
 -- What the words ask to be written, of files that break no rule
 pub data AreWritten (words : List (List ℕ)) (files : FileMap) : List WrittenFile → Type 0 where
-  ucode : (members : List Member) → IsTranslated words files (Ok members)
+  ucode : (members : List Member) → AsksForUnits words files (Ok members)
       → AreWritten words files (ucode_files members)
   image : (plan : Plan) (members : List Member) (tables : Tables) → IsPlanned words files plan members tables
       → AreWritten words files (image_file plan.image members tables ∷ [])
@@ -79,7 +79,7 @@ IsIdleFault IsJobOf (BadImage rule) before between = ⊥
 IsIdleFault IsJobOf FileFault before between = between ≡ before
 IsIdleFault IsJobOf ReadFault before between = ⊥
 IsIdleFault IsJobOf WriteFault before between =
-    (job : Job) × IsJobOf job × (job.written ≡ []) × BreaksOff before between job.errors
+    (job : Job) × IsJobOf job × (job.written ≡ []) × FailsPutting before between job.errors
 IsIdleFault IsJobOf NoMemory before between =
     (between ≡ before)
     ⊎ ((job : Job) × IsJobOf job × (job.written ≡ []) × RunsShort before between job.errors)
@@ -99,7 +99,7 @@ IsTornFault WriteFault = ⊥
 IsTornFault NoMemory = Unit {0}
 
 -- What a fault leaves of a program that is run with this input: all is said of what is observed of it, as each program comes to an end.
-pub record BrokenOff (members : List Member) (run : Run) (left : List ℕ) (fault : RunFault)
+pub record ProgramBrokenOff (members : List Member) (run : Run) (left : List ℕ) (fault : RunFault)
     (before after : CallStreams) : Type 0 where
   pub seen : Observation
   pub behaves : Behaves members (run_launch run left) seen
@@ -130,25 +130,27 @@ pub record BrokenBehind (members : List Member) (run : Run) (number : ℕ) (left
 -- What a fault leaves, told apart by the answer, with its own line behind, as far as the error output took it. Nothing was done but that a
 -- refusal's line may be begun; or a file could not be written whole; or the image was written, and the program was broken off as it ran,
 -- or the line behind its output was.
-pub data Faults (words : List (List ℕ)) (files : FileMap) (left : List ℕ) (answer : Answer)
+pub data EndsByFault (words : List (List ℕ)) (files : FileMap) (left : List ℕ) (answer : Answer)
     (before after : CallObjects) : Type 0 where
   idle : (between : SinkState) → after.files ≡ before.files → after.streams.left ≡ before.streams.left
       → after.streams.output.held ≡ before.streams.output.held
       → IsIdleFault (IsJob words files left) answer before.streams.errors between
-      → Puts between after.streams.errors (fault_line answer) → Faults words files left answer before after
+      → Puts between after.streams.errors (fault_line answer)
+      → EndsByFault words files left answer before after
   torn : (written : List WrittenFile) → IsTornFault answer → AreWritten words files written
       → WritesPart before.files after.files written
       → after.streams.left ≡ before.streams.left
       → after.streams.output.held ≡ before.streams.output.held
       → Puts before.streams.errors after.streams.errors (fault_line answer)
-      → Faults words files left answer before after
+      → EndsByFault words files left answer before after
   broke : (plan : Plan) (members : List Member) (tables : Tables) (run : Run) (fault : RunFault)
       (between : SinkState)
       → IsPlanned words files plan members tables → plan.run ≡ Some run
       → WritesAll before.files after.files (image_file plan.image members tables ∷ []) → answer ≡ of_run fault
       → EndsAtFirst {A = Ending} (Err fault) before.streams (with_errors between after.streams)
-      → BrokenOff members run left fault before.streams (with_errors between after.streams)
-      → Puts between after.streams.errors (fault_line answer) → Faults words files left answer before after
+      → ProgramBrokenOff members run left fault before.streams (with_errors between after.streams)
+      → Puts between after.streams.errors (fault_line answer)
+      → EndsByFault words files left answer before after
   broke_behind : (plan : Plan) (members : List Member) (tables : Tables) (run : Run) (number : ℕ)
       (fault : RunFault) (between : SinkState)
       → IsPlanned words files plan members tables → plan.run ≡ Some run → plan.number ≡ Some number
@@ -156,15 +158,16 @@ pub data Faults (words : List (List ℕ)) (files : FileMap) (left : List ℕ) (a
       → answer ≡ of_run fault
       → EndsAtFirst {A = Ending} (Err fault) before.streams (with_errors between after.streams)
       → BrokenBehind members run number left before.streams (with_errors between after.streams)
-      → Puts between after.streams.errors (fault_line answer) → Faults words files left answer before after
+      → Puts between after.streams.errors (fault_line answer)
+      → EndsByFault words files left answer before after
 
 -- the job was done, or a fault is answered
-pub data Outcome (words : List (List ℕ)) (files : FileMap) (left : List ℕ) (answer : Answer)
+pub data AnswersCommand (words : List (List ℕ)) (files : FileMap) (left : List ℕ) (answer : Answer)
     (before after : CallObjects) : Type 0 where
   done : (job : Job) → IsJob words files left job → Completes job answer before after
-      → Outcome words files left answer before after
-  fault : IsFault answer → Faults words files left answer before after
-      → Outcome words files left answer before after
+      → AnswersCommand words files left answer before after
+  fault : IsFault answer → EndsByFault words files left answer before after
+      → AnswersCommand words files left answer before after
 
 -- an answer that files were written
 abbrev pub HasWritten : Answer → Type 0
@@ -240,7 +243,7 @@ HoldsNow after written = (held : FileMap) × (after ≡ Some held) × (held writ
 
 -- What an answer that files were written says: the texts of each unit are there; or the image of the program is.
 pub data HoldsWritten (words : List (List ℕ)) (files : FileMap) (after : Option FileMap) : Type 0 where
-  ucode : (members : List Member) → IsTranslated words files (Ok members)
+  ucode : (members : List Member) → AsksForUnits words files (Ok members)
       → WritesAll (Some files) after (ucode_files members) → All IsReadBack members
       → HoldsWritten words files after
   image : (plan : Plan) (members : List Member) (tables : Tables) → IsPlanned words files plan members tables

@@ -8,7 +8,7 @@ use Rattle.icn_defs.specs.Running.{Launch, Observation}
 use Rattle.icn_link.specs.Joined.{joined_code}
 use Rattle.icn_link.specs.LinkFaults.{first_fault}
 use Rattle.icn_verify.specs.Faults.{IsFirstFault, IsVerified}
-use Rattle.icn_simulation.specs.Law.{FilesMean, RunsFlat}
+use Rattle.law_simulation.specs.FirstLaw.{FilesMean, RunsFlat}
 use Rattle.icn_answer.specs.declared.answer.Answer.{Answer}
 use Rattle.icn_answer.specs.declared.answer.Answer.TheVariants.{BadUcode}
 use Rattle.icont_units.specs.Files.{first_name}

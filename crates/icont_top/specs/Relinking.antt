@@ -5,7 +5,7 @@ use Rattle.icn_host.specs.FileMaps.{FileMap}
 use Rattle.icn_unit.specs.PlainUnits.{UnitRead}
 use Rattle.icn_unit.specs.UnitTexts.{decls_text, procs_text}
 use Rattle.icn_code.specs.Codes.{Tables}
-use Rattle.icont_units.specs.Files.{File, first_name, second_name, ucode}
+use Rattle.icont_units.specs.Files.{CommandFile, first_name, second_name, ucode}
 use Rattle.icont_units.specs.Units.{Member, FromUcode, Gather, Load, is_there, texts_held, unit_of, units_of}
 use Rattle.icont_top.specs.Job.{image_file}
 use Rattle.icont_top.specs.Programs.{Links}
@@ -30,7 +30,7 @@ abbrev pub AreHeld : FileMap → List Member → Type 0
 AreHeld files members = All (λ member. HoldsUnit files (unit_of member)) members
 
 -- the units of members, named as ucode, and read from it
-abbrev pub ucode_named : List Member → List File
+abbrev pub ucode_named : List Member → List CommandFile
 ucode_named members = map (λ member. ucode (unit_of member).name) members
 
 -- the same units, as members that were read from ucode
@@ -55,7 +55,7 @@ pub record GathersAlike (files : FileMap) (members : List Member) (mentioned : L
   pub units : units_of others ≡ units_of more
 
 -- from the ucode of their units the same program comes as from the files themselves
-pub record LinksAlike (files : FileMap) (named : List File) (members : List Member)
+pub record LinksAlike (files : FileMap) (named : List CommandFile) (members : List Member)
     (tables : Tables) : Type 0 where
   pub others : List Member
   pub loads : Load files named (Ok others)

@@ -8,7 +8,7 @@ use Rattle.icn_code.specs.Codes.{Tables}
 use Rattle.icn_defs.specs.Running.{Launch, Observation}
 use Rattle.icn_defs.specs.declared.ending.Ending.{Ending}
 use Rattle.icn_defs.specs.declared.ending.Ending.TheVariants as Endings
-use Rattle.icn_simulation.specs.Law.{RunsFlat}
+use Rattle.law_simulation.specs.FirstLaw.{RunsFlat}
 use Rattle.icn_streams.specs.Handed.{CallStreams}
 use Rattle.icn_running.specs.declared.fault.RunFault.{RunFault}
 use Rattle.icn_running.specs.Reported.{ending_seen}
@@ -16,10 +16,10 @@ use Rattle.icn_running.specs.Runs.{EndsAtFirst, IsBrokenOff, RunsTo}
 use Rattle.icn_answer.specs.declared.answer.Answer.{Answer}
 use Rattle.icn_answer.specs.declared.answer.Answer.TheVariants.{Wrote, Ran, Refused, Command, Missing, BadUcode, BadImage, FileFault, ReadFault, WriteFault, NoMemory}
 use Rattle.icn_answer.specs.Endings.{ending_held}
-use Rattle.icn_run_answer.specs.Faulting.{of_run}
+use Rattle.icn_run_answer.specs.FaultAnswers.{of_run}
 use Rattle.icn_answer.specs.Lines.{fault_line}
 use Rattle.icn_answer.specs.Refusing.{PutsOwn}
-use Rattle.icn_run_answer.specs.Telling.{with_errors}
+use Rattle.icn_run_answer.specs.ToldObjects.{with_errors}
 use Rattle.icont_units.specs.Generated.{sizes_line}
 use Rattle.icont_top.specs.Job.{behind}
 use Rattle.icont_top.specs.Outcomes.{LeavesBehind, StopsPut}

@@ -2,19 +2,19 @@
 use Rattle.std.specs.Prelude.{ℕ, List, [], ◌∷◌, ◌++◌, map, string_bytes}
 use Rattle.icn_unit.specs.PlainUnits.{UnitRead}
 use Rattle.icn_unit.specs.UnitTexts.{decls_text, procs_text}
-use Rattle.icont_units.specs.Files.{File, first_name, second_name}
-use Rattle.icont_top.specs.declared.writing.Text.{Text}
+use Rattle.icont_units.specs.Files.{CommandFile, first_name, second_name}
+use Rattle.icont_top.specs.declared.writing.FileToWrite.{FileToWrite}
 use Rattle.icont_top.specs.Job.{WrittenFile}
 
-abbrev pub text_seen : Text → WrittenFile
+abbrev pub text_seen : FileToWrite → WrittenFile
 text_seen text = record { name = string_bytes text.name; bytes = text.bytes.items }
 
 -- the texts to write, each with its name
-abbrev pub texts_seen : List Text → List WrittenFile
+abbrev pub texts_seen : List FileToWrite → List WrittenFile
 texts_seen texts = map text_seen texts
 
 -- the base names of these files
-abbrev pub bases : List File → List (List ℕ)
+abbrev pub bases : List CommandFile → List (List ℕ)
 bases files = map (λ file. file.base) files
 
 -- the two texts of a unit under a base name

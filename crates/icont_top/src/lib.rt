@@ -1,7 +1,7 @@
 //! The top call of the program `icont`.
 #![tactic(auto)]
 
-mod laws;
+mod job_laws;
 mod loading;
 mod programs;
 mod top;
@@ -9,5 +9,5 @@ mod writing;
 
 pub use icn_answer::Answer;
 pub use icn_defs::Ending;
-pub use laws::{one_job, one_program, units_link_alike};
+pub use job_laws::{one_job, one_program, units_link_alike};
 pub use top::icont_main;

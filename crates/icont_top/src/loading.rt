@@ -3,26 +3,26 @@ ghost use Rattle.std.specs.Prelude.{◌≡◌, ⊤, IfErr, IfOk, IfSome, IsErrOf
 ghost use Rattle.icn_answer.specs.Answers.{IsErrOfAbsence};
 ghost use Rattle.icn_answer.specs.FilesRead.{ReadsFiles, files_state};
 ghost use Rattle.icn_host.specs.Counts.{Rose};
-ghost use Rattle.icont_units.specs.Fetching.{IsOfLoading, files_seen};
+ghost use Rattle.icont_units.specs.FetchedFiles.{IsOfLoading, files_seen};
 ghost use Rattle.icont_units.specs.Files.{files_named, sources_in};
 ghost use Rattle.icont_units.specs.Generated.{GeneratedComes};
 ghost use Rattle.icn_text.specs.WordTexts.{texts};
 ghost use Rattle.icont_units.specs.Units.{Load};
 ghost use Rattle.icont_top.specs.Asking.{AreTranslated, IsProgramOf};
-ghost use Rattle.icont_top.specs.Basing.{first_named};
+ghost use Rattle.icont_top.specs.BaseNames.{first_named};
 
-use crate::programs::{Made, make};
-use crate::writing::{Text, ucode_texts};
+use crate::programs::{MadeProgram, make};
+use crate::writing::{FileToWrite, ucode_texts};
 use icn_answer::Answer;
 use icn_host::Files;
 use icn_ucode::one_spelling;
-use icont_units::{File, come, files_named, generated, load, sources_in};
+use icont_units::{CommandFile, files_named, generate_unit, load, load_named, sources_in};
 use std::alloc::{AllocError, Global};
 
 /// A program: its code and its image, and the name of the image where the words say none.
 #[derive(Drop)]
-pub struct Program<'a> {
-    pub made: Made,
+pub struct LoadedProgram<'a> {
+    pub made: MadeProgram,
     pub base: &'a str,
 }
 
@@ -31,11 +31,11 @@ pub struct Program<'a> {
 /// # Errors
 ///
 /// What refuses the first source that is refused, `FileFault`, or `NoMemory`.
-pub fn translated<F: Files>(
+pub fn translate_sources<F: Files>(
     alloc: Global,
     names: &[&str],
     files: &mut F,
-) -> Result<Vec<Text>, Answer>
+) -> Result<Vec<FileToWrite>, Answer>
     ensures translated { IfSome (F.held files.old) (λ held. AreTranslated held (texts names.now) result) }
     ensures others { IfErr result IsOfLoading }
     ensures reads { ReadsFiles result (IsErrOfAbsence result)
@@ -46,7 +46,7 @@ pub fn translated<F: Files>(
     let Ok(sources) = named_sources(alloc, names) else {
         return Err(Answer::NoMemory);
     };
-    match come(alloc, &sources, files) {
+    match load_named(alloc, &sources, files) {
         Ok(members) => match ucode_texts(alloc, &sources, &members.units) {
             Ok(texts) => Ok(texts),
             Err(_) => Err(Answer::NoMemory),
@@ -56,7 +56,7 @@ pub fn translated<F: Files>(
 }
 
 // The sources that these names name.
-fn named_sources<'a>(alloc: Global, names: &[&'a str]) -> Result<Vec<File<'a>>, AllocError>
+fn named_sources<'a>(alloc: Global, names: &[&'a str]) -> Result<Vec<CommandFile<'a>>, AllocError>
     ensures { IfOk result (λ found. files_seen found.items ≡ sources_in (files_named (texts names.now))) }
 {
     let named = files_named(alloc, names)?;
@@ -73,7 +73,7 @@ pub fn linked_program<'a, F: Files>(
     alloc: Global,
     names: &[&'a str],
     files: &mut F,
-) -> Result<Program<'a>, Answer>
+) -> Result<LoadedProgram<'a>, Answer>
     ensures program { IfSome (F.held files.old)
         (λ held. IsProgramOf (Load held (files_named (texts names.now)))
         (Rose (F.absences files.old) (F.absences files.new)) result) }
@@ -88,7 +88,7 @@ pub fn linked_program<'a, F: Files>(
     };
     match load(alloc, &named, files) {
         Ok(members) => match make(alloc, &members) {
-            Ok(made) => Ok(Program {
+            Ok(made) => Ok(LoadedProgram {
                 made,
                 base: first_base(&named),
             }),
@@ -99,7 +99,7 @@ pub fn linked_program<'a, F: Files>(
 }
 
 // The base name of the first file.
-fn first_base<'a>(named: &[File<'a>]) -> &'a str
+fn first_base<'a>(named: &[CommandFile<'a>]) -> &'a str
     ensures { result.now ≡ first_named (files_seen named.now) }
 {
     match named.first() {
@@ -113,15 +113,15 @@ fn first_base<'a>(named: &[File<'a>]) -> &'a str
 /// # Errors
 ///
 /// A rule that it breaks, or `NoMemory`.
-pub fn numbered_program(alloc: Global, number: u16) -> Result<Program<'static>, Answer>
+pub fn numbered_program(alloc: Global, number: u16) -> Result<LoadedProgram<'static>, Answer>
     ensures program { IsProgramOf (GeneratedComes number) ⊤ result }
     ensures others { IfErr result IsOfLoading }
     ensures no_file { IsErrOf result Answer.FileFault → ⊥ }
     ensures no_absence { IsErrOfAbsence result → ⊥ }
 {
-    match generated(alloc, number) {
+    match generate_unit(alloc, number) {
         Ok(members) => match make(alloc, &members) {
-            Ok(made) => Ok(Program { made, base: "gen" }),
+            Ok(made) => Ok(LoadedProgram { made, base: "gen" }),
             Err(answer) => Err(answer),
         },
         Err(answer) => Err(answer),

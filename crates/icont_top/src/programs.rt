@@ -1,31 +1,31 @@
 // The program of units: its code and its image.
 ghost use Rattle.std.specs.Prelude.{◌≡◌, ◌⊎◌, List, None, Some, IfOk, IfErr, OnOk};
-ghost use Rattle.icn_code.specs.Seen.{tables_of};
+ghost use Rattle.icn_code.specs.CodeTables.{tables_of};
 ghost use Rattle.icn_link.specs.Joined.{joined_code};
 ghost use Rattle.icn_link.specs.LinkFaults.{first_fault};
 ghost use Rattle.icn_link.specs.Units.{units_seen};
 ghost use Rattle.icn_verify.specs.Faults.{IsVerified};
 ghost use Rattle.icn_answer.specs.declared.answer.Answer.TheVariants.{BadUcode, Refused};
 ghost use Rattle.icont_units.specs.Files.{first_name};
-ghost use Rattle.icont_units.specs.Loading.{IsSound, Stands};
+ghost use Rattle.icont_units.specs.Loading.{AreSoundMembers, HoldsMembers};
 ghost use Rattle.icont_units.specs.Units.{Member, link_answer, unit_named};
-ghost use Rattle.icont_top.specs.Making.{IsOfLink, Makes, RefusesCode, RefusesLink};
+ghost use Rattle.icont_top.specs.MadeUnits.{IsOfLink, Makes, RefusesCode, RefusesLink};
 
 use icn_answer::Answer;
 use icn_code::Code;
-use icn_code_sound::joined_code_is_verified;
 use icn_image::write_image;
 use icn_link::{LinkFault, link};
 use icn_tree::{Bytes, Rule};
 use icn_unit::Unit;
 use icn_verify::{Verified, VerifyFault, one_fault, verify};
 use icont_units::Members;
-use link_laws::translations_join;
+use law_link::translations_join;
+use law_verified::joined_code_is_verified;
 use std::alloc::{AllocError, Global};
 
 /// The code of a program, and its image.
 #[derive(Drop)]
-pub struct Made {
+pub struct MadeProgram {
     pub code: Verified,
     pub image: Vec<u8>,
 }
@@ -37,17 +37,17 @@ pub struct Made {
 /// `Refused` with the first rule of linking that the units break, told of a unit's base name. `BadUcode` with the first rule of
 /// verified code that their code breaks, told of the first unit that was read as ucode: code of sources alone breaks none. `NoMemory`
 /// where memory ran out.
-pub fn make(alloc: Global, members: &Members) -> Result<Made, Answer>
-    requires sound { IsSound members.now }
-    ensures made { (list : List Member) → Stands members.now list → Makes list result }
+pub fn make(alloc: Global, members: &Members) -> Result<MadeProgram, Answer>
+    requires sound { AreSoundMembers members.now }
+    ensures made { (list : List Member) → HoldsMembers members.now list → Makes list result }
     ensures others { IfErr result IsOfLink }
 {
     joined_code_is_verified();
     translations_join();
     let code = link_members(alloc, &members.units)?;
-    let code = verified(alloc, code, members)?;
+    let code = verify_linked(alloc, code, members)?;
     match write_image(alloc, code.code()) {
-        Ok(image) => Ok(Made { code, image }),
+        Ok(image) => Ok(MadeProgram { code, image }),
         Err(_) => Err(Answer::NoMemory),
     }
 }
@@ -72,15 +72,15 @@ fn not_linked(alloc: Global, units: &[Unit], fault: &LinkFault) -> Answer
     ensures others { IsOfLink result }
 {
     match fault {
-        LinkFault::K1 { unit, .. } => refused(alloc, units, *unit, Rule::K1),
-        LinkFault::K2 { unit, .. } => refused(alloc, units, *unit, Rule::K2),
-        LinkFault::K3 { .. } => refused(alloc, units, 0, Rule::K3),
+        LinkFault::K1 { unit, .. } => link_refusal(alloc, units, *unit, Rule::K1),
+        LinkFault::K2 { unit, .. } => link_refusal(alloc, units, *unit, Rule::K2),
+        LinkFault::K3 { .. } => link_refusal(alloc, units, 0, Rule::K3),
         LinkFault::NoMemory => Answer::NoMemory,
     }
 }
 
 // The answer that a rule of linking refuses the unit at this place.
-fn refused(alloc: Global, units: &[Unit], place: u64, rule: Rule) -> Answer
+fn link_refusal(alloc: Global, units: &[Unit], place: u64, rule: Rule) -> Answer
     ensures { (result ≡ Answer.NoMemory)
         ⊎ (result ≡ Refused (unit_named (units_seen units.now) place) 0 rule) }
 {
@@ -105,7 +105,7 @@ fn name_at(units: &[Unit], place: usize) -> &[u8]
 }
 
 // The code as verified code. Where no unit was read as ucode, it breaks no rule.
-fn verified(alloc: Global, code: Code, members: &Members) -> Result<Verified, Answer>
+fn verify_linked(alloc: Global, code: Code, members: &Members) -> Result<Verified, Answer>
     requires sources { members.now.first_ucode ≡ None → IsVerified (tables_of code) }
     ensures same { IfOk result (λ verified. verified.code ≡ code) }
     ensures verified { OnOk result (IsVerified (tables_of code)) }

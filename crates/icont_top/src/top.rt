@@ -5,33 +5,33 @@ ghost use Rattle.icn_host.specs.Counts.{Rose};
 ghost use Rattle.icn_host.specs.FileMaps.{FileMap};
 ghost use Rattle.icn_host.specs.Puts.{LeadsBy, PutsAll};
 ghost use Rattle.icn_host.specs.Sinks.{SinkState};
-ghost use Rattle.icn_code.specs.Seen.{tables_of};
+ghost use Rattle.icn_code.specs.CodeTables.{tables_of};
 ghost use Rattle.icn_streams.specs.Handed.{call_streams};
 ghost use Rattle.icn_answer.specs.Answers.{IsFault, IsRefusal, IsAbsence, IsCommand};
-ghost use Rattle.icn_run_answer.specs.Causes.{EndsAtFirst, RunEndsAtFirst, outside};
-ghost use Rattle.icn_run_answer.specs.Faulting.{IsOfRun};
+ghost use Rattle.icn_run_answer.specs.CountCauses.{EndsAtFirst, RunEndsAtFirst, outside};
+ghost use Rattle.icn_run_answer.specs.FaultAnswers.{IsOfRun};
 ghost use Rattle.icn_answer.specs.Refusing.{PutsOwn};
 ghost use Rattle.icn_run_answer.specs.Reporting.{LineStands, Reports};
-ghost use Rattle.icn_run_answer.specs.Telling.{call_objects};
+ghost use Rattle.icn_run_answer.specs.ToldObjects.{call_objects};
 ghost use Rattle.icont_words.specs.Asking.{run_seen};
 ghost use Rattle.icont_words.specs.Words.{Translate, Link, Generate, Asks, ComeTo};
 ghost use Rattle.icn_text.specs.WordTexts.{texts};
 ghost use Rattle.icont_units.specs.Files.{files_named};
 ghost use Rattle.icont_units.specs.Generated.{sizes_line};
 ghost use Rattle.icn_run_answer.specs.InputLeft.{LosesSome};
-ghost use Rattle.icn_run_answer.specs.Leaving.{LeavesOutside};
+ghost use Rattle.icn_run_answer.specs.OutsideLeft.{LeavesOutside};
 ghost use Rattle.icont_units.specs.Units.{Load, Member};
 ghost use Rattle.icont_top.specs.Answered.{IsAnswered, IsCommanded, MissesText};
 ghost use Rattle.icont_top.specs.Answering.{IsDone};
-ghost use Rattle.icont_top.specs.Asking.{IsReady, IsTold, words_answer};
-ghost use Rattle.icont_top.specs.Job.{IsTranslated, run_launch, ucode_files};
-ghost use Rattle.icont_top.specs.Outcomes.{HasWritten, HoldsWritten, IsComplete, IsReadBack, LeavesFiles, Outcome};
+ghost use Rattle.icont_top.specs.Asking.{IsReadyProgram, IsTold, words_answer};
+ghost use Rattle.icont_top.specs.Job.{AsksForUnits, run_launch, ucode_files};
+ghost use Rattle.icont_top.specs.Outcomes.{HasWritten, HoldsWritten, IsComplete, IsReadBack, LeavesFiles, AnswersCommand};
 ghost use Rattle.icont_top.specs.Running.{HasRun, IsRanOrBroken, PutsSizes, is_done, put_answer};
 ghost use Rattle.icont_top.specs.Usage.{usage};
 ghost use Rattle.icont_top.specs.Writing.{texts_seen};
 
-use crate::loading::{Program, linked_program, numbered_program, translated};
-use crate::writing::{Text, write_all};
+use crate::loading::{LoadedProgram, linked_program, numbered_program, translate_sources};
+use crate::writing::{FileToWrite, write_all};
 use icn_answer::{Answer, own_line, refuse};
 use icn_defs::{Ending, broken_off};
 use icn_frames::{Cell, VecStack};
@@ -39,12 +39,12 @@ use icn_host::{Fault, Files, Sink, Source, put_line};
 use icn_image::one_spelling;
 use icn_run_answer::answer_of;
 use icn_running::run;
-use icn_simulation::same_ends;
 use icn_value::Limits;
 use icn_verify::{Verified, one_fault};
 use icont_units::sizes_line;
-use icont_words::{Run, Task, WordsFault, asked, one_reading};
-use outside_laws::runs_leave;
+use icont_words::{Run, Task, WordsFault, one_reading, read_command};
+use law_outside::runs_leave;
+use law_simulation::same_ends;
 use std::alloc::Global;
 
 const USAGE: &[u8] =
@@ -72,7 +72,7 @@ pub fn icont_main<F: Files, I: Source, O: Sink, E: Sink>(
 ) -> Answer
     // Where the files and the input tell their content, the job was done, or a fault is answered and leaves a part of it.
     ensures outcome { IfSome (F.held files.old)
-        (λ held. IfSome (I.left input.old) (λ left. Outcome (map string_bytes words.now) held left result
+        (λ held. IfSome (I.left input.old) (λ left. AnswersCommand (map string_bytes words.now) held left result
         (call_objects (F.held files.old)
         (call_streams (I.left input.old) (I.faults input.old) (O.state out.old) (E.state err.old)))
         (call_objects (F.held files.new)
@@ -137,7 +137,7 @@ pub fn icont_main<F: Files, I: Source, O: Sink, E: Sink>(
 {
     one_reading();
     one_fault();
-    match asked(alloc, words) {
+    match read_command(alloc, words) {
         Ok(Task::Translate(names)) => translate_answer(alloc, &names, files, err),
         Ok(Task::Link { names, image, run }) => {
             link_answer(alloc, &names, image, run, files, input, out, err)
@@ -182,17 +182,17 @@ fn translate_answer<F: Files, E: Sink>(
         (outside (F.faults files.new) (F.absences files.new)
         (call_streams left input out (E.state err.new))) }
 {
-    match translated(alloc, names, files) {
+    match translate_sources(alloc, names, files) {
         Ok(texts) => texts_answer(&texts, files, err),
         Err(answer) => refuse(alloc, USAGE, "", answer, err),
     }
 }
 
 // Writes the ucode texts of units.
-fn texts_answer<F: Files, E: Sink>(texts: &[Text], files: &mut F, err: &mut E) -> Answer
+fn texts_answer<F: Files, E: Sink>(texts: &[FileToWrite], files: &mut F, err: &mut E) -> Answer
     ensures done { (words : List (List ℕ)) (held : FileMap) (members : List Member) (left : Option (List ℕ))
         (input : ℕ) (out : SinkState)
-        → IsTranslated words held (Ok members)
+        → AsksForUnits words held (Ok members)
         → texts_seen texts.now ≡ ucode_files members → All IsReadBack members → F.held files.old ≡ Some held
         → IsDone words held result
         (call_objects (F.held files.old) (call_streams left input out (E.state err.old)))
@@ -300,7 +300,7 @@ fn generate_answer<F: Files, I: Source, O: Sink, E: Sink>(
 // Writes the image of a program, and runs its code where a run is asked for.
 fn image_answer<F: Files, I: Source, O: Sink, E: Sink>(
     alloc: Global,
-    program: &Program,
+    program: &LoadedProgram,
     plan: Plan,
     files: &mut F,
     input: &mut I,
@@ -308,7 +308,7 @@ fn image_answer<F: Files, I: Source, O: Sink, E: Sink>(
     err: &mut E,
 ) -> Answer
     ensures done { (words : List (List ℕ)) (held : FileMap) (members : List Member)
-        → IsReady words held members plan.entry program.now
+        → IsReadyProgram words held members plan.entry program.now
         → F.held files.old ≡ Some held → IsDone words held result
         (call_objects (F.held files.old)
         (call_streams (I.left input.old) (I.faults input.old) (O.state out.old) (E.state err.old)))

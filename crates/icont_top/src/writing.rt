@@ -2,18 +2,18 @@
 ghost use Rattle.std.specs.Prelude.{◌≡◌, ◌++◌, [], slice_index_or, IfOk, IsErrOf, OnErr, OnOk};
 ghost use Rattle.icn_host.specs.Counts.{CountsOnce};
 ghost use Rattle.icn_link.specs.Units.{unit_seen, units_seen};
-ghost use Rattle.icont_units.specs.Fetching.{files_seen};
+ghost use Rattle.icont_units.specs.FetchedFiles.{files_seen};
 ghost use Rattle.icont_top.specs.Outcomes.{WritesAll, WritesPart};
 ghost use Rattle.icont_top.specs.Writing.{bases, texts_seen, unit_written, units_written};
 
 use icn_host::{Fault, Files};
 use icn_unit::{Unit, write_unit};
-use icont_units::{File, name_with};
+use icont_units::{CommandFile, name_with};
 use std::alloc::{AllocError, Global};
 
 /// A text that is written: the name of its file, and its bytes.
 #[derive(Drop)]
-pub struct Text {
+pub struct FileToWrite {
     pub name: String,
     pub bytes: Vec<u8>,
 }
@@ -23,7 +23,11 @@ pub struct Text {
 /// # Errors
 ///
 /// Memory ran out.
-pub fn ucode_texts(alloc: Global, sources: &[File], units: &[Unit]) -> Result<Vec<Text>, AllocError>
+pub fn ucode_texts(
+    alloc: Global,
+    sources: &[CommandFile],
+    units: &[Unit],
+) -> Result<Vec<FileToWrite>, AllocError>
     ensures { IfOk result (λ texts. texts_seen texts.items
         ≡ units_written (bases (files_seen sources.now)) (units_seen units.now)) }
 {
@@ -35,7 +39,7 @@ pub fn ucode_texts(alloc: Global, sources: &[File], units: &[Unit]) -> Result<Ve
 }
 
 // The base name of the file at this place.
-fn base_at<'a>(files: &[File<'a>], place: usize) -> &'a str
+fn base_at<'a>(files: &[CommandFile<'a>], place: usize) -> &'a str
     ensures { result.now ≡ slice_index_or (bases (files_seen files.now)) place [] }
 {
     match files.get(place) {
@@ -49,7 +53,7 @@ fn push_texts(
     alloc: Global,
     base: &str,
     unit: &Unit,
-    texts: &mut Vec<Text>,
+    texts: &mut Vec<FileToWrite>,
 ) -> Result<(), AllocError>
     ensures { OnOk result (texts_seen texts.new.items ≡ texts_seen texts.old.items
         ++ unit_written base.now (unit_seen unit.now)) }
@@ -57,11 +61,11 @@ fn push_texts(
     let text = write_unit(alloc, unit)?;
     let first = name_with(alloc, base, ".u1")?;
     let second = name_with(alloc, base, ".u2")?;
-    texts.push(Text {
+    texts.push(FileToWrite {
         name: first,
         bytes: text.u1,
     })?;
-    texts.push(Text {
+    texts.push(FileToWrite {
         name: second,
         bytes: text.u2,
     })?;
@@ -73,7 +77,7 @@ fn push_texts(
 /// # Errors
 ///
 /// The store's, at the first text that could not be written whole: those before it were.
-pub fn write_all<F: Files>(files: &mut F, texts: &[Text]) -> Result<(), Fault>
+pub fn write_all<F: Files>(files: &mut F, texts: &[FileToWrite]) -> Result<(), Fault>
     ensures all { OnOk result (WritesAll (F.held files.old) (F.held files.new) (texts_seen texts.now)) }
     ensures part { OnErr result (WritesPart (F.held files.old) (F.held files.new) (texts_seen texts.now)) }
     ensures cause { CountsOnce (F.faults files.old) (F.faults files.new) (IsErrOf result Fault.Failed) }

@@ -6,28 +6,28 @@ use Rattle.icn_tree.specs.declared.rule.Rule.TheVariants.{C1, C2, C3, C4, C5, C6
 use Rattle.icn_tree.specs.declared.tree.Name.{Name}
 use Rattle.icn_tree.specs.declared.tree.Place.{Place}
 use Rattle.icn_tree.specs.Trees.{Tree, MaybeTree, Trees, Clause, Clauses, Initial, NoInitial, Initially, Procedure, Declaration, Global, Link, Invocable, Record, ProcedureOf, Empty, Constant, Identifier, Keyword, Parentheses, Listing, Compound, Call, CoCall, Subscript, Section, Field, Prefix, Not, Binary, To, If, Case, Loop, Repeat, Create, Next, Fail, Break, Return, Suspend, Absent, Present, NoTrees, More, Default, Guarded, NoClauses, MoreClauses}
-use Rattle.icn_decls.specs.Contexts.{Fault, Context, outermost, create_context, enter_loop, leave_loop, fault, result_faults, loopless, break_by, next_by}
+use Rattle.icn_decls.specs.Contexts.{BrokenRule, Context, outermost, create_context, enter_loop, leave_loop, fault, result_faults, loopless, break_by, next_by}
 use Rattle.icn_decls.specs.Faults.{next_in_control, default_faults, faults, maybe_faults, all_faults, clauses_faults, clause_faults, is_default, fault_if_met, all_repeated, too_many, declared_names, initial_faults, procedure_faults, names_after, declaration_faults, declarations_faults, context_faults}
 use Rattle.icn_tree.specs.NameSets.{NameTest, none_met, with_name}
 use Rattle.icn_decls.specs.Views.{first_of}
 use Rattle.icont_units.specs.Sources.{IsTreeRule}
 
-abbrev AreOf : List Fault → Type 0
+abbrev AreOf : List BrokenRule → Type 0
 AreOf [] = Unit {0}
 AreOf (fault ∷ faults) = IsTreeRule fault.rule × AreOf faults
 
-both : (a b : List Fault) → AreOf a → AreOf b → AreOf (a ++ b)
+both : (a b : List BrokenRule) → AreOf a → AreOf b → AreOf (a ++ b)
 both [] b h k = k
 both (fault ∷ faults) b h k = (h.0, both faults b h.1 k)
 
 one : (rule : Rule) (place : Place) → IsTreeRule rule → AreOf (fault rule place)
 one rule place h = (h, tt)
 
-where_true : (test : Bool) (faults : List Fault) → AreOf faults → AreOf (if test then faults else [])
+where_true : (test : Bool) (faults : List BrokenRule) → AreOf faults → AreOf (if test then faults else [])
 where_true true faults h = h
 where_true false faults h = tt
 
-either_of : (test : Bool) (a b : List Fault) → AreOf a → AreOf b → AreOf (if test then a else b)
+either_of : (test : Bool) (a b : List BrokenRule) → AreOf a → AreOf b → AreOf (if test then a else b)
 either_of true a b h k = h
 either_of false a b h k = k
 
@@ -127,9 +127,9 @@ declarations_of : (met : NameTest) (declarations : List Declaration) → AreOf (
 declarations_of met [] = tt
 declarations_of met (declaration ∷ others) = both _ _ (declaration_of met declaration) (declarations_of (names_after met declaration) others)
 
-first_is : (faults : List Fault) (fault : Fault) → AreOf faults → first_of faults ≡ Some fault → IsTreeRule fault.rule
+first_is : (faults : List BrokenRule) (fault : BrokenRule) → AreOf faults → first_of faults ≡ Some fault → IsTreeRule fault.rule
 first_is [] fault h e = absurd (none-some fault e)
 first_is (first ∷ faults) fault h e = let same : first ≡ fault = same_Some first fault e in rw same at h.0
 
-pub context_rules : (file : List Declaration) (fault : Fault) → first_of (context_faults file) ≡ Some fault → IsTreeRule fault.rule
+pub context_rules : (file : List Declaration) (fault : BrokenRule) → first_of (context_faults file) ≡ Some fault → IsTreeRule fault.rule
 context_rules file fault e = first_is (context_faults file) fault (declarations_of none_met file) e

@@ -9,10 +9,10 @@ use Rattle.std.proofs.lemmas.Option.{none-some, same_Some}
 use Rattle.std.proofs.lemmas.Slice.Eq.{bytes_eq-Decides}
 use Rattle.indexmap.specs.IndexSet.{insert_key}
 use Rattle.icn_host.specs.Counts.{Rose, one_more}
-use Rattle.icn_unit.specs.PlainUnits.{Decl, Global, Procedure, Link, Record, UnitRead}
+use Rattle.icn_unit.specs.PlainUnits.{PlainDecl, Global, Procedure, Link, Record, UnitRead}
 use Rattle.icn_link.specs.declared.fault.LinkFault.{LinkFault}
 use Rattle.icn_link.specs.declared.fault.LinkFault.TheVariants.{K2}
-use Rattle.icn_link.specs.Gathering.{with_text, with_texts}
+use Rattle.icn_link.specs.FirstMentions.{with_text, with_texts}
 use Rattle.icn_link.specs.LinkFaults.{base_of, missing, missing_by, missing_fault, missing_from, missing_in, unit_names}
 use Rattle.icont_units.specs.Loading.{IsMissed, Knows, texts_in}
 use Rattle.icont_units.specs.Units.{link_in, links_of}
@@ -226,7 +226,7 @@ pub record IsLinked (names : List (List ℕ)) (bases : List (List ℕ)) (name : 
   pub linked : list_any (bytes_eq name) bases ≡ true
   pub absent : list_any (bytes_eq name) names ≡ false
 
-linked_by : (names : List (List ℕ)) (decl : Decl) (name : List ℕ) → missing_by names decl ≡ Some name
+linked_by : (names : List (List ℕ)) (decl : PlainDecl) (name : List ℕ) → missing_by names decl ≡ Some name
     → IsLinked names (link_in decl) name
 linked_by names (Link text) name e = by (list_any (bytes_eq (base_of text)) names) refl e where
   by : (test : Bool) → list_any (bytes_eq (base_of text)) names ≡ test
@@ -255,7 +255,7 @@ linked_then names a b name l = record {
   absent = l.absent;
 }
 
-linked_or : (names : List (List ℕ)) (decl : Decl) (decls : List Decl) (name : List ℕ) (found : Option (List ℕ))
+linked_or : (names : List (List ℕ)) (decl : PlainDecl) (decls : List PlainDecl) (name : List ℕ) (found : Option (List ℕ))
     → missing_by names decl ≡ found
     → (missing_in names decls ≡ Some name → IsLinked names (flat_map link_in decls) name)
     → option_or found (missing_in names decls) ≡ Some name → IsLinked names (link_in decl ++ flat_map link_in decls) name
@@ -263,7 +263,7 @@ linked_or names decl decls name None m rest f = linked_then names (link_in decl)
 linked_or names decl decls name (Some other) m rest f = linked_first names (link_in decl) (flat_map link_in decls)
     name (linked_by names decl name (m ∙ f))
 
-linked_in : (names : List (List ℕ)) (decls : List Decl) (name : List ℕ) → missing_in names decls ≡ Some name
+linked_in : (names : List (List ℕ)) (decls : List PlainDecl) (name : List ℕ) → missing_in names decls ≡ Some name
     → IsLinked names (flat_map link_in decls) name
 linked_in names [] name e = absurd (none-some name e)
 linked_in names (decl ∷ decls) name e = linked_or names decl decls name (missing_by names decl) refl

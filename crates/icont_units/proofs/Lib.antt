@@ -1,10 +1,10 @@
 pub mod CheckedSources
 pub mod ContextRules
-pub mod Judging
-pub mod Matching
-pub mod Naming
-pub mod Sourcing
-pub mod Staging
+pub mod JudgedTexts
+pub mod EqualResults
+pub mod NamedFiles
+pub mod NamedSources
+pub mod StageAnswers
 pub mod LineSizes
 pub mod ProgramLines
 pub mod Verdicts

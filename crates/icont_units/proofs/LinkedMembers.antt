@@ -12,15 +12,15 @@ use Rattle.icn_unit.specs.declared.unit.UnitDecl.{UnitDecl}
 use Rattle.icn_unit.specs.PlainUnits.{UnitRead}
 use Rattle.icn_unit.specs.UnitViews.{decl_seen}
 use Rattle.icn_link.specs.declared.fault.LinkFault.TheVariants.{K2}
-use Rattle.icn_link.specs.Gathering.{with_text, with_texts}
+use Rattle.icn_link.specs.FirstMentions.{with_text, with_texts}
 use Rattle.icn_link.specs.LinkFaults.{missing, unit_names}
 use Rattle.icn_link.specs.Units.{unit_seen, units_seen}
 use Rattle.icn_answer.specs.declared.answer.Answer.{Answer}
 use Rattle.icn_answer.specs.declared.answer.Answer.TheVariants.{NoMemory}
 use Rattle.icn_answer.specs.Answers.{IsFault}
 use Rattle.icont_units.specs.declared.members.Members.{Members}
-use Rattle.icont_units.specs.Fetching.{HeldAre}
-use Rattle.icont_units.specs.Loading.{Adds, AreSought, Grows, IsGathered, IsMissed, IsSought, Knows, Refuses, Stands, kept_of, links_at, texts_in, with_ucode, with_units}
+use Rattle.icont_units.specs.FetchedFiles.{HeldAre}
+use Rattle.icont_units.specs.Loading.{Adds, AreSought, MembersGrow, IsGathered, IsMissed, IsSought, Knows, RefusesBases, HoldsMembers, kept_of, links_at, texts_in, with_ucode, with_units}
 use Rattle.icont_units.specs.Units.{AreJudged, FromUcode, Gather, all as gather_all, known as gather_known, absent as gather_absent, refused as gather_refused, read as gather_read, IsAbsent, Member, is_there, link_in, links_in, links_of}
 use Rattle.icont_units.proofs.KnownBases.{first_linked, is_known, knows_lost, knows_unit, knows_units, knows_weaker, missed_later, rose_now, texts_behind, with_both, with_known, with_new}
 use Rattle.icont_units.proofs.NamedMembers.{ucode_added}
@@ -46,12 +46,12 @@ one_linked unit = append-nil (links_of unit)
 
 -- Nothing was looked for
 
-pub grows_none : (now : ℕ) (held : Members) (bases : List (List ℕ)) → Grows now now held held bases bases []
+pub grows_none : (now : ℕ) (held : Members) (bases : List (List ℕ)) → MembersGrow now now held held bases bases []
 grows_none now held bases = record {
   later = le_refl now;
   added = [];
   units = sym (append-nil (units_in held));
-  stands = λ before s. subst (λ members. Stands held members) (sym (append-nil before)) s;
+  stands = λ before s. subst (λ members. HoldsMembers held members) (sym (append-nil before)) s;
   known = refl;
   missed = λ start l k. k;
 }
@@ -63,11 +63,11 @@ pub adds_then : (files : FileMap) (old mid new : Members) (a b : List (List ℕ)
 adds_then files old mid new a b x y = record {
   added = x.added ++ y.added;
   units = y.units ∙ (ap (λ units. units ++ y.added) x.units ∙ append_assoc (units_in old) x.added y.added);
-  stands = λ before s. subst (λ members. Stands new members) (with_both_units before x.added y.added)
+  stands = λ before s. subst (λ members. HoldsMembers new members) (with_both_units before x.added y.added)
       (y.stands (with_units before x.added) (x.stands before s));
   gathers = gathers;
 } where
-  gathers : (before : List Member) (rest : List (List ℕ)) (result : Result (List Member) Answer) → Stands old before
+  gathers : (before : List Member) (rest : List (List ℕ)) (result : Result (List Member) Answer) → HoldsMembers old before
       → Gather files (with_units before (x.added ++ y.added)) (rest ++ flat_map links_of (x.added ++ y.added))
       result → Gather files before ((a ++ b) ++ rest) result
   gathers before rest result s h =
@@ -84,21 +84,21 @@ adds_then files old mid new a b x y = record {
       (x.gathers before (b ++ rest) result s first)
 
 pub grows_then : (before between now : ℕ) (old mid new : Members) (k l m a b : List (List ℕ))
-    → Grows before between old mid k l a → Grows between now mid new l m b
-    → Grows before now old new k m (a ++ b)
+    → MembersGrow before between old mid k l a → MembersGrow between now mid new l m b
+    → MembersGrow before now old new k m (a ++ b)
 grows_then before between now old mid new k l m a b x y = record {
   later = le_trans x.later y.later;
   added = x.added ++ y.added;
   units = y.units ∙ (ap (λ units. units ++ y.added) x.units ∙ append_assoc (units_in old) x.added y.added);
-  stands = λ members s. subst (λ all. Stands new all) (with_both_units members x.added y.added)
+  stands = λ members s. subst (λ all. HoldsMembers new all) (with_both_units members x.added y.added)
       (y.stands (with_units members x.added) (x.stands members s));
   known = y.known ∙ (ap (λ bases. with_texts bases b) x.known ∙ with_both k a b);
   missed = λ start h begun. y.missed start (le_trans h x.later) (x.missed start h begun);
 }
 
 pub refused_first : (files : FileMap) (old : Members) (a b : List (List ℕ)) (answer : Answer)
-    → IsFault answer ⊎ Refuses files old a answer
-    → IsFault answer ⊎ Refuses files old (a ++ b) answer
+    → IsFault answer ⊎ RefusesBases files old a answer
+    → IsFault answer ⊎ RefusesBases files old (a ++ b) answer
 refused_first files old a b answer (inl fault) = inl fault
 refused_first files old a b answer (inr x) = inr (record {
   gathers = λ before rest s. moved before before (a ++ (b ++ rest)) ((a ++ b) ++ rest) refl
@@ -106,11 +106,11 @@ refused_first files old a b answer (inr x) = inr (record {
 })
 
 pub refused_then : (files : FileMap) (old mid : Members) (a b : List (List ℕ)) (answer : Answer)
-    → Adds files old mid a → IsFault answer ⊎ Refuses files mid b answer
-    → IsFault answer ⊎ Refuses files old (a ++ b) answer
+    → Adds files old mid a → IsFault answer ⊎ RefusesBases files mid b answer
+    → IsFault answer ⊎ RefusesBases files old (a ++ b) answer
 refused_then files old mid a b answer x (inl fault) = inl fault
 refused_then files old mid a b answer x (inr y) = inr (record { gathers = gathers }) where
-  gathers : (before : List Member) (rest : List (List ℕ)) → Stands old before
+  gathers : (before : List Member) (rest : List (List ℕ)) → HoldsMembers old before
       → Gather files before ((a ++ b) ++ rest) (Err answer)
   gathers before rest s =
       let second = y.gathers (with_units before x.added) (rest ++ flat_map links_of x.added) (x.stands before s) in
@@ -122,20 +122,20 @@ refused_then files old mid a b answer x (inr y) = inr (record { gathers = gather
 
 -- One base
 
-there_so : (held : Members) (before : List Member) (base : List ℕ) (test : Bool) → Stands held before
+there_so : (held : Members) (before : List Member) (base : List ℕ) (test : Bool) → HoldsMembers held before
     → list_any (bytes_eq base) (unit_names (units_in held)) ≡ test
     → is_there before base ≡ test
 there_so held before base test s t = ap (λ units. list_any (bytes_eq base) (unit_names units)) (sym s.units) ∙ t
 
 -- a base that has a unit, or that is not there
 adds_nothing : (files : FileMap) (held : Members) (base : List ℕ)
-    → ((before : List Member) (rest : List (List ℕ)) (result : Result (List Member) Answer) → Stands held before
+    → ((before : List Member) (rest : List (List ℕ)) (result : Result (List Member) Answer) → HoldsMembers held before
     → Gather files before rest result → Gather files before (base ∷ rest) result)
     → Adds files held held (base ∷ [])
 adds_nothing files held base step = record {
   added = [];
   units = sym (append-nil (units_in held));
-  stands = λ before s. subst (λ members. Stands held members) (sym (append-nil before)) s;
+  stands = λ before s. subst (λ members. HoldsMembers held members) (sym (append-nil before)) s;
   gathers = λ before rest result s h.
       step before rest result s (moved (with_units before []) before (rest ++ flat_map links_of []) rest
       (append-nil before) (append-nil rest) h);
@@ -179,7 +179,7 @@ adds_unit files old new base unit t is e = record {
 
 refuses_unit : (files : FileMap) (old : Members) (base : List ℕ) (answer : Answer)
     → list_any (bytes_eq base) (unit_names (units_in old)) ≡ false
-    → HeldAre files base (λ first second. AreJudged base first second (Err answer)) → Refuses files old (base ∷ []) answer
+    → HeldAre files base (λ first second. AreJudged base first second (Err answer)) → RefusesBases files old (base ∷ []) answer
 refuses_unit files old base answer t is = record {
   gathers = λ before rest s. gather_refused before base rest is.0 is.1.0 answer (there_so old before base false s t)
       is.1.1.0 is.1.1.1;
@@ -212,19 +212,19 @@ unit_sought files old new base bases unit (Err answer) is named added want new_b
 pub fault_sought : (files : FileMap) (old : Members) (base : List ℕ) (bases : List (List ℕ)) (answer : Answer)
     → IsFault answer ⊎ HeldAre files base (λ first second. AreJudged base first second (Err answer))
     → list_any (bytes_eq base) bases ≡ false → Knows (IsAbsent files) (units_in old) bases
-    → IsFault answer ⊎ Refuses files old (base ∷ []) answer
+    → IsFault answer ⊎ RefusesBases files old (base ∷ []) answer
 fault_sought files old base bases answer (inl fault) new_base k = inl fault
 fault_sought files old base bases answer (inr is) new_base k = inr (refuses_unit files old base answer (k.new base new_base) is)
 
 -- the same whatever the files tell
 pub none_grows : (before now : ℕ) (held : Members) (base : List ℕ) (bases : List (List ℕ))
     → HasCause before now (is_utf8 base ≡ true)
-    → list_any (bytes_eq base) bases ≡ false → Grows before now held held bases (bases ++ base ∷ []) (base ∷ [])
+    → list_any (bytes_eq base) bases ≡ false → MembersGrow before now held held bases (bases ++ base ∷ []) (base ∷ [])
 none_grows before now held base bases counts new_base = record {
   later = counts.later;
   added = [];
   units = sym (append-nil (units_in held));
-  stands = λ members s. subst (λ all. Stands held all) (sym (append-nil members)) s;
+  stands = λ members s. subst (λ all. HoldsMembers held all) (sym (append-nil members)) s;
   known = sym (with_new bases base new_base);
   missed = λ start l k. knows_lost (IsMissed start now) (units_in held) bases base (lost start l (is_utf8 base) refl)
       (knows_weaker (IsMissed start before) (IsMissed start now) (units_in held) bases
@@ -238,7 +238,7 @@ pub unit_grows : {A : Type 0} (before now : ℕ) (old new : Members) (base : Lis
     (unit : HeldUnit) (result : Result A Answer) → before ≤ now
     → unit.name ≡ base → OnOk result (kept_of new ≡ with_ucode (kept_of old) (unit_seen unit))
     → list_any (bytes_eq base) bases ≡ false
-    → OnOk result (Grows before now old new bases (bases ++ base ∷ []) (base ∷ []))
+    → OnOk result (MembersGrow before now old new bases (bases ++ base ∷ []) (base ∷ []))
 unit_grows before now old new base bases unit (Ok done) later named added new_base = record {
   later = later;
   added = unit_seen unit ∷ [];
@@ -305,15 +305,15 @@ none_left (unit ∷ units) (suc place) l = none_left units place (omega (arith, 
 -- What comes of the links of the units from a place on comes of the links of all that were there at first.
 pub record GatheredSo (files : FileMap) (old now : Members) (place : ℕ) : Type 0 where
   pub added : List UnitRead
-  pub stands : (before : List Member) → Stands old before → Stands now (with_units before added)
-  pub gathers : (before : List Member) (result : Result (List Member) Answer) → Stands old before
+  pub stands : (before : List Member) → HoldsMembers old before → HoldsMembers now (with_units before added)
+  pub gathers : (before : List Member) (result : Result (List Member) Answer) → HoldsMembers old before
       → Gather files (with_units before added) (flat_map links_of (drop place (units_in now))) result
       → Gather files before (links_in before) result
 
 pub gathered_none : (files : FileMap) (held : Members) → GatheredSo files held held 0
 gathered_none files held = record {
   added = [];
-  stands = λ before s. subst (λ members. Stands held members) (sym (append-nil before)) s;
+  stands = λ before s. subst (λ members. HoldsMembers held members) (sym (append-nil before)) s;
   gathers = λ before result s h. moved (with_units before []) before (flat_map links_of (units_in held))
       (links_in before) (append-nil before) (ap (flat_map links_of) s.units) h;
 }
@@ -323,7 +323,7 @@ pub gathered_more : (files : FileMap) (old now new : Members) (place next : ℕ)
     → Adds files now new (links_at (units_in now) place) → GatheredSo files old new next
 gathered_more files old now new place next is l x y = record {
   added = x.added ++ y.added;
-  stands = λ before s. subst (λ members. Stands new members) (with_both_units before x.added y.added)
+  stands = λ before s. subst (λ members. HoldsMembers new members) (with_both_units before x.added y.added)
       (y.stands (with_units before x.added) (x.stands before s));
   gathers = gathers;
 } where
@@ -334,7 +334,7 @@ gathered_more files old now new place next is l x y = record {
       ∙ ap (flat_map links_of) (dropped_more (units_in now) y.added (suc place) (omega (arith, l)))
       ∙ flat_map-append links_of (drop (suc place) (units_in now)) y.added
 
-  gathers : (before : List Member) (result : Result (List Member) Answer) → Stands old before
+  gathers : (before : List Member) (result : Result (List Member) Answer) → HoldsMembers old before
       → Gather files (with_units before (x.added ++ y.added)) (flat_map links_of (drop next (units_in new))) result
       → Gather files before (links_in before) result
   gathers before result s h =
@@ -349,7 +349,7 @@ gathered_more files old now new place next is l x y = record {
 
 pub gathered_refused : (files : FileMap) (old now : Members) (place : ℕ) (before : List Member) (answer : Answer)
     → place < length (units_in now) → GatheredSo files old now place
-    → IsFault answer ⊎ Refuses files now (links_at (units_in now) place) answer → Stands old before
+    → IsFault answer ⊎ RefusesBases files now (links_at (units_in now) place) answer → HoldsMembers old before
     → IsFault answer ⊎ Gather files before (links_in before) (Err answer)
 gathered_refused files old now place before answer l x (inl fault) s = inl fault
 gathered_refused files old now place before answer l x (inr y) s =
@@ -359,8 +359,8 @@ gathered_refused files old now place before answer l x (inr y) s =
     (y.gathers (with_units before x.added) (flat_map links_of (drop (suc place) (units_in now))) (x.stands before s))))
 
 pub gathered_all : (files : FileMap) (old now : Members) (place : ℕ) (before : List Member)
-    → length (units_in now) ≤ place → GatheredSo files old now place → Stands old before
-    → (members : List Member) × (Gather files before (links_in before) (Ok members) × Stands now members)
+    → length (units_in now) ≤ place → GatheredSo files old now place → HoldsMembers old before
+    → (members : List Member) × (Gather files before (links_in before) (Ok members) × HoldsMembers now members)
 gathered_all files old now place before l x s = (
   with_units before x.added,
   (
@@ -376,11 +376,11 @@ gathered_all files old now place before l x s = (
 -- the same whatever the files tell
 pub grown_more : (before between later : ℕ) (old now new : Members) (k l m : List (List ℕ)) (place next : ℕ)
     → next ≡ suc place → place < length (units_in now)
-    → Grows before between old now k l (flat_map links_of (take place (units_in now)))
-    → Grows between later now new l m (links_at (units_in now) place)
-    → Grows before later old new k m (flat_map links_of (take next (units_in new)))
+    → MembersGrow before between old now k l (flat_map links_of (take place (units_in now)))
+    → MembersGrow between later now new l m (links_at (units_in now) place)
+    → MembersGrow before later old new k m (flat_map links_of (take next (units_in new)))
 grown_more before between later old now new k l m place next is small x y =
-    subst (λ bases. Grows before later old new k m bases) (sym same)
+    subst (λ bases. MembersGrow before later old new k m bases) (sym same)
     (grows_then before between later old now new k l m _ _ x y) where
       same : flat_map links_of (take next (units_in new)) ≡ flat_map links_of (take place (units_in now)) ++
           links_at (units_in now) place
@@ -392,7 +392,7 @@ grown_more before between later old now new k l m place next is small x y =
 
 pub are_sought : (before now : ℕ) (old new : Members) (k l : List (List ℕ)) (place : ℕ)
     → length (units_in new) ≤ place → k ≡ with_texts [] (unit_names (units_in old))
-    → Grows before now old new k l (flat_map links_of (take place (units_in new))) → AreSought before now (units_in new)
+    → MembersGrow before now old new k l (flat_map links_of (take place (units_in new))) → AreSought before now (units_in new)
 are_sought before now old new k l place end first x = record { missed = missed } where
   knows : Knows (IsMissed before now) (units_in new) l
   knows = x.missed before (le_refl before) (knows_units (IsMissed before before) (units_in old) k first)
@@ -417,7 +417,7 @@ are_sought before now old new k l place end first x = record { missed = missed }
 
 pub sought_passed : {A : Type 0} (files : FileMap) (old new : Members) (bases known : List (List ℕ))
     (answer : Answer) (result : Result A Answer)
-    → IsErrAnd result (λ passed. passed ≡ answer) → IsFault answer ⊎ Refuses files old bases answer
+    → IsErrAnd result (λ passed. passed ≡ answer) → IsFault answer ⊎ RefusesBases files old bases answer
     → IsSought files old new bases known result
 sought_passed files old new bases known answer (Ok done) is h = absurd is
 sought_passed files old new bases known answer (Err passed) is h = rw is h
@@ -446,10 +446,10 @@ texts_split {Y} bases i item l is =
 -- a base of several that is refused
 pub refused_at : {Y : Type 0} (files : FileMap) (old now : Members) (bases : List (Vec ℕ Y)) (i : ℕ)
     (item : Vec ℕ Y) (answer : Answer) → i < length bases → item ≡ get_or bases i item
-    → Adds files old now (texts_in (take i bases)) → IsFault answer ⊎ Refuses files now (item.items ∷ []) answer
-    → IsFault answer ⊎ Refuses files old (texts_in bases) answer
+    → Adds files old now (texts_in (take i bases)) → IsFault answer ⊎ RefusesBases files now (item.items ∷ []) answer
+    → IsFault answer ⊎ RefusesBases files old (texts_in bases) answer
 refused_at files old now bases i item answer l is x y =
-    subst (λ all. IsFault answer ⊎ Refuses files old all answer) (sym (texts_split bases i item l is))
+    subst (λ all. IsFault answer ⊎ RefusesBases files old all answer) (sym (texts_split bases i item l is))
     (refused_first files old (texts_in (take i bases) ++ item.items ∷ []) (texts_in (drop (i + 1) bases)) answer
     (refused_then files old now (texts_in (take i bases)) (item.items ∷ []) answer x y))
 
@@ -463,11 +463,11 @@ adds_next files old now new bases i item l is x y =
 
 pub grows_next : {Y : Type 0} (before between later : ℕ) (old now new : Members) (k l m : List (List ℕ))
     (bases : List (Vec ℕ Y)) (i : ℕ) (item : Vec ℕ Y) → i < length bases
-    → item ≡ get_or bases i item → Grows before between old now k l (texts_in (take i bases))
-    → Grows between later now new l m (item.items ∷ [])
-    → Grows before later old new k m (texts_in (take (i + 1) bases))
+    → item ≡ get_or bases i item → MembersGrow before between old now k l (texts_in (take i bases))
+    → MembersGrow between later now new l m (item.items ∷ [])
+    → MembersGrow before later old new k m (texts_in (take (i + 1) bases))
 grows_next before between later old now new k l m bases i item small is x y =
-    subst (λ all. Grows before later old new k m all) (sym (texts_taken bases i item small is))
+    subst (λ all. MembersGrow before later old new k m all) (sym (texts_taken bases i item small is))
     (grows_then before between later old now new k l m (texts_in (take i bases)) (item.items ∷ []) x y)
 
 -- The unit at a place

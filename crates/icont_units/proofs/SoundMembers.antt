@@ -7,11 +7,11 @@ use Rattle.icn_tree.specs.Trees.{Declaration}
 use Rattle.icn_unit.specs.PlainUnits.{UnitRead}
 use Rattle.icn_unit.specs.UnitRules.{keeps_rules}
 use Rattle.icn_answer.specs.declared.answer.Answer.{Answer}
-use Rattle.icont_units.specs.Files.{File, source_name}
+use Rattle.icont_units.specs.Files.{CommandFile, source_name}
 use Rattle.icont_units.specs.Generated.{GeneratedComes, generated_base, generated_lines}
-use Rattle.icont_units.specs.Sources.{Scan, source_read}
+use Rattle.icont_units.specs.Sources.{ScannedSource, source_read}
 use Rattle.icont_units.specs.Translating.{TokensGive}
-use Rattle.icont_units.specs.Units.{Member, FromSource, FromUcode, AreJudged, Comes, Come, Gather, Load}
+use Rattle.icont_units.specs.Units.{Member, FromSource, FromUcode, AreJudged, FileComes, FilesCome, Gather, Load}
 use Rattle.icont_units.proofs.SomeLoading.{KeepRules, judged_read}
 
 -- it holds of each
@@ -32,25 +32,25 @@ each_more Holds [] member h k = (k, tt)
 each_more Holds (first ∷ members) member h k = (h.0, each_more Holds members member h.1 k)
 
 module _ (Holds : Member → Type 0) (files : FileMap)
-    (source : (base : List ℕ) (scan : Scan) (file : List Declaration) → source_read files (source_name base) ≡ Ok scan
+    (source : (base : List ℕ) (scan : ScannedSource) (file : List Declaration) → source_read files (source_name base) ≡ Ok scan
     → TokensGive scan.tokens (Ok file) → Holds (FromSource base file))
     (ucode : (unit : UnitRead) → keeps_rules unit.procs unit.decls ≡ true → Holds (FromUcode unit)) (rules : KeepRules) where
   judged_holds : {base first second : List ℕ} {unit : UnitRead} → AreJudged base first second (Ok unit) → Holds (FromUcode unit)
   judged_holds {base} {first} {second} {unit} j = ucode unit (rules base first second unit (judged_read j))
 
-  comes_hold : {file : File} (found : Result Member Answer) → Comes files file found → OfOne Holds found
-  comes_hold _ (Comes.no_tokens base answer e) = tt
-  comes_hold _ (Comes.broken base scan rule place e x) = tt
-  comes_hold _ (Comes.translated base scan file e x) = source base scan file e x
-  comes_hold _ (Comes.not_there base name e) = tt
-  comes_hold _ (Comes.not_read base first second answer e j) = tt
-  comes_hold _ (Comes.read base first second unit e j) = judged_holds j
+  comes_hold : {file : CommandFile} (found : Result Member Answer) → FileComes files file found → OfOne Holds found
+  comes_hold _ (FileComes.no_tokens base answer e) = tt
+  comes_hold _ (FileComes.broken base scan rule place e x) = tt
+  comes_hold _ (FileComes.translated base scan file e x) = source base scan file e x
+  comes_hold _ (FileComes.not_there base name e) = tt
+  comes_hold _ (FileComes.not_read base first second answer e j) = tt
+  comes_hold _ (FileComes.read base first second unit e j) = judged_holds j
 
-  come_hold : {named : List File} (found : Result (List Member) Answer) → Come files named found → OfAll Holds found
-  come_hold _ Come.none = tt
-  come_hold _ (Come.one_more file others member members x y) = (comes_hold (Ok member) x, come_hold (Ok members) y)
-  come_hold _ (Come.first_refused file others answer x) = tt
-  come_hold _ (Come.later_refused file others member answer x y) = tt
+  come_hold : {named : List CommandFile} (found : Result (List Member) Answer) → FilesCome files named found → OfAll Holds found
+  come_hold _ FilesCome.none = tt
+  come_hold _ (FilesCome.one_more file others member members x y) = (comes_hold (Ok member) x, come_hold (Ok members) y)
+  come_hold _ (FilesCome.first_refused file others answer x) = tt
+  come_hold _ (FilesCome.later_refused file others member answer x y) = tt
 
   gather_holds : {members : List Member} {mentioned : List (List ℕ)} {found : Result (List Member) Answer} → Gather files members mentioned found
       → Each Holds members → OfAll Holds found
@@ -61,7 +61,7 @@ module _ (Holds : Member → Type 0) (files : FileMap)
   gather_holds (Gather.read members base mentioned first second unit result k t j x) h =
       gather_holds x (each_more Holds members (FromUcode unit) h (judged_holds j))
 
-  pub load_holds : {named : List File} (found : Result (List Member) Answer) → Load files named found → OfAll Holds found
+  pub load_holds : {named : List CommandFile} (found : Result (List Member) Answer) → Load files named found → OfAll Holds found
   load_holds _ (Load.refused answer x) = tt
   load_holds _ (Load.gathered members result x y) = gather_holds y (come_hold (Ok members) x)
 

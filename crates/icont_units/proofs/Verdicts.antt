@@ -6,14 +6,14 @@ use Rattle.icn_tree.specs.declared.rule.Rule.TheVariants.{S1, S2, S3, S4}
 use Rattle.icn_tree.specs.declared.token.Token.{Token}
 use Rattle.icn_tree.specs.declared.tree.Place.{Place}
 use Rattle.icn_tree.specs.Trees.{Declaration}
-use Rattle.icn_parse.specs.Outcomes.{Outcome, NoProgram, TooHigh, Faulty, IsTree, UnknownKeyword, NotInProfile, IsOutcome}
+use Rattle.icn_parse.specs.Outcomes.{Parsed, NoProgram, TooHigh, Faulty, IsTree, UnknownKeyword, NotInProfile, IsOutcome}
 use Rattle.icn_parse.specs.Views.{broken_by as unparsed_by}
-use Rattle.icn_parse.proofs.Answering.{one_outcome, some_outcome}
-use Rattle.icn_decls.specs.Contexts.{Fault}
+use Rattle.icn_parse.proofs.ReadOutcomes.{one_outcome, some_outcome}
+use Rattle.icn_decls.specs.Contexts.{BrokenRule}
 use Rattle.icn_decls.specs.Faults.{context_faults}
 use Rattle.icn_decls.specs.Views.{first_of}
 use Rattle.icont_units.specs.Translating.{TokensGive, not_parsed, out_of_context, is_file}
-use Rattle.icont_units.proofs.Matching.{same_Ok}
+use Rattle.icont_units.proofs.EqualResults.{ok_injective}
 
 abbrev pub Verdict : Type 0
 Verdict = Result (List Declaration) (Rule × Place)
@@ -22,11 +22,11 @@ Verdict = Result (List Declaration) (Rule × Place)
 abbrev pub whole_file : Place
 whole_file = record { line = 0; file = 0 }
 
-abbrev by_context : List Fault → List Declaration → Verdict
+abbrev by_context : List BrokenRule → List Declaration → Verdict
 by_context [] file = Ok file
 by_context (fault ∷ faults) file = Err (fault.rule, fault.place)
 
-abbrev verdict : Outcome → Verdict
+abbrev verdict : Parsed → Verdict
 verdict NoProgram = Err (S1, whole_file)
 verdict (TooHigh place) = Err (S2, place)
 verdict (Faulty (UnknownKeyword place)) = Err (S3, place)
@@ -38,24 +38,24 @@ verdict (IsTree file) = by_context (context_faults file) file
 told : (a b : Rule × Place) → ◌≡◌ {A = Option (Rule × Place)} (Some a) (Some b) → ◌≡◌ {A = Verdict} (Err a) (Err b)
 told a b e = ap (λ broken. Err broken) (same_Some a b e)
 
-when_broken : (outcome : Outcome) (rule : Rule) (place : Place) → unparsed_by outcome ≡ Some (rule, place) → verdict outcome ≡ Err (rule, place)
+when_broken : (outcome : Parsed) (rule : Rule) (place : Place) → unparsed_by outcome ≡ Some (rule, place) → verdict outcome ≡ Err (rule, place)
 when_broken NoProgram rule place e = told _ _ e
 when_broken (TooHigh p) rule place e = told _ _ e
 when_broken (Faulty (UnknownKeyword p)) rule place e = told _ _ e
 when_broken (Faulty (NotInProfile p)) rule place e = told _ _ e
 when_broken (IsTree file) rule place e = absurd (none-some (rule, place) e)
 
-when_out_of_context : (faults : List Fault) (file : List Declaration) (fault : Fault) → first_of faults ≡ Some fault
+when_out_of_context : (faults : List BrokenRule) (file : List Declaration) (fault : BrokenRule) → first_of faults ≡ Some fault
     → by_context faults file ≡ Err (fault.rule, fault.place)
 when_out_of_context [] file fault e = absurd (none-some fault e)
-when_out_of_context (first ∷ faults) file fault e = ap (λ (f : Fault). Err (f.rule, f.place)) (same_Some first fault e)
+when_out_of_context (first ∷ faults) file fault e = ap (λ (f : BrokenRule). Err (f.rule, f.place)) (same_Some first fault e)
 
 when_in_context : (file : List Declaration) → context_faults file ≡ [] → verdict (IsTree file) ≡ Ok file
 when_in_context file e = ap (λ faults. by_context faults file) e
 
 -- what tokens come to is what their outcome comes to
 record OfOutcome (tokens : List Token) (found : Verdict) : Type 0 where
-  pub outcome : Outcome
+  pub outcome : Parsed
   pub is : IsOutcome tokens outcome
   pub same : found ≡ verdict outcome
 
@@ -72,16 +72,16 @@ one_become tokens a b x y =
     p.same ∙ (ap verdict (one_outcome tokens p.outcome q.outcome p.is q.is) ∙ sym q.same)
 
 pub one_program : (tokens : List Token) (a b : List Declaration) → TokensGive tokens (Ok a) → TokensGive tokens (Ok b) → a ≡ b
-one_program tokens a b x y = same_Ok a b (one_become tokens (Ok a) (Ok b) x y)
+one_program tokens a b x y = ok_injective a b (one_become tokens (Ok a) (Ok b) x y)
 
 -- there is one
 
-by_faults : (tokens : List Token) (file : List Declaration) → IsOutcome tokens (IsTree file) → (faults : List Fault) → context_faults file ≡ faults
+by_faults : (tokens : List Token) (file : List Declaration) → IsOutcome tokens (IsTree file) → (faults : List BrokenRule) → context_faults file ≡ faults
     → (v : Verdict) × TokensGive tokens v
 by_faults tokens file is [] e = (_, is_file file is e)
 by_faults tokens file is (fault ∷ faults) e = (_, out_of_context file fault is (ap first_of e))
 
-by_outcome : (tokens : List Token) (outcome : Outcome) → IsOutcome tokens outcome → (v : Verdict) × TokensGive tokens v
+by_outcome : (tokens : List Token) (outcome : Parsed) → IsOutcome tokens outcome → (v : Verdict) × TokensGive tokens v
 by_outcome tokens NoProgram is = (_, not_parsed NoProgram S1 whole_file is refl)
 by_outcome tokens (TooHigh place) is = (_, not_parsed (TooHigh place) S2 place is refl)
 by_outcome tokens (Faulty (UnknownKeyword place)) is = (_, not_parsed (Faulty (UnknownKeyword place)) S3 place is refl)

@@ -5,6 +5,6 @@ pub mod Stages
 pub mod Files
 pub mod Units
 pub mod Generated
-pub mod Fetching
+pub mod FetchedFiles
 pub mod Loading
 pub mod Generating

@@ -7,15 +7,15 @@ use Rattle.icn_host.specs.Counts.{Rose}
 use Rattle.icn_host.specs.FileMaps.{FileMap}
 use Rattle.icn_unit.specs.PlainUnits.{UnitRead}
 use Rattle.icn_link.specs.declared.fault.LinkFault.TheVariants.{K2}
-use Rattle.icn_link.specs.Gathering.{with_texts}
+use Rattle.icn_link.specs.FirstMentions.{with_texts}
 use Rattle.icn_link.specs.LinkFaults.{missing, unit_names}
 use Rattle.icn_link.specs.Units.{units_seen}
-use Rattle.icn_simulation.specs.Faultless.{IsFaultless}
+use Rattle.law_simulation.specs.Faultless.{IsFaultless}
 use Rattle.icn_answer.specs.declared.answer.Answer.{Answer}
 use Rattle.icn_answer.specs.Answers.{IsFault}
 use Rattle.icont_units.specs.declared.members.Members.{Members}
-use Rattle.icont_units.specs.Files.{File}
-use Rattle.icont_units.specs.Units.{Come, Comes, FromSource, FromUcode, Gather, IsAbsent, Load, Member, links_of, units_of}
+use Rattle.icont_units.specs.Files.{CommandFile}
+use Rattle.icont_units.specs.Units.{FilesCome, FileComes, FromSource, FromUcode, Gather, IsAbsent, Load, Member, links_of, units_of}
 
 -- Units, and the members that they are
 
@@ -31,15 +31,15 @@ IsFaultlessMember (FromSource base file) = IsFaultless file
 IsFaultlessMember (FromUcode unit) = Unit {0}
 
 -- these units are those of the members, of which each source breaks no rule
-pub record Stands (held : Members) (members : List Member) : Type 0 where
+pub record HoldsMembers (held : Members) (members : List Member) : Type 0 where
   pub units : units_seen held.units.items ≡ units_of members
   pub place : held.first_ucode ≡ ucode_index members
   pub faultless : All IsFaultlessMember members
 
 -- the units are those of some members, whatever the files tell
-pub record IsSound (held : Members) : Type 0 where
+pub record AreSoundMembers (held : Members) : Type 0 where
   pub members : List Member
-  pub stands : Stands held members
+  pub stands : HoldsMembers held members
 
 -- What is kept of members: their units, and the place of the first that was read as ucode.
 pub record KeptUnits : Type 0 where
@@ -63,21 +63,23 @@ with_ucode kept unit = record {
 -- Files that are named
 
 -- the member that a file comes to stands behind these
-pub record ComesBehind (files : FileMap) (file : File) (before : List Member) (held : Members) : Type 0 where
+pub record ComesBehind (files : FileMap) (file : CommandFile) (before : List Member)
+    (held : Members) : Type 0 where
   pub member : Member
-  pub comes : Comes files file (Ok member)
-  pub stands : Stands held (before ++ member ∷ [])
+  pub comes : FileComes files file (Ok member)
+  pub stands : HoldsMembers held (before ++ member ∷ [])
 
 -- the file was read behind these members, or what refuses it is answered, or a fault
-abbrev pub IsRead : {A : Type 0} → FileMap → File → List Member → Members → Result A Answer → Type 0
+abbrev pub IsRead : {A : Type 0} → FileMap → CommandFile → List Member → Members → Result A Answer → Type 0
 IsRead files file before held result =
     MatchResult result (λ _. ComesBehind files file before held)
-    (λ answer. IsFault answer ⊎ Comes files file (Err answer))
+    (λ answer. IsFault answer ⊎ FileComes files file (Err answer))
 
 -- the named files came to members for which these units stand, or what refuses them is answered, or a fault
-abbrev pub IsCome : FileMap → List File → Result Members Answer → Type 0
-IsCome files named (Ok held) = (members : List Member) × (Come files named (Ok members) × Stands held members)
-IsCome files named (Err answer) = IsFault answer ⊎ Come files named (Err answer)
+abbrev pub IsCome : FileMap → List CommandFile → Result Members Answer → Type 0
+IsCome files named (Ok held) =
+    (members : List Member) × (FilesCome files named (Ok members) × HoldsMembers held members)
+IsCome files named (Err answer) = IsFault answer ⊎ FilesCome files named (Err answer)
 
 -- Files that are linked
 
@@ -110,27 +112,29 @@ with_units members units = members ++ map (λ unit. FromUcode unit) units
 pub record Adds (files : FileMap) (old new : Members) (bases : List (List ℕ)) : Type 0 where
   pub added : List UnitRead
   pub units : units_seen new.units.items ≡ units_seen old.units.items ++ added
-  pub stands : (before : List Member) → Stands old before → Stands new (with_units before added)
+  pub stands : (before : List Member) → HoldsMembers old before → HoldsMembers new (with_units before added)
   pub gathers : (before : List Member) (rest : List (List ℕ)) (result : Result (List Member) Answer)
-      → Stands old before
+      → HoldsMembers old before
       → Gather files (with_units before added) (rest ++ flat_map links_of added) result
       → Gather files before (bases ++ rest) result
 
 -- The same whatever the files tell: units were added, these bases are known now, and those without a unit were missed.
-pub record Grows (before now : ℕ) (old new : Members)
+pub record MembersGrow (before now : ℕ) (old new : Members)
     (known_old known_new bases : List (List ℕ)) : Type 0 where
   pub later : before ≤ now
   pub added : List UnitRead
   pub units : units_seen new.units.items ≡ units_seen old.units.items ++ added
-  pub stands : (members : List Member) → Stands old members → Stands new (with_units members added)
+  pub stands : (members : List Member) → HoldsMembers old members
+      → HoldsMembers new (with_units members added)
   pub known : known_new ≡ with_texts known_old bases
   pub missed : (start : ℕ) → start ≤ before
       → Knows (IsMissed start before) (units_seen old.units.items) known_old
       → Knows (IsMissed start now) (units_seen new.units.items) known_new
 
 -- what refuses one of these bases, whatever is mentioned behind them
-pub record Refuses (files : FileMap) (old : Members) (bases : List (List ℕ)) (answer : Answer) : Type 0 where
-  pub gathers : (before : List Member) (rest : List (List ℕ)) → Stands old before
+pub record RefusesBases (files : FileMap) (old : Members) (bases : List (List ℕ))
+    (answer : Answer) : Type 0 where
+  pub gathers : (before : List Member) (rest : List (List ℕ)) → HoldsMembers old before
       → Gather files before (bases ++ rest) (Err answer)
 
 -- these bases were looked for, and are known now; or what refuses one of them is answered, or a fault
@@ -139,20 +143,20 @@ abbrev pub IsSought : {A : Type 0} → FileMap → Members → Members → List 
 IsSought files old new bases known result =
     MatchResult result
     (λ _. Adds files old new bases × Knows (IsAbsent files) (units_seen new.units.items) known)
-    (λ answer. IsFault answer ⊎ Refuses files old bases answer)
+    (λ answer. IsFault answer ⊎ RefusesBases files old bases answer)
 
 -- the members with those that they link, or what refuses one, or a fault
 abbrev pub IsGathered : {A : Type 0} → FileMap → List Member → List (List ℕ) → Members → Result A Answer
     → Type 0
 IsGathered files before mentioned held result =
     MatchResult result
-    (λ _. (members : List Member) × (Gather files before mentioned (Ok members) × Stands held members))
+    (λ _. (members : List Member) × (Gather files before mentioned (Ok members) × HoldsMembers held members))
     (λ answer. IsFault answer ⊎ Gather files before mentioned (Err answer))
 
 -- the named files with those that they link, or what refuses one, or a fault
-abbrev pub IsLoaded : FileMap → List File → Result Members Answer → Type 0
+abbrev pub IsLoaded : FileMap → List CommandFile → Result Members Answer → Type 0
 IsLoaded files named (Ok held) =
-    (members : List Member) × (Load files named (Ok members) × Stands held members)
+    (members : List Member) × (Load files named (Ok members) × HoldsMembers held members)
 IsLoaded files named (Err answer) = IsFault answer ⊎ Load files named (Err answer)
 
 -- the first base that is linked and has no unit was not there, or is no text

@@ -5,10 +5,10 @@ use Rattle.icn_tree.specs.declared.rule.Rule.{Rule}
 use Rattle.icn_tree.specs.declared.rule.Rule.TheVariants.{S1, S2, S3, S4, C1, C2, C3, C4, C5, C6, C7, C8}
 use Rattle.icn_tree.specs.declared.token.Token.{Token}
 use Rattle.icn_tree.specs.declared.tree.Place.{Place}
-use Rattle.icn_tree.specs.Tokens.{Outcome, Scanned, Fault, tokens_of}
+use Rattle.icn_tree.specs.Tokens.{Tokenized, Scanned, Fault, tokens_of}
 use Rattle.icn_prep.specs.declared.fault.PrepFault.{PrepFault}
 use Rattle.icn_prep.specs.declared.fault.PrepFault.TheVariants as Prep
-use Rattle.icn_prep.specs.SourceLines.{Source, source_lines}
+use Rattle.icn_prep.specs.SourceLines.{PreprocessedSource, source_lines}
 use Rattle.icont_units.specs.declared.source.SourceTokens.{SourceTokens}
 use Rattle.icn_answer.specs.declared.answer.Answer.{Answer}
 use Rattle.icn_answer.specs.declared.answer.Answer.TheVariants.{Refused, Missing, FileFault, NoMemory}
@@ -23,12 +23,12 @@ abbrev pub refused_at : List (List ℕ) → Rule → Place → Answer
 refused_at names rule place = Refused (name_at names place.file) place.line rule
 
 -- what a named file has: its tokens, and the names of the files that they stand in
-pub record Scan : Type 0 where
+pub record ScannedSource : Type 0 where
   pub names : List (List ℕ)
   pub tokens : List Token
 
 -- what the lines have as tokens
-abbrev pub tokens_read : List (List ℕ) → Outcome → Result Scan Answer
+abbrev pub tokens_read : List (List ℕ) → Tokenized → Result ScannedSource Answer
 tokens_read names (Scanned tokens) = Ok (record { names = names; tokens = tokens })
 tokens_read names (Fault rule file line) = Err (refused_at names rule (record { line = line; file = file }))
 
@@ -39,20 +39,20 @@ fault_answer name (Prep.Broken rule file line) = Refused file line rule
 fault_answer name Prep.FileFault = FileFault
 fault_answer name Prep.NoMemory = NoMemory
 
-abbrev pub lines_read : List ℕ → Result Source PrepFault → Result Scan Answer
+abbrev pub lines_read : List ℕ → Result PreprocessedSource PrepFault → Result ScannedSource Answer
 lines_read name (Ok source) = tokens_read source.names (tokens_of source.lines)
 lines_read name (Err fault) = Err (fault_answer name fault)
 
 -- what the named file has as tokens: all its lines first, and then all its tokens
-abbrev pub source_read : FileMap → List ℕ → Result Scan Answer
+abbrev pub source_read : FileMap → List ℕ → Result ScannedSource Answer
 source_read files name = lines_read name (source_lines files name)
 
 -- the names of a source's files, and its tokens
-abbrev pub scan_of : SourceTokens → Scan
+abbrev pub scan_of : SourceTokens → ScannedSource
 scan_of source = record { names = source.names.items; tokens = source.tokens.items }
 
 -- a call found this, or answers a fault of the outside
-abbrev pub IsRead : Result Scan Answer → Result SourceTokens Answer → Type 0
+abbrev pub IsRead : Result ScannedSource Answer → Result SourceTokens Answer → Type 0
 IsRead read (Ok source) = read ≡ Ok (scan_of source)
 IsRead read (Err answer) = IsFault answer ⊎ (read ≡ Err answer)
 

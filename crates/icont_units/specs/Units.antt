@@ -9,7 +9,7 @@ use Rattle.icn_tree.specs.declared.rule.Rule.TheVariants.{U8}
 use Rattle.icn_tree.specs.declared.rule.Rule.TheVariants as Rules
 use Rattle.icn_tree.specs.declared.tree.Place.{Place}
 use Rattle.icn_tree.specs.Trees.{Declaration}
-use Rattle.icn_unit.specs.PlainUnits.{Decl, Global, Procedure, Link, Record, UnitRead}
+use Rattle.icn_unit.specs.PlainUnits.{PlainDecl, Global, Procedure, Link, Record, UnitRead}
 use Rattle.icn_unit.specs.UnitTexts.{decls_text, procs_text}
 use Rattle.icn_ucode.specs.UnitReading.{UnitOutcome, Whole, Faulty, unit_read}
 use Rattle.icn_translate.specs.FileUnits.{translated_unit}
@@ -18,9 +18,9 @@ use Rattle.icn_link.specs.declared.fault.LinkFault.TheVariants.{K1, K2, K3, NoMe
 use Rattle.icn_link.specs.LinkFaults.{base_of as linked_base, unit_names}
 use Rattle.icn_answer.specs.declared.answer.Answer.{Answer}
 use Rattle.icn_answer.specs.declared.answer.Answer.TheVariants.{Refused, Missing, BadUcode}
-use Rattle.icont_units.specs.Sources.{Scan, refused_at, source_read}
+use Rattle.icont_units.specs.Sources.{ScannedSource, refused_at, source_read}
 use Rattle.icont_units.specs.Translating.{TokensGive}
-use Rattle.icont_units.specs.Files.{File, source, ucode, source_name, first_name, second_name}
+use Rattle.icont_units.specs.Files.{CommandFile, source, ucode, source_name, first_name, second_name}
 
 -- a unit with what it was made of: a source, as its declarations, or ucode
 pub data Member : Type 0 where
@@ -72,38 +72,39 @@ pub data AreJudged (base first second : List ℕ) : Result UnitRead Answer → T
 
 -- What a file comes to: a source gives no tokens, or its tokens break a rule, or they are a file; the texts of a unit are not there, or
 -- they are judged.
-pub data Comes (files : FileMap) : File → Result Member Answer → Type 0 where
+pub data FileComes (files : FileMap) : CommandFile → Result Member Answer → Type 0 where
   no_tokens : (base : List ℕ) (answer : Answer) → source_read files (source_name base) ≡ Err answer
-      → Comes files (source base) (Err answer)
-  broken : (base : List ℕ) (scan : Scan) (rule : Rule) (place : Place)
+      → FileComes files (source base) (Err answer)
+  broken : (base : List ℕ) (scan : ScannedSource) (rule : Rule) (place : Place)
       → source_read files (source_name base) ≡ Ok scan
       → TokensGive scan.tokens (Err (rule, place))
-      → Comes files (source base) (Err (refused_at scan.names rule place))
-  translated : (base : List ℕ) (scan : Scan) (file : List Declaration)
+      → FileComes files (source base) (Err (refused_at scan.names rule place))
+  translated : (base : List ℕ) (scan : ScannedSource) (file : List Declaration)
       → source_read files (source_name base) ≡ Ok scan
-      → TokensGive scan.tokens (Ok file) → Comes files (source base) (Ok (FromSource base file))
+      → TokensGive scan.tokens (Ok file) → FileComes files (source base) (Ok (FromSource base file))
   not_there : (base name : List ℕ) → texts_held files base ≡ Err name
-      → Comes files (ucode base) (Err (Missing name))
+      → FileComes files (ucode base) (Err (Missing name))
   not_read : (base first second : List ℕ) (answer : Answer) → texts_held files base ≡ Ok (first, second)
-      → AreJudged base first second (Err answer) → Comes files (ucode base) (Err answer)
+      → AreJudged base first second (Err answer) → FileComes files (ucode base) (Err answer)
   read : (base first second : List ℕ) (unit : UnitRead) → texts_held files base ≡ Ok (first, second)
-      → AreJudged base first second (Ok unit) → Comes files (ucode base) (Ok (FromUcode unit))
+      → AreJudged base first second (Ok unit) → FileComes files (ucode base) (Ok (FromUcode unit))
 
 -- What files come to, one after the other: the first that is refused refuses all.
-pub data Come (files : FileMap) : List File → Result (List Member) Answer → Type 0 where
-  none : Come files [] (Ok [])
-  one_more : (file : File) (others : List File) (member : Member) (members : List Member)
-      → Comes files file (Ok member)
-      → Come files others (Ok members) → Come files (file ∷ others) (Ok (member ∷ members))
-  first_refused : (file : File) (others : List File) (answer : Answer) → Comes files file (Err answer)
-      → Come files (file ∷ others) (Err answer)
-  later_refused : (file : File) (others : List File) (member : Member) (answer : Answer)
-      → Comes files file (Ok member)
-      → Come files others (Err answer) → Come files (file ∷ others) (Err answer)
+pub data FilesCome (files : FileMap) : List CommandFile → Result (List Member) Answer → Type 0 where
+  none : FilesCome files [] (Ok [])
+  one_more : (file : CommandFile) (others : List CommandFile) (member : Member) (members : List Member)
+      → FileComes files file (Ok member)
+      → FilesCome files others (Ok members) → FilesCome files (file ∷ others) (Ok (member ∷ members))
+  first_refused : (file : CommandFile) (others : List CommandFile) (answer : Answer)
+      → FileComes files file (Err answer)
+      → FilesCome files (file ∷ others) (Err answer)
+  later_refused : (file : CommandFile) (others : List CommandFile) (member : Member) (answer : Answer)
+      → FileComes files file (Ok member)
+      → FilesCome files others (Err answer) → FilesCome files (file ∷ others) (Err answer)
 
 -- Files that are linked
 
-abbrev pub link_in : Decl → List (List ℕ)
+abbrev pub link_in : PlainDecl → List (List ℕ)
 link_in (Link text) = linked_base text ∷ []
 link_in (Global name) = []
 link_in (Procedure name) = []
@@ -155,9 +156,10 @@ abbrev pub links_in : List Member → List (List ℕ)
 links_in members = flat_map links_of (units_of members)
 
 -- What named files come to with all that they link.
-pub data Load (files : FileMap) (named : List File) : Result (List Member) Answer → Type 0 where
-  refused : (answer : Answer) → Come files named (Err answer) → Load files named (Err answer)
-  gathered : (members : List Member) (result : Result (List Member) Answer) → Come files named (Ok members)
+pub data Load (files : FileMap) (named : List CommandFile) : Result (List Member) Answer → Type 0 where
+  refused : (answer : Answer) → FilesCome files named (Err answer) → Load files named (Err answer)
+  gathered : (members : List Member) (result : Result (List Member) Answer)
+      → FilesCome files named (Ok members)
       → Gather files members (links_in members) result → Load files named result
 
 -- Rules of linking

@@ -1,6 +1,6 @@
 // The checked text that tokens are.
 ghost use Rattle.std.specs.Prelude.{MatchResult};
-ghost use Rattle.icn_decls.specs.Spelled.{AreScanned};
+ghost use Rattle.icn_decls.specs.CheckedTexts.{AreScanned};
 ghost use Rattle.icont_units.specs.Stages.{IsFile, Stops};
 
 use crate::program_fault::ProgramFault;
@@ -14,7 +14,7 @@ use std::alloc::Global;
 /// # Errors
 ///
 /// `Broken` with the first rule that is broken, stage by stage. `NoMemory` where memory ran out.
-pub fn checked(alloc: Global, name: &str, tokens: &[Token]) -> Result<Checked, ProgramFault>
+pub fn check_tokens(alloc: Global, name: &str, tokens: &[Token]) -> Result<Checked, ProgramFault>
     requires scanned { AreScanned tokens.now }
     ensures { MatchResult result (IsFile tokens.now) (Stops tokens.now) }
 {

@@ -2,28 +2,28 @@
 ghost use Rattle.std.specs.Prelude.{◌≡◌, ◌∷◌, ◌++◌, List, IfOk, OnOk, string_bytes};
 ghost use Rattle.icn_text.specs.WordTexts.{texts};
 ghost use Rattle.std.specs.Option.{option_map};
-ghost use Rattle.icont_units.specs.Files.{File as Named, base_before, file_named, file_without_icn, files_named, source, sources_in, ucode};
-ghost use Rattle.icont_units.specs.Fetching.{file_seen, files_seen, new_files};
+ghost use Rattle.icont_units.specs.Files.{CommandFile as Named, base_before, file_named, file_without_icn, files_named, source, sources_in, ucode};
+ghost use Rattle.icont_units.specs.FetchedFiles.{file_seen, files_seen, new_files};
 
 use indexmap::IndexSet;
 use std::alloc::{AllocError, Global};
 
 /// What a name says: a source, or a unit that is there as ucode.
 #[derive(Clone, Copy, Debug, PartialEq, Eq)]
-pub enum Kind {
+pub enum FileKind {
     Source,
     Ucode,
 }
 
 /// A file of a command: what it is, and its base name.
 #[derive(Clone, Copy, Debug)]
-pub struct File<'a> {
-    pub kind: Kind,
+pub struct CommandFile<'a> {
+    pub kind: FileKind,
     pub base: &'a str,
 }
 
 /// The file of this name: `a.icn` and `a` are the source of base `a`, `a.u1` and `a.u2` the unit of that base.
-pub fn file_named(name: &str) -> File<'_>
+pub fn file_named(name: &str) -> CommandFile<'_>
     ensures { file_seen result ≡ file_named name.now }
 {
     match base_before(name, ".icn") {
@@ -33,7 +33,7 @@ pub fn file_named(name: &str) -> File<'_>
 }
 
 // The file of a name that does not end in `.icn`.
-fn file_without_icn(name: &str) -> File<'_>
+fn file_without_icn(name: &str) -> CommandFile<'_>
     ensures { file_seen result ≡ file_without_icn name.now }
 {
     match base_before(name, ".u1") {
@@ -45,20 +45,20 @@ fn file_without_icn(name: &str) -> File<'_>
     }
 }
 
-fn source(base: &str) -> File<'_>
+fn source(base: &str) -> CommandFile<'_>
     ensures { file_seen result ≡ source base.now }
 {
-    File {
-        kind: Kind::Source,
+    CommandFile {
+        kind: FileKind::Source,
         base,
     }
 }
 
-fn ucode(base: &str) -> File<'_>
+fn ucode(base: &str) -> CommandFile<'_>
     ensures { file_seen result ≡ ucode base.now }
 {
-    File {
-        kind: Kind::Ucode,
+    CommandFile {
+        kind: FileKind::Ucode,
         base,
     }
 }
@@ -75,7 +75,7 @@ fn base_before<'a>(name: &'a str, suffix: &str) -> Option<&'a str>
 /// # Errors
 ///
 /// Memory ran out.
-pub fn files_named<'a>(alloc: Global, names: &[&'a str]) -> Result<Vec<File<'a>>, AllocError>
+pub fn files_named<'a>(alloc: Global, names: &[&'a str]) -> Result<Vec<CommandFile<'a>>, AllocError>
     ensures { IfOk result (λ files. files_seen files.items ≡ files_named (texts names.now)) }
 {
     let mut known = IndexSet::new(alloc);
@@ -89,7 +89,7 @@ pub fn files_named<'a>(alloc: Global, names: &[&'a str]) -> Result<Vec<File<'a>>
 // Adds the file of this name, where its base is not known yet.
 fn enter<'a>(
     known: &mut IndexSet<&'a str>,
-    files: &mut Vec<File<'a>>,
+    files: &mut Vec<CommandFile<'a>>,
     name: &'a str,
 ) -> Result<(), AllocError>
     ensures { OnOk result ((rest : List Named)
@@ -108,14 +108,17 @@ fn enter<'a>(
 /// # Errors
 ///
 /// Memory ran out.
-pub fn sources_in<'a>(alloc: Global, files: &[File<'a>]) -> Result<Vec<File<'a>>, AllocError>
+pub fn sources_in<'a>(
+    alloc: Global,
+    files: &[CommandFile<'a>],
+) -> Result<Vec<CommandFile<'a>>, AllocError>
     ensures { IfOk result (λ found. files_seen found.items ≡ sources_in (files_seen files.now)) }
 {
     let mut found = Vec::new(alloc);
     for file in files {
         match file.kind {
-            Kind::Source => found.push(*file)?,
-            Kind::Ucode => {}
+            FileKind::Source => found.push(*file)?,
+            FileKind::Ucode => {}
         }
     }
     Ok(found)

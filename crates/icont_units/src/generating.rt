@@ -1,11 +1,11 @@
 // The unit of the program of a number.
 ghost use Rattle.std.specs.Prelude.{[], ◌∷◌, IfErr, IfOk};
 ghost use Rattle.icn_tree.specs.TreeOf.{declarations_of};
-ghost use Rattle.icn_decls.specs.Spelled.{AreScanned};
+ghost use Rattle.icn_decls.specs.CheckedTexts.{AreScanned};
 ghost use Rattle.icont_units.specs.Generated.{generated_base};
 ghost use Rattle.icont_units.specs.Generating.{AreMember, IsGenerated, IsOfLines};
 ghost use Rattle.icn_answer.specs.Answers.{IsErrOfAbsence};
-ghost use Rattle.icont_units.specs.Loading.{IsSound, Stands};
+ghost use Rattle.icont_units.specs.Loading.{AreSoundMembers, HoldsMembers};
 ghost use Rattle.icont_units.specs.Sources.{IsOfTokens, scan_of};
 ghost use Rattle.icont_units.specs.Units.{FromSource};
 
@@ -25,9 +25,9 @@ const BASE: &str = "gen";
 /// # Errors
 ///
 /// `NoMemory` where memory ran out, and `Refused` with the first rule that the lines broke, if they broke one.
-pub fn generated(alloc: Global, number: u16) -> Result<Members, Answer>
+pub fn generate_unit(alloc: Global, number: u16) -> Result<Members, Answer>
     ensures comes { IsGenerated number result }
-    ensures sound { IfOk result IsSound }
+    ensures sound { IfOk result AreSoundMembers }
     ensures others { IfErr result IsOfLines }
     ensures absence { IsErrOfAbsence result → ⊥ }
 {
@@ -57,7 +57,7 @@ fn tokens_member(alloc: Global, source: &SourceTokens) -> Result<Members, Answer
 
 fn file_member(alloc: Global, file: &Checked) -> Result<Members, AllocError>
     ensures { IfOk result
-        (λ members. Stands members (FromSource generated_base (declarations_of file.now.text) ∷ [])) }
+        (λ members. HoldsMembers members (FromSource generated_base (declarations_of file.now.text) ∷ [])) }
 {
     let mut units = Vec::new(alloc);
     units.push(unit(alloc, BASE.as_bytes(), file)?)?;

@@ -11,10 +11,10 @@ mod program_lines;
 mod source;
 mod ucode;
 
-pub use files::{File, Kind, file_named, files_named, name_with, sources_in};
-pub use generating::generated;
+pub use files::{CommandFile, FileKind, file_named, files_named, name_with, sources_in};
+pub use generating::generate_unit;
 pub use icn_answer::Answer;
-pub use members::{Members, come, load};
+pub use members::{Members, load, load_named};
 pub use program_lines::sizes_line;
 pub use source::checked_source;
 pub use ucode::{linked_unit, named_unit};

@@ -1,14 +1,14 @@
 // The units of a command.
 ghost use Rattle.std.specs.Prelude.{◌≡◌, List, Err, IfSome, IfOk, IfErr, OnOk};
 ghost use Rattle.icn_link.specs.Units.{unit_seen};
-ghost use Rattle.icont_units.specs.Fetching.{file_seen, files_seen, IsOfLoading};
+ghost use Rattle.icont_units.specs.FetchedFiles.{file_seen, files_seen, IsOfLoading};
 ghost use Rattle.icont_units.specs.Files.{source, ucode};
-ghost use Rattle.icont_units.specs.Loading.{AreSought, IsCome, IsLoaded, IsRead, IsSound, Stands, kept_of, with_source, with_ucode};
+ghost use Rattle.icont_units.specs.Loading.{AreSought, IsCome, IsLoaded, IsRead, AreSoundMembers, HoldsMembers, kept_of, with_source, with_ucode};
 ghost use Rattle.icn_answer.specs.Answers.{IsErrOfAbsence};
 ghost use Rattle.icn_answer.specs.FilesRead.{ReadsFiles, files_state};
 ghost use Rattle.icont_units.specs.Units.{Member};
 
-use crate::files::{File, Kind};
+use crate::files::{CommandFile, FileKind};
 use crate::members_linked::gather;
 use crate::source::checked_source;
 use crate::ucode::named_unit;
@@ -33,9 +33,13 @@ pub struct Members {
 ///
 /// `Missing` where a named file is not there, `Refused` with the first rule that a source breaks, `BadUcode` with the first that the
 /// texts of a unit break, `FileFault` where the store failed, `NoMemory`. A linked file that is not there is no error here.
-pub fn load<F: Files>(alloc: Global, named: &[File<'_>], files: &mut F) -> Result<Members, Answer>
+pub fn load<F: Files>(
+    alloc: Global,
+    named: &[CommandFile<'_>],
+    files: &mut F,
+) -> Result<Members, Answer>
     ensures loaded { IfSome (F.held files.old) (λ held. IsLoaded held (files_seen named.now) result) }
-    ensures sound { IfOk result IsSound }
+    ensures sound { IfOk result AreSoundMembers }
     ensures absent { IfOk result
         (λ members. AreSought (F.absences files.old) (F.absences files.new) (kept_of members).units) }
     ensures others { IfErr result IsOfLoading }
@@ -43,7 +47,7 @@ pub fn load<F: Files>(alloc: Global, named: &[File<'_>], files: &mut F) -> Resul
         (files_state (F.held files.old) (F.faults files.old) (F.absences files.old))
         (files_state (F.held files.new) (F.faults files.new) (F.absences files.new)) }
 {
-    let mut members = come(alloc, named, files)?;
+    let mut members = load_named(alloc, named, files)?;
     gather(alloc, &mut members, files)?;
     Ok(members)
 }
@@ -53,9 +57,13 @@ pub fn load<F: Files>(alloc: Global, named: &[File<'_>], files: &mut F) -> Resul
 /// # Errors
 ///
 /// Those of `load`.
-pub fn come<F: Files>(alloc: Global, named: &[File<'_>], files: &mut F) -> Result<Members, Answer>
+pub fn load_named<F: Files>(
+    alloc: Global,
+    named: &[CommandFile<'_>],
+    files: &mut F,
+) -> Result<Members, Answer>
     ensures come { IfSome (F.held files.old) (λ held. IsCome held (files_seen named.now) result) }
-    ensures sound { IfOk result IsSound }
+    ensures sound { IfOk result AreSoundMembers }
     ensures others { IfErr result IsOfLoading }
     ensures reads { ReadsFiles result (IsErrOfAbsence result)
         (files_state (F.held files.old) (F.faults files.old) (F.absences files.old))
@@ -74,21 +82,21 @@ pub fn come<F: Files>(alloc: Global, named: &[File<'_>], files: &mut F) -> Resul
 // Adds the unit of a named file.
 fn add_file<F: Files>(
     alloc: Global,
-    file: &File<'_>,
+    file: &CommandFile<'_>,
     members: &mut Members,
     files: &mut F,
 ) -> Result<(), Answer>
-    ensures read { IfSome (F.held files.old) (λ held. (before : List Member) → Stands members.old before
+    ensures read { IfSome (F.held files.old) (λ held. (before : List Member) → HoldsMembers members.old before
         → IsRead held (file_seen file.now) before members.new result) }
-    ensures sound { IsSound members.old → OnOk result (IsSound members.new) }
+    ensures sound { AreSoundMembers members.old → OnOk result (AreSoundMembers members.new) }
     ensures others { IfErr result IsOfLoading }
     ensures reads { ReadsFiles result (IsErrOfAbsence result)
         (files_state (F.held files.old) (F.faults files.old) (F.absences files.old))
         (files_state (F.held files.new) (F.faults files.new) (F.absences files.new)) }
 {
     match file.kind {
-        Kind::Source => add_source(alloc, file.base, members, files),
-        Kind::Ucode => add_named(alloc, file.base, members, files),
+        FileKind::Source => add_source(alloc, file.base, members, files),
+        FileKind::Ucode => add_named(alloc, file.base, members, files),
     }
 }
 
@@ -99,9 +107,9 @@ fn add_source<F: Files>(
     members: &mut Members,
     files: &mut F,
 ) -> Result<(), Answer>
-    ensures read { IfSome (F.held files.old) (λ held. (before : List Member) → Stands members.old before
+    ensures read { IfSome (F.held files.old) (λ held. (before : List Member) → HoldsMembers members.old before
         → IsRead held (source base.now) before members.new result) }
-    ensures sound { IsSound members.old → OnOk result (IsSound members.new) }
+    ensures sound { AreSoundMembers members.old → OnOk result (AreSoundMembers members.new) }
     ensures others { IfErr result IsOfLoading }
     ensures reads { ReadsFiles result (IsErrOfAbsence result)
         (files_state (F.held files.old) (F.faults files.old) (F.absences files.old))
@@ -121,9 +129,9 @@ fn add_named<F: Files>(
     members: &mut Members,
     files: &mut F,
 ) -> Result<(), Answer>
-    ensures read { IfSome (F.held files.old) (λ held. (before : List Member) → Stands members.old before
+    ensures read { IfSome (F.held files.old) (λ held. (before : List Member) → HoldsMembers members.old before
         → IsRead held (ucode base.now) before members.new result) }
-    ensures sound { IsSound members.old → OnOk result (IsSound members.new) }
+    ensures sound { AreSoundMembers members.old → OnOk result (AreSoundMembers members.new) }
     ensures others { IfErr result IsOfLoading }
     ensures reads { ReadsFiles result (IsErrOfAbsence result)
         (files_state (F.held files.old) (F.faults files.old) (F.absences files.old))

@@ -3,12 +3,12 @@ ghost use Rattle.std.specs.Prelude.{◌≡◌, ◌<◌, ◌++◌, ◌∷◌, [],
 ghost use Rattle.std.specs.List.{flat_map, list_any};
 ghost use Rattle.std.specs.Str.{bytes_eq};
 ghost use Rattle.icn_unit.specs.UnitViews.{decl_seen};
-ghost use Rattle.icn_link.specs.Gathering.{with_text, with_texts};
+ghost use Rattle.icn_link.specs.FirstMentions.{with_text, with_texts};
 ghost use Rattle.icn_link.specs.LinkFaults.{base_of, unit_names};
 ghost use Rattle.icn_link.specs.Units.{units_seen};
 ghost use Rattle.icn_answer.specs.FilesRead.{ReadsFiles, files_state};
-ghost use Rattle.icont_units.specs.Fetching.{IsOfLinked};
-ghost use Rattle.icont_units.specs.Loading.{AreSought, Grows, IsGathered, IsSought, IsSound, Knows, Stands, kept_of, texts_in, links_at};
+ghost use Rattle.icont_units.specs.FetchedFiles.{IsOfLinked};
+ghost use Rattle.icont_units.specs.Loading.{AreSought, MembersGrow, IsGathered, IsSought, AreSoundMembers, Knows, HoldsMembers, kept_of, texts_in, links_at};
 ghost use Rattle.icont_units.specs.Units.{IsAbsent, Member, link_in, links_in};
 
 use crate::members::{Members, push_ucode};
@@ -27,9 +27,10 @@ use std::alloc::{AllocError, Global};
 ///
 /// `BadUcode` with the first rule that the texts of a unit break, `FileFault` where the store failed, `NoMemory`.
 pub fn gather<F: Files>(alloc: Global, members: &mut Members, files: &mut F) -> Result<(), Answer>
-    ensures gathered { IfSome (F.held files.old) (λ held. (before : List Member) → Stands members.old before
+    ensures gathered { IfSome (F.held files.old)
+        (λ held. (before : List Member) → HoldsMembers members.old before
         → IsGathered held before (links_in before) members.new result) }
-    ensures sound { IsSound members.old → OnOk result (IsSound members.new) }
+    ensures sound { AreSoundMembers members.old → OnOk result (AreSoundMembers members.new) }
     ensures absent { OnOk result
         (AreSought (F.absences files.old) (F.absences files.new) (kept_of members.new).units) }
     ensures others { IfErr result IsOfLinked }
@@ -83,7 +84,8 @@ fn gather_unit<F: Files>(
         (λ held. Knows (IsAbsent held) (kept_of members.old).units (texts_in known.old.keys)
         → IsSought held members.old members.new (links_at (kept_of members.old).units place)
         (texts_in known.new.keys) result) }
-    ensures grows { OnOk result (Grows (F.absences files.old) (F.absences files.new) members.old members.new
+    ensures grows { OnOk result
+        (MembersGrow (F.absences files.old) (F.absences files.new) members.old members.new
         (texts_in known.old.keys) (texts_in known.new.keys) (links_at (kept_of members.old).units place)) }
     ensures others { IfErr result IsOfLinked }
     ensures reads { ReadsFiles result ⊥
@@ -137,7 +139,8 @@ fn gather_bases<F: Files>(
     ensures sought { IfSome (F.held files.old)
         (λ held. Knows (IsAbsent held) (kept_of members.old).units (texts_in known.old.keys)
         → IsSought held members.old members.new (texts_in bases.now) (texts_in known.new.keys) result) }
-    ensures grows { OnOk result (Grows (F.absences files.old) (F.absences files.new) members.old members.new
+    ensures grows { OnOk result
+        (MembersGrow (F.absences files.old) (F.absences files.new) members.old members.new
         (texts_in known.old.keys) (texts_in known.new.keys) (texts_in bases.now)) }
     ensures others { IfErr result IsOfLinked }
     ensures reads { ReadsFiles result ⊥
@@ -161,7 +164,8 @@ fn gather_base<F: Files>(
     ensures sought { IfSome (F.held files.old)
         (λ held. Knows (IsAbsent held) (kept_of members.old).units (texts_in known.old.keys)
         → IsSought held members.old members.new (base.now ∷ []) (texts_in known.new.keys) result) }
-    ensures grows { OnOk result (Grows (F.absences files.old) (F.absences files.new) members.old members.new
+    ensures grows { OnOk result
+        (MembersGrow (F.absences files.old) (F.absences files.new) members.old members.new
         (texts_in known.old.keys) (texts_in known.new.keys) (base.now ∷ [])) }
     ensures others { IfErr result IsOfLinked }
     ensures reads { ReadsFiles result ⊥
@@ -187,7 +191,7 @@ fn add_linked<F: Files>(
         → Knows (IsAbsent held) (kept_of members.old).units known
         → IsSought held members.old members.new (base.now ∷ []) (known ++ base.now ∷ []) result) }
     ensures grows { (known : List (List ℕ)) → list_any (bytes_eq base.now) known ≡ false
-        → OnOk result (Grows (F.absences files.old) (F.absences files.new) members.old members.new
+        → OnOk result (MembersGrow (F.absences files.old) (F.absences files.new) members.old members.new
         known (known ++ base.now ∷ []) (base.now ∷ [])) }
     ensures others { IfErr result IsOfLinked }
     ensures reads { ReadsFiles result ⊥

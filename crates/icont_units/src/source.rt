@@ -1,14 +1,14 @@
 // What is read of a source: its tokens, and the file that they are.
 ghost use Rattle.std.specs.Prelude.{◌≡◌, ◌⊎◌, IfSome, IfOk, IfErr, IsErrOf};
 ghost use Rattle.icn_tree.specs.Tokens.{tokens_of};
-ghost use Rattle.icn_decls.specs.Spelled.{AreScanned};
+ghost use Rattle.icn_decls.specs.CheckedTexts.{AreScanned};
 ghost use Rattle.icn_answer.specs.declared.answer.Answer.TheVariants.{Missing};
 ghost use Rattle.icn_answer.specs.Answers.{IsErrOfAbsence};
 ghost use Rattle.icn_answer.specs.FilesRead.{ReadsFiles, files_state};
-ghost use Rattle.icont_units.specs.Fetching.{AreFile, IsSource};
+ghost use Rattle.icont_units.specs.FetchedFiles.{AreFile, IsSource};
 ghost use Rattle.icont_units.specs.Sources.{name_at, refused_at, tokens_read, fault_answer, scan_of, source_read, IsRead, IsOfRead, IsOfTokens};
 
-use crate::checking::checked;
+use crate::checking::check_tokens;
 use crate::files::name_with;
 use crate::program_fault::ProgramFault;
 use icn_answer::Answer;
@@ -56,7 +56,7 @@ pub fn checked_tokens(alloc: Global, base: &str, source: &SourceTokens) -> Resul
     ensures file { AreFile (scan_of source.now) result }
     ensures others { IfErr result IsOfTokens }
 {
-    match checked(alloc, base, &source.tokens) {
+    match check_tokens(alloc, base, &source.tokens) {
         Ok(file) => Ok(file),
         Err(ProgramFault::Broken { rule, place }) => {
             Err(refused_at(alloc, &source.names, rule, place))
@@ -110,7 +110,7 @@ fn fault_answer(alloc: Global, name: &str, fault: PrepFault) -> Answer
     ensures file_fault { fault ≡ PrepFault.FileFault → result ≡ Answer.FileFault }
 {
     match fault {
-        PrepFault::Missing => missing(alloc, name),
+        PrepFault::Missing => missing_source(alloc, name),
         PrepFault::Broken { rule, file, line } => Answer::Refused { file, line, rule },
         PrepFault::FileFault => Answer::FileFault,
         PrepFault::NoMemory => Answer::NoMemory,
@@ -118,7 +118,7 @@ fn fault_answer(alloc: Global, name: &str, fault: PrepFault) -> Answer
 }
 
 // The answer that the file of this name is not there.
-fn missing(alloc: Global, name: &str) -> Answer
+fn missing_source(alloc: Global, name: &str) -> Answer
     ensures { (result ≡ Missing name.now) ⊎ (result ≡ Answer.NoMemory) }
 {
     match Bytes::from_slice(alloc, name.as_bytes()) {

@@ -1,14 +1,14 @@
 // Units that are there as ucode.
 ghost use Rattle.std.specs.Prelude.{◌≡◌, ◌⊎◌, ◌++◌, IfSome, IfErr};
 ghost use Rattle.icn_answer.specs.declared.answer.Answer.TheVariants.{BadUcode};
-ghost use Rattle.icont_units.specs.Fetching.{AreTexts, IsJudged, IsLinkedUnit, IsLost, IsNamedUnit, IsOfJudged, IsOfLinked, IsOfNamed, IsOfTexts, IsText, IsUnitOf, IsUnitOfSome};
+ghost use Rattle.icont_units.specs.FetchedFiles.{AreTexts, IsJudged, IsLinkedUnit, IsLost, IsNamedUnit, IsOfJudged, IsOfLinked, IsOfNamed, IsOfTexts, IsText, IsUnitOf, IsUnitOfSome};
 ghost use Rattle.icn_answer.specs.Answers.{IsErrOfAbsence};
 ghost use Rattle.icn_answer.specs.FilesRead.{ReadsFiles, files_state};
 ghost use Rattle.icont_units.specs.Units.{faulty_name, is_too_long, texts_held};
 
 use crate::files::name_with;
 use icn_answer::Answer;
-use icn_host::{Files, Look};
+use icn_host::{Files, ReadFailure};
 use icn_profile::MOST_BYTES_OF_UCODE;
 use icn_tree::{Bytes, Rule};
 use icn_ucode::read_unit;
@@ -142,8 +142,8 @@ fn text<F: Files>(alloc: Global, base: &str, suffix: &str, files: &mut F) -> Res
     let mut text = Vec::new(alloc);
     match files.read(&name, LONGEST, &mut text) {
         Ok(()) => Ok(text),
-        Err(Look::NotThere) => Err(Answer::Missing(Bytes::new(name.into_bytes()))),
-        Err(Look::Failed) => Err(Answer::FileFault),
-        Err(Look::NoMemory) => Err(Answer::NoMemory),
+        Err(ReadFailure::NotThere) => Err(Answer::Missing(Bytes::new(name.into_bytes()))),
+        Err(ReadFailure::Failed) => Err(Answer::FileFault),
+        Err(ReadFailure::NoMemory) => Err(Answer::NoMemory),
     }
 }

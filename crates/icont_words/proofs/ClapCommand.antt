@@ -9,6 +9,7 @@ use Rattle.clap.proofs.OnLiterals.{clap_on_literals}
 use Rattle.icont_words.specs.Words.{Letter, Image, Turns, Number, letter_byte}
 use Rattle.icont_words.specs.Command.{units_rule, option_rule, file_rule, icont_app}
 
+-- the name of an option in `clap`'s command
 abbrev pub letter_id : Letter → Text
 letter_id Image = codes "image"
 letter_id Turns = codes "turns"
@@ -44,13 +45,13 @@ shape_with rules =
           true;
     }
 
-abbrev pub shape : Shape
-shape = shape_with taken
+abbrev pub command_shape : Shape
+command_shape = shape_with taken
 
-abbrev pub app : App
-app = record { top = shape; subs = [] }
+abbrev pub clap_command : App
+clap_command = record { top = command_shape; subs = [] }
 
-pub app_built : built icont_app ≡ app
+pub app_built : built icont_app ≡ clap_command
 unfolding taken
 app_built = refl
 
@@ -109,6 +110,6 @@ same_option Image = refl
 same_option Turns = refl
 same_option Number = refl
 
-pub nothing_wanted : (rows : List Row) → check_fault shape rows false ≡ []
+pub nothing_wanted : (rows : List Row) → check_fault command_shape rows false ≡ []
 unfolding taken
 nothing_wanted rows = refl

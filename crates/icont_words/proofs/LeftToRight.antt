@@ -6,6 +6,7 @@ use Rattle.icont_words.specs.Words.{Letter, Image, Turns, Number, Piece, Units, 
 
 -- Reading
 
+-- the pieces of the words, or none where they say nothing
 abbrev pub Pieces : Type 0
 Pieces = Option (List Piece)
 
@@ -105,24 +106,24 @@ name_word (a ∷ b ∷ rest) words later bare =
 
 -- What is said is read
 
-pub found : (words : List (List ℕ)) (pieces : List Piece) → Says words pieces → said_from words None ≡ Some pieces
-found _ _ says_nothing = refl
-found _ _ (all_names words) = refl
-found _ _ (a_name word words pieces bare behind) = name_word word words (said_from words) bare
-    ∙ ap (with_piece (Named word)) (found words pieces behind)
-found _ _ (a_flag words pieces behind) = ap (with_piece Units) (found words pieces behind)
-found _ _ (flag_before b rest words pieces other behind) =
+pub said_is_found : (words : List (List ℕ)) (pieces : List Piece) → Says words pieces → said_from words None ≡ Some pieces
+said_is_found _ _ says_nothing = refl
+said_is_found _ _ (all_names words) = refl
+said_is_found _ _ (a_name word words pieces bare behind) = name_word word words (said_from words) bare
+    ∙ ap (with_piece (Named word)) (said_is_found words pieces behind)
+said_is_found _ _ (a_flag words pieces behind) = ap (with_piece Units) (said_is_found words pieces behind)
+said_is_found _ _ (flag_before b rest words pieces other behind) =
     ap (with_piece Units) (sym (dashed_flags b rest words (said_from words) other)
-    ∙ found ((45 ∷ b ∷ rest) ∷ words) pieces behind)
-found _ _ (value_within letter a b rest words pieces is behind) =
+    ∙ said_is_found ((45 ∷ b ∷ rest) ∷ words) pieces behind)
+said_is_found _ _ (value_within letter a b rest words pieces is behind) =
     ap (λ c. dashed_said c (b ∷ rest) words (said_from words)) (letter_is a letter is)
     ∙ dashed_option letter (b ∷ rest) words (said_from words)
-    ∙ ap (with_piece (Valued letter (value_in_word b rest))) (found words pieces behind)
-found _ _ (value_behind letter a value words pieces is bare behind) =
+    ∙ ap (with_piece (Valued letter (value_in_word b rest))) (said_is_found words pieces behind)
+said_is_found _ _ (value_behind letter a value words pieces is bare behind) =
     ap (λ c. dashed_said c [] (value ∷ words) (said_from (value ∷ words))) (letter_is a letter is)
     ∙ dashed_option letter [] (value ∷ words) (said_from (value ∷ words))
     ∙ ap (λ t. cond t None (with_piece (Valued letter value) (said_from words None))) bare
-    ∙ ap (with_piece (Valued letter value)) (found words pieces behind)
+    ∙ ap (with_piece (Valued letter value)) (said_is_found words pieces behind)
 
 -- What is read is said
 
@@ -248,5 +249,5 @@ all_read : (words : List (List ℕ)) → AreRead words
 all_read [] = no_words
 all_read (word ∷ words) = one_more words (all_read words) word
 
-pub sound : (words : List (List ℕ)) (pieces : List Piece) → said_from words None ≡ Some pieces → Says words pieces
-sound words = (all_read words).free
+pub pieces_are_said : (words : List (List ℕ)) (pieces : List Piece) → said_from words None ≡ Some pieces → Says words pieces
+pieces_are_said words = (all_read words).free

@@ -1,11 +1,11 @@
 pub mod LeftToRight
 pub mod ClapCommand
 pub mod ClapRows
-pub mod Parting
+pub mod PartedWords
 pub mod Arguments
-pub mod Holding
-pub mod Outcomes
+pub mod ClapAgrees
+pub mod WordOutcomes
 pub mod Uses
-pub mod Walking
-pub mod Flags
+pub mod ClapWalk
+pub mod FlagWords
 pub mod WholeWalk

@@ -43,23 +43,23 @@ takes_said (Some pieces) rows = all_new pieces rows
 
 -- No faults
 
-abbrev pub clear : Kinds → Bool
-clear [] = true
-clear (k ∷ ks) = false
+abbrev pub is_clear : Kinds → Bool
+is_clear [] = true
+is_clear (k ∷ ks) = false
 
-pub clear_or : (a b : Kinds) → clear (or_else a b) ≡ (clear a && clear b)
+pub clear_or : (a b : Kinds) → is_clear (or_else a b) ≡ (is_clear a && is_clear b)
 clear_or [] b = refl
 clear_or (k ∷ ks) b = refl
 
-repeated : (t : Bool) → clear (or_else [] (or_else (cond (t && true) (kind.ArgumentConflict ∷ []) []) [])) ≡ not t
+repeated : (t : Bool) → is_clear (or_else [] (or_else (cond (t && true) (kind.ArgumentConflict ∷ []) []) [])) ≡ not t
 repeated true = refl
 repeated false = refl
 
-pub units_clear : (rows : List Row) → clear (use_fault false units_taken [] rows) ≡ is_new Units rows
+pub units_clear : (rows : List Row) → is_clear (use_fault false units_taken [] rows) ≡ is_new Units rows
 units_clear rows = repeated (has_row (codes "units") rows)
 
 pub option_clear : (letter : Letter) (value : Text) (rows : List Row)
-    → clear (use_fault false (option_taken letter) (value ∷ []) rows) ≡ is_new (Valued letter value) rows
+    → is_clear (use_fault false (option_taken letter) (value ∷ []) rows) ≡ is_new (Valued letter value) rows
 option_clear letter value rows = repeated (has_row (letter_id letter) rows)
 
 no_value_fault : (values : List Text) → values_kinds false vp.String values ≡ []
@@ -88,25 +88,25 @@ pub data Pending : Type 0 where
   some_names : List Text → Pending
   one_value : Letter → Text → Pending
 
-abbrev pub pend : Pending → Option (Text × List Text)
-pend no_use = None
-pend (some_names names) = Some (codes "file", names)
-pend (one_value letter value) = Some (letter_id letter, value ∷ [])
+abbrev pub pending_value : Pending → Option (Text × List Text)
+pending_value no_use = None
+pending_value (some_names names) = Some (codes "file", names)
+pending_value (one_value letter value) = Some (letter_id letter, value ∷ [])
 
 abbrev pub name_count : Pending → ℕ
 name_count no_use = 0
 name_count (some_names names) = length names
 name_count (one_value letter value) = 0
 
-abbrev pub held : List Row → Option (Text × List Text) → Held
-held rows pending = record { rows = rows; pending = pending; skip = 0 }
+abbrev pub held_uses : List Row → Option (Text × List Text) → Held
+held_uses rows pending = record { rows = rows; pending = pending; skip = 0 }
 
 -- the rows with what is pending, and whether it may be used
 abbrev pub rows_with : Pending → List Row → List Row
-rows_with p rows = settled_rows taken (pend p) rows
+rows_with p rows = settled_rows taken (pending_value p) rows
 
 abbrev pub clear_with : Pending → List Row → Bool
-clear_with p rows = clear (settle_fault taken false (held rows (pend p)))
+clear_with p rows = is_clear (settle_fault taken false (held_uses rows (pending_value p)))
 
 pub rows_of_value : (letter : Letter) (value : Text) (rows : List Row)
     → rows_with (one_value letter value) rows ≡ with_use (Valued letter value) rows
@@ -118,16 +118,16 @@ rows_of_names names rows = ap (λ o. used_by_id o names rows) id_file
 pub clear_value : (letter : Letter) (value : Text) (rows : List Row)
     → clear_with (one_value letter value) rows ≡ is_new (Valued letter value) rows
 clear_value letter value rows =
-    ap (λ o. clear (option_map_or (λ a. use_fault false a (value ∷ []) rows) o [])) (id_option letter)
+    ap (λ o. is_clear (option_map_or (λ a. use_fault false a (value ∷ []) rows) o [])) (id_option letter)
     ∙ option_clear letter value rows
 
 pub clear_names : (names : List Text) (rows : List Row) → length names ≤ usize_max → clear_with (some_names names) rows ≡ true
 clear_names names rows within =
-    ap (λ o. clear (option_map_or (λ a. use_fault false a names rows) o [])) id_file ∙ ap clear (file_clear names rows within)
+    ap (λ o. is_clear (option_map_or (λ a. use_fault false a names rows) o [])) id_file ∙ ap is_clear (file_clear names rows within)
 
 -- an option whose value is due is a fault
 pub due_fault : (letter : Letter) (rows : List Row)
-    → settle_fault taken false (held rows (Some (letter_id letter, []))) ≡ kind.InvalidValue ∷ []
+    → settle_fault taken false (held_uses rows (Some (letter_id letter, []))) ≡ kind.InvalidValue ∷ []
 due_fault letter rows = ap (λ o. option_map_or (λ a. use_fault false a [] rows) o []) (id_option letter)
 
 -- One name more

@@ -2,9 +2,9 @@
 #![tactic(auto)]
 
 mod command;
-mod laws;
 mod order;
+mod word_laws;
 mod words;
 
-pub use laws::one_reading;
-pub use words::{Run, Task, WordsFault, asked};
+pub use word_laws::one_reading;
+pub use words::{Run, Task, WordsFault, read_command};

@@ -57,10 +57,10 @@ impl From<AllocError> for WordsFault {
 /// # Errors
 ///
 /// `Faulty` with the kind of what is wrong, looked for in the order 1, 4, 6, 2. `NoMemory` where memory ran out.
-pub fn asked<'a>(alloc: Global, words: &'a [String]) -> Result<Task<'a>, WordsFault>
+pub fn read_command<'a>(alloc: Global, words: &'a [String]) -> Result<Task<'a>, WordsFault>
     ensures { IsReading (map string_bytes words.now) result }
 {
-    let (command, run) = parted(words);
+    let (command, run) = split_at_run(words);
     let matches = matches(alloc, command)?;
     let order = order_of(alloc, &matches, run)?;
     match wrong_kind(&order) {
@@ -70,7 +70,7 @@ pub fn asked<'a>(alloc: Global, words: &'a [String]) -> Result<Task<'a>, WordsFa
 }
 
 // The words before the first `-x`, which is not the program's name, and those behind it.
-fn parted(words: &[String]) -> (&[String], Option<&[String]>)
+fn split_at_run(words: &[String]) -> (&[String], Option<&[String]>)
     ensures before { own_words (map string_bytes result.0.now)
         ≡ before_run (own_words (map string_bytes words.now)) }
     ensures behind { option_map (λ run. map string_bytes run.now) result.1

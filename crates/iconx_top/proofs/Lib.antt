@@ -1,7 +1,7 @@
-pub mod Optional
-pub mod Judging
-pub mod Refusals
+pub mod OptionWords
+pub mod JudgedImages
+pub mod CallOutcomes
 pub mod ReportLines
-pub mod Deciding
-pub mod Answering
-pub mod Existing
+pub mod OneJob
+pub mod AskedAnswers
+pub mod SomeJob

@@ -8,7 +8,7 @@ use Rattle.icn_defs.specs.declared.ending.Ending.{Ending}
 use Rattle.icn_answer.specs.declared.answer.Answer.{Answer}
 use Rattle.icn_answer.specs.declared.answer.Answer.TheVariants.{Ran, Command, Missing, BadImage}
 use Rattle.icn_answer.specs.Answers.{IsFault}
-use Rattle.iconx_top.specs.Images.{IsJudged}
+use Rattle.iconx_top.specs.LoadedImages.{IsJudged}
 use Rattle.iconx_top.specs.Words.{Asks, Faulty, words_reading}
 
 -- A fault; or what the words and the files ask for, where a run may have any ending.

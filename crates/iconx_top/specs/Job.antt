@@ -11,7 +11,7 @@ use Rattle.icn_answer.specs.declared.answer.Answer.{Answer}
 use Rattle.icn_answer.specs.declared.answer.Answer.TheVariants.{Ran, Command, Missing, BadImage}
 use Rattle.icn_answer.specs.Endings.{ending_held}
 use Rattle.icn_answer.specs.Lines.{line_of}
-use Rattle.iconx_top.specs.Images.{IsJudged}
+use Rattle.iconx_top.specs.LoadedImages.{IsJudged}
 use Rattle.iconx_top.specs.Usage.{usage}
 use Rattle.iconx_top.specs.Words.{Asks, Faulty, words_reading}
 

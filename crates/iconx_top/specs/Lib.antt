@@ -1,6 +1,6 @@
 pub mod Words
 pub mod Asking
-pub mod Images
+pub mod LoadedImages
 pub mod Usage
 pub mod Job
 pub mod Outcomes

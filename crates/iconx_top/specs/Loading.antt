@@ -2,14 +2,14 @@
 use Rattle.std.specs.Prelude.{◌≡◌, ℕ, List, take, Option, None, Some, Result, Ok, Err}
 use Rattle.icn_tree.specs.declared.rule.Rule.{Rule}
 use Rattle.icn_code.specs.Codes.{Tables}
-use Rattle.icn_code.specs.Seen.{tables_of}
+use Rattle.icn_code.specs.CodeTables.{tables_of}
 use Rattle.icn_image.specs.declared.fault.ImageFault.{ImageFault}
 use Rattle.icn_image.specs.declared.fault.ImageFault.TheVariants.{Broken, NoMemory as WantsMemory}
 use Rattle.icn_verify.specs.Faults.{IsFirstFault, IsVerified}
 use Rattle.icn_verify.specs.declared.verified.Verified.{Verified}
 use Rattle.icn_answer.specs.declared.answer.Answer.{Answer}
 use Rattle.icn_answer.specs.declared.answer.Answer.TheVariants.{Missing, BadImage, FileFault, NoMemory}
-use Rattle.iconx_top.specs.Images.{IsJudged}
+use Rattle.iconx_top.specs.LoadedImages.{IsJudged}
 
 -- the first bytes of a text, up to one more than an image may have
 abbrev pub Takes : List ℕ → List ℕ → Type 0

@@ -2,7 +2,7 @@
 use Rattle.std.specs.Prelude.{◌≡◌, ◌⊎◌, ℕ, List, Some}
 use Rattle.icn_host.specs.FileMaps.{FileMap}
 use Rattle.icn_host.specs.Sinks.{Gains, SinkState}
-use Rattle.icn_host.specs.Puts.{BreaksOff, Puts, RunsShort}
+use Rattle.icn_host.specs.Puts.{FailsPutting, Puts, RunsShort}
 use Rattle.icn_defs.specs.Running.{Launch}
 use Rattle.icn_code.specs.Codes.{Tables}
 use Rattle.icn_running.specs.declared.fault.RunFault.{RunFault}
@@ -10,10 +10,10 @@ use Rattle.icn_running.specs.Runs.{IsBrokenOff}
 use Rattle.icn_answer.specs.declared.answer.Answer.{Answer}
 use Rattle.icn_answer.specs.declared.answer.Answer.TheVariants.{Wrote, Ran, Refused, Command, Missing, BadUcode, BadImage, FileFault, ReadFault, WriteFault, NoMemory}
 use Rattle.icn_answer.specs.Answers.{IsFault}
-use Rattle.icn_run_answer.specs.Causes.{IsFirstFaultOf}
-use Rattle.icn_run_answer.specs.Faulting.{of_run}
+use Rattle.icn_run_answer.specs.CountCauses.{IsFirstFaultOf}
+use Rattle.icn_run_answer.specs.FaultAnswers.{of_run}
 use Rattle.icn_answer.specs.Lines.{fault_line}
-use Rattle.icn_run_answer.specs.Telling.{CallObjects, with_errors}
+use Rattle.icn_run_answer.specs.ToldObjects.{CallObjects, with_errors}
 use Rattle.iconx_top.specs.Job.{Job, IsJob, IsRun}
 
 -- the job was done
@@ -37,30 +37,30 @@ IsIdleFault IsJobOf (BadImage rule) before between = ⊥
 IsIdleFault IsJobOf FileFault before between = between ≡ before
 IsIdleFault IsJobOf ReadFault before between = ⊥
 IsIdleFault IsJobOf WriteFault before between =
-    (job : Job) × IsJobOf job × BreaksOff before between job.errors
+    (job : Job) × IsJobOf job × FailsPutting before between job.errors
 IsIdleFault IsJobOf NoMemory before between =
     (between ≡ before) ⊎ ((job : Job) × IsJobOf job × RunsShort before between job.errors)
 
 -- A fault, told apart by the answer: nothing was done but that a refusal's line may be begun; or the run of the image that the words name was
 -- broken off, by the first failure. The fault's own line comes behind, as far as the error output took it.
-pub data Faults (words : List (List ℕ)) (files : FileMap) (left : List ℕ) (answer : Answer)
+pub data EndsByFault (words : List (List ℕ)) (files : FileMap) (left : List ℕ) (answer : Answer)
     (before after : CallObjects) : Type 0 where
   idle : (between : SinkState) → after.streams.left ≡ before.streams.left
       → after.streams.output ≡ before.streams.output
       → IsIdleFault (IsJob words files left) answer before.streams.errors between
       → Puts between after.streams.errors (fault_line answer)
-      → Faults words files left answer before after
+      → EndsByFault words files left answer before after
   broke : (fault : RunFault) (between : SinkState) (tables : Tables) (launch : Launch) → answer ≡ of_run fault
       → IsRun words files left tables launch
       → IsFirstFaultOf answer before.streams (with_errors between after.streams)
       → IsBrokenOff tables launch fault before.streams (with_errors between after.streams)
       → Puts between after.streams.errors (fault_line answer)
-      → Faults words files left answer before after
+      → EndsByFault words files left answer before after
 
 -- the job was done, or a fault is answered
-pub data Outcome (words : List (List ℕ)) (files : FileMap) (left : List ℕ) (answer : Answer)
+pub data AnswersCommand (words : List (List ℕ)) (files : FileMap) (left : List ℕ) (answer : Answer)
     (before after : CallObjects) : Type 0 where
   done : (job : Job) → IsJob words files left job → Completes job answer before after
-      → Outcome words files left answer before after
-  fault : IsFault answer → after.files ≡ before.files → Faults words files left answer before after
-      → Outcome words files left answer before after
+      → AnswersCommand words files left answer before after
+  fault : IsFault answer → after.files ≡ before.files → EndsByFault words files left answer before after
+      → AnswersCommand words files left answer before after

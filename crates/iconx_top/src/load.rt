@@ -2,12 +2,12 @@
 ghost use Rattle.std.specs.Prelude.{◌≡◌, ◌⊎◌, ℕ, List, Some, None, IfSome, IfErr};
 ghost use Rattle.icn_answer.specs.Answers.{IsErrOfAbsence};
 ghost use Rattle.icn_answer.specs.FilesRead.{ReadsFiles, files_state};
-ghost use Rattle.icn_code.specs.Seen.{tables_of};
+ghost use Rattle.icn_code.specs.CodeTables.{tables_of};
 ghost use Rattle.iconx_top.specs.Loading.{IsChecked, IsJudgement, IsLoaded, IsOfImage, IsOfLoading, Takes, of_image};
 
 use icn_answer::Answer;
 use icn_code::Code;
-use icn_host::{Files, Look};
+use icn_host::{Files, ReadFailure};
 use icn_image::{ImageFault, read_image};
 use icn_profile::MOST_BYTES_OF_IMAGE;
 use icn_tree::{Bytes, Rule};
@@ -28,14 +28,14 @@ pub fn load<F: Files>(alloc: Global, name: &str, files: &mut F) -> Result<Verifi
     let mut bytes = Vec::new(alloc);
     match files.read(name, LONGEST, &mut bytes) {
         Ok(()) => judge(alloc, &bytes),
-        Err(Look::NotThere) => Err(missing(alloc, name)),
-        Err(Look::Failed) => Err(Answer::FileFault),
-        Err(Look::NoMemory) => Err(Answer::NoMemory),
+        Err(ReadFailure::NotThere) => Err(missing_image(alloc, name)),
+        Err(ReadFailure::Failed) => Err(Answer::FileFault),
+        Err(ReadFailure::NoMemory) => Err(Answer::NoMemory),
     }
 }
 
 // The answer where the image is not there.
-fn missing(alloc: Global, name: &str) -> Answer
+fn missing_image(alloc: Global, name: &str) -> Answer
     ensures { (result ≡ Answer.Missing name.now) ⊎ (result ≡ Answer.NoMemory) }
 {
     match Bytes::from_slice(alloc, name.as_bytes()) {
@@ -53,7 +53,7 @@ fn judge(alloc: Global, bytes: &[u8]) -> Result<Verified, Answer>
         return Err(Answer::BadImage(Rule::I6));
     }
     match read_image(alloc, bytes) {
-        Ok(code) => verified(alloc, code),
+        Ok(code) => verify_code(alloc, code),
         Err(fault) => Err(fault_answer(fault)),
     }
 }
@@ -69,7 +69,7 @@ fn fault_answer(fault: ImageFault) -> Answer
 }
 
 // The code, where it is verified.
-fn verified(alloc: Global, code: Code) -> Result<Verified, Answer>
+fn verify_code(alloc: Global, code: Code) -> Result<Verified, Answer>
     ensures checked { IsChecked (tables_of code) result }
     ensures others { IfErr result IsOfImage }
 {

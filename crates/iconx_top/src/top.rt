@@ -4,22 +4,22 @@ ghost use Rattle.icn_host.specs.Counts.{Rose};
 ghost use Rattle.icn_host.specs.FileMaps.{FileMap};
 ghost use Rattle.icn_streams.specs.Handed.{call_streams};
 ghost use Rattle.icn_answer.specs.Answers.{IsAbsence, IsCommand, IsFault};
-ghost use Rattle.icn_run_answer.specs.Causes.{EndsAtFirst, RunEndsAtFirst, outside};
-ghost use Rattle.icn_run_answer.specs.Faulting.{IsOfRun};
+ghost use Rattle.icn_run_answer.specs.CountCauses.{EndsAtFirst, RunEndsAtFirst, outside};
+ghost use Rattle.icn_run_answer.specs.FaultAnswers.{IsOfRun};
 ghost use Rattle.icn_run_answer.specs.InputLeft.{LosesSome};
-ghost use Rattle.icn_run_answer.specs.Leaving.{LeavesOutside};
+ghost use Rattle.icn_run_answer.specs.OutsideLeft.{LeavesOutside};
 ghost use Rattle.icn_run_answer.specs.Reporting.{LineStands, Reports};
-ghost use Rattle.icn_run_answer.specs.Telling.{call_objects};
+ghost use Rattle.icn_run_answer.specs.ToldObjects.{call_objects};
 ghost use Rattle.iconx_top.specs.Answered.{IsAnswered};
 ghost use Rattle.iconx_top.specs.Asking.{run_reading};
 ghost use Rattle.iconx_top.specs.Commanded.{IsCommanded};
 ghost use Rattle.iconx_top.specs.Loading.{IsLoaded};
-ghost use Rattle.iconx_top.specs.Outcomes.{Outcome};
+ghost use Rattle.iconx_top.specs.Outcomes.{AnswersCommand};
 ghost use Rattle.iconx_top.specs.Usage.{usage};
 ghost use Rattle.iconx_top.specs.Words.{words_reading as read, image_name};
 
 use crate::load::load;
-use crate::words::{RunAsked, asked};
+use crate::words::{RunAsked, read_command};
 use icn_answer::{Answer, own_line, refuse};
 use icn_defs::broken_off;
 use icn_frames::{Cell, VecStack};
@@ -27,7 +27,7 @@ use icn_host::{Files, Sink, Source};
 use icn_run_answer::answer_of;
 use icn_running::run;
 use icn_verify::Verified;
-use outside_laws::runs_leave;
+use law_outside::runs_leave;
 use std::alloc::Global;
 
 const USAGE: &[u8] =
@@ -45,7 +45,8 @@ pub fn iconx_main<F: Files, I: Source, O: Sink, E: Sink>(
 ) -> Answer
     // Where the files and the input tell their content, the job was done, or a fault is answered and leaves a part of it.
     ensures outcome { IfSome (F.held files.old)
-        (λ held. IfSome (I.left input.old) (λ left. Outcome (map string_bytes words.now) held left result
+        (λ held.
+        IfSome (I.left input.old) (λ left. AnswersCommand (map string_bytes words.now) held left result
         (call_objects (F.held files.old)
         (call_streams (I.left input.old) (I.faults input.old) (O.state out.old) (E.state err.old)))
         (call_objects (F.held files.new)
@@ -91,7 +92,7 @@ pub fn iconx_main<F: Files, I: Source, O: Sink, E: Sink>(
         (outside (F.faults files.new) (F.absences files.new)
         (call_streams (I.left input.new) (I.faults input.new) (O.state out.new) (E.state err.new))) }
 {
-    match asked(words) {
+    match read_command(words) {
         Ok(asked) => image_answer(alloc, asked, files, input, out, err),
         Err(kind) => refuse(alloc, USAGE, "", Answer::Command(kind), err),
     }
@@ -107,7 +108,8 @@ fn image_answer<F: Files, I: Source, O: Sink, E: Sink>(
     err: &mut E,
 ) -> Answer
     ensures outcome { (words : List (List ℕ)) → read words ≡ run_reading run.entry
-        → IfSome (F.held files.old) (λ held. IfSome (I.left input.old) (λ left. Outcome words held left result
+        → IfSome (F.held files.old)
+        (λ held. IfSome (I.left input.old) (λ left. AnswersCommand words held left result
         (call_objects (F.held files.old)
         (call_streams (I.left input.old) (I.faults input.old) (O.state out.old) (E.state err.old)))
         (call_objects (F.held files.new)
@@ -142,7 +144,7 @@ fn run_answer<I: Source, O: Sink, E: Sink>(
     ensures outcome { (words : List (List ℕ)) (held : FileMap) (told_files : Option FileMap)
         → read words ≡ run_reading asked.entry
         → IsLoaded (held asked.entry.image.now) asked.entry.image.now (Ok code.now) → told_files ≡ Some held
-        → IfSome (I.left input.old) (λ left. Outcome words held left result
+        → IfSome (I.left input.old) (λ left. AnswersCommand words held left result
         (call_objects told_files
         (call_streams (I.left input.old) (I.faults input.old) (O.state out.old) (E.state err.old)))
         (call_objects told_files

@@ -32,7 +32,7 @@ pub enum Limit {
 ///
 /// The way in which the first wrong word is wrong: 2 where no image is named, 3 for an option without its value, 4 for a value
 /// that is no number in its range, 5 for another word that begins with `-`.
-pub fn asked(words: &[String]) -> Result<RunAsked<'_>, u8>
+pub fn read_command(words: &[String]) -> Result<RunAsked<'_>, u8>
     ensures { reading_of result ≡ words_reading (map string_bytes words.now) }
 {
     match words.split_first() {
@@ -49,12 +49,12 @@ fn options(words: &[String]) -> Result<RunAsked<'_>, u8>
     let mut rest = words;
     while let Some((word, others)) = rest.split_first() {
         let Some(option) = option_of(word.as_str()) else {
-            return image_asked(limits, word.as_str(), others);
+            return read_image_name(limits, word.as_str(), others);
         };
         let Some((value, behind)) = others.split_first() else {
             return Err(3);
         };
-        let Some(next) = limited(option, limits, value.as_str()) else {
+        let Some(next) = set_limit(option, limits, value.as_str()) else {
             return Err(4);
         };
         limits = next;
@@ -63,7 +63,7 @@ fn options(words: &[String]) -> Result<RunAsked<'_>, u8>
     Err(2)
 }
 
-fn image_asked<'a>(
+fn read_image_name<'a>(
     limits: Limits,
     word: &'a str,
     arguments: &'a [String],
@@ -103,7 +103,7 @@ fn option_of(word: &str) -> Option<Limit>
 }
 
 // The limits with this one as a word says it.
-fn limited(option: Limit, limits: Limits, value: &str) -> Option<Limits>
+fn set_limit(option: Limit, limits: Limits, value: &str) -> Option<Limits>
     ensures { option_map limits_of result ≡ with_limit option (limits_of limits) value.now }
 {
     let text = value.as_bytes();

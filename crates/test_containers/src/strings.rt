@@ -1,8 +1,8 @@
 // The strings of a heap.
 ghost use Rattle.std.specs.Prelude.{IfOk};
-ghost use Rattle.icn_strings.specs.Regions.{IsOf, Keeps};
+ghost use Rattle.icn_strings.specs.Regions.{IsOf, KeepsRanges};
 
-use icn_strings::{ByteRange, Full, Region, empty_range, end_of_range, part_of_range};
+use icn_strings::{ByteRange, Region, RegionFull, empty_range, end_of_range, part_of_range};
 use std::process::Abort;
 use std::test::Fail;
 
@@ -11,10 +11,10 @@ fn builds_up_to_the_limit(rt: HostRuntime) -> Result<(), Fail> {
     let mut region = Region::new(rt.alloc(), 5);
     for (text, want) in [
         ("abc", Ok("abc")),
-        ("def", Err(Full::Strings { sum: 3, limit: 5 })),
+        ("def", Err(RegionFull::Strings { sum: 3, limit: 5 })),
         ("", Ok("")),
         ("gh", Ok("gh")),
-        ("i", Err(Full::Strings { sum: 5, limit: 5 })),
+        ("i", Err(RegionFull::Strings { sum: 5, limit: 5 })),
         ("", Ok("")),
     ] {
         match region.build(text.as_bytes()) {
@@ -34,9 +34,12 @@ fn holds_without_a_charge(rt: HostRuntime) -> Result<(), Fail> {
     assert_eq!(rt; region.bytes(held), b"literal".as_slice());
     assert_eq!(rt;
         region.join(held, built),
-        Err(Full::Strings { sum: 2, limit: 2 })
+        Err(RegionFull::Strings { sum: 2, limit: 2 })
     );
-    assert_eq!(rt; region.build(b"c"), Err(Full::Strings { sum: 2, limit: 2 }));
+    assert_eq!(rt;
+        region.build(b"c"),
+        Err(RegionFull::Strings { sum: 2, limit: 2 })
+    );
     assert_eq!(rt; region.bytes(held), b"literal".as_slice());
     Ok(())
 }
@@ -48,11 +51,11 @@ fn check_join(
     a: ByteRange,
     b: ByteRange,
     want: (&str, &str),
-) -> Result<ByteRange, Full>
+) -> Result<ByteRange, RegionFull>
     requires first { IsOf region.old a }
     requires second { IsOf region.old b }
     ensures of { IfOk result (IsOf region.new) }
-    ensures kept { Keeps region.old region.new }
+    ensures kept { KeepsRanges region.old region.new }
 {
     let range = region.join(a, b)?;
     let (first, second) = want;
@@ -84,7 +87,7 @@ fn joins(rt: HostRuntime) -> Result<(), Fail> {
     assert_eq!(rt; last.len, 4);
     assert_eq!(rt;
         region.join(wind, both),
-        Err(Full::Strings { sum: 29, limit: 32 })
+        Err(RegionFull::Strings { sum: 29, limit: 32 })
     );
     assert_eq!(rt; region.bytes(north), b"north".as_slice());
     Ok(())
@@ -103,7 +106,7 @@ fn joins_empty_strings(rt: HostRuntime) -> Result<(), Fail> {
     assert_eq!(rt; region.bytes(wild), b"".as_slice());
     assert_eq!(rt;
         region.join(wild, wind),
-        Err(Full::Strings { sum: 4, limit: 4 })
+        Err(RegionFull::Strings { sum: 4, limit: 4 })
     );
     Ok(())
 }

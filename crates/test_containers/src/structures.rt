@@ -7,16 +7,16 @@ use std::process::Abort;
 use std::test::Fail;
 
 #[derive(Clone, Copy, Debug, PartialEq)]
-struct Cell {
+struct ElementCell {
     kind: u8,
     place: u32,
 }
 
-const CELLS: [Cell; 4] = [
-    Cell { kind: 0, place: 7 },
-    Cell { kind: 1, place: 7 },
-    Cell { kind: 1, place: 8 },
-    Cell { kind: 2, place: 0 },
+const CELLS: [ElementCell; 4] = [
+    ElementCell { kind: 0, place: 7 },
+    ElementCell { kind: 1, place: 7 },
+    ElementCell { kind: 1, place: 8 },
+    ElementCell { kind: 2, place: 0 },
 ];
 
 // Adds an item at the right, if the numbers go so far.
@@ -168,6 +168,6 @@ fn order_after_a_removal(rt: HostRuntime) -> Result<(), Fail> {
 
 #[test]
 fn laws_of_the_definitions(_rt: HostRuntime) {
-    numbers_stay::<Cell>();
+    numbers_stay::<ElementCell>();
     values_stay::<String, u8>();
 }

@@ -1,5 +1,5 @@
 // Co-expressions and the transfers between them.
-use icn_coexp::{Stacks, Went};
+use icn_coexp::{AfterTransfer, Stacks};
 use icn_frames::{Cell, Frames, Stack, VecStack};
 use icn_value::Val;
 use std::alloc::{AllocError, Global};
@@ -10,7 +10,7 @@ fn activate<K: Stack<Cell> + Drop>(
     stacks: &mut Stacks<K>,
     id: u32,
     n: i64,
-) -> Result<Option<Went>, AllocError> {
+) -> Result<Option<AfterTransfer>, AllocError> {
     if u64::from(id) >= stacks.len() || !stacks.runs() {
         return Ok(None);
     }
@@ -18,7 +18,10 @@ fn activate<K: Stack<Cell> + Drop>(
     Ok(Some(stacks.activate(id, Val::Integer(n))))
 }
 
-fn give<K: Stack<Cell> + Drop>(stacks: &mut Stacks<K>, n: i64) -> Result<Option<Went>, AllocError> {
+fn give<K: Stack<Cell> + Drop>(
+    stacks: &mut Stacks<K>,
+    n: i64,
+) -> Result<Option<AfterTransfer>, AllocError> {
     if stacks.active() == 0 || !stacks.runs() {
         return Ok(None);
     }
@@ -26,7 +29,7 @@ fn give<K: Stack<Cell> + Drop>(stacks: &mut Stacks<K>, n: i64) -> Result<Option<
     Ok(Some(stacks.give(Val::Integer(n))))
 }
 
-fn exhaust<K: Stack<Cell> + Drop>(stacks: &mut Stacks<K>) -> Option<Went> {
+fn exhaust<K: Stack<Cell> + Drop>(stacks: &mut Stacks<K>) -> Option<AfterTransfer> {
     if stacks.active() == 0 {
         return None;
     }
@@ -76,17 +79,21 @@ fn goes_round_a_ring(rt: HostRuntime) -> Result<(), Fail> {
     assert_eq!(rt; create(&mut stacks, rt.alloc(), 20)?, Some(1));
     assert_eq!(rt; create(&mut stacks, rt.alloc(), 30)?, Some(2));
     for (id, active, source, address) in [(1, 1, 0, 20), (2, 2, 1, 30), (0, 0, 2, 10)] {
-        assert_eq!(rt; activate(&mut stacks, id, 5)?, Some(Went::Moved), "{id}");
+        assert_eq!(rt;
+            activate(&mut stacks, id, 5)?,
+            Some(AfterTransfer::Moved),
+            "{id}"
+        );
         assert_eq!(rt; stacks.active(), active, "{id}");
         assert_eq!(rt; stacks.source(), source, "{id}");
         assert_eq!(rt; address_of(&mut stacks), Some(address), "{id}");
     }
     assert_eq!(rt;
         activate(&mut stacks, 0, 6)?,
-        Some(Went::Same(Val::Integer(6)))
+        Some(AfterTransfer::Same(Val::Integer(6)))
     );
-    assert_eq!(rt; activate(&mut stacks, 2, 6)?, Some(Went::Moved));
-    assert_eq!(rt; give(&mut stacks, 8)?, Some(Went::Moved));
+    assert_eq!(rt; activate(&mut stacks, 2, 6)?, Some(AfterTransfer::Moved));
+    assert_eq!(rt; give(&mut stacks, 8)?, Some(AfterTransfer::Moved));
     assert_eq!(rt; stacks.active(), 0);
     assert_eq!(rt; give(&mut stacks, 8)?, None);
     Ok(())
@@ -98,20 +105,23 @@ fn hops_over_an_exhausted_one(rt: HostRuntime) -> Result<(), Fail> {
     let mut stacks = new_stacks(rt.alloc())?;
     assert_eq!(rt; create(&mut stacks, rt.alloc(), 20)?, Some(1));
     assert_eq!(rt; create(&mut stacks, rt.alloc(), 30)?, Some(2));
-    assert_eq!(rt; activate(&mut stacks, 1, 5)?, Some(Went::Moved));
-    assert_eq!(rt; activate(&mut stacks, 2, 5)?, Some(Went::Moved));
-    assert_eq!(rt; activate(&mut stacks, 1, 5)?, Some(Went::Moved));
+    assert_eq!(rt; activate(&mut stacks, 1, 5)?, Some(AfterTransfer::Moved));
+    assert_eq!(rt; activate(&mut stacks, 2, 5)?, Some(AfterTransfer::Moved));
+    assert_eq!(rt; activate(&mut stacks, 1, 5)?, Some(AfterTransfer::Moved));
     assert_eq!(rt; stacks.source(), 2);
-    assert_eq!(rt; exhaust(&mut stacks), Some(Went::Moved));
+    assert_eq!(rt; exhaust(&mut stacks), Some(AfterTransfer::Moved));
     assert_eq!(rt; stacks.active(), 2);
-    assert_eq!(rt; activate(&mut stacks, 1, 5)?, Some(Went::Exhausted));
+    assert_eq!(rt;
+        activate(&mut stacks, 1, 5)?,
+        Some(AfterTransfer::Exhausted)
+    );
     assert_eq!(rt; stacks.active(), 2);
-    assert_eq!(rt; give(&mut stacks, 5)?, Some(Went::Exhausted));
+    assert_eq!(rt; give(&mut stacks, 5)?, Some(AfterTransfer::Exhausted));
     assert_eq!(rt; stacks.runs(), false);
     assert_eq!(rt; stacks.active(), 1);
     assert_eq!(rt; refresh(&mut stacks, rt.alloc(), 1)?, Some(3));
-    assert_eq!(rt; stacks.held(0), 0);
-    assert_eq!(rt; exhaust(&mut stacks), Some(Went::Moved));
+    assert_eq!(rt; stacks.value_count(0), 0);
+    assert_eq!(rt; exhaust(&mut stacks), Some(AfterTransfer::Moved));
     assert_eq!(rt; stacks.active(), 2);
     Ok(())
 }
@@ -122,12 +132,12 @@ fn transfers_often(rt: HostRuntime) -> Result<(), Fail> {
     let mut stacks = new_stacks(rt.alloc())?;
     assert_eq!(rt; create(&mut stacks, rt.alloc(), 20)?, Some(1));
     for n in 0..50000 {
-        assert_eq!(rt; activate(&mut stacks, 1, n)?, Some(Went::Moved));
-        assert_eq!(rt; give(&mut stacks, n)?, Some(Went::Moved));
+        assert_eq!(rt; activate(&mut stacks, 1, n)?, Some(AfterTransfer::Moved));
+        assert_eq!(rt; give(&mut stacks, n)?, Some(AfterTransfer::Moved));
     }
     assert_eq!(rt; refresh(&mut stacks, rt.alloc(), 1)?, Some(2));
     assert_eq!(rt; refresh(&mut stacks, rt.alloc(), 0)?, None);
-    assert_eq!(rt; activate(&mut stacks, 2, 1)?, Some(Went::Moved));
+    assert_eq!(rt; activate(&mut stacks, 2, 1)?, Some(AfterTransfer::Moved));
     assert_eq!(rt; address_of(&mut stacks), Some(20));
     Ok(())
 }

@@ -10,7 +10,7 @@ use std::test::Fail;
 
 // A call of a stack of cells.
 #[derive(Clone, Copy, Debug)]
-enum Change {
+enum StackChange {
     Push(u64),
     Pop,
     Set(u64, u64),
@@ -19,29 +19,29 @@ enum Change {
 }
 
 // Makes the call, if its conditions hold, and gives what it took.
-fn make_change<K: Stack<u64>>(cells: &mut K, call: Change) -> Result<Option<u64>, AllocError> {
+fn make_change<K: Stack<u64>>(cells: &mut K, call: StackChange) -> Result<Option<u64>, AllocError> {
     let len = cells.len();
     match call {
-        Change::Push(v) => {
+        StackChange::Push(v) => {
             cells.reserve(1)?;
             cells.push(v);
         }
-        Change::Pop => {
+        StackChange::Pop => {
             if len > 0 {
                 return Ok(Some(cells.pop()));
             }
         }
-        Change::Set(i, v) => {
+        StackChange::Set(i, v) => {
             if i < len {
                 cells.set(i, v);
             }
         }
-        Change::Cut(to) => {
+        StackChange::Cut(to) => {
             if to <= len {
                 cells.cut(to);
             }
         }
-        Change::CopyUp(from, to) => {
+        StackChange::CopyUp(from, to) => {
             if from <= to && to <= len {
                 cells.reserve(to - from)?;
                 cells.copy_up(from, to);
@@ -53,18 +53,18 @@ fn make_change<K: Stack<u64>>(cells: &mut K, call: Change) -> Result<Option<u64>
 
 fn check_cells<K: Stack<u64> + Drop>(rt: &impl Abort, cells: &mut K) -> Result<(), AllocError> {
     for (call, taken, want) in [
-        (Change::Push(1), None, [1].as_slice()),
-        (Change::Push(2), None, &[1, 2]),
-        (Change::Push(3), None, &[1, 2, 3]),
-        (Change::CopyUp(1, 3), None, &[1, 2, 3, 2, 3]),
-        (Change::CopyUp(5, 5), None, &[1, 2, 3, 2, 3]),
-        (Change::Set(0, 7), None, &[7, 2, 3, 2, 3]),
-        (Change::Set(4, 8), None, &[7, 2, 3, 2, 8]),
-        (Change::Pop, Some(8), &[7, 2, 3, 2]),
-        (Change::Cut(2), None, &[7, 2]),
-        (Change::CopyUp(0, 1), None, &[7, 2, 7]),
-        (Change::Cut(0), None, &[]),
-        (Change::Pop, None, &[]),
+        (StackChange::Push(1), None, [1].as_slice()),
+        (StackChange::Push(2), None, &[1, 2]),
+        (StackChange::Push(3), None, &[1, 2, 3]),
+        (StackChange::CopyUp(1, 3), None, &[1, 2, 3, 2, 3]),
+        (StackChange::CopyUp(5, 5), None, &[1, 2, 3, 2, 3]),
+        (StackChange::Set(0, 7), None, &[7, 2, 3, 2, 3]),
+        (StackChange::Set(4, 8), None, &[7, 2, 3, 2, 8]),
+        (StackChange::Pop, Some(8), &[7, 2, 3, 2]),
+        (StackChange::Cut(2), None, &[7, 2]),
+        (StackChange::CopyUp(0, 1), None, &[7, 2, 7]),
+        (StackChange::Cut(0), None, &[]),
+        (StackChange::Pop, None, &[]),
     ] {
         assert_eq!(rt; make_change(cells, call)?, taken, "{call:?}");
         assert_eq!(rt; cells.len(), want.len() as u64, "{call:?}");
@@ -116,7 +116,7 @@ enum Call {
 
 // What a call answers; `Not` where it may not be made.
 #[derive(Clone, Copy, Debug, PartialEq)]
-enum Answer {
+enum CallResult {
     Done,
     Not,
     Is(bool),
@@ -131,17 +131,17 @@ fn item(n: i64) -> Item {
     Item::Val(Val::Integer(n))
 }
 
-fn value_of(v: Val) -> Answer {
+fn value_of(v: Val) -> CallResult {
     match v {
-        Val::Integer(n) => Answer::Value(n),
-        _ => Answer::Not,
+        Val::Integer(n) => CallResult::Value(n),
+        _ => CallResult::Not,
     }
 }
 
-fn item_of(x: Item) -> Answer {
+fn item_of(x: Item) -> CallResult {
     match x {
         Item::Val(v) => value_of(v),
-        _ => Answer::Not,
+        _ => CallResult::Not,
     }
 }
 
@@ -153,59 +153,59 @@ fn pair(position: u64) -> Pair {
     }
 }
 
-fn read<K: Stack<Cell> + Drop>(frames: &Frames<K>, call: Call) -> Answer {
+fn read<K: Stack<Cell> + Drop>(frames: &Frames<K>, call: Call) -> CallResult {
     match call {
-        Call::Proc => Answer::Number(u64::from(frames.proc())),
-        Call::Level => Answer::Number(frames.level()),
-        Call::AtBase => Answer::Is(frames.at_base()),
+        Call::Proc => CallResult::Number(u64::from(frames.proc())),
+        Call::Level => CallResult::Number(frames.level()),
+        Call::AtBase => CallResult::Is(frames.at_base()),
         Call::Local(index) => {
             if index < frames.local_count() {
                 value_of(frames.local(index))
             } else {
-                Answer::Not
+                CallResult::Not
             }
         }
-        Call::Address => Answer::Number(u64::from(frames.address())),
-        Call::Label => Answer::Label(frames.label()),
-        Call::Relabelled => Answer::Is(frames.relabelled()),
+        Call::Address => CallResult::Number(u64::from(frames.address())),
+        Call::Label => CallResult::Label(frames.label()),
+        Call::Relabelled => CallResult::Is(frames.has_new_label()),
         Call::Below => {
             if frames.has_below() {
                 item_of(frames.below())
             } else {
-                Answer::Not
+                CallResult::Not
             }
         }
-        Call::Scanning => Answer::Is(frames.scanning()),
-        _ => Answer::Not,
+        Call::Scanning => CallResult::Is(frames.is_scanning()),
+        _ => CallResult::Not,
     }
 }
 
-fn drop_or_set<K: Stack<Cell> + Drop>(frames: &mut Frames<K>, call: Call) -> Answer {
+fn drop_or_set<K: Stack<Cell> + Drop>(frames: &mut Frames<K>, call: Call) -> CallResult {
     match call {
         Call::SetLocal(index, n) if index < frames.local_count() => {
             frames.set_local(index, Val::Integer(n));
-            Answer::Done
+            CallResult::Done
         }
         Call::Go(address) => {
             frames.go(address);
-            Answer::Done
+            CallResult::Done
         }
         Call::Pop if frames.has_operand() => item_of(frames.pop()),
         Call::Relabel(label) if frames.is_plain() => {
             frames.relabel(label);
-            Answer::Done
+            CallResult::Done
         }
-        Call::CountDown if frames.has_count() => Answer::Number(frames.count_down()),
+        Call::CountDown if frames.has_count() => CallResult::Number(frames.count_down()),
         Call::Unmark if !frames.at_base() => {
-            Answer::Scan(frames.unmark().map(|pair| pair.position))
+            CallResult::Scan(frames.unmark().map(|pair| pair.position))
         }
-        Call::Resume => Answer::Why(frames.resume()),
-        Call::Swap(oldest, position) if frames.scanning() => {
-            Answer::Scan(Some(frames.swap_pair(oldest, pair(position)).position))
+        Call::Resume => CallResult::Why(frames.resume()),
+        Call::Swap(oldest, position) if frames.is_scanning() => {
+            CallResult::Scan(Some(frames.swap_pair(oldest, pair(position)).position))
         }
         Call::Leave if !frames.is_base() => {
             frames.leave();
-            Answer::Done
+            CallResult::Done
         }
         other => read(frames, other),
     }
@@ -226,7 +226,7 @@ fn goes_on<K: Stack<Cell> + Drop>(frames: &Frames<K>, why: Why) -> bool
 fn answer_of<K: Stack<Cell> + Drop>(
     frames: &mut Frames<K>,
     call: Call,
-) -> Result<Answer, AllocError> {
+) -> Result<CallResult, AllocError> {
     match call {
         Call::Push(n) => frames.push(item(n))?,
         Call::Mark(label, count) => frames.mark(label, count)?,
@@ -239,13 +239,13 @@ fn answer_of<K: Stack<Cell> + Drop>(
         }
         other => return Ok(drop_or_set(frames, other)),
     }
-    Ok(Answer::Done)
+    Ok(CallResult::Done)
 }
 
 fn check_calls<K: Stack<Cell> + Drop>(
     rt: &impl Abort,
     frames: &mut Frames<K>,
-    calls: &[(Call, Answer)],
+    calls: &[(Call, CallResult)],
 ) -> Result<(), AllocError> {
     for (place, (call, want)) in (0u64..).zip(calls) {
         let answer = answer_of(frames, *call)?;
@@ -285,141 +285,141 @@ const COUNTING: Residual = Residual::Counting {
 };
 
 // Marks and limits, with operands below them and in them.
-const MARKS: [(Call, Answer); 34] = [
-    (Call::Proc, Answer::Number(7)),
-    (Call::Level, Answer::Number(1)),
-    (Call::AtBase, Answer::Is(true)),
-    (Call::Local(0), Answer::Value(10)),
-    (Call::Local(1), Answer::Value(20)),
-    (Call::Local(2), Answer::Not),
-    (Call::SetLocal(2, 5), Answer::Not),
-    (Call::Address, Answer::Number(100)),
-    (Call::Pop, Answer::Not),
-    (Call::Below, Answer::Not),
-    (Call::Unmark, Answer::Not),
-    (Call::Leave, Answer::Not),
-    (Call::Push(1), Answer::Done),
-    (Call::Mark(Some(5), None), Answer::Done),
-    (Call::AtBase, Answer::Is(false)),
-    (Call::Label, Answer::Label(Some(5))),
-    (Call::Relabelled, Answer::Is(false)),
-    (Call::Below, Answer::Value(1)),
-    (Call::Pop, Answer::Not),
-    (Call::Push(2), Answer::Done),
-    (Call::Relabel(9), Answer::Done),
-    (Call::Label, Answer::Label(Some(9))),
-    (Call::Relabelled, Answer::Is(true)),
-    (Call::CountDown, Answer::Not),
-    (Call::Unmark, Answer::Scan(None)),
-    (Call::Mark(None, Some(2)), Answer::Done),
-    (Call::Label, Answer::Label(None)),
-    (Call::Relabel(3), Answer::Not),
-    (Call::CountDown, Answer::Number(1)),
-    (Call::CountDown, Answer::Number(0)),
-    (Call::CountDown, Answer::Not),
-    (Call::Unmark, Answer::Scan(None)),
-    (Call::Pop, Answer::Value(1)),
-    (Call::Pop, Answer::Not),
+const MARKS: [(Call, CallResult); 34] = [
+    (Call::Proc, CallResult::Number(7)),
+    (Call::Level, CallResult::Number(1)),
+    (Call::AtBase, CallResult::Is(true)),
+    (Call::Local(0), CallResult::Value(10)),
+    (Call::Local(1), CallResult::Value(20)),
+    (Call::Local(2), CallResult::Not),
+    (Call::SetLocal(2, 5), CallResult::Not),
+    (Call::Address, CallResult::Number(100)),
+    (Call::Pop, CallResult::Not),
+    (Call::Below, CallResult::Not),
+    (Call::Unmark, CallResult::Not),
+    (Call::Leave, CallResult::Not),
+    (Call::Push(1), CallResult::Done),
+    (Call::Mark(Some(5), None), CallResult::Done),
+    (Call::AtBase, CallResult::Is(false)),
+    (Call::Label, CallResult::Label(Some(5))),
+    (Call::Relabelled, CallResult::Is(false)),
+    (Call::Below, CallResult::Value(1)),
+    (Call::Pop, CallResult::Not),
+    (Call::Push(2), CallResult::Done),
+    (Call::Relabel(9), CallResult::Done),
+    (Call::Label, CallResult::Label(Some(9))),
+    (Call::Relabelled, CallResult::Is(true)),
+    (Call::CountDown, CallResult::Not),
+    (Call::Unmark, CallResult::Scan(None)),
+    (Call::Mark(None, Some(2)), CallResult::Done),
+    (Call::Label, CallResult::Label(None)),
+    (Call::Relabel(3), CallResult::Not),
+    (Call::CountDown, CallResult::Number(1)),
+    (Call::CountDown, CallResult::Number(0)),
+    (Call::CountDown, CallResult::Not),
+    (Call::Unmark, CallResult::Scan(None)),
+    (Call::Pop, CallResult::Value(1)),
+    (Call::Pop, CallResult::Not),
 ];
 
 // Suspensions, and what comes back: operands and place as they were, locals as they are.
-const SUSPENSIONS: [(Call, Answer); 34] = [
-    (Call::Push(1), Answer::Done),
-    (Call::Mark(Some(5), None), Answer::Done),
-    (Call::Push(2), Answer::Done),
-    (Call::Push(3), Answer::Done),
-    (Call::Go(50), Answer::Done),
-    (Call::Suspend(Why::Op(COUNTING), Some(4)), Answer::Done),
-    (Call::Pop, Answer::Value(4)),
-    (Call::Pop, Answer::Value(3)),
+const SUSPENSIONS: [(Call, CallResult); 34] = [
+    (Call::Push(1), CallResult::Done),
+    (Call::Mark(Some(5), None), CallResult::Done),
+    (Call::Push(2), CallResult::Done),
+    (Call::Push(3), CallResult::Done),
+    (Call::Go(50), CallResult::Done),
+    (Call::Suspend(Why::Op(COUNTING), Some(4)), CallResult::Done),
+    (Call::Pop, CallResult::Value(4)),
+    (Call::Pop, CallResult::Value(3)),
     (
         Call::Suspend(Why::Op(Residual::InputLines), None),
-        Answer::Done,
+        CallResult::Done,
     ),
-    (Call::Pop, Answer::Value(2)),
-    (Call::Pop, Answer::Not),
-    (Call::Go(60), Answer::Done),
-    (Call::SetLocal(0, 11), Answer::Done),
+    (Call::Pop, CallResult::Value(2)),
+    (Call::Pop, CallResult::Not),
+    (Call::Go(60), CallResult::Done),
+    (Call::SetLocal(0, 11), CallResult::Done),
     (
         Call::Resume,
-        Answer::Why(Some(Why::Op(Residual::InputLines))),
+        CallResult::Why(Some(Why::Op(Residual::InputLines))),
     ),
-    (Call::Address, Answer::Number(50)),
-    (Call::Pop, Answer::Value(2)),
-    (Call::Pop, Answer::Not),
-    (Call::Resume, Answer::Why(Some(Why::Op(COUNTING)))),
-    (Call::Pop, Answer::Value(3)),
-    (Call::Local(0), Answer::Value(11)),
-    (Call::Resume, Answer::Why(None)),
-    (Call::Suspend(Why::Alt, Some(7)), Answer::Done),
-    (Call::AtBase, Answer::Is(true)),
-    (Call::Suspend(Why::Alt, None), Answer::Not),
-    (Call::Pop, Answer::Value(7)),
-    (Call::Pop, Answer::Value(1)),
-    (Call::Pop, Answer::Not),
-    (Call::Resume, Answer::Why(Some(Why::Alt))),
-    (Call::AtBase, Answer::Is(false)),
-    (Call::Pop, Answer::Value(2)),
-    (Call::Pop, Answer::Not),
-    (Call::Unmark, Answer::Scan(None)),
-    (Call::Pop, Answer::Value(1)),
-    (Call::Resume, Answer::Why(None)),
+    (Call::Address, CallResult::Number(50)),
+    (Call::Pop, CallResult::Value(2)),
+    (Call::Pop, CallResult::Not),
+    (Call::Resume, CallResult::Why(Some(Why::Op(COUNTING)))),
+    (Call::Pop, CallResult::Value(3)),
+    (Call::Local(0), CallResult::Value(11)),
+    (Call::Resume, CallResult::Why(None)),
+    (Call::Suspend(Why::Alt, Some(7)), CallResult::Done),
+    (Call::AtBase, CallResult::Is(true)),
+    (Call::Suspend(Why::Alt, None), CallResult::Not),
+    (Call::Pop, CallResult::Value(7)),
+    (Call::Pop, CallResult::Value(1)),
+    (Call::Pop, CallResult::Not),
+    (Call::Resume, CallResult::Why(Some(Why::Alt))),
+    (Call::AtBase, CallResult::Is(false)),
+    (Call::Pop, CallResult::Value(2)),
+    (Call::Pop, CallResult::Not),
+    (Call::Unmark, CallResult::Scan(None)),
+    (Call::Pop, CallResult::Value(1)),
+    (Call::Resume, CallResult::Why(None)),
 ];
 
 // Scans, of which the marks are left with some open.
-const SCANS: [(Call, Answer); 20] = [
-    (Call::Scanning, Answer::Is(false)),
-    (Call::Swap(false, 9), Answer::Not),
-    (Call::Suspend(Why::Scan(PAIR_1), None), Answer::Done),
-    (Call::Scanning, Answer::Is(true)),
-    (Call::Mark(None, None), Answer::Done),
-    (Call::Suspend(Why::Scan(PAIR_2), None), Answer::Done),
-    (Call::Suspend(Why::Scan(PAIR_3), None), Answer::Done),
-    (Call::Swap(false, 4), Answer::Scan(Some(3))),
-    (Call::Swap(true, 5), Answer::Scan(Some(1))),
-    (Call::Unmark, Answer::Scan(Some(2))),
-    (Call::Scanning, Answer::Is(true)),
-    (Call::Swap(true, 6), Answer::Scan(Some(5))),
-    (Call::Suspend(Why::Escan, None), Answer::Done),
-    (Call::Scanning, Answer::Is(false)),
-    (Call::Swap(true, 9), Answer::Not),
-    (Call::Resume, Answer::Why(Some(Why::Escan))),
-    (Call::Scanning, Answer::Is(true)),
-    (Call::Resume, Answer::Why(Some(Why::Scan(PAIR_6)))),
-    (Call::Scanning, Answer::Is(false)),
-    (Call::Resume, Answer::Why(None)),
+const SCANS: [(Call, CallResult); 20] = [
+    (Call::Scanning, CallResult::Is(false)),
+    (Call::Swap(false, 9), CallResult::Not),
+    (Call::Suspend(Why::Scan(PAIR_1), None), CallResult::Done),
+    (Call::Scanning, CallResult::Is(true)),
+    (Call::Mark(None, None), CallResult::Done),
+    (Call::Suspend(Why::Scan(PAIR_2), None), CallResult::Done),
+    (Call::Suspend(Why::Scan(PAIR_3), None), CallResult::Done),
+    (Call::Swap(false, 4), CallResult::Scan(Some(3))),
+    (Call::Swap(true, 5), CallResult::Scan(Some(1))),
+    (Call::Unmark, CallResult::Scan(Some(2))),
+    (Call::Scanning, CallResult::Is(true)),
+    (Call::Swap(true, 6), CallResult::Scan(Some(5))),
+    (Call::Suspend(Why::Escan, None), CallResult::Done),
+    (Call::Scanning, CallResult::Is(false)),
+    (Call::Swap(true, 9), CallResult::Not),
+    (Call::Resume, CallResult::Why(Some(Why::Escan))),
+    (Call::Scanning, CallResult::Is(true)),
+    (Call::Resume, CallResult::Why(Some(Why::Scan(PAIR_6)))),
+    (Call::Scanning, CallResult::Is(false)),
+    (Call::Resume, CallResult::Why(None)),
 ];
 
 // A procedure that is called in a mark, suspends, is resumed and left.
-const CALLS: [(Call, Answer); 28] = [
-    (Call::Mark(Some(8), None), Answer::Done),
-    (Call::Push(1), Answer::Done),
-    (Call::Suspend(Why::Scan(PAIR_1), None), Answer::Done),
-    (Call::Suspend(Why::Proc, None), Answer::Not),
-    (Call::Enter(3), Answer::Done),
-    (Call::Proc, Answer::Number(3)),
-    (Call::Level, Answer::Number(2)),
-    (Call::Address, Answer::Number(0)),
-    (Call::AtBase, Answer::Is(true)),
-    (Call::Scanning, Answer::Is(false)),
-    (Call::Local(2), Answer::Value(3)),
-    (Call::SetLocal(2, 30), Answer::Done),
-    (Call::Pop, Answer::Not),
-    (Call::Mark(Some(2), None), Answer::Done),
-    (Call::Go(4), Answer::Done),
-    (Call::Suspend(Why::Proc, Some(6)), Answer::Done),
-    (Call::Level, Answer::Number(1)),
-    (Call::Address, Answer::Number(100)),
-    (Call::Label, Answer::Label(Some(8))),
-    (Call::Pop, Answer::Value(6)),
-    (Call::Pop, Answer::Value(1)),
-    (Call::Resume, Answer::Why(Some(Why::Proc))),
-    (Call::Level, Answer::Number(2)),
-    (Call::Address, Answer::Number(4)),
-    (Call::Local(2), Answer::Value(30)),
-    (Call::Leave, Answer::Done),
-    (Call::Pop, Answer::Value(1)),
-    (Call::Leave, Answer::Not),
+const CALLS: [(Call, CallResult); 28] = [
+    (Call::Mark(Some(8), None), CallResult::Done),
+    (Call::Push(1), CallResult::Done),
+    (Call::Suspend(Why::Scan(PAIR_1), None), CallResult::Done),
+    (Call::Suspend(Why::Proc, None), CallResult::Not),
+    (Call::Enter(3), CallResult::Done),
+    (Call::Proc, CallResult::Number(3)),
+    (Call::Level, CallResult::Number(2)),
+    (Call::Address, CallResult::Number(0)),
+    (Call::AtBase, CallResult::Is(true)),
+    (Call::Scanning, CallResult::Is(false)),
+    (Call::Local(2), CallResult::Value(3)),
+    (Call::SetLocal(2, 30), CallResult::Done),
+    (Call::Pop, CallResult::Not),
+    (Call::Mark(Some(2), None), CallResult::Done),
+    (Call::Go(4), CallResult::Done),
+    (Call::Suspend(Why::Proc, Some(6)), CallResult::Done),
+    (Call::Level, CallResult::Number(1)),
+    (Call::Address, CallResult::Number(100)),
+    (Call::Label, CallResult::Label(Some(8))),
+    (Call::Pop, CallResult::Value(6)),
+    (Call::Pop, CallResult::Value(1)),
+    (Call::Resume, CallResult::Why(Some(Why::Proc))),
+    (Call::Level, CallResult::Number(2)),
+    (Call::Address, CallResult::Number(4)),
+    (Call::Local(2), CallResult::Value(30)),
+    (Call::Leave, CallResult::Done),
+    (Call::Pop, CallResult::Value(1)),
+    (Call::Leave, CallResult::Not),
 ];
 
 #[test]
@@ -449,18 +449,24 @@ fn nests_deep(rt: HostRuntime) -> Result<(), Fail> {
     assert_eq!(rt; frames.label(), Some(DEEP - 1));
     for label in 0..DEEP {
         frames.suspend(Why::Op(Residual::InputLines), None)?;
-        assert_eq!(rt; answer_of(&mut frames, Call::Enter(label))?, Answer::Done);
+        assert_eq!(rt;
+            answer_of(&mut frames, Call::Enter(label))?,
+            CallResult::Done
+        );
     }
     assert_eq!(rt; frames.level(), u64::from(DEEP) + 1);
     for label in 0..DEEP {
         assert_eq!(rt; frames.proc(), DEEP - 1 - label);
-        assert_eq!(rt; answer_of(&mut frames, Call::Leave)?, Answer::Done);
+        assert_eq!(rt; answer_of(&mut frames, Call::Leave)?, CallResult::Done);
     }
     for label in 0..DEEP {
-        assert_eq!(rt; answer_of(&mut frames, Call::Unmark)?, Answer::Scan(None));
+        assert_eq!(rt;
+            answer_of(&mut frames, Call::Unmark)?,
+            CallResult::Scan(None)
+        );
         assert_eq!(rt;
             answer_of(&mut frames, Call::Pop)?,
-            Answer::Value(i64::from(DEEP - 1 - label))
+            CallResult::Value(i64::from(DEEP - 1 - label))
         );
     }
     assert_eq!(rt; frames.at_base(), true);

@@ -1,3 +1,3 @@
-pub mod Adding
+pub mod AddedVariables
 mod Functions
 pub mod NamedValues

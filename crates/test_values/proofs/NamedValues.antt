@@ -10,7 +10,7 @@ use Rattle.icn_value.specs.declared.val.Val.TheVariants.{Null}
 use Rattle.icn_value.specs.Store.{Names}
 use Rattle.icn_heap.specs.Extents.{Extent, IsLive, value_in}
 use Rattle.icn_heap.specs.Heaps.{empty_heap}
-use Rattle.icn_named.specs.Named.{HeapNamed, ListNamed, RecordNamed, SetNamed, TableNamed, ValueNamed}
+use Rattle.law_names.specs.NamedSettings.{HeapNamed, ListNamed, RecordNamed, SetNamed, TableNamed, ValueNamed}
 
 pub empty_named : (names : Names) (bounds : Bounds) → HeapNamed names (empty_heap bounds)
 empty_named names bounds =

@@ -1,9 +1,9 @@
 // The values of a case's words.
 ghost use Rattle.std.specs.Prelude.{IfOk, ◌++◌, ◌∷◌, [], ◌≡◌};
 ghost use Rattle.icn_value.specs.Store.{Names as NamesData};
-ghost use Rattle.icn_heap.specs.Extents.{Extent, IsLive, Keeps, value_in};
+ghost use Rattle.icn_heap.specs.Extents.{Extent, IsLive, KeepsValues, value_in};
 ghost use Rattle.icn_heap.specs.Heaps.{extent_of, heap_of};
-ghost use Rattle.icn_named.specs.Named.{ValueNamed};
+ghost use Rattle.law_names.specs.NamedSettings.{ValueNamed};
 
 use icn_text::read_integer;
 use icn_value::{Cset, File, Val};
@@ -37,10 +37,10 @@ pub fn add(vals: &mut Vec<Val>, val: Val) -> Result<(), AllocError>
 }
 
 /// The text of these bytes, which is not charged.
-#[tactic(auto, using(icn_vars::proofs::Growing::grows))]
+#[tactic(auto, using(icn_vars::proofs::GrowingWorlds::grows))]
 pub fn text_value(w: &mut World, bytes: &[u8]) -> Result<Val, AllocError>
     ensures live { IfOk result (IsLive (extent_of w.new.heap)) }
-    ensures kept { Keeps (extent_of w.old.heap) (extent_of w.new.heap) }
+    ensures kept { KeepsValues (extent_of w.old.heap) (extent_of w.new.heap) }
     ensures unchanged { heap_of w.new.heap ≡ heap_of w.old.heap }
 {
     Ok(Val::Text(w.heap.hold(bytes)?))

@@ -10,7 +10,7 @@ use icn_vars::World;
 use std::alloc::{AllocError, Global};
 
 /// A world in which nothing is made, and of whose heap so many bytes and cells may be charged.
-#[tactic(auto, using(crate::proofs::Adding::no_records))]
+#[tactic(auto, using(crate::proofs::AddedVariables::no_records))]
 pub fn new_world(alloc: Global, strings: u64, cells: u64) -> Result<World, AllocError>
     ensures { IfOk result (λ w. (heap_of w.heap).records ≡ []) }
 {
@@ -25,7 +25,7 @@ pub fn new_world(alloc: Global, strings: u64, cells: u64) -> Result<World, Alloc
 }
 
 /// Adds a global.
-#[tactic(auto, using(crate::proofs::Adding::global_added))]
+#[tactic(auto, using(crate::proofs::AddedVariables::global_added))]
 pub fn add_global(w: &mut World, val: Val) -> Result<(), AllocError>
     requires { IsLive (extent_of w.old.heap) val }
     ensures { w.new.heap ≡ w.old.heap }
@@ -35,7 +35,7 @@ pub fn add_global(w: &mut World, val: Val) -> Result<(), AllocError>
 }
 
 /// Adds a static.
-#[tactic(auto, using(crate::proofs::Adding::static_added))]
+#[tactic(auto, using(crate::proofs::AddedVariables::static_added))]
 pub fn add_static(w: &mut World, val: Val) -> Result<(), AllocError>
     requires { IsLive (extent_of w.old.heap) val }
 {

@@ -4,8 +4,8 @@ use Rattle.icn_heap.specs.Heaps.{extent_of}
 use Rattle.icn_defs.specs.Applying.{again}
 use Rattle.icn_vars.specs.Outcomes.{residual_in}
 use Rattle.icn_vars.specs.Worlds.{setting_of}
-use Rattle.icn_named.proofs.RowSizes.{rows_keep_sizes}
-use Rattle.icn_named.proofs.RowsNamed.{rows_keep_names}
+use Rattle.law_names.proofs.RowSizes.{rows_keep_sizes}
+use Rattle.law_names.proofs.RowsNamed.{rows_keep_names}
 use Rattle.icn_streams.specs.Answers.{call_state}
 use Rattle.icn_streams.specs.Handed.{call_streams}
 use Rattle.icn_apply.proofs.NamesStay.{applies_named, elsewhere}

@@ -3,8 +3,8 @@ use Rattle.icn_value.specs.Store.{outside_of}
 use Rattle.icn_heap.specs.Heaps.{extent_of}
 use Rattle.icn_defs.specs.Applying.{operation_row}
 use Rattle.icn_vars.specs.Worlds.{item_in, setting_of}
-use Rattle.icn_named.proofs.RowSizes.{rows_keep_sizes}
-use Rattle.icn_named.proofs.RowsNamed.{rows_keep_names}
+use Rattle.law_names.proofs.RowSizes.{rows_keep_sizes}
+use Rattle.law_names.proofs.RowsNamed.{rows_keep_names}
 use Rattle.icn_streams.specs.Answers.{call_state}
 use Rattle.icn_streams.specs.Handed.{call_streams}
 use Rattle.icn_apply.specs.Applicable.{IsApplicable}

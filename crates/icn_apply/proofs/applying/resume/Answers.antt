@@ -7,8 +7,8 @@ use Rattle.icn_defs.specs.Variables.{undo_assign_again}
 use Rattle.icn_vars.specs.Outcomes.{residual_in}
 use Rattle.icn_vars.specs.Worlds.{reach_of, variable_in}
 use Rattle.icn_streams.specs.Handed.{call_streams}
-use Rattle.icn_streams.proofs.Faultless.{faultless_applies}
-use Rattle.icn_streams.proofs.Idle.{items_all}
+use Rattle.icn_streams.proofs.QuietRows.{faultless_applies}
+use Rattle.icn_streams.proofs.IdleCalls.{keeps_items_refl}
 use Rattle.icn_apply.proofs.InPlace.{never}
 use Rattle.icn_apply.proofs.applying.resume.Goals as goal
 
@@ -18,7 +18,7 @@ returns-in-TableKeys-clause-applies g c = rw c.in-TableKeys.is
     (g.L.Locals.items c.args.l.now) (g.L.Locals.items c.args.l.now)
     (call_streams (g.I.Source.left c.args.input.now) (g.I.Source.faults c.args.input.now) (g.O.Sink.state c.args.out.now) (g.E.Sink.state c.args.err.now))
     (Ok c.key_again.result) (λ was. c.key_again.ensures.row was) c.key_again.ensures.live c.requires.locals
-    (items_all (reach_of c.args.w.now (g.L.Locals.items c.args.l.now))))
+    (keeps_items_refl (reach_of c.args.w.now (g.L.Locals.items c.args.l.now))))
 
 pub returns-in-UndoAssign-clause-applies : goal.returns-in-UndoAssign-clause-applies
 returns-in-UndoAssign-clause-applies g c = rw c.in-UndoAssign.is
@@ -40,7 +40,8 @@ returns-in-Sequence-clause-applies g c =
     faultless_applies (again (residual_in (extent_of c.args.w.now.heap) c.args.rest)) c.args.w.now c.args.w.now
     (g.L.Locals.items c.args.l.now) (g.L.Locals.items c.args.l.now)
     (call_streams (g.I.Source.left c.args.input.now) (g.I.Source.faults c.args.input.now) (g.O.Sink.state c.args.out.now) (g.E.Sink.state c.args.err.now))
-    c.again.result (λ was. c.again.ensures.row was) c.again.ensures.live c.requires.locals (items_all (reach_of c.args.w.now (g.L.Locals.items c.args.l.now)))
+    c.again.result (λ was. c.again.ensures.row was) c.again.ensures.live c.requires.locals
+    (keeps_items_refl (reach_of c.args.w.now (g.L.Locals.items c.args.l.now)))
 
 pub again-requires-in-Balanced-clause-scanning : goal.again-requires-in-Balanced-clause-scanning
 again-requires-in-Balanced-clause-scanning g c = rw c.in-Balanced.is refl

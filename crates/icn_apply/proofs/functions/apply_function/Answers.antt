@@ -5,14 +5,14 @@ use Rattle.icn_defs.specs.Applying.{function_row}
 use Rattle.icn_vars.specs.Worlds.{item_in, setting_of}
 use Rattle.icn_streams.specs.Answers.{call_state}
 use Rattle.icn_streams.specs.Handed.{call_streams}
-use Rattle.icn_apply.specs.declared.kinds.Kind.{Kind}
-use Rattle.icn_apply.specs.Kinds.{IsOfKind}
+use Rattle.icn_apply.specs.declared.function_groups.FunctionGroup.{FunctionGroup}
+use Rattle.icn_apply.specs.FunctionGroups.{IsOfKind}
 use Rattle.icn_apply.proofs.NamesStay.{applies_named, elsewhere, file_function_named}
 use Rattle.icn_apply.proofs.SizesStay.{applies_sized, file_function_sized}
 use Rattle.icn_apply.proofs.functions.apply_function.Goals as goal
 
 pub first-requires-clause-function : goal.first-requires-clause-function
-first-requires-clause-function g c = subst (λ (kind : Kind). IsOfKind kind c.args.func) c.in-Files.is c.kind_of.ensures
+first-requires-clause-function g c = subst (λ (kind : FunctionGroup). IsOfKind kind c.args.func) c.in-Files.is c.kind_of.ensures
 
 pub returns-in-Files-clause-applies : goal.returns-in-Files-clause-applies
 returns-in-Files-clause-applies g c = c.first.ensures (g.N.Names.known c.args.names.now)
@@ -28,12 +28,12 @@ returns-in-Files-clause-named g c =
     c.first.result
     (λ was. file_function_named (g.N.Names.known c.args.names.now) c.args.func (map (item_in (extent_of c.args.w.now.heap)) c.args.args.now)
     (setting_of was c.args.w.now (g.L.Locals.items c.args.l.now))
-    (subst (λ (kind : Kind). IsOfKind kind c.args.func) c.in-Files.is c.kind_of.ensures)
+    (subst (λ (kind : FunctionGroup). IsOfKind kind c.args.func) c.in-Files.is c.kind_of.ensures)
     (elsewhere (g.N.Names.known c.args.names.now) c.args.w.now (g.L.Locals.items c.args.l.now) (outside_of []) was c.requires.named) c.requires.args_named)
     (c.first.ensures (g.N.Names.known c.args.names.now))
 
 pub apply_scanning-requires-clause-function : goal.apply_scanning-requires-clause-function
-apply_scanning-requires-clause-function g c = subst (λ (kind : Kind). IsOfKind kind c.args.func) c.in-Scanning.is c.kind_of.ensures
+apply_scanning-requires-clause-function g c = subst (λ (kind : FunctionGroup). IsOfKind kind c.args.func) c.in-Scanning.is c.kind_of.ensures
 
 pub returns-in-Scanning-clause-applies : goal.returns-in-Scanning-clause-applies
 returns-in-Scanning-clause-applies g c = c.apply_scanning.ensures.applies (call_streams (g.I.Source.left c.args.input.now) (g.I.Source.faults c.args.input.now)
@@ -43,7 +43,7 @@ pub returns-in-Scanning-clause-named : goal.returns-in-Scanning-clause-named
 returns-in-Scanning-clause-named g c = c.apply_scanning.ensures.named
 
 pub apply_to_strings-requires-clause-function : goal.apply_to_strings-requires-clause-function
-apply_to_strings-requires-clause-function g c = subst (λ (kind : Kind). IsOfKind kind c.args.func) c.in-Strings.is c.kind_of.ensures
+apply_to_strings-requires-clause-function g c = subst (λ (kind : FunctionGroup). IsOfKind kind c.args.func) c.in-Strings.is c.kind_of.ensures
 
 pub returns-in-Strings-clause-applies : goal.returns-in-Strings-clause-applies
 returns-in-Strings-clause-applies g c = c.apply_to_strings.ensures.applies (call_streams (g.I.Source.left c.args.input.now) (g.I.Source.faults c.args.input.now)
@@ -53,7 +53,7 @@ pub returns-in-Strings-clause-named : goal.returns-in-Strings-clause-named
 returns-in-Strings-clause-named g c = c.apply_to_strings.ensures.named
 
 pub apply_to_structures-requires-clause-function : goal.apply_to_structures-requires-clause-function
-apply_to_structures-requires-clause-function g c = subst (λ (kind : Kind). IsOfKind kind c.args.func) c.in-Structures.is c.kind_of.ensures
+apply_to_structures-requires-clause-function g c = subst (λ (kind : FunctionGroup). IsOfKind kind c.args.func) c.in-Structures.is c.kind_of.ensures
 
 pub returns-in-Structures-clause-applies : goal.returns-in-Structures-clause-applies
 returns-in-Structures-clause-applies g c = c.apply_to_structures.ensures.applies (call_streams (g.I.Source.left c.args.input.now)
@@ -72,7 +72,7 @@ returns-in-Files-clause-sized g c =
     c.first.result
     (λ was. file_function_sized (g.N.Names.known c.args.names.now) c.args.func (map (item_in (extent_of c.args.w.now.heap)) c.args.args.now)
     (setting_of was c.args.w.now (g.L.Locals.items c.args.l.now))
-    (subst (λ (kind : Kind). IsOfKind kind c.args.func) c.in-Files.is c.kind_of.ensures))
+    (subst (λ (kind : FunctionGroup). IsOfKind kind c.args.func) c.in-Files.is c.kind_of.ensures))
     (c.first.ensures (g.N.Names.known c.args.names.now))
 
 pub returns-in-Scanning-clause-sized : goal.returns-in-Scanning-clause-sized

@@ -5,11 +5,11 @@ use Rattle.icn_value.specs.declared.val.Val.{Val}
 use Rattle.icn_heap.specs.Extents.{IsLive, value_in}
 use Rattle.icn_heap.specs.Heaps.{extent_of}
 use Rattle.icn_defs.specs.Applying.{function_of, function_row}
-use Rattle.icn_defs.specs.Reading.{the_values}
+use Rattle.icn_defs.specs.ReadAndAssign.{the_values}
 use Rattle.icn_vars.specs.Worlds.{item_in, setting_of}
 use Rattle.icn_streams.specs.Answers.{call_state}
-use Rattle.icn_streams.proofs.Behind.{applies_same, stops_there}
-use Rattle.icn_streams.proofs.Faultless.{faultless_applies}
+use Rattle.icn_streams.proofs.RowAnswers.{applies_same, stops_there}
+use Rattle.icn_streams.proofs.QuietRows.{faultless_applies}
 use Rattle.icn_apply.proofs.NamesStay.{answers_named, function_named, records_named, stop_named, vals_named, values_named}
 use Rattle.icn_apply.proofs.SizesStay.{function_sized, same_sized}
 use Rattle.icn_apply.proofs.functions.apply_to_strings.Goals as goal

@@ -1,6 +1,6 @@
 use Rattle.std.proofs.Common.{◌∙◌, ap, sym, Some}
 use Rattle.icn_code.specs.Codes.{proc_of}
-use Rattle.icn_code.specs.Seen.{tables_of}
+use Rattle.icn_code.specs.CodeTables.{tables_of}
 use Rattle.icn_apply.specs.CodeNaming.{procedure_named}
 use Rattle.icn_apply.proofs.NameLists.{seen_twice}
 use Rattle.icn_apply.proofs.names.procedure_name.Goals as goal

@@ -1,6 +1,6 @@
 use Rattle.std.proofs.Common.{◌∙◌, ap, sym, Some}
 use Rattle.icn_code.specs.Codes.{record_of}
-use Rattle.icn_code.specs.Seen.{tables_of}
+use Rattle.icn_code.specs.CodeTables.{tables_of}
 use Rattle.icn_apply.specs.CodeNaming.{record_named}
 use Rattle.icn_apply.proofs.NameLists.{seen_twice}
 use Rattle.icn_apply.proofs.names.record_name.Goals as goal

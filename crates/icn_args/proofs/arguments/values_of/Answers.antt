@@ -3,7 +3,7 @@ use Rattle.std.proofs.lemmas.List.Elements.{All-push, All-rest, All-same}
 use Rattle.icn_heap.specs.Extents.{IsLive, value_in}
 use Rattle.icn_heap.specs.Heaps.{extent_of}
 use Rattle.icn_vars.specs.Worlds.{IsLiveItem, reach_of, setting_of}
-use Rattle.icn_args.proofs.Gathering.{gather_all, gather_next, gather_stops}
+use Rattle.icn_args.proofs.ItemValues.{gather_all, gather_next, gather_stops}
 use Rattle.icn_args.proofs.arguments.values_of.Goals as goal
 
 pub returns-in_err-val-clause-found : goal.returns-in_err-val-clause-found

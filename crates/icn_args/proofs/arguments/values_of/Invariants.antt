@@ -2,12 +2,12 @@ use Rattle.std.proofs.Common.{◌≡◌, List, map, length}
 use Rattle.std.specs.List.{All}
 use Rattle.icn_value.specs.Store.{Outside}
 use Rattle.icn_value.specs.Values.{Value}
-use Rattle.icn_defs.specs.Reading.{the_values}
+use Rattle.icn_defs.specs.ReadAndAssign.{the_values}
 use Rattle.icn_defs.specs.Rows.{Row}
 use Rattle.icn_heap.specs.Extents.{IsLive, value_in}
 use Rattle.icn_heap.specs.Heaps.{extent_of}
 use Rattle.icn_vars.specs.Worlds.{IsLiveItem, item_in, reach_of, setting_of}
-use Rattle.icn_args.specs.Gathering.{values_behind}
+use Rattle.icn_args.specs.ItemsLeft.{values_behind}
 use Rattle.icn_args.proofs.arguments.values_of.Given as goal
 
 abbrev pub invariant-loop-first : goal.invariant-loop-first

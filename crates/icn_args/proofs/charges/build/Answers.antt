@@ -1,7 +1,7 @@
 use Rattle.std.proofs.Common.{refl, length}
 use Rattle.icn_heap.specs.Heaps.{heap_of}
-use Rattle.icn_vars.proofs.Changing.{bytes_change, fields_charged, passes}
-use Rattle.icn_args.proofs.Charging.{charge_stops}
+use Rattle.icn_vars.proofs.HeapChanges.{bytes_change, fields_charged, change_passes}
+use Rattle.icn_args.proofs.WorldCharges.{charge_stops}
 use Rattle.icn_args.proofs.charges.build.Goals as goal
 
 pub returns-in_err-build-clause-step : goal.returns-in_err-build-clause-step
@@ -13,7 +13,7 @@ returns-in_err-build-clause-step g c =
 
 pub returns-clause-step : goal.returns-clause-step
 returns-clause-step g c =
-    passes c.args.w.now.heap c.build.new.self c.args.w.now.pair c.args.w.now.random c.args.w.now.globals.items c.args.w.now.statics.items
+    change_passes c.args.w.now.heap c.build.new.self c.args.w.now.pair c.args.w.now.random c.args.w.now.globals.items c.args.w.now.statics.items
     (g.L.Locals.items c.args.l.now) c.build.ensures.kept
     c.args.w.now.sound c.requires.locals (bytes_change (length c.args.bytes.now)) c.in_ok-build.ensures.step
 

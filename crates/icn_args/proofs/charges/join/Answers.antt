@@ -1,8 +1,8 @@
 use Rattle.std.proofs.Common.{refl, ◌++◌, length}
 use Rattle.icn_heap.specs.Extents.{text_in}
 use Rattle.icn_heap.specs.Heaps.{extent_of, heap_of}
-use Rattle.icn_vars.proofs.Changing.{bytes_change, fields_charged, passes}
-use Rattle.icn_args.proofs.Charging.{charge_stops}
+use Rattle.icn_vars.proofs.HeapChanges.{bytes_change, fields_charged, change_passes}
+use Rattle.icn_args.proofs.WorldCharges.{charge_stops}
 use Rattle.icn_args.proofs.charges.join.Goals as goal
 
 pub returns-in_err-join-clause-step : goal.returns-in_err-join-clause-step
@@ -15,7 +15,7 @@ returns-in_err-join-clause-step g c =
 
 pub returns-clause-step : goal.returns-clause-step
 returns-clause-step g c =
-    passes c.args.w.now.heap c.join.new.self c.args.w.now.pair c.args.w.now.random c.args.w.now.globals.items c.args.w.now.statics.items
+    change_passes c.args.w.now.heap c.join.new.self c.args.w.now.pair c.args.w.now.random c.args.w.now.globals.items c.args.w.now.statics.items
     (g.L.Locals.items c.args.l.now) c.join.ensures.kept
     c.args.w.now.sound c.requires.locals
     (bytes_change (length (text_in (extent_of c.args.w.now.heap) c.args.a ++ text_in (extent_of c.args.w.now.heap) c.args.b))) c.in_ok-join.ensures.step

@@ -1,8 +1,8 @@
 use Rattle.std.proofs.Common.{refl}
 use Rattle.icn_heap.specs.Extents.{value_in}
 use Rattle.icn_heap.specs.Heaps.{extent_of, heap_of}
-use Rattle.icn_vars.proofs.Changing.{fields_charged, passes, text_change}
-use Rattle.icn_args.proofs.Charging.{charge_stops}
+use Rattle.icn_vars.proofs.HeapChanges.{fields_charged, change_passes, text_change}
+use Rattle.icn_args.proofs.WorldCharges.{charge_stops}
 use Rattle.icn_args.proofs.charges.text_of.Goals as goal
 
 pub returns-in_err-span-clause-step : goal.returns-in_err-span-clause-step
@@ -14,7 +14,7 @@ returns-in_err-span-clause-step g c =
 
 pub returns-clause-step : goal.returns-clause-step
 returns-clause-step g c =
-    passes c.args.w.now.heap c.to_text.new.heap c.args.w.now.pair c.args.w.now.random c.args.w.now.globals.items c.args.w.now.statics.items
+    change_passes c.args.w.now.heap c.to_text.new.heap c.args.w.now.pair c.args.w.now.random c.args.w.now.globals.items c.args.w.now.statics.items
     (g.L.Locals.items c.args.l.now) c.to_text.ensures.kept
     c.args.w.now.sound c.requires.locals (text_change (value_in (extent_of c.args.w.now.heap) c.args.val)) c.in_ok-span.ensures.step
 

@@ -5,7 +5,7 @@ use Rattle.icn_heap.specs.Extents.{value_in}
 use Rattle.icn_heap.specs.Heaps.{extent_of}
 use Rattle.icn_vars.specs.Stops.{StopsPassing}
 use Rattle.icn_vars.specs.Worlds.{setting_of}
-use Rattle.icn_args.proofs.Answering.{first_part_stops, then_part_stops}
+use Rattle.icn_args.proofs.RowAnswers.{first_part_stops, then_part_stops}
 use Rattle.icn_args.proofs.charges.texts_of.Goals as goal
 
 pub returns-in_err-first-clause-step : goal.returns-in_err-first-clause-step

@@ -7,11 +7,11 @@ use Rattle.icn_heap.specs.Extents.{value_in}
 use Rattle.icn_heap.specs.Heaps.{extent_of, heap_of}
 use Rattle.icn_vars.specs.Stops.{stop_of}
 use Rattle.icn_vars.specs.Worlds.{setting_of}
-use Rattle.icn_vars.proofs.Changing.{cells_change, fields_behind}
-use Rattle.icn_vars.proofs.Growing.{heap_changed}
-use Rattle.icn_args.specs.Words.{IsFound}
-use Rattle.icn_args.proofs.Answering.{found_err}
-use Rattle.icn_args.proofs.Making.{list_made, list_refused}
+use Rattle.icn_vars.proofs.HeapChanges.{cells_change, fields_behind}
+use Rattle.icn_vars.proofs.GrowingWorlds.{heap_changed}
+use Rattle.icn_args.specs.RowWords.{IsFound}
+use Rattle.icn_args.proofs.RowAnswers.{found_stops}
+use Rattle.icn_args.proofs.NewLists.{list_made, list_refused}
 use Rattle.icn_args.proofs.structures.new_list.Goals as goal
 
 pub returns-in_err-list_from-clause-found : goal.returns-in_err-list_from-clause-found
@@ -20,7 +20,7 @@ returns-in_err-list_from-clause-found g c = λ outside.
     (setting_of outside c.args.w.now (g.L.Locals.items c.args.l.now)) setting (value_in (extent_of c.list_from.new.self)) c.from_residual.result)
     (heap_changed outside c.args.w.now.heap c.list_from.new.self c.args.w.now.pair c.args.w.now.random c.args.w.now.globals.items c.args.w.now.statics.items
     (g.L.Locals.items c.args.l.now) c.list_from.ensures.kept c.in_err-list_from.ensures.unchanged c.args.w.now.sound c.requires.locals)
-    (found_err (extent_of c.list_from.new.self) (new_list_of (map (value_in (extent_of c.args.w.now.heap)) c.args.items.now))
+    (found_stops (extent_of c.list_from.new.self) (new_list_of (map (value_in (extent_of c.args.w.now.heap)) c.args.items.now))
     (setting_of outside c.args.w.now (g.L.Locals.items c.args.l.now)) (setting_of outside c.args.w.now (g.L.Locals.items c.args.l.now))
     (value_in (extent_of c.list_from.new.self)) (stop_of c.in_err-list_from.field-0.0) c.from_residual.result c.from_residual.ensures.1
     (list_refused (extent_of c.list_from.new.self) (setting_of outside c.args.w.now (g.L.Locals.items c.args.l.now))

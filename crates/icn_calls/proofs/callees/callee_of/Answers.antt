@@ -1,7 +1,7 @@
 use Rattle.std.proofs.Common.{◌≡◌, ◌∙◌, ◌<◌, ◌≤◌, ◌-◌, ◌+◌, ℕ, length, Option, None, Some, sym, ap, subst}
 use Rattle.icn_text.specs.declared.func.Func.{Func}
 use Rattle.icn_defs.specs.Numbers.{func_of}
-use Rattle.icn_code.specs.Seen.{tables_of}
+use Rattle.icn_code.specs.CodeTables.{tables_of}
 use Rattle.icn_calls.specs.Calling.{IsCallee}
 use Rattle.icn_calls.specs.declared.callees.Callee.TheVariants as Callees
 use Rattle.icn_calls.proofs.CallSteps.{at_func, at_proc, at_record}

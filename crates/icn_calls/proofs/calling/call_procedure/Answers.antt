@@ -9,16 +9,16 @@ use Rattle.icn_vars.specs.Stops.{halt_of}
 use Rattle.icn_vars.specs.Worlds.{reach_of, world_of}
 use Rattle.icn_run.specs.Stacks.{flat}
 use Rattle.icn_run.specs.Step.{call_procedure, running, with_world}
-use Rattle.icn_control.specs.Parts.{HaltsWith}
-use Rattle.icn_control.specs.Standing.{stack_in}
+use Rattle.icn_control.specs.StackAndWorld.{HaltsWith}
+use Rattle.icn_control.specs.StackViews.{stack_in}
 use Rattle.icn_frames.specs.Stacks as held
 use Rattle.icn_frames.specs.Stacks.{FlatStack}
 use Rattle.icn_code.specs.Codes.{Proc, proc_of}
-use Rattle.icn_code.specs.Seen.{tables_of}
-use Rattle.icn_control.specs.Living.{IsLiveStack, variable_count, variables_of}
+use Rattle.icn_code.specs.CodeTables.{tables_of}
+use Rattle.icn_control.specs.LiveStacks.{IsLiveStack, variable_count, variables_of}
 use Rattle.icn_control.proofs.KeptItems.{stack_stays}
 use Rattle.icn_control.proofs.LiveFrames.{live_enter}
-use Rattle.icn_control.proofs.PartSteps.{at_halt}
+use Rattle.icn_control.proofs.StackAndWorldSteps.{match_halt}
 use Rattle.icn_calls.proofs.CallSteps.{entry_at, may_call}
 use Rattle.icn_calls.proofs.ParameterSteps.{called_halts, called_runs, length_with_nulls, live_with_nulls}
 use Rattle.icn_calls.proofs.RuleSteps.{collects_one}
@@ -47,7 +47,7 @@ returns-in_err-take_parameters-clause-step g c entry at st same =
     let more : nat_le (suc (held.level m)) (heap_of w.heap).bounds.levels ≡ true
     = ap (λ (x : Bounds). nat_le (suc (held.level m)) x.levels) c.requires.bounds
     ∙ may_call (held.level m) c.args.limits.now.levels c.level.result c.level.ensures c.if-level-limits.false in
-    at_halt c.from_residual.result (halt_of stop) _ _ c.from_residual.ensures.1
+    match_halt c.from_residual.result (halt_of stop) _ _ c.from_residual.ensures.1
     (subst
     (λ (e : Proc). HaltsWith (call_procedure flat c.args.number e (map (value_in (extent_of w.heap)) c.args.vals.now.items) (stack_in (extent_of w.heap) m) st)
     st v (halt_of stop))

@@ -6,9 +6,9 @@ use Rattle.icn_defs.specs.StepRows.{list_row}
 use Rattle.icn_heap.specs.Extents.{IsLive, value_in}
 use Rattle.icn_heap.specs.Heaps.{extent_of}
 use Rattle.icn_vars.specs.declared.stop.Stop.TheVariants.{NoMemory}
-use Rattle.icn_vars.proofs.Growing.{locals_grow}
-use Rattle.icn_control.specs.Taking.{MakesValue}
-use Rattle.icn_control.proofs.OpenSteps.{at_stop}
+use Rattle.icn_vars.proofs.GrowingWorlds.{locals_grow}
+use Rattle.icn_control.specs.TakenOperands.{MakesValue}
+use Rattle.icn_control.proofs.OpenedScans.{match_stop}
 use Rattle.icn_calls.proofs.ParameterSteps.{collects, collects_not, length_values_for, live_drop, live_values_for}
 use Rattle.icn_calls.proofs.calling.collect.Goals as goal
 
@@ -25,14 +25,14 @@ returns-in_err-list-clause-step g c st next same =
     let made_so = subst (λ (xs : List Val). MakesValue (list_row (map (value_in (extent_of w.heap)) xs)) w c.args.frames.now.flat v
     (Err c.in_err-list.field-0.0))
     (c.from_place.ensures ∙ ap (drop (c.args.count - 1)) c.deref.ensures.value) c.in_err-list.ensures.made in
-    at_stop c.from_residual.result c.in_err-list.field-0.0 _ _ c.from_residual.ensures.1
+    match_stop c.from_residual.result c.in_err-list.field-0.0 _ _ c.from_residual.ensures.1
     (collects_not w v c.args.frames.now.flat c.args.count c.args.vals.now.items c.in_err-list.field-0.0 made_so st next same)
 
 pub returns-in_err-fit-clause-step : goal.returns-in_err-fit-clause-step
-returns-in_err-fit-clause-step g c st next same = at_stop c.from_residual-in_err-fit.result NoMemory _ _ c.from_residual-in_err-fit.ensures.1 tt
+returns-in_err-fit-clause-step g c st next same = match_stop c.from_residual-in_err-fit.result NoMemory _ _ c.from_residual-in_err-fit.ensures.1 tt
 
 pub returns-in_err-add-clause-step : goal.returns-in_err-add-clause-step
-returns-in_err-add-clause-step g c st next same = at_stop c.from_residual-in_err-add.result NoMemory _ _ c.from_residual-in_err-add.ensures.1 tt
+returns-in_err-add-clause-step g c st next same = match_stop c.from_residual-in_err-add.result NoMemory _ _ c.from_residual-in_err-add.ensures.1 tt
 
 pub returns-clause-live : goal.returns-clause-live
 returns-clause-live g c =

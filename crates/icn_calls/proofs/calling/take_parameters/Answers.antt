@@ -4,8 +4,8 @@ use Rattle.icn_heap.specs.Extents.{IsLive}
 use Rattle.icn_heap.specs.Heaps.{extent_of}
 use Rattle.icn_vars.specs.declared.stop.Stop.TheVariants.{NoMemory}
 use Rattle.icn_vars.specs.Worlds.{reach_of}
-use Rattle.icn_vars.proofs.KeptItems.{items_all}
-use Rattle.icn_control.proofs.OpenSteps.{at_stop}
+use Rattle.icn_vars.proofs.KeptItems.{keeps_items_refl}
+use Rattle.icn_control.proofs.OpenedScans.{match_stop}
 use Rattle.icn_calls.specs.Calling.{FindsParameters}
 use Rattle.icn_calls.proofs.ParameterSteps.{length_values_for, live_values_for, plain_result}
 use Rattle.icn_calls.proofs.calling.take_parameters.Goals as goal
@@ -17,10 +17,10 @@ returns-then-collects-clause-step g c =
     (sym c.if-collects.true) c.collect.ensures.step
 
 pub returns-in_err-fit-clause-step : goal.returns-in_err-fit-clause-step
-returns-in_err-fit-clause-step g c st next same = at_stop c.from_residual.result NoMemory _ _ c.from_residual.ensures.1 tt
+returns-in_err-fit-clause-step g c st next same = match_stop c.from_residual.result NoMemory _ _ c.from_residual.ensures.1 tt
 
 pub returns-in_err-fit-clause-kept : goal.returns-in_err-fit-clause-kept
-returns-in_err-fit-clause-kept g c = items_all (reach_of c.args.world.now [])
+returns-in_err-fit-clause-kept g c = keeps_items_refl (reach_of c.args.world.now [])
 
 pub returns-clause-live : goal.returns-clause-live
 returns-clause-live g c =
@@ -31,7 +31,7 @@ pub returns-clause-count : goal.returns-clause-count
 returns-clause-count g c = ap length c.in_ok-fit.ensures ∙ length_values_for c.args.count c.args.vals.now.items
 
 pub returns-clause-kept : goal.returns-clause-kept
-returns-clause-kept g c = items_all (reach_of c.args.world.now [])
+returns-clause-kept g c = keeps_items_refl (reach_of c.args.world.now [])
 
 pub returns-clause-step : goal.returns-clause-step
 returns-clause-step g c =

@@ -4,18 +4,18 @@ use Rattle.icn_heap.specs.Extents.{IsLive}
 use Rattle.icn_heap.specs.Heaps.{extent_of}
 use Rattle.icn_vars.specs.Stops.{halt_of}
 use Rattle.icn_vars.specs.Worlds.{reach_of}
-use Rattle.icn_vars.proofs.KeptItems.{items_all}
+use Rattle.icn_vars.proofs.KeptItems.{keeps_items_refl}
 use Rattle.icn_frames.specs.Stacks.{FlatStack}
-use Rattle.icn_control.specs.Living.{IsLiveStack}
+use Rattle.icn_control.specs.LiveStacks.{IsLiveStack}
 use Rattle.icn_control.proofs.ListSteps.{list_live}
-use Rattle.icn_control.proofs.PartSteps.{at_halt}
+use Rattle.icn_control.proofs.StackAndWorldSteps.{match_halt}
 use Rattle.icn_calls.proofs.ParameterSteps.{length_values_for, live_values_for}
 use Rattle.icn_calls.proofs.RecordSteps.{record_halts, record_runs}
 use Rattle.icn_calls.proofs.constructors.construct.Goals as goal
 
 pub returns-in_default-clause-leaves : goal.returns-in_default-clause-leaves
 returns-in_default-clause-leaves g c = record {
-  kept = items_all (reach_of c.args.world.now []);
+  kept = keeps_items_refl (reach_of c.args.world.now []);
   counts = search rules;
   halt = search rules;
 }
@@ -37,7 +37,7 @@ returns-in_err-rec-clause-step g c entry at st same =
     let v = c.record_of.new.world in
     let m = c.args.frames.now.flat in
     let stop = c.in_err-rec.field-0.0 in
-    at_halt c.from_residual.result (halt_of stop) _ _ c.from_residual.ensures.1
+    match_halt c.from_residual.result (halt_of stop) _ _ c.from_residual.ensures.1
     (record_halts w v m c.args.kind c.kind_of.result c.field_count.result entry c.args.vals.now.items c.deref.result.now stop c.kind_of.ensures
     (c.field_count.ensures.count entry at) (c.deref.ensures.value ∙ c.in-Ok.ensures) c.in_err-rec.ensures.made st same)
 

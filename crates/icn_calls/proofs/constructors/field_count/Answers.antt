@@ -1,7 +1,7 @@
 use Rattle.std.proofs.Common.{◌≡◌, ◌≤◌, ◌∙◌, ℕ, Some, length, sym, ap, subst}
 use Rattle.std.proofs.lemmas.Option.{same_Some}
 use Rattle.icn_code.specs.Codes.{RecordType, record_of}
-use Rattle.icn_code.specs.Seen.{tables_of}
+use Rattle.icn_code.specs.CodeTables.{tables_of}
 use Rattle.icn_calls.proofs.CallSteps.{entry_at}
 use Rattle.icn_calls.proofs.RuleSteps.{few_fields}
 use Rattle.icn_calls.proofs.constructors.field_count.Goals as goal

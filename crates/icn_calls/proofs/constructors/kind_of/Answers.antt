@@ -1,5 +1,5 @@
 use Rattle.std.proofs.Common.{◌<◌, arith}
-use Rattle.icn_code.specs.Seen.{tables_of}
+use Rattle.icn_code.specs.CodeTables.{tables_of}
 use Rattle.icn_calls.proofs.RuleSteps.{kind_within}
 use Rattle.icn_calls.proofs.constructors.kind_of.Goals as goal
 

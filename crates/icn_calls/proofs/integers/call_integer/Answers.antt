@@ -14,5 +14,5 @@ returns-in-None-clause-step g c =
     let value = value_in all c.args.callee in
     let items = map (item_in all) c.args.items.now in
     let fits : FitsSigned w64 c.in-Some.n = search rules in
-    none_runs c.args.world.now value (number_of value) c.in-Some.n items c.args.frames.now.flat c.chosen.result (sym c.number_of.ensures ∙ c.in-Some.is)
-    (c.chosen.ensures.item all ∙ ap (λ (k : ℤ). choose_item k items) (to_z-of_z w64 c.in-Some.n fits)) c.in-None.is
+    none_runs c.args.world.now value (number_of value) c.in-Some.n items c.args.frames.now.flat c.pick_argument.result (sym c.number_of.ensures ∙ c.in-Some.is)
+    (c.pick_argument.ensures.item all ∙ ap (λ (k : ℤ). choose_item k items) (to_z-of_z w64 c.in-Some.n fits)) c.in-None.is

@@ -2,25 +2,25 @@ use Rattle.std.proofs.Common.{[], sym, subst, rules}
 use Rattle.icn_heap.specs.Heaps.{extent_of}
 use Rattle.icn_vars.specs.Stops.{halt_of}
 use Rattle.icn_vars.specs.Worlds.{reach_of}
-use Rattle.icn_vars.proofs.KeptItems.{items_all}
+use Rattle.icn_vars.proofs.KeptItems.{keeps_items_refl}
 use Rattle.icn_frames.specs.Stacks.{FlatStack}
 use Rattle.icn_run.specs.Stacks.{flat}
 use Rattle.icn_run.specs.Step.{construct_record}
-use Rattle.icn_control.specs.Living.{IsLiveStack}
-use Rattle.icn_control.specs.Standing.{stack_in}
-use Rattle.icn_control.proofs.PartSteps.{at_halt}
+use Rattle.icn_control.specs.LiveStacks.{IsLiveStack}
+use Rattle.icn_control.specs.StackViews.{stack_in}
+use Rattle.icn_control.proofs.StackAndWorldSteps.{match_halt}
 use Rattle.icn_calls.proofs.InvokeSteps.{values_halt, values_run}
 use Rattle.icn_calls.proofs.invoking.construct_with.Goals as goal
 
 pub returns-in_err-values_of-clause-step : goal.returns-in_err-values_of-clause-step
 returns-in_err-values_of-clause-step g c entry at st same =
-    at_halt c.from_residual.result (halt_of c.in_err-values_of.field-0.0) _ _ c.from_residual.ensures.1
+    match_halt c.from_residual.result (halt_of c.in_err-values_of.field-0.0) _ _ c.from_residual.ensures.1
     (c.in_err-values_of.ensures.values st
     (λ values. construct_record flat c.args.kind entry values (stack_in (extent_of c.args.world.now.heap) c.args.frames.now.flat) st) same)
 
 pub returns-in_err-values_of-clause-leaves : goal.returns-in_err-values_of-clause-leaves
 returns-in_err-values_of-clause-leaves g c = record {
-  kept = items_all (reach_of c.args.world.now []);
+  kept = keeps_items_refl (reach_of c.args.world.now []);
   counts = search rules;
   halt = search rules;
 }

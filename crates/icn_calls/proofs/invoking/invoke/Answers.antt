@@ -1,10 +1,10 @@
 use Rattle.std.proofs.Common.{[], map, rules}
 use Rattle.icn_heap.specs.Heaps.{extent_of}
 use Rattle.icn_vars.specs.Worlds.{item_in, reach_of}
-use Rattle.icn_vars.proofs.KeptItems.{items_all}
-use Rattle.icn_code.specs.Seen.{tables_of}
+use Rattle.icn_vars.proofs.KeptItems.{keeps_items_refl}
+use Rattle.icn_code.specs.CodeTables.{tables_of}
 use Rattle.icn_run.specs.Step as code
-use Rattle.icn_control.specs.Standing.{stack_in}
+use Rattle.icn_control.specs.StackViews.{stack_in}
 use Rattle.icn_calls.proofs.InvokeSteps.{by_number, called_by_number, never_function, nothing_called, nothing_counted, stands_as}
 use Rattle.icn_calls.proofs.invoking.invoke.Goals as goal
 
@@ -19,7 +19,7 @@ returns-in_default g c =
           (c.call_integer.ensures.step st same);
       live = c.call_integer.ensures.live (tables_of c.args.code.now);
       leaves = record {
-        kept = items_all (reach_of w []);
+        kept = keeps_items_refl (reach_of w []);
         counts = nothing_counted c.call_integer.result w;
         halt = c.call_integer.ensures.halt;
       };
@@ -55,7 +55,7 @@ returns-in-Nothing-clause-step g c st same =
 
 pub returns-in-Nothing-clause-leaves : goal.returns-in-Nothing-clause-leaves
 returns-in-Nothing-clause-leaves g c = record {
-  kept = items_all (reach_of c.args.world.now []);
+  kept = keeps_items_refl (reach_of c.args.world.now []);
   counts = search rules;
   halt = search rules;
 }

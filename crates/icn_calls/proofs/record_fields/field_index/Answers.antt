@@ -1,5 +1,5 @@
 use Rattle.std.proofs.Common.{◌<◌, ◌≤◌, ℕ, List, IfSome, length, sym, subst}
-use Rattle.icn_code.specs.Seen.{tables_of}
+use Rattle.icn_code.specs.CodeTables.{tables_of}
 use Rattle.icn_calls.proofs.RecordSteps.{count_found, kind_there, place_absent, place_found}
 use Rattle.icn_calls.proofs.RuleSteps.{few_fields}
 use Rattle.icn_calls.proofs.record_fields.field_index.Goals as goal

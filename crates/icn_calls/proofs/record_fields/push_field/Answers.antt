@@ -7,17 +7,17 @@ use Rattle.icn_value.specs.declared.item.Item.TheVariants.{Var}
 use Rattle.icn_value.specs.declared.item.VarRef.TheVariants.{Whole}
 use Rattle.icn_value.specs.declared.item.Root.TheVariants.{Field}
 use Rattle.icn_frames.specs.Stacks.{FlatStack}
-use Rattle.icn_code.specs.Seen.{tables_of}
-use Rattle.icn_control.specs.Living.{IsLiveStack}
-use Rattle.icn_control.proofs.LiveCalls.{live_push, own}
-use Rattle.icn_control.proofs.PartSteps.{at_halt}
+use Rattle.icn_code.specs.CodeTables.{tables_of}
+use Rattle.icn_control.specs.LiveStacks.{IsLiveStack}
+use Rattle.icn_control.proofs.LiveCalls.{live_push, own_locals}
+use Rattle.icn_control.proofs.StackAndWorldSteps.{match_halt}
 use Rattle.icn_calls.specs.Calling.{field_count}
 use Rattle.icn_calls.proofs.RecordSteps.{field_live, field_runs, field_unfound, no_such_field, not_a_record}
 use Rattle.icn_calls.proofs.record_fields.push_field.Goals as goal
 
 pub returns-in_err-val-clause-step : goal.returns-in_err-val-clause-step
 returns-in_err-val-clause-step g c st same =
-    at_halt c.from_residual.result (halt_of c.in_err-val.field-0.0) _ _ c.from_residual.ensures.1
+    match_halt c.from_residual.result (halt_of c.in_err-val.field-0.0) _ _ c.from_residual.ensures.1
     (field_unfound c.args.world.now (tables_of c.args.code.now) c.args.field c.args.item c.args.frames.now.flat c.in_err-val.field-0.0 st same
     (c.in_err-val.ensures.value st same))
 
@@ -49,6 +49,6 @@ returns-in-Ok-clause-live g c t k =
     = subst (λ (x : FlatStack). IsLiveStack t (reach_of c.args.world.now []) x) (sym c.value_of.ensures.same) k in
     subst (λ (x : FlatStack). IsLiveStack t (reach_of c.args.world.now []) x) (sym c.in-Ok.ensures.ok)
     (live_push t (reach_of c.args.world.now []) c.value_of.new.frames.flat (Var (Whole (Field c.in-Rec.rec c.in-Some.place))) here
-    (field_live (field_count (tables_of c.args.code.now)) c.args.world.now (own c.value_of.new.frames.flat) c.in-Rec.rec c.in-Some.place c.kind.result
+    (field_live (field_count (tables_of c.args.code.now)) c.args.world.now (own_locals c.value_of.new.frames.flat) c.in-Rec.rec c.in-Some.place c.kind.result
     c.requires.sizes
     (subst (IsLive (extent_of c.args.world.now.heap)) c.in-Rec.is c.in_ok-val.ensures.live) c.kind.ensures c.in-Some.ensures.within))

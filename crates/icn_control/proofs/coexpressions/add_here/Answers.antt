@@ -3,12 +3,12 @@ use Rattle.icn_value.specs.declared.val.Val.TheVariants.{Coexp as HeldCoexp}
 use Rattle.icn_value.specs.declared.item.Item.TheVariants.{Val as HeldVal}
 use Rattle.icn_frames.specs.Stacks as held
 use Rattle.icn_frames.specs.Stacks.{FlatStack}
-use Rattle.icn_coexp.specs.Transfers.{Table}
+use Rattle.icn_coexp.specs.Transfers.{CoexpTable}
 use Rattle.icn_control.proofs.CreateSteps.{adds_here}
 use Rattle.icn_control.proofs.coexpressions.add_here.Goals as goal
 
 pub frames-frames-requires-2 : goal.frames-frames-requires-2
-frames-frames-requires-2 g c = subst (λ (o : Option FlatStack). IsSome o) (sym (ap (λ (x : Table). x.running) c.in_ok-id.ensures.made)) refl
+frames-frames-requires-2 g c = subst (λ (o : Option FlatStack). IsSome o) (sym (ap (λ (x : CoexpTable). x.running) c.in_ok-id.ensures.made)) refl
 
 pub returns : goal.returns
 returns g c =

@@ -6,18 +6,18 @@ use Rattle.icn_heap.specs.Heaps.{extent_of, heap_of}
 use Rattle.icn_vars.specs.Worlds.{reach_of}
 use Rattle.icn_frames.specs.Stacks as held
 use Rattle.icn_frames.specs.Stacks.{FlatStack}
-use Rattle.icn_coexp.specs.Transfers.{Table}
+use Rattle.icn_coexp.specs.Transfers.{CoexpTable}
 use Rattle.icn_run.specs.Step.{all_names}
-use Rattle.icn_control.specs.Living.{IsLiveStack}
-use Rattle.icn_control.specs.Counting.{EnterOthers}
+use Rattle.icn_control.specs.LiveStacks.{IsLiveStack}
+use Rattle.icn_control.specs.ResultCounts.{EnterOthers}
 use Rattle.icn_control.proofs.CountedSteps.{new_others, same_counts, turn_more}
 use Rattle.icn_control.proofs.CreateSteps.{create_errs, create_runs}
-use Rattle.icn_control.proofs.Deref.{live_locals}
-use Rattle.icn_control.proofs.ExhaustSteps.{under}
-use Rattle.icn_control.proofs.Halts.{at_stopped, running_live}
+use Rattle.icn_control.proofs.OperandValues.{live_locals}
+use Rattle.icn_control.proofs.ExhaustSteps.{nat_lt_true}
+use Rattle.icn_control.proofs.Halts.{match_stopped, running_live}
 use Rattle.icn_control.proofs.LiveTransfers.{created_length, created_live}
 use Rattle.icn_control.proofs.MachineSteps.{stacks_on}
-use Rattle.icn_control.proofs.StackStands.{created_runs}
+use Rattle.icn_control.proofs.RunningStacks.{created_runs}
 use Rattle.icn_control.proofs.coexpressions.create.Goals as goal
 
 pub returns-in_err-charge_coexp-clause-step : goal.returns-in_err-charge_coexp-clause-step
@@ -30,8 +30,8 @@ returns-in_err-charge_coexp-clause-step g c tables outside =
     let sound = c.requires.stands.sound.1 in
     let live : IsLiveStack t (reach_of w []) f = running_live t (reach_of w []) m.stacks.table f c.frames.ensures.running sound.stacks in
     let more : nat_lt m.turns (heap_of w.heap).bounds.turns ≡ true
-    = ap (λ (x : Bounds). nat_lt m.turns x.turns) sound.bounds ∙ under m.turns m.limits.turns c.if-m.false in
-    at_stopped c.from_residual.result c.in_err-charge_coexp.field-0.0 _ _ c.from_residual.ensures.1 tt
+    = ap (λ (x : Bounds). nat_lt m.turns x.turns) sound.bounds ∙ nat_lt_true m.turns m.limits.turns c.if-m.false in
+    match_stopped c.from_residual.result c.in_err-charge_coexp.field-0.0 _ _ c.from_residual.ensures.1 tt
     (λ number offending e.
     create_errs t tables w v f c.args.label c.local_count-count.result number offending c.in_err-charge_coexp.field-0.0 (all_names tables) outside m.turns
     (m.turns + 1) m.begun.items m.stacks.table
@@ -52,7 +52,7 @@ returns-in-Ok-clause-step g c tables outside =
     let sound = c.requires.stands.sound.1 in
     let live : IsLiveStack t (reach_of w []) f = running_live t (reach_of w []) m.stacks.table f c.frames.ensures.running sound.stacks in
     let more : nat_lt m.turns (heap_of w.heap).bounds.turns ≡ true
-    = ap (λ (x : Bounds). nat_lt m.turns x.turns) sound.bounds ∙ under m.turns m.limits.turns c.if-m.false in
+    = ap (λ (x : Bounds). nat_lt m.turns x.turns) sound.bounds ∙ nat_lt_true m.turns m.limits.turns c.if-m.false in
     create_runs t tables w v f c.args.label c.local_count-count.result (length (heap_of w.heap).coexps) (all_names tables) outside m.turns
     (m.turns + 1) m.begun.items m.stacks.table c.add_here.new.stacks.table
     c.frames.ensures.running more c.charge_coexp.ensures.kept live sound.stacks.coexps c.local_count-count.ensures.same c.local_count-count.ensures.all
@@ -65,8 +65,8 @@ returns-in-Ok-clause-keeps g c = record {
       let w = m.world in
       let v = c.charge_coexp.new.world in
       let f : FlatStack = c.frames.result.now.flat in
-      let table : Table = record m.stacks.table { running = Some f } in
-      let u : Table = c.add_here.new.stacks.table in
+      let table : CoexpTable = record m.stacks.table { running = Some f } in
+      let u : CoexpTable = c.add_here.new.stacks.table in
       let cs = (heap_of m.world.heap).coexps in
       let ds = (heap_of c.charge_coexp.new.world.heap).coexps in
       record {
@@ -80,12 +80,13 @@ returns-in-Ok-clause-keeps g c = record {
             ∙ sym (created_length table c.add_here.new.stacks.table f c.args.label refl c.in-Ok.ensures);
         counted = record {
           results = same_counts (m.turns + 1) m.stacks.table.active u.active cs ds c.in_ok-charge_coexp.ensures.counts
-              (ap (λ (x : Table). x.active) c.in-Ok.ensures) (turn_more m.turns m.stacks.table.active cs k.counted.results);
-          activators = subst (λ (x : Table). EnterOthers x.coexps) (sym c.in-Ok.ensures)
+              (ap (λ (x : CoexpTable). x.active) c.in-Ok.ensures) (turn_more m.turns m.stacks.table.active cs k.counted.results);
+          activators = subst (λ (x : CoexpTable). EnterOthers x.coexps) (sym c.in-Ok.ensures)
               (new_others m.stacks.table (held.locals f) (held.proc f) f.address k.counted.activators);
         };
       });
   halt = search rules;
   limits = refl;
-  stack = created_runs c.args.label (record c.args.m.now.stacks.table { running = Some c.frames.result.now.flat }) c.add_here.new.stacks.table refl c.in-Ok.ensures;
+  stack = created_runs c.args.label
+      (record c.args.m.now.stacks.table { running = Some c.frames.result.now.flat }) c.add_here.new.stacks.table refl c.in-Ok.ensures;
 }

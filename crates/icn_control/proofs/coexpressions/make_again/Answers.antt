@@ -5,16 +5,16 @@ use Rattle.icn_heap.specs.Heaps.{extent_of, heap_of}
 use Rattle.icn_vars.specs.Worlds.{reach_of}
 use Rattle.icn_frames.specs.Stacks as held
 use Rattle.icn_frames.specs.Stacks.{FlatStack}
-use Rattle.icn_coexp.specs.Transfers.{Table}
+use Rattle.icn_coexp.specs.Transfers.{CoexpTable}
 use Rattle.icn_run.specs.Step.{all_names}
-use Rattle.icn_control.specs.Living.{IsLiveStack}
+use Rattle.icn_control.specs.LiveStacks.{IsLiveStack}
 use Rattle.icn_control.proofs.ActivationSteps.{copy_errs, copy_runs}
 use Rattle.icn_control.proofs.CountedSteps.{copied_active, copied_others, same_counts}
-use Rattle.icn_control.proofs.Deref.{live_locals}
-use Rattle.icn_control.proofs.Halts.{at_stopped, running_live}
+use Rattle.icn_control.proofs.OperandValues.{live_locals}
+use Rattle.icn_control.proofs.Halts.{match_stopped, running_live}
 use Rattle.icn_control.proofs.LiveTransfers.{copied_length, copied_live}
 use Rattle.icn_control.proofs.MachineSteps.{stacks_on}
-use Rattle.icn_control.proofs.StackStands.{copied_runs}
+use Rattle.icn_control.proofs.RunningStacks.{copied_runs}
 use Rattle.icn_control.proofs.coexpressions.make_again.Goals as goal
 
 pub returns-in_err-charge_coexp-clause-step : goal.returns-in_err-charge_coexp-clause-step
@@ -26,11 +26,11 @@ returns-in_err-charge_coexp-clause-step g c tables outside =
     let t = c.requires.stands.sound.0 in
     let sound = c.requires.stands.sound.1 in
     let live : IsLiveStack t (reach_of w []) f = running_live t (reach_of w []) m.stacks.table f c.frames.ensures.running sound.stacks in
-    at_stopped c.from_residual.result c.in_err-charge_coexp.field-0.0 _ _ c.from_residual.ensures.1 tt
+    match_stopped c.from_residual.result c.in_err-charge_coexp.field-0.0 _ _ c.from_residual.ensures.1 tt
     (λ number offending e.
-    copy_errs t w v f c.args.id c.held-count.result number offending c.in_err-charge_coexp.field-0.0
+    copy_errs t w v f c.args.id c.value_count-count.result number offending c.in_err-charge_coexp.field-0.0
     (all_names tables) outside m.turns m.begun.items m.stacks.table (record m.stacks.table { running = Some f })
-    c.frames.ensures.running c.requires.other c.requires.there c.charge_coexp.ensures.kept live sound.stacks.coexps c.held-count.ensures
+    c.frames.ensures.running c.requires.other c.requires.there c.charge_coexp.ensures.kept live sound.stacks.coexps c.value_count-count.ensures
     (c.in_err-charge_coexp.ensures.row outside (held.locals f) (live_locals t (reach_of w []) f live)) e)
 
 pub add_copy-requires-clause-few : goal.add_copy-requires-clause-few
@@ -45,10 +45,10 @@ returns-in-Ok-clause-step g c tables outside =
     let t = c.requires.stands.sound.0 in
     let sound = c.requires.stands.sound.1 in
     let live : IsLiveStack t (reach_of w []) f = running_live t (reach_of w []) m.stacks.table f c.frames.ensures.running sound.stacks in
-    copy_runs t w v f c.args.id c.held-count.result (length (heap_of w.heap).coexps)
+    copy_runs t w v f c.args.id c.value_count-count.result (length (heap_of w.heap).coexps)
     (all_names tables) outside m.turns m.begun.items m.stacks.table c.add_copy.new.stacks.table
     c.frames.ensures.running c.requires.other c.requires.there c.charge_coexp.ensures.kept live sound.stacks.coexps c.local_count.ensures.same
-    c.held-count.ensures
+    c.value_count-count.ensures
     (c.in_ok-charge_coexp.ensures.row outside (held.locals f) (live_locals t (reach_of w []) f live)) sound.counts c.in-Ok.ensures
 
 pub returns-in-Ok-clause-keeps : goal.returns-in-Ok-clause-keeps
@@ -58,8 +58,8 @@ returns-in-Ok-clause-keeps g c = record {
       let w = m.world in
       let v = c.charge_coexp.new.world in
       let f : FlatStack = c.frames.result.now.flat in
-      let table : Table = record m.stacks.table { running = Some f } in
-      let u : Table = c.add_copy.new.stacks.table in
+      let table : CoexpTable = record m.stacks.table { running = Some f } in
+      let u : CoexpTable = c.add_copy.new.stacks.table in
       let cs = (heap_of m.world.heap).coexps in
       let ds = (heap_of c.charge_coexp.new.world.heap).coexps in
       record {

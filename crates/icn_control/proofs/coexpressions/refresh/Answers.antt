@@ -12,11 +12,11 @@ use Rattle.icn_run.specs.Stacks.{Frames, flat}
 use Rattle.icn_run.specs.Step.{State, Store, all_names, refresh}
 use Rattle.icn_control.specs.Machines.{ComesTo, IsLiveRunning, running_of, store_in}
 use Rattle.icn_control.specs.Operands.{with_top}
-use Rattle.icn_control.specs.Standing.{stack_in}
-use Rattle.icn_control.proofs.ActivationSteps.{not_under, refresh_bound, refresh_goes}
+use Rattle.icn_control.specs.StackViews.{stack_in}
+use Rattle.icn_control.proofs.ActivationSteps.{nat_lt_false, refresh_bound, refresh_goes}
 use Rattle.icn_control.proofs.CountedSteps.{turn_more}
-use Rattle.icn_control.proofs.ExhaustSteps.{under}
-use Rattle.icn_control.proofs.Halts.{at_stopped, some_there, value_error}
+use Rattle.icn_control.proofs.ExhaustSteps.{nat_lt_true}
+use Rattle.icn_control.proofs.Halts.{match_stopped, value_of_some, value_error}
 use Rattle.icn_control.proofs.MachineSteps.{stacks_on}
 use Rattle.icn_control.proofs.OperandSteps.{main_refused, not_refreshed, number_is}
 use Rattle.icn_control.proofs.coexpressions.refresh.Goals as goal
@@ -25,10 +25,10 @@ pub returns-then-m-clause-step : goal.returns-then-m-clause-step
 returns-then-m-clause-step g c tables outside =
     let m = c.args.m.now in
     let t = m.stacks.table in
-    let runs = some_there t.running c.requires.stands.runs in
-    let top = some_there (held.pop runs.0) (subst (λ (x : FlatStack). IsSome (held.pop x)) (ap running_of runs.1) c.requires.operand) in
+    let runs = value_of_some t.running c.requires.stands.runs in
+    let top = value_of_some (held.pop runs.0) (subst (λ (x : FlatStack). IsSome (held.pop x)) (ap running_of runs.1) c.requires.operand) in
     let none : nat_lt m.turns (heap_of m.world.heap).bounds.turns ≡ false
-    = ap (λ (x : Bounds). nat_lt m.turns x.turns) c.requires.stands.sound.1.bounds ∙ not_under m.turns m.limits.turns c.if-m.true in
+    = ap (λ (x : Bounds). nat_lt m.turns x.turns) c.requires.stands.sound.1.bounds ∙ nat_lt_false m.turns m.limits.turns c.if-m.true in
     refresh_bound tables (all_names tables) outside m.world m.turns m.begun.items t runs.0 top.0.1 top.0.0 runs.1 none top.1
 
 pub take_value-requires-clause-operand : goal.take_value-requires-clause-operand
@@ -37,7 +37,8 @@ take_value-requires-clause-operand g c = subst (λ (x : FlatStack). IsSome (held
 pub take_value-requires-clause-stack : goal.take_value-requires-clause-stack
 take_value-requires-clause-stack g c = (
   c.requires.stands.sound.0,
-  subst (λ (o : Option FlatStack). IsLiveRunning c.requires.stands.sound.0 (reach_of c.args.m.now.world []) o) c.frames.ensures.running c.requires.stands.sound.1.stacks.runs,
+  subst (λ (o : Option FlatStack). IsLiveRunning c.requires.stands.sound.0 (reach_of c.args.m.now.world []) o) c.frames.ensures.running
+      c.requires.stands.sound.1.stacks.runs,
 )
 
 pub returns-in_err-v-clause-step : goal.returns-in_err-v-clause-step
@@ -47,9 +48,9 @@ returns-in_err-v-clause-step g c tables outside =
     let f : FlatStack = c.frames.result.now.flat in
     let st : Store Frames = store_in (all_names tables) outside (world_of w) (suc m.turns) m.begun.items (extent_of w.heap) m.stacks.table in
     let more : nat_lt m.turns (heap_of w.heap).bounds.turns ≡ true
-    = ap (λ (x : Bounds). nat_lt m.turns x.turns) c.requires.stands.sound.1.bounds ∙ under m.turns m.limits.turns c.if-m.false in
+    = ap (λ (x : Bounds). nat_lt m.turns x.turns) c.requires.stands.sound.1.bounds ∙ nat_lt_true m.turns m.limits.turns c.if-m.false in
     let state : State Frames Frames = with_top (stack_in (extent_of w.heap) f) st (λ value n. refresh flat value n st) in
-    at_stopped c.from_residual.result c.in_err-v.field-0.0 _ _ c.from_residual.ensures.1 tt
+    match_stopped c.from_residual.result c.in_err-v.field-0.0 _ _ c.from_residual.ensures.1 tt
     (λ number offending e.
     refresh_goes tables (all_names tables) outside w m.turns m.begun.items m.stacks.table f c.frames.ensures.running more
     ∙ value_error state st w c.in_err-v.field-0.0 number offending (c.in_err-v.ensures.step st (λ value n. refresh flat value n st) refl) e)
@@ -62,7 +63,7 @@ returns-in_default-clause-step g c tables outside =
     let n : FlatStack = c.take_value.new.frames.flat in
     let st : Store Frames = store_in (all_names tables) outside (world_of w) (suc m.turns) m.begun.items (extent_of w.heap) m.stacks.table in
     let more : nat_lt m.turns (heap_of w.heap).bounds.turns ≡ true
-    = ap (λ (x : Bounds). nat_lt m.turns x.turns) c.requires.stands.sound.1.bounds ∙ under m.turns m.limits.turns c.if-m.false in
+    = ap (λ (x : Bounds). nat_lt m.turns x.turns) c.requires.stands.sound.1.bounds ∙ nat_lt_true m.turns m.limits.turns c.if-m.false in
     refresh_goes tables (all_names tables) outside w m.turns m.begun.items m.stacks.table f c.frames.ensures.running more
     ∙ c.in_ok-v.ensures.step st (λ value n. refresh flat value n st) refl
     ∙ not_refreshed (extent_of w.heap) c.in_ok-v.v (stack_in (extent_of w.heap) n) st (sym c.in_default.is ∙ c.coexp_of.ensures)
@@ -75,7 +76,7 @@ returns-then-id-eq0-clause-step g c tables outside =
     let n : FlatStack = c.take_value.new.frames.flat in
     let st : Store Frames = store_in (all_names tables) outside (world_of w) (suc m.turns) m.begun.items (extent_of w.heap) m.stacks.table in
     let more : nat_lt m.turns (heap_of w.heap).bounds.turns ≡ true
-    = ap (λ (x : Bounds). nat_lt m.turns x.turns) c.requires.stands.sound.1.bounds ∙ under m.turns m.limits.turns c.if-m.false in
+    = ap (λ (x : Bounds). nat_lt m.turns x.turns) c.requires.stands.sound.1.bounds ∙ nat_lt_true m.turns m.limits.turns c.if-m.false in
     let is : c.in_ok-v.v ≡ Vals.Coexp 0 = number_is c.in_ok-v.v c.in-Some.id (sym c.in-Some.is ∙ c.coexp_of.ensures)
     ∙ ap (λ (k : ℕ). Vals.Coexp k) c.if-id-eq0.true in
     refresh_goes tables (all_names tables) outside w m.turns m.begun.items m.stacks.table f c.frames.ensures.running more
@@ -119,7 +120,7 @@ returns-clause-step g c tables outside =
     let at : ℕ → Store Frames = λ k. store_in (all_names tables) outside (world_of w) k m.begun.items (extent_of w.heap) m.stacks.table in
     let st : Store Frames = at (suc m.turns) in
     let more : nat_lt m.turns (heap_of w.heap).bounds.turns ≡ true
-    = ap (λ (x : Bounds). nat_lt m.turns x.turns) c.requires.stands.sound.1.bounds ∙ under m.turns m.limits.turns c.if-m.false in
+    = ap (λ (x : Bounds). nat_lt m.turns x.turns) c.requires.stands.sound.1.bounds ∙ nat_lt_true m.turns m.limits.turns c.if-m.false in
     let is : c.in_ok-v.v ≡ Vals.Coexp c.in-Some.id = number_is c.in_ok-v.v c.in-Some.id (sym c.in-Some.is ∙ c.coexp_of.ensures) in
     subst (λ (s : State Frames Frames). ComesTo tables outside s c.make_again.new.m c.make_again.result)
     (sym (
@@ -139,7 +140,8 @@ returns-clause-keeps g c = record {
             (λ l. c.take_value.ensures.live tables l) k.stacks;
         bounds = k.bounds;
         counts = k.counts;
-        counted = record { results = turn_more m.turns m.stacks.table.active (heap_of m.world.heap).coexps k.counted.results; activators = k.counted.activators };
+        counted =
+            record { results = turn_more m.turns m.stacks.table.active (heap_of m.world.heap).coexps k.counted.results; activators = k.counted.activators };
       }));
   halt = search rules;
   limits = c.make_again.ensures.keeps.limits;

@@ -1,10 +1,10 @@
 use Rattle.std.proofs.Common.{sym, ◌∙◌, subst}
 use Rattle.icn_frames.specs.Stacks.{FlatStack}
-use Rattle.icn_control.specs.Living.{IsLiveStack}
+use Rattle.icn_control.specs.LiveStacks.{IsLiveStack}
 use Rattle.icn_control.proofs.LiveCalls.{live_unmark, live_go}
-use Rattle.icn_control.proofs.FallSteps.{drops_leaving, drops_failing, drops_running, drops_beginning}
-use Rattle.icn_control.proofs.LessSteps.{unmark_less}
-use Rattle.icn_control.proofs.NamedFalls.{goes_falls, repeats_falls, unmark_falls}
+use Rattle.icn_control.proofs.FailingStackSteps.{drops_leaving, drops_failing, drops_running, drops_beginning}
+use Rattle.icn_control.proofs.FewerCells.{unmark_less}
+use Rattle.icn_control.proofs.NamedFailing.{goes_falls, repeats_falls, unmark_falls}
 use Rattle.icn_control.proofs.failing.drop_failed.Goals as goal
 
 pub returns-then-at_base-clause-step : goal.returns-then-at_base-clause-step
@@ -12,16 +12,16 @@ returns-then-at_base-clause-step g c = drops_leaving c.args.frames.now.flat (sym
 
 pub returns-in-None-clause-step : goal.returns-in-None-clause-step
 returns-in-None-clause-step g c =
-    drops_failing c.args.frames.now.flat c.unmark.new.self.flat c.unmark.result c.label-label.result c.relabelled-again.result c.unmark.ensures.flat
-    c.label-label.ensures c.relabelled-again.ensures c.in-None.is
+    drops_failing c.args.frames.now.flat c.unmark.new.self.flat c.unmark.result c.label-label.result c.has_new_label-again.result c.unmark.ensures.flat
+    c.label-label.ensures c.has_new_label-again.ensures c.in-None.is
 
 pub returns-in-None-clause-live : goal.returns-in-None-clause-live
 returns-in-None-clause-live g c t reach k = (live_unmark t reach c.args.frames.now.flat c.unmark.new.self.flat c.unmark.result c.unmark.ensures.flat k).rest
 
 pub returns-then-again-clause-step : goal.returns-then-again-clause-step
 returns-then-again-clause-step g c =
-    drops_beginning c.args.frames.now.flat c.unmark.new.self.flat c.go.new.self.flat c.unmark.result c.label-label.result c.relabelled-again.result
-    c.in-Some.address c.unmark.ensures.flat c.label-label.ensures c.relabelled-again.ensures
+    drops_beginning c.args.frames.now.flat c.unmark.new.self.flat c.go.new.self.flat c.unmark.result c.label-label.result c.has_new_label-again.result
+    c.in-Some.address c.unmark.ensures.flat c.label-label.ensures c.has_new_label-again.ensures
     c.in-Some.is c.if-again.true c.go.ensures.flat
 
 pub returns-then-again-clause-live : goal.returns-then-again-clause-live
@@ -32,8 +32,8 @@ returns-then-again-clause-live g c t reach k =
 
 pub returns-else-again-clause-step : goal.returns-else-again-clause-step
 returns-else-again-clause-step g c =
-    drops_running c.args.frames.now.flat c.unmark.new.self.flat c.go.new.self.flat c.unmark.result c.label-label.result c.relabelled-again.result
-    c.in-Some.address c.unmark.ensures.flat c.label-label.ensures c.relabelled-again.ensures
+    drops_running c.args.frames.now.flat c.unmark.new.self.flat c.go.new.self.flat c.unmark.result c.label-label.result c.has_new_label-again.result
+    c.in-Some.address c.unmark.ensures.flat c.label-label.ensures c.has_new_label-again.ensures
     c.in-Some.is c.if-again.false c.go.ensures.flat
 
 pub returns-else-again-clause-live : goal.returns-else-again-clause-live

@@ -1,14 +1,14 @@
 use Rattle.std.proofs.Common.{[], sym, subst}
 use Rattle.icn_heap.specs.Heaps.{extent_of}
 use Rattle.icn_vars.specs.Worlds.{Reach, reach_of}
-use Rattle.icn_control.specs.Living.{IsLiveStack}
+use Rattle.icn_control.specs.LiveStacks.{IsLiveStack}
 use Rattle.icn_control.proofs.LiveFrames.{live_resume}
 use Rattle.icn_frames.specs.declared.layout.Why.TheVariants.{Alt, Op, Scan, Escan, Proc}
-use Rattle.icn_control.proofs.FallSteps.{resumed_as, escan_open, fall_none, fall_alt, fall_op, fall_scan, fall_escan, fall_proc}
-use Rattle.icn_control.specs.Falls.{FallsBelow}
-use Rattle.icn_control.proofs.LessSteps.{resume_less, swapped_less}
-use Rattle.icn_control.proofs.NamedFalls.{alt_falls, escan_falls, none_falls, op_falls, pair_named, proc_falls, scan_falls}
-use Rattle.icn_control.specs.Standing.{pair_in}
+use Rattle.icn_control.proofs.FailingStackSteps.{resumed_as, escan_open, fall_none, fall_alt, fall_op, fall_scan, fall_escan, fall_proc}
+use Rattle.icn_control.specs.FailingStacks.{FallsBelow}
+use Rattle.icn_control.proofs.FewerCells.{resume_less, swapped_less}
+use Rattle.icn_control.proofs.NamedFailing.{alt_falls, escan_falls, none_falls, op_falls, pair_named, proc_falls, scan_falls}
+use Rattle.icn_control.specs.StackViews.{pair_in}
 use Rattle.icn_frames.specs.Stacks.{FlatStack}
 use Rattle.icn_control.proofs.failing.fall.Goals as goal
 

@@ -6,14 +6,14 @@ use Rattle.icn_frames.specs.Stacks.{FlatStack}
 use Rattle.icn_code.specs.Codes.{Tables}
 use Rattle.icn_run.specs.Stacks.{Frames, flat}
 use Rattle.icn_run.specs.Step.{Store, all_names, fails, stuck}
-use Rattle.icn_control.specs.Living.{IsLiveStack}
+use Rattle.icn_control.specs.LiveStacks.{IsLiveStack}
 use Rattle.icn_control.specs.Machines.{AreLiveStacks, running_of, store_in}
-use Rattle.icn_control.specs.Standing.{stack_in}
+use Rattle.icn_control.specs.StackViews.{stack_in}
 use Rattle.icn_control.proofs.CountedSteps.{heap_counts}
 use Rattle.icn_control.proofs.MachineSteps.{stacks_on}
-use Rattle.icn_control.proofs.FailSteps.{due_at}
-use Rattle.icn_control.specs.Falls.{FallsBelow}
-use Rattle.icn_control.proofs.NamedFalls.{stack_falls, store_falls}
+use Rattle.icn_control.proofs.FailingMachineSteps.{due_at}
+use Rattle.icn_control.specs.FailingStacks.{FallsBelow}
+use Rattle.icn_control.proofs.NamedFailing.{stack_falls, store_falls}
 use Rattle.icn_control.proofs.failing_step.fail_once.Goals as goal
 
 pub fall-requires-clause-goes_on : goal.fall-requires-clause-goes_on
@@ -41,7 +41,8 @@ returns-clause-sound g c tables k =
     let on = stacks_on tables (reach_of m.world []) m.stacks.table c.frames.result.now.flat c.fall.new.frames.flat c.frames.ensures.running
     (λ l. subst (λ (r : Reach). IsLiveStack tables r c.fall.new.frames.flat) c.fall.ensures.same.reach (c.fall.ensures.live tables l)) k.stacks in
     record {
-      stacks = subst (λ (r : Reach). AreLiveStacks tables r (record m.stacks.table { running = Some c.fall.new.frames.flat })) (sym c.fall.ensures.same.reach) on;
+      stacks = subst (λ (r : Reach). AreLiveStacks tables r (record m.stacks.table { running = Some c.fall.new.frames.flat }))
+          (sym c.fall.ensures.same.reach) on;
       bounds = ap (λ (h : HeldHeap). (heap_of h).bounds) c.fall.ensures.same.heap ∙ k.bounds;
       counts = ap (λ (h : HeldHeap). length (heap_of h).coexps) c.fall.ensures.same.heap ∙ k.counts;
       counted =
@@ -65,5 +66,6 @@ returns-clause-named g c =
       stack =
           stack_falls m.world c.fall.new.world m.stacks.table.running c.frames.result.now.flat c.fall.new.frames.flat c.fall.result c.frames.ensures.running
           c.fall.ensures.same.heap c.fall.ensures.named;
-      store = store_falls m.world c.fall.new.world m.turns m.begun.items m.stacks.table c.fall.new.frames.flat c.fall.ensures.same.heap c.fall.ensures.world_named;
+      store = store_falls m.world c.fall.new.world m.turns m.begun.items m.stacks.table c.fall.new.frames.flat c.fall.ensures.same.heap
+          c.fall.ensures.world_named;
     }

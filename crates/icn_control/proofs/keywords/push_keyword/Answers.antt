@@ -4,9 +4,9 @@ use Rattle.icn_vars.specs.Worlds.{Reach, IsLiveItem, reach_of, world_of}
 use Rattle.icn_frames.specs.Stacks.{FlatStack}
 use Rattle.icn_coexp.specs.Transfers.{source}
 use Rattle.icn_run.specs.Step.{all_names}
-use Rattle.icn_control.specs.Living.{IsLiveStack, with_locals}
-use Rattle.icn_control.specs.Landing.{Beside}
-use Rattle.icn_control.proofs.LiveCalls.{own, live_push}
+use Rattle.icn_control.specs.LiveStacks.{IsLiveStack, with_locals}
+use Rattle.icn_control.specs.TransfersRead.{Beside}
+use Rattle.icn_control.proofs.LiveCalls.{own_locals, live_push}
 use Rattle.icn_control.proofs.LiveFrames.{level_low}
 use Rattle.icn_control.proofs.MachineSteps.{stacks_on}
 use Rattle.icn_control.proofs.LiteralSteps.{keyword_fails, keyword_runs, coexps_counted, active_there, running_live}
@@ -49,8 +49,8 @@ returns-in_ok-push-in-Some-clause-sound g c tables k =
     let giver : c.source-source.result < (extent_of m.world.heap).coexps
     = subst (λ (n : ℕ). n < (extent_of m.world.heap).coexps) (sym c.source-source.ensures)
     (subst (λ (n : ℕ). source m.stacks.table < n) (sym count) c.active-active.ensures.source) in
-    let item : IsLiveItem (with_locals (own c.frames-frames.result.now.flat) reach) c.in-Some.x =
-    c.in-Some.ensures.live (with_locals (own c.frames-frames.result.now.flat) reach) active giver in
+    let item : IsLiveItem (with_locals (own_locals c.frames-frames.result.now.flat) reach) c.in-Some.x =
+    c.in-Some.ensures.live (with_locals (own_locals c.frames-frames.result.now.flat) reach) active giver in
     record {
       stacks = stacks_on tables reach m.stacks.table c.frames-frames.result.now.flat c.push.new.self.flat c.frames-frames.ensures.running
           (λ l. subst (λ (x : FlatStack). IsLiveStack tables reach x) (sym c.in_ok-push-in-Some.ensures.ok)

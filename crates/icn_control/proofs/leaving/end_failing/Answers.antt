@@ -8,15 +8,15 @@ use Rattle.icn_frames.specs.Stacks.{FlatStack}
 use Rattle.icn_coexp.specs.Transfers.{with_stack}
 use Rattle.icn_run.specs.Stacks.{Frames, flat}
 use Rattle.icn_run.specs.Step.{State, without_mark}
-use Rattle.icn_control.specs.Living.{IsLiveStack}
+use Rattle.icn_control.specs.LiveStacks.{IsLiveStack}
 use Rattle.icn_control.specs.Machines.{AreLiveStacks, StandsAt, store_seen}
 use Rattle.icn_control.specs.declared.machine.Machine.{Machine}
-use Rattle.icn_control.specs.Standing.{stack_in}
+use Rattle.icn_control.specs.StackViews.{stack_in}
 use Rattle.icn_control.proofs.CountedSteps.{heap_counts}
 use Rattle.icn_control.proofs.Lifting.{ends_at, ends_body, ends_call, ends_main}
 use Rattle.icn_control.proofs.ListSteps.{on_running}
 use Rattle.icn_control.proofs.MachineSteps.{stacks_on}
-use Rattle.icn_control.proofs.StackStands.{stands_has_stack}
+use Rattle.icn_control.proofs.RunningStacks.{stands_has_stack}
 use Rattle.icn_control.proofs.leaving.end_failing.Goals as goal
 
 pub returns-then-not-is_base-clause-step : goal.returns-then-not-is_base-clause-step
@@ -43,7 +43,8 @@ returns-then-not-is_base-clause-keeps g c = record {
       let m = c.args.m.now in
       let on = stacks_on tables (reach_of m.world []) m.stacks.table c.frames-then-not-is_base.result.now.flat c.leave_failing.new.frames.flat
       (c.frames.ensures.running ∙ c.frames-then-not-is_base.ensures.running)
-      (λ l. subst (λ (r : Reach). IsLiveStack tables r c.leave_failing.new.frames.flat) c.leave_failing.ensures.same.reach (c.leave_failing.ensures.live tables l))
+      (λ l.
+      subst (λ (r : Reach). IsLiveStack tables r c.leave_failing.new.frames.flat) c.leave_failing.ensures.same.reach (c.leave_failing.ensures.live tables l))
       k.stacks in
       record {
         stacks = subst (λ (r : Reach). AreLiveStacks tables r (record m.stacks.table { running = Some c.leave_failing.new.frames.flat }))
@@ -109,7 +110,8 @@ returns-clause-keeps g c = record {
         bounds = ap (λ (h : HeldHeap). (heap_of h).bounds) c.leave_failing-2.ensures.same.heap ∙ k.bounds;
         counts = ap (λ (h : HeldHeap). length (heap_of h).coexps) c.leave_failing-2.ensures.same.heap ∙ k.counts;
         counted = record {
-          results = heap_counts m.turns m.stacks.table.active m.world.heap c.leave_failing-2.new.world.heap c.leave_failing-2.ensures.same.heap k.counted.results;
+          results = heap_counts m.turns m.stacks.table.active m.world.heap c.leave_failing-2.new.world.heap c.leave_failing-2.ensures.same.heap
+              k.counted.results;
           activators = k.counted.activators;
         };
       });

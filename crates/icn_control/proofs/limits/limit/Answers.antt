@@ -2,10 +2,10 @@ use Rattle.std.proofs.lemmas.Int.{to_z-of_z}
 use Rattle.std.proofs.Common.{◌<◌, [], None, FitsSigned, w64, rules, sym, ap, ◌∙◌, subst, arith}
 use Rattle.icn_vars.specs.Worlds.{Reach, reach_of}
 use Rattle.icn_frames.specs.Stacks.{FlatStack}
-use Rattle.icn_control.specs.Living.{IsLiveStack}
-use Rattle.icn_control.specs.Parts.{natural_of}
+use Rattle.icn_control.specs.LiveStacks.{IsLiveStack}
+use Rattle.icn_control.specs.StackAndWorld.{natural_of}
 use Rattle.icn_control.proofs.LiveCalls.{live_pop, live_limit}
-use Rattle.icn_control.proofs.PartSteps.{limit_err, limit_none, limit_below, limit_zero, limit_more}
+use Rattle.icn_control.proofs.StackAndWorldSteps.{limit_err, limit_none, limit_below, limit_zero, limit_more}
 use Rattle.icn_control.proofs.limits.limit.Goals as goal
 
 pub returns-in_err-v-clause-step : goal.returns-in_err-v-clause-step

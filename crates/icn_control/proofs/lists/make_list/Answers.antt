@@ -9,26 +9,26 @@ use Rattle.icn_frames.specs.Stacks as held
 use Rattle.icn_frames.specs.Stacks.{FlatStack}
 use Rattle.icn_run.specs.Stacks.{Frames}
 use Rattle.icn_run.specs.Step.{State, running, all_names}
-use Rattle.icn_control.specs.Living.{IsLiveStack, with_locals}
+use Rattle.icn_control.specs.LiveStacks.{IsLiveStack, with_locals}
 use Rattle.icn_control.specs.Machines.{store_in, store_seen}
 use Rattle.icn_control.specs.declared.machine.Machine.{Machine}
-use Rattle.icn_control.specs.Standing.{stack_in}
-use Rattle.icn_control.specs.Taking.{push_list}
+use Rattle.icn_control.specs.StackViews.{stack_in}
+use Rattle.icn_control.specs.TakenOperands.{push_list}
 use Rattle.icn_control.proofs.CountedSteps.{list_counts, turn_more}
-use Rattle.icn_control.proofs.ExhaustSteps.{under}
+use Rattle.icn_control.proofs.ExhaustSteps.{nat_lt_true}
 use Rattle.icn_control.proofs.GrowthSteps.{stacks_grow}
-use Rattle.icn_control.proofs.ListSteps.{halts_is, listed_halts, listed_runs, llist_is, no_more, turn_bound, turn_halts, turn_runs}
+use Rattle.icn_control.proofs.ListSteps.{halts_is, listed_halts, listed_runs, llist_is, nat_lt_false, turn_bound, turn_halts, turn_runs}
 use Rattle.icn_control.proofs.LiteralSteps.{running_live}
 use Rattle.icn_control.proofs.MachineSteps.{stacks_on}
-use Rattle.icn_control.proofs.PartSteps.{at_halt}
-use Rattle.icn_control.proofs.TakeSteps.{live_taken}
+use Rattle.icn_control.proofs.StackAndWorldSteps.{match_halt}
+use Rattle.icn_control.proofs.TakenOperandSteps.{live_taken}
 use Rattle.icn_control.proofs.lists.make_list.Goals as goal
 
 pub returns-then-m-clause-step : goal.returns-then-m-clause-step
 returns-then-m-clause-step g c tables outside =
     let m = c.args.m.now in
     let none : nat_lt m.turns (heap_of m.world.heap).bounds.turns ≡ false
-    = ap (λ (x : Bounds). nat_lt m.turns x.turns) c.requires.stands.sound.1.bounds ∙ no_more m.turns m.limits.turns c.if-m.true in
+    = ap (λ (x : Bounds). nat_lt m.turns x.turns) c.requires.stands.sound.1.bounds ∙ nat_lt_false m.turns m.limits.turns c.if-m.true in
     llist_is (extent_of m.world.heap) tables m.stacks.table c.frames.result.now.flat c.take_operands.new.frames.flat c.take_operands.new.items.items
     c.args.count (store_seen tables outside m) c.frames.ensures.running c.in-Ok.ensures.taken
     ∙ turn_bound tables (store_seen tables outside m)
@@ -78,9 +78,9 @@ pub returns-in_err-push_list-clause-step : goal.returns-in_err-push_list-clause-
 returns-in_err-push_list-clause-step g c tables outside =
     let m = c.args.m.now in
     let more : nat_lt m.turns (heap_of m.world.heap).bounds.turns ≡ true
-    = ap (λ (x : Bounds). nat_lt m.turns x.turns) c.requires.stands.sound.1.bounds ∙ under m.turns m.limits.turns c.if-m.false in
+    = ap (λ (x : Bounds). nat_lt m.turns x.turns) c.requires.stands.sound.1.bounds ∙ nat_lt_true m.turns m.limits.turns c.if-m.false in
     let after : Machine g.row.K.Denot = record { world = c.push_list.new.world; stacks = m.stacks; turns = m.turns; begun = m.begun; limits = m.limits } in
-    at_halt c.from_residual.result c.in_err-push_list.field-0.0 _ _ c.from_residual.ensures.1
+    match_halt c.from_residual.result c.in_err-push_list.field-0.0 _ _ c.from_residual.ensures.1
     (halts_is after tables outside c.in_err-push_list.field-0.0 _ _
     (llist_is (extent_of m.world.heap) tables m.stacks.table c.frames.result.now.flat c.take_operands.new.frames.flat c.take_operands.new.items.items
     c.args.count (store_seen tables outside m) c.frames.ensures.running c.in-Ok.ensures.taken)
@@ -95,7 +95,7 @@ returns-clause-step g c tables outside =
     let v = c.push_list.new.world in
     let n = c.push_list.new.frames.flat in
     let more : nat_lt m.turns (heap_of m.world.heap).bounds.turns ≡ true
-    = ap (λ (x : Bounds). nat_lt m.turns x.turns) c.requires.stands.sound.1.bounds ∙ under m.turns m.limits.turns c.if-m.false in
+    = ap (λ (x : Bounds). nat_lt m.turns x.turns) c.requires.stands.sound.1.bounds ∙ nat_lt_true m.turns m.limits.turns c.if-m.false in
     let F : ℕ → State Frames Frames = λ k. running (stack_in (extent_of v.heap) n)
     (store_in (all_names tables) outside (world_of v) k m.begun.items (extent_of v.heap) (record m.stacks.table { running = Some n })) in
     llist_is (extent_of m.world.heap) tables m.stacks.table c.frames.result.now.flat c.take_operands.new.frames.flat c.take_operands.new.items.items

@@ -3,11 +3,11 @@ use Rattle.icn_value.specs.declared.val.Val.{Val}
 use Rattle.icn_defs.specs.StepRows.{list_row}
 use Rattle.icn_heap.specs.Extents.{value_in}
 use Rattle.icn_heap.specs.Heaps.{extent_of}
-use Rattle.icn_control.specs.Taking.{MakesValue}
-use Rattle.icn_vars.proofs.KeptItems.{items_all}
+use Rattle.icn_control.specs.TakenOperands.{MakesValue}
+use Rattle.icn_vars.proofs.KeptItems.{keeps_items_refl}
 use Rattle.icn_vars.specs.Worlds.{reach_of}
 use Rattle.icn_frames.specs.Stacks.{FlatStack}
-use Rattle.icn_control.specs.Living.{IsLiveStack}
+use Rattle.icn_control.specs.LiveStacks.{IsLiveStack}
 use Rattle.icn_control.proofs.ListSteps.{list_live, list_runs, list_unfound, list_unmade}
 use Rattle.icn_control.proofs.lists.push_list.Goals as goal
 
@@ -18,7 +18,7 @@ returns-in_err-values_of-clause-step g c =
 
 pub returns-in_err-values_of-clause-leaves : goal.returns-in_err-values_of-clause-leaves
 returns-in_err-values_of-clause-leaves g c = record {
-  kept = items_all (reach_of c.args.world.now []);
+  kept = keeps_items_refl (reach_of c.args.world.now []);
   counts = search rules;
   halt = search rules;
 }

@@ -1,4 +1,4 @@
-use Rattle.icn_code.specs.Seen.{tables_of}
+use Rattle.icn_code.specs.CodeTables.{tables_of}
 use Rattle.icn_control.proofs.LiteralSteps.{cset_runs}
 use Rattle.icn_control.proofs.literals.push_cset.Goals as goal
 

@@ -1,6 +1,6 @@
 use Rattle.std.proofs.Common.{sym, subst}
 use Rattle.icn_frames.specs.Stacks.{FlatStack}
-use Rattle.icn_control.specs.Living.{IsLiveStack}
+use Rattle.icn_control.specs.LiveStacks.{IsLiveStack}
 use Rattle.icn_control.proofs.LiveCalls.{live_push}
 use Rattle.icn_control.proofs.LiveSets.{live_below}
 use Rattle.icn_control.proofs.StackSteps.{below_runs}

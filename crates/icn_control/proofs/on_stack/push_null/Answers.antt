@@ -1,6 +1,6 @@
 use Rattle.std.proofs.Common.{sym, subst}
 use Rattle.icn_frames.specs.Stacks.{FlatStack}
-use Rattle.icn_control.specs.Living.{IsLiveStack}
+use Rattle.icn_control.specs.LiveStacks.{IsLiveStack}
 use Rattle.icn_control.proofs.LiveCalls.{live_push, null_live}
 use Rattle.icn_control.proofs.StackSteps.{null_runs}
 use Rattle.icn_control.proofs.on_stack.push_null.Goals as goal

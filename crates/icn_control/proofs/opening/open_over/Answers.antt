@@ -1,8 +1,8 @@
 use Rattle.std.proofs.Common.{refl, sym, subst}
 use Rattle.icn_heap.specs.Heaps.{extent_of}
 use Rattle.icn_vars.specs.Worlds.{Reach}
-use Rattle.icn_control.specs.Living.{IsLiveStack}
-use Rattle.icn_control.proofs.OpenSteps.{first_position, opens, opens_live}
+use Rattle.icn_control.specs.LiveStacks.{IsLiveStack}
+use Rattle.icn_control.proofs.OpenedScans.{first_position, opens, opens_live}
 use Rattle.icn_control.proofs.opening.open_over.Goals as goal
 
 pub set_pair-requires : goal.set_pair-requires

@@ -4,14 +4,14 @@ use Rattle.icn_defs.specs.StepRows.{text_row}
 use Rattle.icn_heap.specs.declared.heap.Heap.{Heap as HeldHeap}
 use Rattle.icn_heap.specs.Extents.{value_in}
 use Rattle.icn_heap.specs.Heaps.{extent_of, heap_of}
-use Rattle.icn_vars.proofs.KeptItems.{items_all}
+use Rattle.icn_vars.proofs.KeptItems.{keeps_items_refl}
 use Rattle.icn_vars.specs.Worlds.{KeepsItems, Reach, reach_of}
 use Rattle.icn_frames.specs.Stacks.{FlatStack}
-use Rattle.icn_control.specs.Living.{IsLiveStack}
+use Rattle.icn_control.specs.LiveStacks.{IsLiveStack}
 use Rattle.icn_control.proofs.KeptItems.{stack_stays}
 use Rattle.icn_control.proofs.LiveCalls.{live_pop}
-use Rattle.icn_control.proofs.OpenSteps.{bscan_err, bscan_runs, bscan_unmade}
-use Rattle.icn_control.proofs.TakeSteps.{made_at}
+use Rattle.icn_control.proofs.OpenedScans.{bscan_err, bscan_runs, bscan_unmade}
+use Rattle.icn_control.proofs.TakenOperandSteps.{made_at}
 use Rattle.icn_control.proofs.opening.open_scan.Goals as goal
 
 pub returns-in_err-v-clause-step : goal.returns-in_err-v-clause-step
@@ -21,7 +21,7 @@ returns-in_err-v-clause-step g c =
 
 pub returns-in_err-v-clause-leaves : goal.returns-in_err-v-clause-leaves
 returns-in_err-v-clause-leaves g c = record {
-  kept = items_all (reach_of c.args.world.now []);
+  kept = keeps_items_refl (reach_of c.args.world.now []);
   counts = search rules;
   halt = search rules;
 }

@@ -1,7 +1,7 @@
 use Rattle.std.proofs.Common.{◌≡◌, ◌∙◌, ◌-◌, ◌≤◌, ℕ, suc, length, drop, slice_set, refl, ap, subst, arith, IsSome}
 use Rattle.std.proofs.lemmas.List.{length-set}
-use Rattle.icn_control.specs.Taking.{taken_onto}
-use Rattle.icn_control.proofs.TakeSteps.{none_taken, pop_there, one_taken}
+use Rattle.icn_control.specs.TakenOperands.{taken_onto}
+use Rattle.icn_control.proofs.TakenOperandSteps.{none_taken, pop_there, one_taken}
 use Rattle.icn_control.proofs.operands.fill_with_operands.Goals as goal
 
 pub loop-left-init : goal.loop-left-init

@@ -1,5 +1,5 @@
 use Rattle.std.proofs.Common.{◌≡◌, ◌+◌, ◌≤◌, length, drop}
-use Rattle.icn_control.specs.Taking.{take_operands, taken_onto}
+use Rattle.icn_control.specs.TakenOperands.{take_operands, taken_onto}
 use Rattle.icn_control.proofs.operands.fill_with_operands.Given as goal
 
 abbrev pub invariant-loop-left : goal.invariant-loop-left

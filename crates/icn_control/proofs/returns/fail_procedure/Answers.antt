@@ -2,8 +2,8 @@ use Rattle.std.proofs.Common.{sym, subst}
 use Rattle.icn_heap.specs.Heaps.{extent_of}
 use Rattle.icn_run.specs.Stacks.{Frames}
 use Rattle.icn_run.specs.Step.{State}
-use Rattle.icn_control.specs.Parts.{StandsWith}
-use Rattle.icn_control.proofs.LeaveSteps.{pfail_is}
+use Rattle.icn_control.specs.StackAndWorld.{StandsWith}
+use Rattle.icn_control.proofs.FailedProcedures.{pfail_is}
 use Rattle.icn_control.proofs.returns.fail_procedure.Goals as goal
 
 pub returns-clause-step : goal.returns-clause-step

@@ -3,9 +3,9 @@ use Rattle.icn_value.specs.declared.item.Pair.{Pair}
 use Rattle.icn_heap.specs.Heaps.{extent_of}
 use Rattle.icn_vars.specs.Worlds.{Reach, reach_of}
 use Rattle.icn_frames.specs.Stacks.{FlatStack, oldest}
-use Rattle.icn_control.specs.Living.{IsLiveStack, MaybeLivePair}
+use Rattle.icn_control.specs.LiveStacks.{IsLiveStack, MaybeLivePair}
 use Rattle.icn_control.proofs.LiveCells.{live_pair_at}
-use Rattle.icn_control.proofs.LiveCalls.{own, live_pop}
+use Rattle.icn_control.proofs.LiveCalls.{own_locals, live_pop}
 use Rattle.icn_control.proofs.LiveFrames.{live_leave}
 use Rattle.icn_control.proofs.ReturnSteps.{pret_err, pret_over, pret_runs, given_free}
 use Rattle.icn_control.proofs.returns.give_back.Goals as goal
@@ -23,7 +23,7 @@ restore_pair-requires g c =
     let rest = (live_pop t (reach_of w []) c.args.frames.now.flat c.pop-x.new.self.flat c.pop-x.result c.pop-x.ensures.flat c.requires.live.1).rest in
     let live : IsLiveStack t (reach_of w []) l = subst (λ (x : FlatStack). IsLiveStack t (reach_of w []) x) (sym c.result_of.ensures.same) rest in
     subst (λ (p : Option Pair). MaybeLivePair (extent_of w.heap) p) (sym c.oldest_pair-pair.ensures)
-    (live_pair_at t (reach_of w []) (own l) l.cells (oldest None l) live.cells)
+    (live_pair_at t (reach_of w []) (own_locals l) l.cells (oldest None l) live.cells)
 
 pub returns-then-is_base-clause-step : goal.returns-then-is_base-clause-step
 returns-then-is_base-clause-step g c =
@@ -35,7 +35,8 @@ pub returns-clause-step : goal.returns-clause-step
 returns-clause-step g c =
     pret_runs c.args.world.now c.restore_pair.new.world c.args.frames.now.flat c.pop-x.new.self.flat c.result_of.new.frames.flat c.leave.new.self.flat
     c.put.new.frames.flat c.pop-x.result c.in_ok-r.r c.oldest_pair-pair.result
-    c.pop-x.ensures.flat c.in_ok-r.ensures.value c.result_of.ensures.same c.oldest_pair-pair.ensures c.restore_pair.ensures.world c.restore_pair.ensures.same.heap
+    c.pop-x.ensures.flat c.in_ok-r.ensures.value c.result_of.ensures.same c.oldest_pair-pair.ensures c.restore_pair.ensures.world
+    c.restore_pair.ensures.same.heap
     c.leave.ensures.flat c.put.ensures.flat
 
 pub returns-clause-live : goal.returns-clause-live

@@ -3,9 +3,9 @@ use Rattle.icn_value.specs.declared.item.Pair.{Pair}
 use Rattle.icn_heap.specs.Heaps.{extent_of}
 use Rattle.icn_vars.specs.Worlds.{Reach, reach_of}
 use Rattle.icn_frames.specs.Stacks.{FlatStack, oldest}
-use Rattle.icn_control.specs.Living.{IsLiveStack, MaybeLivePair}
+use Rattle.icn_control.specs.LiveStacks.{IsLiveStack, MaybeLivePair}
 use Rattle.icn_control.proofs.LiveCells.{live_pair_at}
-use Rattle.icn_control.proofs.LiveCalls.{own}
+use Rattle.icn_control.proofs.LiveCalls.{own_locals}
 use Rattle.icn_control.proofs.LiveFrames.{live_leave}
 use Rattle.icn_control.proofs.ReturnSteps.{fails_over, fails_on}
 use Rattle.icn_control.proofs.returns.leave_failing.Goals as goal
@@ -15,7 +15,7 @@ restore_pair-requires g c =
     let m : FlatStack = c.args.frames.now.flat in
     let w = c.args.world.now in
     subst (λ (p : Option Pair). MaybeLivePair (extent_of w.heap) p) (sym c.oldest_pair-pair.ensures)
-    (live_pair_at c.requires.live.0 (reach_of w []) (own m) m.cells (oldest None m) c.requires.live.1.cells)
+    (live_pair_at c.requires.live.0 (reach_of w []) (own_locals m) m.cells (oldest None m) c.requires.live.1.cells)
 
 pub returns-then-is_base-clause-step : goal.returns-then-is_base-clause-step
 returns-then-is_base-clause-step g c st same =

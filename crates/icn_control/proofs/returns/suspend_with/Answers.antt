@@ -1,7 +1,7 @@
 use Rattle.std.proofs.Common.{◌≡◌, [], sym, ◌∙◌, subst}
 use Rattle.icn_vars.specs.Worlds.{Reach, reach_of}
 use Rattle.icn_frames.specs.Stacks.{FlatStack}
-use Rattle.icn_control.specs.Living.{IsLiveStack}
+use Rattle.icn_control.specs.LiveStacks.{IsLiveStack}
 use Rattle.icn_control.proofs.StackSteps.{pushed_back}
 use Rattle.icn_control.proofs.ReturnSteps.{psusp_err, psusp_over, psusp_runs, suspended_free}
 use Rattle.icn_control.proofs.returns.suspend_with.Goals as goal
@@ -16,7 +16,8 @@ pub returns-then-is_base-clause-step : goal.returns-then-is_base-clause-step
 returns-then-is_base-clause-step g c =
     psusp_over c.args.world.now c.swap_if_scanning.new.world c.args.frames.now.flat c.pop-x.new.self.flat c.put.new.frames.flat c.result_of.new.frames.flat
     c.swap_if_scanning.new.frames.flat c.pop-x.result c.in_ok-r.r
-    c.pop-x.ensures.flat c.put.ensures.flat c.in_ok-r.ensures.value c.result_of.ensures.same c.swap_if_scanning.ensures.step c.swap_if_scanning.ensures.same.heap
+    c.pop-x.ensures.flat c.put.ensures.flat c.in_ok-r.ensures.value c.result_of.ensures.same c.swap_if_scanning.ensures.step
+    c.swap_if_scanning.ensures.same.heap
     (sym c.is_base.ensures ∙ c.if-is_base.true)
 
 pub returns-then-is_base-clause-live : goal.returns-then-is_base-clause-live

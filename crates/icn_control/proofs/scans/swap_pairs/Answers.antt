@@ -1,7 +1,7 @@
 use Rattle.std.proofs.Common.{[], sym, subst}
 use Rattle.icn_vars.specs.Worlds.{Reach, reach_of}
-use Rattle.icn_control.specs.Living.{IsLiveStack}
-use Rattle.icn_control.proofs.Deref.{present_live}
+use Rattle.icn_control.specs.LiveStacks.{IsLiveStack}
+use Rattle.icn_control.proofs.OperandValues.{present_live}
 use Rattle.icn_control.proofs.LiveFrames.{live_swap}
 use Rattle.icn_control.proofs.scans.swap_pairs.Goals as goal
 

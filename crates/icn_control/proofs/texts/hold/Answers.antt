@@ -1,6 +1,6 @@
 use Rattle.std.proofs.Common.{refl}
 use Rattle.icn_heap.specs.Heaps.{heap_of}
-use Rattle.icn_vars.proofs.Changing.{same_heap}
+use Rattle.icn_vars.proofs.HeapChanges.{same_heap}
 use Rattle.icn_control.proofs.TextSteps.{world_same}
 use Rattle.icn_control.proofs.texts.hold.Goals as goal
 

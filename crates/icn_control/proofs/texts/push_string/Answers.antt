@@ -1,4 +1,4 @@
-use Rattle.icn_code.specs.Seen.{tables_of}
+use Rattle.icn_code.specs.CodeTables.{tables_of}
 use Rattle.icn_control.proofs.TextSteps.{string_runs, string_live}
 use Rattle.icn_control.proofs.texts.push_string.Goals as goal
 

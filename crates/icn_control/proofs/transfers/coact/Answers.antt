@@ -13,11 +13,11 @@ use Rattle.icn_run.specs.Stacks.{Frames, flat}
 use Rattle.icn_run.specs.Step.{State, Store, activation, all_names}
 use Rattle.icn_control.specs.Machines.{IsLiveRunning, StandsAt, running_of, store_in}
 use Rattle.icn_control.specs.Operands.{with_two}
-use Rattle.icn_control.specs.Standing.{stack_in}
-use Rattle.icn_control.proofs.ActivationSteps.{coact_bound, coact_goes, not_under}
+use Rattle.icn_control.specs.StackViews.{stack_in}
+use Rattle.icn_control.proofs.ActivationSteps.{coact_bound, coact_goes, nat_lt_false}
 use Rattle.icn_control.proofs.CountedSteps.{turn_had, turn_more}
-use Rattle.icn_control.proofs.ExhaustSteps.{under}
-use Rattle.icn_control.proofs.Halts.{at_stopped, some_there, value_error}
+use Rattle.icn_control.proofs.ExhaustSteps.{nat_lt_true}
+use Rattle.icn_control.proofs.Halts.{match_stopped, value_of_some, value_error}
 use Rattle.icn_control.proofs.MachineSteps.{stacks_on}
 use Rattle.icn_control.proofs.OperandSteps.{not_activated, number_is, second_there}
 use Rattle.icn_control.proofs.transfers.coact.Goals as goal
@@ -26,12 +26,12 @@ pub returns-then-m-clause-step : goal.returns-then-m-clause-step
 returns-then-m-clause-step g c tables outside =
     let m = c.args.m.now in
     let t = m.stacks.table in
-    let runs = some_there t.running c.requires.stands.runs in
-    let upper = some_there (held.pop runs.0) (subst (λ (x : FlatStack). IsSome (held.pop x)) (ap running_of runs.1) c.requires.upper) in
+    let runs = value_of_some t.running c.requires.stands.runs in
+    let upper = value_of_some (held.pop runs.0) (subst (λ (x : FlatStack). IsSome (held.pop x)) (ap running_of runs.1) c.requires.upper) in
     let lower = second_there runs.0 upper.0.1 upper.0.0 upper.1
     (subst (λ (x : FlatStack). IfSome (held.pop x) (λ popped. IsSome (held.pop popped.1))) (ap running_of runs.1) c.requires.lower) in
     let none : nat_lt m.turns (heap_of m.world.heap).bounds.turns ≡ false
-    = ap (λ (x : Bounds). nat_lt m.turns x.turns) c.requires.stands.sound.1.bounds ∙ not_under m.turns m.limits.turns c.if-m.true in
+    = ap (λ (x : Bounds). nat_lt m.turns x.turns) c.requires.stands.sound.1.bounds ∙ nat_lt_false m.turns m.limits.turns c.if-m.true in
     coact_bound tables (all_names tables) outside m.world m.turns m.begun.items t runs.0 upper.0.1 lower.0.1 upper.0.0 lower.0.0 runs.1 none upper.1 lower.1
 
 pub take_two_values-requires-clause-upper : goal.take_two_values-requires-clause-upper
@@ -44,7 +44,8 @@ take_two_values-requires-clause-lower g c =
 pub take_two_values-requires-clause-stack : goal.take_two_values-requires-clause-stack
 take_two_values-requires-clause-stack g c = (
   c.requires.stands.sound.0,
-  subst (λ (o : Option FlatStack). IsLiveRunning c.requires.stands.sound.0 (reach_of c.args.m.now.world []) o) c.frames.ensures.running c.requires.stands.sound.1.stacks.runs,
+  subst (λ (o : Option FlatStack). IsLiveRunning c.requires.stands.sound.0 (reach_of c.args.m.now.world []) o) c.frames.ensures.running
+      c.requires.stands.sound.1.stacks.runs,
 )
 
 pub returns-in_err-two-clause-step : goal.returns-in_err-two-clause-step
@@ -54,9 +55,9 @@ returns-in_err-two-clause-step g c tables outside =
     let f : FlatStack = c.frames.result.now.flat in
     let st : Store Frames = store_in (all_names tables) outside (world_of w) (suc m.turns) m.begun.items (extent_of w.heap) m.stacks.table in
     let more : nat_lt m.turns (heap_of w.heap).bounds.turns ≡ true
-    = ap (λ (x : Bounds). nat_lt m.turns x.turns) c.requires.stands.sound.1.bounds ∙ under m.turns m.limits.turns c.if-m.false in
+    = ap (λ (x : Bounds). nat_lt m.turns x.turns) c.requires.stands.sound.1.bounds ∙ nat_lt_true m.turns m.limits.turns c.if-m.false in
     let state : State Frames Frames = with_two (stack_in (extent_of w.heap) f) st (λ first second n. activation flat first second n st) in
-    at_stopped c.from_residual.result c.in_err-two.field-0.0 _ _ c.from_residual.ensures.1 tt
+    match_stopped c.from_residual.result c.in_err-two.field-0.0 _ _ c.from_residual.ensures.1 tt
     (λ number offending e.
     coact_goes tables (all_names tables) outside w m.turns m.begun.items m.stacks.table f c.frames.ensures.running more
     ∙ value_error state st w c.in_err-two.field-0.0 number offending
@@ -70,7 +71,7 @@ returns-in_default-clause-step g c tables outside =
     let n : FlatStack = c.take_two_values.new.frames.flat in
     let st : Store Frames = store_in (all_names tables) outside (world_of w) (suc m.turns) m.begun.items (extent_of w.heap) m.stacks.table in
     let more : nat_lt m.turns (heap_of w.heap).bounds.turns ≡ true
-    = ap (λ (x : Bounds). nat_lt m.turns x.turns) c.requires.stands.sound.1.bounds ∙ under m.turns m.limits.turns c.if-m.false in
+    = ap (λ (x : Bounds). nat_lt m.turns x.turns) c.requires.stands.sound.1.bounds ∙ nat_lt_true m.turns m.limits.turns c.if-m.false in
     coact_goes tables (all_names tables) outside w m.turns m.begun.items m.stacks.table f c.frames.ensures.running more
     ∙ c.in_ok-two.ensures.step st (λ first second n. activation flat first second n st) refl
     ∙ not_activated (extent_of w.heap) (value_in (extent_of w.heap) c.in_ok-two.two.0) c.in_ok-two.two.1 (stack_in (extent_of w.heap) n) st
@@ -91,7 +92,7 @@ returns-clause-step g c tables outside =
     let at : ℕ → Store Frames = λ k. store_in (all_names tables) outside (world_of w) k m.begun.items (extent_of w.heap) m.stacks.table in
     let st : Store Frames = at (suc m.turns) in
     let more : nat_lt m.turns (heap_of w.heap).bounds.turns ≡ true
-    = ap (λ (x : Bounds). nat_lt m.turns x.turns) c.requires.stands.sound.1.bounds ∙ under m.turns m.limits.turns c.if-m.false in
+    = ap (λ (x : Bounds). nat_lt m.turns x.turns) c.requires.stands.sound.1.bounds ∙ nat_lt_true m.turns m.limits.turns c.if-m.false in
     let value = value_in (extent_of w.heap) c.in_ok-two.two.0 in
     let is : c.in_ok-two.two.1 ≡ Vals.Coexp c.in-Some.id = number_is c.in_ok-two.two.1 c.in-Some.id (sym c.in-Some.is ∙ c.coexp_of.ensures) in
     subst (λ (s : State Frames Frames). StandsAt tables outside s c.activate.new.m c.activate.result)

@@ -8,32 +8,32 @@ use Rattle.icn_heap.specs.Heaps.{extent_of, heap_of}
 use Rattle.icn_vars.specs.Worlds.{reach_of, world_of}
 use Rattle.icn_frames.specs.Stacks as held
 use Rattle.icn_frames.specs.Stacks.{FlatStack}
-use Rattle.icn_coexp.specs.Transfers.{Table, source}
+use Rattle.icn_coexp.specs.Transfers.{CoexpTable, source}
 use Rattle.icn_run.specs.Stacks.{Frames, flat}
 use Rattle.icn_run.specs.Step.{State, Store, all_names, hopping, result_given, running}
-use Rattle.icn_control.specs.Counting.{FitTurns}
+use Rattle.icn_control.specs.ResultCounts.{FitTurns}
 use Rattle.icn_control.specs.Machines.{AreLiveStacks, IsLiveRunning, running_of, store_in}
 use Rattle.icn_control.specs.Operands.{having_result, with_top}
-use Rattle.icn_control.specs.Standing.{stack_in}
-use Rattle.icn_control.proofs.ActivationSteps.{active_there, coret_bound, coret_goes, lands_hops, lands_runs, not_under, result_passes}
+use Rattle.icn_control.specs.StackViews.{stack_in}
+use Rattle.icn_control.proofs.ActivationSteps.{active_there, coret_bound, coret_goes, lands_hops, lands_runs, nat_lt_false, result_passes}
 use Rattle.icn_control.proofs.CountedSteps.{count_fits, give_active, give_others, result_fits}
 use Rattle.icn_control.proofs.CreateSteps.{beside_in}
-use Rattle.icn_control.proofs.ExhaustSteps.{under}
-use Rattle.icn_control.proofs.Halts.{at_stopped, some_there, value_error}
+use Rattle.icn_control.proofs.ExhaustSteps.{nat_lt_true}
+use Rattle.icn_control.proofs.Halts.{match_stopped, value_of_some, value_error}
 use Rattle.icn_control.proofs.KeptTables.{stacks_stay}
 use Rattle.icn_control.proofs.LiveTransfers.{coexp_is_live, give_length, give_live}
 use Rattle.icn_control.proofs.MachineSteps.{stacks_on}
-use Rattle.icn_control.proofs.StackStands.{moved_runs, not_moved_waits}
+use Rattle.icn_control.proofs.RunningStacks.{moved_runs, not_moved_waits}
 use Rattle.icn_control.proofs.transfers.coret.Goals as goal
 
 pub returns-then-m-clause-step : goal.returns-then-m-clause-step
 returns-then-m-clause-step g c tables outside =
     let m = c.args.m.now in
     let t = m.stacks.table in
-    let runs = some_there t.running c.requires.stands.runs in
-    let top = some_there (held.pop runs.0) (subst (λ (x : FlatStack). IsSome (held.pop x)) (ap running_of runs.1) c.requires.operand) in
+    let runs = value_of_some t.running c.requires.stands.runs in
+    let top = value_of_some (held.pop runs.0) (subst (λ (x : FlatStack). IsSome (held.pop x)) (ap running_of runs.1) c.requires.operand) in
     let none : nat_lt m.turns (heap_of m.world.heap).bounds.turns ≡ false
-    = ap (λ (x : Bounds). nat_lt m.turns x.turns) c.requires.stands.sound.1.bounds ∙ not_under m.turns m.limits.turns c.if-m.true in
+    = ap (λ (x : Bounds). nat_lt m.turns x.turns) c.requires.stands.sound.1.bounds ∙ nat_lt_false m.turns m.limits.turns c.if-m.true in
     coret_bound tables (all_names tables) outside m.world m.turns m.begun.items t runs.0 top.0.1 top.0.0 runs.1 none top.1
     (sym (ap held.is_base (ap running_of runs.1)) ∙ c.requires.base) c.requires.other
 
@@ -43,7 +43,8 @@ take_value-requires-clause-operand g c = subst (λ (x : FlatStack). IsSome (held
 pub take_value-requires-clause-stack : goal.take_value-requires-clause-stack
 take_value-requires-clause-stack g c = (
   c.requires.stands.sound.0,
-  subst (λ (o : Option FlatStack). IsLiveRunning c.requires.stands.sound.0 (reach_of c.args.m.now.world []) o) c.frames.ensures.running c.requires.stands.sound.1.stacks.runs,
+  subst (λ (o : Option FlatStack). IsLiveRunning c.requires.stands.sound.0 (reach_of c.args.m.now.world []) o) c.frames.ensures.running
+      c.requires.stands.sound.1.stacks.runs,
 )
 
 pub returns-in_err-v-clause-step : goal.returns-in_err-v-clause-step
@@ -53,9 +54,9 @@ returns-in_err-v-clause-step g c tables outside =
     let f : FlatStack = c.frames.result.now.flat in
     let st : Store Frames = store_in (all_names tables) outside (world_of w) (suc m.turns) m.begun.items (extent_of w.heap) m.stacks.table in
     let more : nat_lt m.turns (heap_of w.heap).bounds.turns ≡ true
-    = ap (λ (x : Bounds). nat_lt m.turns x.turns) c.requires.stands.sound.1.bounds ∙ under m.turns m.limits.turns c.if-m.false in
+    = ap (λ (x : Bounds). nat_lt m.turns x.turns) c.requires.stands.sound.1.bounds ∙ nat_lt_true m.turns m.limits.turns c.if-m.false in
     let state : State Frames Frames = with_top (stack_in (extent_of w.heap) f) st (λ value n. result_given flat value n st) in
-    at_stopped c.from_residual.result c.in_err-v.field-0.0 _ _ c.from_residual.ensures.1 tt
+    match_stopped c.from_residual.result c.in_err-v.field-0.0 _ _ c.from_residual.ensures.1 tt
     (λ number offending e.
     coret_goes tables (all_names tables) outside w m.turns m.begun.items m.stacks.table f c.frames.ensures.running more
     (sym (ap held.is_base (ap running_of c.frames.ensures.running)) ∙ c.requires.base) c.requires.other
@@ -85,8 +86,8 @@ returns-then-is_moved-clause-step g c tables outside =
     let v = c.count_result.new.world in
     let f : FlatStack = c.frames.result.now.flat in
     let n : FlatStack = c.take_value.new.frames.flat in
-    let table : Table = record m.stacks.table { running = Some n } in
-    let u : Table = c.give-went.new.self.table in
+    let table : CoexpTable = record m.stacks.table { running = Some n } in
+    let u : CoexpTable = c.give-went.new.self.table in
     let t = c.requires.stands.sound.0 in
     let sound = c.requires.stands.sound.1 in
     let on : AreLiveStacks t (reach_of w []) table = stacks_on t (reach_of w []) m.stacks.table f n c.frames.ensures.running
@@ -95,7 +96,7 @@ returns-then-is_moved-clause-step g c tables outside =
     let F : ℕ → State Frames Frames = λ k. running (stack_in (extent_of v.heap) (running_of u.running))
     (store_in (all_names tables) outside (world_of v) k m.begun.items (extent_of v.heap) u) in
     let more : nat_lt m.turns (heap_of w.heap).bounds.turns ≡ true
-    = ap (λ (x : Bounds). nat_lt m.turns x.turns) sound.bounds ∙ under m.turns m.limits.turns c.if-m.false in
+    = ap (λ (x : Bounds). nat_lt m.turns x.turns) sound.bounds ∙ nat_lt_true m.turns m.limits.turns c.if-m.false in
     coret_goes tables (all_names tables) outside w m.turns m.begun.items m.stacks.table f c.frames.ensures.running more
     (sym (ap held.is_base (ap running_of c.frames.ensures.running)) ∙ c.requires.base) c.requires.other
     ∙ c.in_ok-v.ensures.step st (λ value n. result_given flat value n st) refl
@@ -114,8 +115,8 @@ returns-then-is_moved-clause-keeps g c = record {
       let v = c.count_result.new.world in
       let f : FlatStack = c.frames.result.now.flat in
       let n : FlatStack = c.take_value.new.frames.flat in
-      let table : Table = record m.stacks.table { running = Some n } in
-      let u : Table = c.give-went.new.self.table in
+      let table : CoexpTable = record m.stacks.table { running = Some n } in
+      let u : CoexpTable = c.give-went.new.self.table in
       let heap = c.count_result.ensures.heap in
       let on : AreLiveStacks tables (reach_of w []) table = stacks_on tables (reach_of w []) m.stacks.table f n c.frames.ensures.running
       (λ l. c.take_value.ensures.live tables l) k.stacks in
@@ -152,8 +153,8 @@ returns-else-is_moved-clause-step g c tables outside =
     let v = c.count_result.new.world in
     let f : FlatStack = c.frames.result.now.flat in
     let n : FlatStack = c.take_value.new.frames.flat in
-    let table : Table = record m.stacks.table { running = Some n } in
-    let u : Table = c.give-went.new.self.table in
+    let table : CoexpTable = record m.stacks.table { running = Some n } in
+    let u : CoexpTable = c.give-went.new.self.table in
     let t = c.requires.stands.sound.0 in
     let sound = c.requires.stands.sound.1 in
     let on : AreLiveStacks t (reach_of w []) table = stacks_on t (reach_of w []) m.stacks.table f n c.frames.ensures.running
@@ -162,7 +163,7 @@ returns-else-is_moved-clause-step g c tables outside =
     let old : Frames = stack_in (extent_of v.heap) n in
     let F : ℕ → State Frames Frames = λ k. hopping old (store_in (all_names tables) outside (world_of v) k m.begun.items (extent_of v.heap) u) in
     let more : nat_lt m.turns (heap_of w.heap).bounds.turns ≡ true
-    = ap (λ (x : Bounds). nat_lt m.turns x.turns) sound.bounds ∙ under m.turns m.limits.turns c.if-m.false in (
+    = ap (λ (x : Bounds). nat_lt m.turns x.turns) sound.bounds ∙ nat_lt_true m.turns m.limits.turns c.if-m.false in (
       old,
       coret_goes tables (all_names tables) outside w m.turns m.begun.items m.stacks.table f c.frames.ensures.running more
           (sym (ap held.is_base (ap running_of c.frames.ensures.running)) ∙ c.requires.base) c.requires.other
@@ -183,8 +184,8 @@ returns-else-is_moved-clause-keeps g c = record {
       let v = c.count_result.new.world in
       let f : FlatStack = c.frames.result.now.flat in
       let n : FlatStack = c.take_value.new.frames.flat in
-      let table : Table = record m.stacks.table { running = Some n } in
-      let u : Table = c.give-went.new.self.table in
+      let table : CoexpTable = record m.stacks.table { running = Some n } in
+      let u : CoexpTable = c.give-went.new.self.table in
       let heap = c.count_result.ensures.heap in
       let on : AreLiveStacks tables (reach_of w []) table = stacks_on tables (reach_of w []) m.stacks.table f n c.frames.ensures.running
       (λ l. c.take_value.ensures.live tables l) k.stacks in

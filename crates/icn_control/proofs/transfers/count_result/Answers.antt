@@ -3,7 +3,7 @@ use Rattle.std.proofs.lemmas.List.Elements.{All-nil}
 use Rattle.icn_value.specs.Store.{Setting, outside_of}
 use Rattle.icn_heap.specs.Extents.{IsLive}
 use Rattle.icn_heap.specs.Heaps.{extent_of}
-use Rattle.icn_vars.proofs.Growing.{heap_changed}
+use Rattle.icn_vars.proofs.GrowingWorlds.{heap_changed}
 use Rattle.icn_control.proofs.transfers.count_result.Goals as goal
 
 pub returns-clause-world : goal.returns-clause-world

@@ -4,7 +4,7 @@ use Rattle.icn_vars.specs.Worlds.{IsLiveItem, reach_of}
 use Rattle.icn_value.specs.declared.item.Item.{Item}
 use Rattle.icn_frames.specs.Stacks as held
 use Rattle.icn_frames.specs.Stacks.{FlatStack}
-use Rattle.icn_control.specs.Living.{IsLiveStack, with_locals}
+use Rattle.icn_control.specs.LiveStacks.{IsLiveStack, with_locals}
 use Rattle.icn_control.specs.Operands.{TakesTwo}
 use Rattle.icn_control.proofs.ChargeSteps.{at_stop_with}
 use Rattle.icn_control.proofs.OperandSteps.{finds_on, first_stops, second_stops, two_found, two_live}

@@ -2,7 +2,7 @@ use Rattle.std.proofs.Common.{[], sym, subst, rules, refl}
 use Rattle.icn_heap.specs.Heaps.{heap_of}
 use Rattle.icn_vars.specs.Worlds.{Reach, reach_of}
 use Rattle.icn_frames.specs.Stacks.{FlatStack}
-use Rattle.icn_control.specs.Living.{IsLiveStack}
+use Rattle.icn_control.specs.LiveStacks.{IsLiveStack}
 use Rattle.icn_control.proofs.CountedSteps.{turn_more}
 use Rattle.icn_control.proofs.LiveCalls.{live_go}
 use Rattle.icn_control.proofs.MachineSteps.{stacks_on}
@@ -19,7 +19,8 @@ returns-clause-keeps g c = record {
             k.stacks;
         bounds = k.bounds;
         counts = k.counts;
-        counted = record { results = turn_more m.turns m.stacks.table.active (heap_of m.world.heap).coexps k.counted.results; activators = k.counted.activators };
+        counted =
+            record { results = turn_more m.turns m.stacks.table.active (heap_of m.world.heap).coexps k.counted.results; activators = k.counted.activators };
       });
   limits = refl;
   stack = search rules;

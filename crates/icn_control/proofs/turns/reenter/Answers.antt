@@ -5,13 +5,13 @@ use Rattle.icn_heap.specs.Heaps.{extent_of, heap_of}
 use Rattle.icn_vars.specs.Worlds.{Reach, reach_of, world_of}
 use Rattle.icn_run.specs.Stacks.{Frames}
 use Rattle.icn_run.specs.Step.{State, running, all_names}
-use Rattle.icn_control.specs.Living.{IsLiveStack}
+use Rattle.icn_control.specs.LiveStacks.{IsLiveStack}
 use Rattle.icn_control.specs.Machines.{AreLiveStacks, store_in}
-use Rattle.icn_control.specs.Standing.{stack_in}
+use Rattle.icn_control.specs.StackViews.{stack_in}
 use Rattle.icn_control.proofs.CountedSteps.{heap_counts, turn_more}
-use Rattle.icn_control.proofs.ExhaustSteps.{under}
+use Rattle.icn_control.proofs.ExhaustSteps.{nat_lt_true}
 use Rattle.icn_control.proofs.MachineSteps.{stacks_on}
-use Rattle.icn_control.proofs.TurnSteps.{reenters}
+use Rattle.icn_control.proofs.ResumedProcedures.{reenters}
 use Rattle.icn_control.proofs.turns.reenter.Goals as goal
 
 pub returns-clause-step : goal.returns-clause-step
@@ -20,7 +20,7 @@ returns-clause-step g c tables outside =
     let v = c.swap_if_scanning.new.world in
     let n = c.swap_if_scanning.new.frames.flat in
     let more : nat_lt m.turns (heap_of m.world.heap).bounds.turns ≡ true
-    = ap (λ (x : Bounds). nat_lt m.turns x.turns) c.requires.bounds ∙ under m.turns m.limits.turns c.if-m.false in
+    = ap (λ (x : Bounds). nat_lt m.turns x.turns) c.requires.bounds ∙ nat_lt_true m.turns m.limits.turns c.if-m.false in
     let F : ℕ → State Frames Frames = λ k. running (stack_in (extent_of v.heap) n)
     (store_in (all_names tables) outside (world_of v) k m.begun.items (extent_of v.heap) (record m.stacks.table { running = Some n })) in
     reenters (all_names tables) outside tables m.world v m.turns m.begun.items m.stacks.table c.frames.result.now.flat n c.frames.ensures.running more

@@ -3,16 +3,16 @@ use Rattle.icn_defs.specs.Rows.{new_list_of}
 use Rattle.icn_heap.specs.Extents.{value_in}
 use Rattle.icn_heap.specs.Heaps.{extent_of}
 use Rattle.icn_frames.specs.Stacks as held
-use Rattle.icn_control.proofs.Deref.{live_locals}
+use Rattle.icn_control.proofs.OperandValues.{live_locals}
 use Rattle.icn_control.proofs.GrowthSteps.{list_counted}
-use Rattle.icn_control.proofs.TakeSteps.{makes_value, no_locals}
+use Rattle.icn_control.proofs.TakenOperandSteps.{makes_value, keeps_without_locals}
 use Rattle.icn_control.proofs.values.list_of.Goals as goal
 
 pub new_list-requires-clause-locals : goal.new_list-requires-clause-locals
 new_list-requires-clause-locals g c = live_locals c.requires.stack.0 _ c.args.frames.now.flat c.requires.stack.1
 
 pub returns-clause-kept : goal.returns-clause-kept
-returns-clause-kept g c = no_locals c.args.world.now c.new_list.new.w (held.locals c.args.frames.now.flat) c.new_list.ensures.kept
+returns-clause-kept g c = keeps_without_locals c.args.world.now c.new_list.new.w (held.locals c.args.frames.now.flat) c.new_list.ensures.kept
 
 pub returns-clause-counts : goal.returns-clause-counts
 returns-clause-counts g c = list_counted c.args.world.now c.new_list.new.w (held.locals c.args.frames.now.flat)

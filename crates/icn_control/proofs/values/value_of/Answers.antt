@@ -1,4 +1,4 @@
-use Rattle.icn_control.proofs.Deref.{live_locals, value_found}
+use Rattle.icn_control.proofs.OperandValues.{live_locals, value_found}
 use Rattle.icn_control.proofs.values.value_of.Goals as goal
 
 pub deref-requires-clause-locals : goal.deref-requires-clause-locals

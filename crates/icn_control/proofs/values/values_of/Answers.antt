@@ -6,9 +6,9 @@ use Rattle.icn_heap.specs.Heaps.{extent_of}
 use Rattle.icn_vars.specs.Worlds.{Reach, IsLiveItem, reach_of}
 use Rattle.icn_frames.specs.Stacks as held
 use Rattle.icn_frames.specs.Stacks.{FlatStack}
-use Rattle.icn_control.specs.Living.{IsLiveStack, with_locals}
-use Rattle.icn_control.specs.Taking.{with_values_in}
-use Rattle.icn_control.proofs.TakeSteps.{found_at, values_next, values_stop, values_found, values_lack}
+use Rattle.icn_control.specs.LiveStacks.{IsLiveStack, with_locals}
+use Rattle.icn_control.specs.TakenOperands.{with_values_in}
+use Rattle.icn_control.proofs.TakenOperandSteps.{found_at, values_next, values_stop, values_found, values_lack}
 use Rattle.icn_control.proofs.values.values_of.Goals as goal
 
 pub loop-first-init : goal.loop-first-init

@@ -4,8 +4,8 @@ use Rattle.icn_heap.specs.Extents.{IsLive}
 use Rattle.icn_heap.specs.Heaps.{extent_of}
 use Rattle.icn_vars.specs.Worlds.{IsLiveItem, reach_of}
 use Rattle.icn_frames.specs.Stacks as held
-use Rattle.icn_control.specs.Living.{with_locals}
-use Rattle.icn_control.proofs.TakeSteps.{ValuesSo}
+use Rattle.icn_control.specs.LiveStacks.{with_locals}
+use Rattle.icn_control.proofs.TakenOperandSteps.{ValuesSo}
 use Rattle.icn_control.proofs.values.values_of.Given as goal
 
 abbrev pub invariant-loop-first : goal.invariant-loop-first

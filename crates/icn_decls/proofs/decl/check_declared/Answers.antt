@@ -5,7 +5,7 @@ use Rattle.icn_tree.specs.TreeOf.{locals_of}
 use Rattle.icn_decls.specs.Faults.{all_repeated, with_names}
 use Rattle.icn_tree.specs.NameSets.{none_met, has}
 use Rattle.icn_decls.specs.Views.{first_of, Checks}
-use Rattle.icn_decls.proofs.Firsts.{first_then, checks_as, checks_passed, all_repeated-append}
+use Rattle.icn_decls.proofs.FirstOfTwo.{first_of_second, checks_as, checks_passed, all_repeated-append}
 use Rattle.icn_decls.proofs.decl.check_declared.Goals as goal
 
 pub returns-in_err-check_names : goal.returns-in_err-check_names
@@ -31,7 +31,7 @@ returns c =
     c.in_ok-check_names.ensures.has ∙ ap (with_names (has c.new-met.result)) c.deref.ensures.value ∙ ap (λ met. with_names met parameters) c.new-met.ensures in
     checks_as (all_repeated C1 (has c.check_names.new.met) later) _ c.check_locals.result
     (ap (λ met. first_of (all_repeated C1 met later)) has_now
-    ∙ sym (first_then (all_repeated C1 none_met parameters) (all_repeated C1 (with_names none_met parameters) later) h)
+    ∙ sym (first_of_second (all_repeated C1 none_met parameters) (all_repeated C1 (with_names none_met parameters) later) h)
     ∙ sym (ap first_of (all_repeated-append C1 none_met parameters later)))
     (subst (λ rows. Checks (all_repeated C1 (has c.check_names.new.met) (flat_map (λ locals. locals.names) (map locals_of rows))) c.check_locals.result)
     c.deref-2.ensures.value c.check_locals.ensures)

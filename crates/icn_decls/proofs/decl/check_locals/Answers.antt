@@ -5,7 +5,7 @@ use Rattle.icn_tree.specs.TreeOf.{locals_of}
 use Rattle.icn_decls.specs.Faults.{all_repeated, with_names}
 use Rattle.icn_tree.specs.NameSets.{has}
 use Rattle.icn_decls.specs.Views.{first_of, Checks}
-use Rattle.icn_decls.proofs.Firsts.{first_then, checks_passed, rows}
+use Rattle.icn_decls.proofs.FirstOfTwo.{first_of_second, checks_passed, rows}
 use Rattle.icn_decls.proofs.decl.check_locals.Goals as goal
 
 pub returns-in_err-check_names : goal.returns-in_err-check_names
@@ -23,7 +23,7 @@ loop-local-preserved c =
     let has_now : has c.check_names.new.met ≡ with_names (has c.loop-local.met) names = c.in_ok-check_names.ensures.has
     ∙ ap (with_names (has c.loop-local.met)) c.deref.ensures.value in
     ap (λ met. first_of (all_repeated C1 met later)) has_now
-    ∙ sym (first_then (all_repeated C1 (has c.loop-local.met) names) (all_repeated C1 (with_names (has c.loop-local.met) names) later)
+    ∙ sym (first_of_second (all_repeated C1 (has c.loop-local.met) names) (all_repeated C1 (with_names (has c.loop-local.met) names) later)
     (subst (λ row. None ≡ first_of (all_repeated C1 (has c.loop-local.met) row)) c.deref.ensures.value c.in_ok-check_names.ensures.first))
     ∙ sym (ap first_of (rows C1 (has c.loop-local.met) c.args.locals.now c.loop-local.local-index c.local-item.result c.loop-local-test.true c.local-item.is))
     ∙ c.loop-local.invariant

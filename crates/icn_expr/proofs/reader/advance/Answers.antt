@@ -6,8 +6,8 @@ use Rattle.icn_expr.specs.Automata.{Starting, Climbing, Closing}
 use Rattle.icn_expr.specs.Capped.{WithHeight, builds_with_height}
 use Rattle.icn_expr.specs.Reading.{steps_left, end_of}
 use Rattle.icn_expr.specs.Views.{capped_of, stack_of, state_of}
-use Rattle.icn_expr.proofs.Advancing.{same_end, less_left}
-use Rattle.icn_expr.proofs.Ending.{end_finished, end_broken}
+use Rattle.icn_expr.proofs.CappedSteps.{same_end, less_left}
+use Rattle.icn_expr.proofs.AutomatonEnds.{end_finished, end_broken}
 use Rattle.icn_expr.proofs.reader.advance.Goals as goal
 
 pub returns-in-Finished-clause-same : goal.returns-in-Finished-clause-same

@@ -1,5 +1,5 @@
 use Rattle.std.proofs.Common.{refl}
-use Rattle.icn_frames.proofs.Hung.{bottom_is}
+use Rattle.icn_frames.proofs.SuspensionFrames.{bottom_is}
 use Rattle.icn_frames.proofs.steps.bottom_of.Goals as goal
 
 pub returns-in-Call : goal.returns-in-Call

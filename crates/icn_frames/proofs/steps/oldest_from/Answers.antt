@@ -1,7 +1,7 @@
 use Rattle.std.proofs.Common.{◌<◌, Option, ℕ, length, map, sym, ap, ◌∙◌, subst}
 use Rattle.icn_frames.specs.Stacks.{oldest_from, is_same}
-use Rattle.icn_frames.specs.Shapes.{shape, IsScan, KindAt, MayBeAt}
-use Rattle.icn_frames.proofs.Scans.{Lower, height_of, older_lower, oldest_none, oldest_on}
+use Rattle.icn_frames.specs.StackInvariant.{shape, IsScan, KindAt, MayBeAt}
+use Rattle.icn_frames.proofs.OpenScans.{Lower, height_of, older_lower, oldest_none, oldest_on}
 use Rattle.icn_frames.proofs.steps.oldest_from.Goals as goal
 
 pub loop-at-smaller : goal.loop-at-smaller

@@ -1,7 +1,7 @@
 use Rattle.std.proofs.Common.{◌≡◌, length, map}
 use Rattle.icn_frames.specs.Stacks.{oldest_from}
-use Rattle.icn_frames.specs.Shapes.{shape, IsScan, MayBeAt}
-use Rattle.icn_frames.proofs.Scans.{height_of}
+use Rattle.icn_frames.specs.StackInvariant.{shape, IsScan, MayBeAt}
+use Rattle.icn_frames.proofs.OpenScans.{height_of}
 use Rattle.icn_frames.proofs.steps.oldest_from.Given as goal
 
 abbrev pub invariant-loop-at : goal.invariant-loop-at

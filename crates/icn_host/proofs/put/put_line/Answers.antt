@@ -1,4 +1,4 @@
-use Rattle.icn_host.proofs.Putting.{all_of, stops_by}
+use Rattle.icn_host.proofs.ToldPuts.{all_of, stops_by}
 use Rattle.icn_host.proofs.put.put_line.Goals as goal
 
 pub returns-clause-ok : goal.returns-clause-ok

@@ -1,4 +1,4 @@
-use Rattle.icn_host.proofs.Putting.{puts_of}
+use Rattle.icn_host.proofs.ToldPuts.{puts_of}
 use Rattle.icn_host.proofs.put.try_put.Goals as goal
 
 pub returns-clause-puts : goal.returns-clause-puts

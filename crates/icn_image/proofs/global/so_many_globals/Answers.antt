@@ -2,7 +2,7 @@ use Rattle.std.specs.Int.{w16}
 use Rattle.std.proofs.lemmas.Result.{err_from_is_err_and}
 use Rattle.icn_tree.specs.NameSets.{has, none_met}
 use Rattle.icn_image.specs.Reading.{globals_from}
-use Rattle.icn_image.proofs.Globals.{global_goes_on, global_ends, globals_done}
+use Rattle.icn_image.proofs.GlobalLoop.{global_goes_on, global_ends, globals_done}
 use Rattle.icn_image.proofs.global.so_many_globals.Goals as goal
 
 pub returns-in_err-global : goal.returns-in_err-global

@@ -2,7 +2,7 @@ use Rattle.std.proofs.Common.{◌≡◌, ◌-◌}
 use Rattle.std.specs.Int.{w16}
 use Rattle.icn_tree.specs.NameSets.{has, none_met}
 use Rattle.icn_image.specs.Reading.{globals_from}
-use Rattle.icn_image.proofs.Loops.{with_front}
+use Rattle.icn_image.proofs.EntryLoop.{with_front}
 use Rattle.icn_image.proofs.global.so_many_globals.Given as goal
 
 abbrev pub invariant-loop : goal.invariant-loop

@@ -4,14 +4,14 @@ use Rattle.std.proofs.lemmas.Result.{err_from_is_err_and}
 use Rattle.std.proofs.lemmas.List.{map_push, nil_from_length}
 use Rattle.std.proofs.Math.Seq.{drop-cons}
 use Rattle.icn_code.specs.Codes.{proc_of, procs_of}
-use Rattle.icn_image.specs.declared.head.Head.{Head}
+use Rattle.icn_image.specs.declared.head.ImageHead.{ImageHead}
 use Rattle.icn_image.specs.Fronts.{tables_in}
 use Rattle.icn_image.specs.Reading.{procs_at}
-use Rattle.icn_image.proofs.Bodies.{proc_goes_on, proc_ends, procs_done}
+use Rattle.icn_image.proofs.ProcedureLoop.{proc_goes_on, proc_ends, procs_done}
 use Rattle.icn_image.proofs.procs.procs_at.Goals as goal
 
 -- what the code reads where there is no head
-absent : Head
+absent : ImageHead
 absent = record { name = 0; parameters = 0; collects = false; locals = 0; statics = 0; instrs = 0 }
 
 pub loop-head-preserved : goal.loop-head-preserved

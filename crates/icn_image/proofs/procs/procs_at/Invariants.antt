@@ -3,7 +3,7 @@ use Rattle.std.specs.Int.{w16}
 use Rattle.icn_code.specs.Codes.{procs_of}
 use Rattle.icn_image.specs.Fronts.{tables_in}
 use Rattle.icn_image.specs.Reading.{procs_at}
-use Rattle.icn_image.proofs.Loops.{with_front}
+use Rattle.icn_image.proofs.EntryLoop.{with_front}
 use Rattle.icn_image.proofs.procs.procs_at.Given as goal
 
 abbrev pub invariant-loop-head : goal.invariant-loop-head

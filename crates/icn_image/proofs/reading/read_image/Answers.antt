@@ -1,7 +1,7 @@
 use Rattle.std.proofs.Common.{arith}
 use Rattle.icn_code.specs.Codes.{procs_of}
 use Rattle.icn_image.specs.Fronts.{tables_in, with_procs}
-use Rattle.icn_image.proofs.Whole.{image_takes}
+use Rattle.icn_image.proofs.WholeImage.{image_takes}
 use Rattle.icn_image.proofs.reading.read_image.Goals as goal
 
 pub invariant_of-result : goal.invariant_of-result

@@ -1,7 +1,7 @@
 use Rattle.std.proofs.Common.{◌≡◌, ◌-◌}
 use Rattle.std.specs.Int.{w16}
 use Rattle.icn_image.specs.Readers.{times, index_at}
-use Rattle.icn_image.proofs.Loops.{with_front}
+use Rattle.icn_image.proofs.EntryLoop.{with_front}
 use Rattle.icn_image.proofs.table.so_many_places.Given as goal
 
 abbrev pub invariant-loop : goal.invariant-loop

@@ -3,7 +3,7 @@ use Rattle.std.specs.Int.{w16}
 use Rattle.icn_image.specs.Readers.{times}
 use Rattle.icn_image.specs.Reading.{record_at}
 use Rattle.icn_code.specs.Codes.{records_of}
-use Rattle.icn_image.proofs.Loops.{with_front}
+use Rattle.icn_image.proofs.EntryLoop.{with_front}
 use Rattle.icn_image.proofs.table.so_many_records.Given as goal
 
 abbrev pub invariant-loop : goal.invariant-loop

@@ -3,8 +3,8 @@ use Rattle.std.specs.Int.{w16, to_le_bytes}
 use Rattle.icn_code.specs.Codes.{proc_of}
 use Rattle.icn_image.specs.Fronts.{head_of}
 use Rattle.icn_image.specs.Spelling.{head}
-use Rattle.icn_code.specs.declared.code.Procedure.{Procedure}
-use Rattle.icn_image.proofs.Puts.{put_head_more}
+use Rattle.icn_code.specs.declared.code.LinkedProcedure.{LinkedProcedure}
+use Rattle.icn_image.proofs.WritingLoop.{put_head_more}
 use Rattle.icn_image.proofs.writing.put_heads.Goals as goal
 
 pub loop-proc-preserved : goal.loop-proc-preserved
@@ -13,4 +13,4 @@ loop-proc-preserved c =
     let i = c.loop-proc.proc-index in
     let d = c.proc-item.result in
     put_head_more w16 c.args.out.now.items (to_le_bytes w16 (length procs)) procs i d c.loop-proc.out.items c.put_head.new.out.items c.loop-proc-test.true
-    c.loop-proc.invariant (c.in_ok-put_head.ensures ∙ ap (λ (p : Procedure). c.loop-proc.out.items ++ head w16 (head_of (proc_of p))) c.proc-item.is)
+    c.loop-proc.invariant (c.in_ok-put_head.ensures ∙ ap (λ (p : LinkedProcedure). c.loop-proc.out.items ++ head w16 (head_of (proc_of p))) c.proc-item.is)

@@ -1,7 +1,7 @@
 use Rattle.std.proofs.Common.{◌≡◌, pos, get_or, length, ◌++◌, List, ℕ, ap, ◌∙◌, rules}
 use Rattle.std.specs.Int.{w16, to_le_bytes}
 use Rattle.icn_image.specs.Spelling.{integer}
-use Rattle.icn_image.proofs.Puts.{put_more}
+use Rattle.icn_image.proofs.WritingLoop.{put_more}
 use Rattle.icn_image.proofs.writing.put_integers.Goals as goal
 
 pub loop-integer-preserved : goal.loop-integer-preserved

@@ -1,12 +1,12 @@
 use Rattle.std.proofs.Common.{◌≡◌, Ok, refl, sym, ap, ◌∙◌, subst}
 use Rattle.icn_text.specs.declared.op.Op.TheVariants as Ops
 use Rattle.icn_code.specs.declared.instr.Instr.TheVariants as Instrs
-use Rattle.icn_code.specs.Seen.{tables_of}
+use Rattle.icn_code.specs.CodeTables.{tables_of}
 use Rattle.icn_run.specs.Stacks.{Frames}
 use Rattle.icn_run.specs.Step.{State}
 use Rattle.icn_control.specs.Machines.{StandsAt, extent, stack_of, store_seen}
 use Rattle.icn_instructions.specs.Groups.{group_of}
-use Rattle.icn_instructions.proofs.ArmSteps.{lacks_as, may_take, ok_memory, comes_to_as}
+use Rattle.icn_instructions.proofs.ArmSteps.{lacks_as, may_take, ok_has_memory, comes_to_as}
 use Rattle.icn_instructions.proofs.GroupSteps.{no_other_coexpression, op_refreshes}
 use Rattle.icn_instructions.proofs.LackSteps.{take_there, one_there, upper_there, lower_there, coret_operand, coret_body, cofail_body, cofail_is}
 use Rattle.icn_instructions.proofs.coexpressions.do_with_coexpressions.Goals as goal
@@ -203,7 +203,7 @@ returns-in-Cofail-clause-limits g c =
 
 pub returns-in-Cofail-clause-no_memory : goal.returns-in-Cofail-clause-no_memory
 returns-in-Cofail-clause-no_memory g c =
-    λ e. ok_memory c.exhaust.result
+    λ e. ok_has_memory c.exhaust.result
 
 pub returns-in-Create-clause-stack : goal.returns-in-Create-clause-stack
 returns-in-Create-clause-stack g c = c.create.ensures.keeps.stack

@@ -3,9 +3,9 @@ use Rattle.icn_heap.specs.Heaps.{extent_of}
 use Rattle.icn_value.specs.declared.item.Item.TheVariants.{Val as HeldVal}
 use Rattle.icn_vars.specs.Worlds.{Reach, IsLiveItem, reach_of}
 use Rattle.icn_frames.specs.Stacks.{FlatStack, at_base, unmark}
-use Rattle.icn_control.specs.Living.{IsLiveStack, with_locals}
-use Rattle.icn_control.proofs.LiveCalls.{own, live_pop, live_unmark, live_push}
-use Rattle.icn_control.proofs.PartSteps.{eret_runs, eret_err}
+use Rattle.icn_control.specs.LiveStacks.{IsLiveStack, with_locals}
+use Rattle.icn_control.proofs.LiveCalls.{own_locals, live_pop, live_unmark, live_push}
+use Rattle.icn_control.proofs.StackAndWorldSteps.{eret_runs, eret_err}
 use Rattle.icn_instructions.proofs.LackSteps.{eret_operand, eret_mark}
 use Rattle.icn_instructions.proofs.eret.give_out.Goals as goal
 
@@ -60,7 +60,7 @@ returns-clause-live g c t k =
     let popped = live_pop t reach c.args.frames.now.flat c.pop-x.new.self.flat c.pop-x.result c.pop-x.ensures.flat k in
     let left = live_unmark t reach c.pop-x.new.self.flat c.unmark-pair.new.self.flat c.unmark-pair.result
     (ap unmark (sym c.value_of.ensures.same) ∙ c.unmark-pair.ensures.flat) popped.rest in
-    let val : IsLiveItem (with_locals (own c.unmark-pair.new.self.flat) reach) (HeldVal c.in_ok-v.v) = record { live = c.in_ok-v.ensures.live } in
+    let val : IsLiveItem (with_locals (own_locals c.unmark-pair.new.self.flat) reach) (HeldVal c.in_ok-v.v) = record { live = c.in_ok-v.ensures.live } in
     let on : IsLiveStack t reach c.put.new.frames.flat
     = subst (λ (x : FlatStack). IsLiveStack t reach x) (sym c.put.ensures.flat)
     (live_push t reach c.unmark-pair.new.self.flat (HeldVal c.in_ok-v.v) left.rest val) in

@@ -1,12 +1,12 @@
 use Rattle.std.proofs.Common.{[], Ok, Err, refl, rules}
 use Rattle.icn_heap.specs.Heaps.{extent_of}
 use Rattle.icn_vars.specs.Worlds.{reach_of}
-use Rattle.icn_vars.proofs.KeptItems.{items_all}
+use Rattle.icn_vars.proofs.KeptItems.{keeps_items_refl}
 use Rattle.icn_code.specs.declared.instr.Instr.TheVariants as Instrs
-use Rattle.icn_code.specs.Seen.{tables_of}
-use Rattle.icn_control.specs.Taking.{KeepsCounts}
-use Rattle.icn_control.specs.declared.machine.Stage.TheVariants as Stages
-use Rattle.icn_instructions.proofs.ArmSteps.{lacks_as, may_take, ok_memory, ok_all, comes_as}
+use Rattle.icn_code.specs.CodeTables.{tables_of}
+use Rattle.icn_control.specs.TakenOperands.{KeepsCounts}
+use Rattle.icn_control.specs.declared.machine.RunState.TheVariants as RunStates
+use Rattle.icn_instructions.proofs.ArmSteps.{lacks_as, may_take, ok_has_memory, on_ok_always, comes_as}
 use Rattle.icn_instructions.proofs.GroupSteps.{no_other_world}
 use Rattle.icn_instructions.proofs.LackSteps.{pop_there, escan_scan, string_lacks}
 use Rattle.icn_instructions.proofs.LiftSteps.{heap_keeps, reach_keeps, seen_keeps}
@@ -107,7 +107,7 @@ unreachable-requires g c =
 pub returns-in-Ok-clause-step : goal.returns-in-Ok-clause-step
 returns-in-Ok-clause-step g c =
     comes_as (tables_of c.args.code.now) c.args.instr (Instrs.Str c.in-Str.place) c.args.world.now c.args.frames.now.flat c.push_string.new.world
-    c.push_string.new.frames.flat (Ok Stages.Runs) c.in-Str.is (λ st e. c.in-Ok.ensures.step st e)
+    c.push_string.new.frames.flat (Ok RunStates.Running) c.in-Str.is (λ st e. c.in-Ok.ensures.step st e)
 
 pub returns-in-Ok-clause-live : goal.returns-in-Ok-clause-live
 returns-in-Ok-clause-live g c =
@@ -122,7 +122,7 @@ returns-in-Ok-clause-leaves g c = record {
 
 pub returns-in-Ok-clause-no_memory : goal.returns-in-Ok-clause-no_memory
 returns-in-Ok-clause-no_memory g c =
-    λ e. ok_memory Stages.Runs
+    λ e. ok_has_memory RunStates.Running
 
 pub returns-in-Err-clause-leaves : goal.returns-in-Err-clause-leaves
 returns-in-Err-clause-leaves g c = record {
@@ -138,7 +138,7 @@ returns-in-Err-clause-no_memory g c =
 pub returns-in-Ok-give_out-clause-step : goal.returns-in-Ok-give_out-clause-step
 returns-in-Ok-give_out-clause-step g c =
     comes_as (tables_of c.args.code.now) c.args.instr Instrs.Eret c.args.world.now c.args.frames.now.flat c.give_out.new.world c.give_out.new.frames.flat
-    (Ok Stages.Runs) c.in-Eret.is (λ st e. c.in-Ok-give_out.ensures.step (tables_of c.args.code.now) st e)
+    (Ok RunStates.Running) c.in-Eret.is (λ st e. c.in-Ok-give_out.ensures.step (tables_of c.args.code.now) st e)
 
 pub returns-in-Ok-give_out-clause-live : goal.returns-in-Ok-give_out-clause-live
 returns-in-Ok-give_out-clause-live g c =
@@ -153,7 +153,7 @@ returns-in-Ok-give_out-clause-leaves g c = record {
 
 pub returns-in-Ok-give_out-clause-no_memory : goal.returns-in-Ok-give_out-clause-no_memory
 returns-in-Ok-give_out-clause-no_memory g c =
-    λ e. ok_memory Stages.Runs
+    λ e. ok_has_memory RunStates.Running
 
 pub returns-in-Err-give_out-clause-leaves : goal.returns-in-Err-give_out-clause-leaves
 returns-in-Err-give_out-clause-leaves g c = record {
@@ -174,7 +174,7 @@ returns-in-Err-give_out-clause-step g c =
 pub returns-in-Ok-open_scan-clause-step : goal.returns-in-Ok-open_scan-clause-step
 returns-in-Ok-open_scan-clause-step g c =
     comes_as (tables_of c.args.code.now) c.args.instr Instrs.Bscan c.args.world.now c.args.frames.now.flat c.open_scan.new.world c.open_scan.new.frames.flat
-    (Ok Stages.Runs) c.in-Bscan.is (λ st e. c.in-Ok-open_scan.ensures.step (tables_of c.args.code.now) st e)
+    (Ok RunStates.Running) c.in-Bscan.is (λ st e. c.in-Ok-open_scan.ensures.step (tables_of c.args.code.now) st e)
 
 pub returns-in-Ok-open_scan-clause-live : goal.returns-in-Ok-open_scan-clause-live
 returns-in-Ok-open_scan-clause-live g c =
@@ -189,7 +189,7 @@ returns-in-Ok-open_scan-clause-leaves g c = record {
 
 pub returns-in-Ok-open_scan-clause-no_memory : goal.returns-in-Ok-open_scan-clause-no_memory
 returns-in-Ok-open_scan-clause-no_memory g c =
-    λ e. ok_memory Stages.Runs
+    λ e. ok_has_memory RunStates.Running
 
 pub returns-in-Err-open_scan-clause-leaves : goal.returns-in-Err-open_scan-clause-leaves
 returns-in-Err-open_scan-clause-leaves g c = record {
@@ -210,7 +210,7 @@ returns-in-Err-open_scan-clause-step g c =
 pub returns-in-Ok-leave_scan-clause-step : goal.returns-in-Ok-leave_scan-clause-step
 returns-in-Ok-leave_scan-clause-step g c =
     comes_as (tables_of c.args.code.now) c.args.instr Instrs.Escan c.args.world.now c.args.frames.now.flat c.leave_scan.new.world
-    c.leave_scan.new.frames.flat (Ok Stages.Runs) c.in-Escan.is (λ st e. c.in-Ok-leave_scan.ensures.step (tables_of c.args.code.now) st e)
+    c.leave_scan.new.frames.flat (Ok RunStates.Running) c.in-Escan.is (λ st e. c.in-Ok-leave_scan.ensures.step (tables_of c.args.code.now) st e)
 
 pub returns-in-Ok-leave_scan-clause-live : goal.returns-in-Ok-leave_scan-clause-live
 returns-in-Ok-leave_scan-clause-live g c =
@@ -225,7 +225,7 @@ returns-in-Ok-leave_scan-clause-leaves g c = record {
 
 pub returns-in-Ok-leave_scan-clause-no_memory : goal.returns-in-Ok-leave_scan-clause-no_memory
 returns-in-Ok-leave_scan-clause-no_memory g c =
-    λ e. ok_memory Stages.Runs
+    λ e. ok_has_memory RunStates.Running
 
 pub returns-in-Err-leave_scan-clause-leaves : goal.returns-in-Err-leave_scan-clause-leaves
 returns-in-Err-leave_scan-clause-leaves g c = record {
@@ -249,8 +249,8 @@ returns-in-Limit-clause-live g c =
 
 pub returns-in-Limit-clause-leaves : goal.returns-in-Limit-clause-leaves
 returns-in-Limit-clause-leaves g c = record {
-  kept = items_all (reach_of c.args.world.now []);
-  counts = ok_all c.limit.result (KeepsCounts c.args.world.now c.args.world.now) (record { bounds = refl; coexps = refl });
+  kept = keeps_items_refl (reach_of c.args.world.now []);
+  counts = on_ok_always c.limit.result (KeepsCounts c.args.world.now c.args.world.now) (record { bounds = refl; coexps = refl });
   halt = c.limit.ensures.halt;
 }
 
@@ -271,7 +271,7 @@ pub returns-in-Psusp-clause-leaves : goal.returns-in-Psusp-clause-leaves
 returns-in-Psusp-clause-leaves g c = record {
   kept = reach_keeps c.args.world.now c.suspend_with.new.world c.suspend_with.ensures.same.reach;
   counts = (
-      ok_all c.suspend_with.result (KeepsCounts c.args.world.now c.suspend_with.new.world)
+      on_ok_always c.suspend_with.result (KeepsCounts c.args.world.now c.suspend_with.new.world)
       (heap_keeps c.args.world.now c.suspend_with.new.world c.suspend_with.ensures.same.heap));
   halt = c.suspend_with.ensures.halt;
 }
@@ -293,7 +293,7 @@ pub returns-in-Pret-clause-leaves : goal.returns-in-Pret-clause-leaves
 returns-in-Pret-clause-leaves g c = record {
   kept = reach_keeps c.args.world.now c.give_back.new.world c.give_back.ensures.same.reach;
   counts = (
-      ok_all c.give_back.result (KeepsCounts c.args.world.now c.give_back.new.world)
+      on_ok_always c.give_back.result (KeepsCounts c.args.world.now c.give_back.new.world)
       (heap_keeps c.args.world.now c.give_back.new.world c.give_back.ensures.same.heap));
   halt = c.give_back.ensures.halt;
 }
@@ -320,4 +320,4 @@ returns-in-Pfail-clause-leaves g c = record {
 
 pub returns-in-Pfail-clause-no_memory : goal.returns-in-Pfail-clause-no_memory
 returns-in-Pfail-clause-no_memory g c =
-    λ e. ok_memory c.fail_procedure.result
+    λ e. ok_has_memory c.fail_procedure.result

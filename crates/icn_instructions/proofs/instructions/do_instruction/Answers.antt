@@ -4,12 +4,12 @@ use Rattle.icn_vars.specs.Worlds.{reach_of, world_of}
 use Rattle.icn_frames.specs.Stacks as held
 use Rattle.icn_frames.specs.Stacks.{FlatStack}
 use Rattle.icn_coexp.specs.Transfers.{with_stack}
-use Rattle.icn_code.specs.Seen.{tables_of}
+use Rattle.icn_code.specs.CodeTables.{tables_of}
 use Rattle.icn_run.specs.Step.{all_names}
-use Rattle.icn_control.specs.Living.{IsLiveStack}
-use Rattle.icn_control.specs.Machines.{IsSound, extent, store_seen, world_reach}
-use Rattle.icn_control.specs.Standing.{stack_in}
-use Rattle.icn_control.specs.Taking.{KeepsCounts}
+use Rattle.icn_control.specs.LiveStacks.{IsLiveStack}
+use Rattle.icn_control.specs.Machines.{IsSoundMachine, extent, store_seen, world_reach}
+use Rattle.icn_control.specs.StackViews.{stack_in}
+use Rattle.icn_control.specs.TakenOperands.{KeepsCounts}
 use Rattle.icn_control.specs.declared.machine.Machine.{Machine}
 use Rattle.icn_control.proofs.CountedSteps.{list_counts}
 use Rattle.icn_control.proofs.GrowthSteps.{stacks_grow}
@@ -17,7 +17,7 @@ use Rattle.icn_control.proofs.LiteralSteps.{running_live}
 use Rattle.icn_control.proofs.MachineSteps.{stacks_on}
 use Rattle.icn_run.specs.InstructionNeeds.{HasCaseMark}
 use Rattle.icn_instructions.specs.Ranges.{IsInRange}
-use Rattle.icn_instructions.proofs.ArmSteps.{no_ok, on_both}
+use Rattle.icn_instructions.proofs.ArmSteps.{error_is_not_ok, on_ok_both}
 use Rattle.icn_instructions.proofs.LiftSteps.{done_lacks, runs_as, stack_runs, world_comes, world_stack}
 use Rattle.icn_instructions.proofs.RangeSteps.{may_name}
 use Rattle.icn_instructions.proofs.instructions.do_instruction.Goals as goal
@@ -148,7 +148,7 @@ returns-in-Ok-clause-sound g c =
 
 pub returns-in-Err-clause-no_memory : goal.returns-in-Err-clause-no_memory
 returns-in-Err-clause-no_memory g c =
-    λ e. absurd (no_ok (Unit {0}) c.in-Err.field-0 (c.in-Err.ensures.no_memory e))
+    λ e. absurd (error_is_not_ok (Unit {0}) c.in-Err.field-0 (c.in-Err.ensures.no_memory e))
 
 pub returns-in-World-clause-step : goal.returns-in-World-clause-step
 returns-in-World-clause-step g c =
@@ -171,8 +171,8 @@ returns-in-World-clause-sound g c =
     let v = c.do_in_world.new.world in
     let after : Machine g.row.K.Denot
     = record { world = v; stacks = with_stack m.stacks c.do_in_world.new.frames; turns = m.turns; begun = m.begun; limits = m.limits } in
-    on_both c.do_in_world.result (IsLiveStack (tables_of c.args.code.now) (reach_of v []) c.do_in_world.new.frames.flat) (KeepsCounts m.world v)
-    (IsSound (tables_of c.args.code.now) after)
+    on_ok_both c.do_in_world.result (IsLiveStack (tables_of c.args.code.now) (reach_of v []) c.do_in_world.new.frames.flat) (KeepsCounts m.world v)
+    (IsSoundMachine (tables_of c.args.code.now) after)
     (λ live counts. record {
       stacks = stacks_grow (tables_of c.args.code.now) m.world v m.stacks.table c.do_in_world.new.frames.flat c.do_in_world.ensures.leaves.kept live k.stacks;
       bounds = counts.bounds ∙ k.bounds;

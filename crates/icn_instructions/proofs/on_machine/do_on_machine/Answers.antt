@@ -1,10 +1,10 @@
 use Rattle.std.proofs.Common.{Ok, refl, arith}
 use Rattle.icn_frames.specs.Stacks as held
 use Rattle.icn_code.specs.declared.instr.Instr.TheVariants as Instrs
-use Rattle.icn_code.specs.Seen.{tables_of}
+use Rattle.icn_code.specs.CodeTables.{tables_of}
 use Rattle.icn_control.specs.Machines.{extent, stack_of, store_seen, world_reach}
-use Rattle.icn_control.specs.declared.machine.Stage.TheVariants as Stages
-use Rattle.icn_instructions.proofs.ArmSteps.{lacks_as, may_take, ok_memory, comes_to_as}
+use Rattle.icn_control.specs.declared.machine.RunState.TheVariants as RunStates
+use Rattle.icn_instructions.proofs.ArmSteps.{lacks_as, may_take, ok_has_memory, comes_to_as}
 use Rattle.icn_instructions.proofs.GroupSteps.{no_other_machine}
 use Rattle.icn_instructions.proofs.LackSteps.{pop_there, take_there, unmark_lacks, lsusp_mark, lsusp_count}
 use Rattle.icn_instructions.proofs.LiftSteps.{runs_live}
@@ -139,7 +139,7 @@ returns-in-Llist-clause-no_memory g c =
 
 pub returns-in-Unmark-clause-step : goal.returns-in-Unmark-clause-step
 returns-in-Unmark-clause-step g c =
-    λ outside. comes_to_as (tables_of c.args.code.now) outside c.args.instr Instrs.Unmark c.args.m.now c.unmark.new.m (Ok Stages.Runs) c.in-Unmark.is
+    λ outside. comes_to_as (tables_of c.args.code.now) outside c.args.instr Instrs.Unmark c.args.m.now c.unmark.new.m (Ok RunStates.Running) c.in-Unmark.is
     (c.unmark.ensures.step (tables_of c.args.code.now) outside)
 
 pub returns-in-Unmark-clause-sound : goal.returns-in-Unmark-clause-sound
@@ -152,11 +152,11 @@ returns-in-Unmark-clause-limits g c =
 
 pub returns-in-Unmark-clause-no_memory : goal.returns-in-Unmark-clause-no_memory
 returns-in-Unmark-clause-no_memory g c =
-    λ e. ok_memory Stages.Runs
+    λ e. ok_has_memory RunStates.Running
 
 pub returns-in-Init-clause-step : goal.returns-in-Init-clause-step
 returns-in-Init-clause-step g c =
-    λ outside. comes_to_as (tables_of c.args.code.now) outside c.args.instr (Instrs.Init c.in-Init.label) c.args.m.now c.init.new.m (Ok Stages.Runs)
+    λ outside. comes_to_as (tables_of c.args.code.now) outside c.args.instr (Instrs.Init c.in-Init.label) c.args.m.now c.init.new.m (Ok RunStates.Running)
     c.in-Init.is (c.init.ensures.step (tables_of c.args.code.now) outside)
 
 pub returns-in-Init-clause-sound : goal.returns-in-Init-clause-sound
@@ -169,11 +169,11 @@ returns-in-Init-clause-limits g c =
 
 pub returns-in-Init-clause-no_memory : goal.returns-in-Init-clause-no_memory
 returns-in-Init-clause-no_memory g c =
-    λ e. ok_memory Stages.Runs
+    λ e. ok_has_memory RunStates.Running
 
 pub returns-in-Ok-lsusp-clause-step : goal.returns-in-Ok-lsusp-clause-step
 returns-in-Ok-lsusp-clause-step g c =
-    λ outside. comes_to_as (tables_of c.args.code.now) outside c.args.instr Instrs.Lsusp c.args.m.now c.lsusp.new.m (Ok Stages.Runs) c.in-Lsusp.is
+    λ outside. comes_to_as (tables_of c.args.code.now) outside c.args.instr Instrs.Lsusp c.args.m.now c.lsusp.new.m (Ok RunStates.Running) c.in-Lsusp.is
     (c.in-Ok-lsusp.ensures.step (tables_of c.args.code.now) outside)
 
 pub returns-in-Ok-lsusp-clause-sound : goal.returns-in-Ok-lsusp-clause-sound
@@ -198,7 +198,7 @@ returns-in-Err-lsusp-clause-no_memory g c =
 
 pub returns-in-Efail-clause-step : goal.returns-in-Efail-clause-step
 returns-in-Efail-clause-step g c =
-    λ outside. comes_to_as (tables_of c.args.code.now) outside c.args.instr Instrs.Efail c.args.m.now c.args.m.now (Ok Stages.Fails) c.in-Efail.is (refl)
+    λ outside. comes_to_as (tables_of c.args.code.now) outside c.args.instr Instrs.Efail c.args.m.now c.args.m.now (Ok RunStates.Failing) c.in-Efail.is (refl)
 
 pub returns-in-Efail-clause-sound : goal.returns-in-Efail-clause-sound
 returns-in-Efail-clause-sound g c =
@@ -210,7 +210,7 @@ returns-in-Efail-clause-limits g c =
 
 pub returns-in-Efail-clause-no_memory : goal.returns-in-Efail-clause-no_memory
 returns-in-Efail-clause-no_memory g c =
-    λ e. ok_memory Stages.Fails
+    λ e. ok_has_memory RunStates.Failing
 
 pub returns-in-Loop-clause-step : goal.returns-in-Loop-clause-step
 returns-in-Loop-clause-step g c =
@@ -227,7 +227,7 @@ returns-in-Loop-clause-limits g c =
 
 pub returns-in-Loop-clause-no_memory : goal.returns-in-Loop-clause-no_memory
 returns-in-Loop-clause-no_memory g c =
-    λ e. ok_memory c.go_back.result
+    λ e. ok_has_memory c.go_back.result
 
 pub returns-in-Ok-clause-stack : goal.returns-in-Ok-clause-stack
 returns-in-Ok-clause-stack g c = c.in-Ok.ensures.stack

@@ -3,11 +3,11 @@ use Rattle.std.proofs.lemmas.Option.{slice_get_within}
 use Rattle.icn_frames.specs.Stacks as held
 use Rattle.icn_code.specs.declared.instr.Instr.TheVariants as Instrs
 use Rattle.icn_code.specs.Codes.{Tables}
-use Rattle.icn_code.specs.Seen.{tables_of}
+use Rattle.icn_code.specs.CodeTables.{tables_of}
 use Rattle.icn_run.specs.Step.{statics_before}
-use Rattle.icn_control.specs.Standing.{stack_in}
+use Rattle.icn_control.specs.StackViews.{stack_in}
 use Rattle.icn_instructions.specs.Ranges.{IsInRange}
-use Rattle.icn_instructions.proofs.ArmSteps.{on_ok, lacks_as, goes_in, goes_as, case_as, may_take}
+use Rattle.icn_instructions.proofs.ArmSteps.{on_ok_map, lacks_as, goes_in, goes_as, case_as, may_take}
 use Rattle.icn_instructions.proofs.GroupSteps.{no_other_stack}
 use Rattle.icn_instructions.proofs.LackSteps.{pop_there, esusp_operand, esusp_mark, chfail_lacks, ccase_operand, ccase_mark}
 use Rattle.icn_instructions.proofs.RangeSteps.{range_as, integer_there, cset_there, local_there, global_there, static_there, few_statics}
@@ -100,13 +100,13 @@ unreachable-requires g c =
 pub returns-in-Pnull-clause-step : goal.returns-in-Pnull-clause-step
 returns-in-Pnull-clause-step g c =
     let tables : Tables = tables_of c.args.code.now in
-    on_ok c.push_null.result _ _ (λ h. goes_in tables c.args.instr Instrs.Pnull c.args.frames.now.flat c.push_null.new.frames.flat c.in-Pnull.is h)
+    on_ok_map c.push_null.result _ _ (λ h. goes_in tables c.args.instr Instrs.Pnull c.args.frames.now.flat c.push_null.new.frames.flat c.in-Pnull.is h)
     c.push_null.ensures.step
 
 pub returns-in-Pnull-clause-live : goal.returns-in-Pnull-clause-live
 returns-in-Pnull-clause-live g c =
     let tables : Tables = tables_of c.args.code.now in
-    on_ok c.push_null.result _ _ (λ h reach names l. h tables reach l) c.push_null.ensures.live
+    on_ok_map c.push_null.result _ _ (λ h reach names l. h tables reach l) c.push_null.ensures.live
 
 pub returns-in-Pnull-clause-no_memory : goal.returns-in-Pnull-clause-no_memory
 returns-in-Pnull-clause-no_memory g c =
@@ -116,14 +116,14 @@ returns-in-Pnull-clause-no_memory g c =
 pub returns-in-Int-clause-step : goal.returns-in-Int-clause-step
 returns-in-Int-clause-step g c =
     let tables : Tables = tables_of c.args.code.now in
-    on_ok c.push_integer.result _ _
+    on_ok_map c.push_integer.result _ _
     (λ h. goes_as tables c.args.instr (Instrs.Int c.in-Int.place) c.args.frames.now.flat c.push_integer.new.frames.flat c.in-Int.is h)
     c.push_integer.ensures.step
 
 pub returns-in-Int-clause-live : goal.returns-in-Int-clause-live
 returns-in-Int-clause-live g c =
     let tables : Tables = tables_of c.args.code.now in
-    on_ok c.push_integer.result _ _ (λ h reach names l. h tables reach l) c.push_integer.ensures.live
+    on_ok_map c.push_integer.result _ _ (λ h reach names l. h tables reach l) c.push_integer.ensures.live
 
 pub returns-in-Int-clause-no_memory : goal.returns-in-Int-clause-no_memory
 returns-in-Int-clause-no_memory g c =
@@ -133,14 +133,14 @@ returns-in-Int-clause-no_memory g c =
 pub returns-in-Cset-clause-step : goal.returns-in-Cset-clause-step
 returns-in-Cset-clause-step g c =
     let tables : Tables = tables_of c.args.code.now in
-    on_ok c.push_cset.result _ _
+    on_ok_map c.push_cset.result _ _
     (λ h. goes_as tables c.args.instr (Instrs.Cset c.in-Cset.place) c.args.frames.now.flat c.push_cset.new.frames.flat c.in-Cset.is h)
     c.push_cset.ensures.step
 
 pub returns-in-Cset-clause-live : goal.returns-in-Cset-clause-live
 returns-in-Cset-clause-live g c =
     let tables : Tables = tables_of c.args.code.now in
-    on_ok c.push_cset.result _ _ (λ h reach names l. h tables reach l) c.push_cset.ensures.live
+    on_ok_map c.push_cset.result _ _ (λ h reach names l. h tables reach l) c.push_cset.ensures.live
 
 pub returns-in-Cset-clause-no_memory : goal.returns-in-Cset-clause-no_memory
 returns-in-Cset-clause-no_memory g c =
@@ -150,14 +150,14 @@ returns-in-Cset-clause-no_memory g c =
 pub returns-in-Local-clause-step : goal.returns-in-Local-clause-step
 returns-in-Local-clause-step g c =
     let tables : Tables = tables_of c.args.code.now in
-    on_ok c.push_local.result _ _
+    on_ok_map c.push_local.result _ _
     (λ h. goes_in tables c.args.instr (Instrs.Local c.in-Local.place) c.args.frames.now.flat c.push_local.new.frames.flat c.in-Local.is h)
     c.push_local.ensures.step
 
 pub returns-in-Local-clause-live : goal.returns-in-Local-clause-live
 returns-in-Local-clause-live g c =
     let tables : Tables = tables_of c.args.code.now in
-    on_ok c.push_local.result _ _ (λ h reach names l. h tables reach l) c.push_local.ensures.live
+    on_ok_map c.push_local.result _ _ (λ h reach names l. h tables reach l) c.push_local.ensures.live
 
 pub returns-in-Local-clause-no_memory : goal.returns-in-Local-clause-no_memory
 returns-in-Local-clause-no_memory g c =
@@ -169,7 +169,7 @@ returns-in-Static-clause-step g c =
     let tables : Tables = tables_of c.args.code.now in
     let first : c.first_static-first.result ≡ statics_before tables (held.proc c.args.frames.now.flat) = c.first_static-first.ensures ∙ ap
     (statics_before tables) c.proc.ensures in
-    on_ok c.push_static.result _ _
+    on_ok_map c.push_static.result _ _
     (λ h. goes_as tables c.args.instr (Instrs.Static c.in-Static.place) c.args.frames.now.flat c.push_static.new.frames.flat c.in-Static.is
     (h tables first)) c.push_static.ensures.step
 
@@ -180,7 +180,7 @@ returns-in-Static-clause-live g c =
     (statics_before tables) c.proc.ensures in
     let there = static_there tables (held.proc c.args.frames.now.flat) c.in-Static.place
     (range_as tables (held.proc c.args.frames.now.flat) c.args.instr (Instrs.Static c.in-Static.place) c.in-Static.is c.requires.in_range) in
-    on_ok c.push_static.result _ _ (λ h reach names l. h tables reach (omega (arith, names.statics, there, first)) l) c.push_static.ensures.live
+    on_ok_map c.push_static.result _ _ (λ h reach names l. h tables reach (omega (arith, names.statics, there, first)) l) c.push_static.ensures.live
 
 pub returns-in-Static-clause-no_memory : goal.returns-in-Static-clause-no_memory
 returns-in-Static-clause-no_memory g c =
@@ -190,14 +190,14 @@ returns-in-Static-clause-no_memory g c =
 pub returns-in-Global-clause-step : goal.returns-in-Global-clause-step
 returns-in-Global-clause-step g c =
     let tables : Tables = tables_of c.args.code.now in
-    on_ok c.push_global.result _ _
+    on_ok_map c.push_global.result _ _
     (λ h. goes_in tables c.args.instr (Instrs.Global c.in-Global.place) c.args.frames.now.flat c.push_global.new.frames.flat c.in-Global.is h)
     c.push_global.ensures.step
 
 pub returns-in-Global-clause-live : goal.returns-in-Global-clause-live
 returns-in-Global-clause-live g c =
     let tables : Tables = tables_of c.args.code.now in
-    on_ok c.push_global.result _ _
+    on_ok_map c.push_global.result _ _
     (λ h reach names l. h tables reach (global_there tables reach (held.proc c.args.frames.now.flat) c.in-Global.place
     (range_as tables (held.proc c.args.frames.now.flat) c.args.instr
     (Instrs.Global c.in-Global.place) c.in-Global.is c.requires.in_range) names) l) c.push_global.ensures.live
@@ -220,13 +220,13 @@ returns-in-Pop-clause-live g c =
 pub returns-in-Dup-clause-step : goal.returns-in-Dup-clause-step
 returns-in-Dup-clause-step g c =
     let tables : Tables = tables_of c.args.code.now in
-    on_ok c.duplicate.result _ _ (λ h. goes_in tables c.args.instr Instrs.Dup c.args.frames.now.flat c.duplicate.new.frames.flat c.in-Dup.is h)
+    on_ok_map c.duplicate.result _ _ (λ h. goes_in tables c.args.instr Instrs.Dup c.args.frames.now.flat c.duplicate.new.frames.flat c.in-Dup.is h)
     c.duplicate.ensures.step
 
 pub returns-in-Dup-clause-live : goal.returns-in-Dup-clause-live
 returns-in-Dup-clause-live g c =
     let tables : Tables = tables_of c.args.code.now in
-    on_ok c.duplicate.result _ _ (λ h reach names l. h tables reach l) c.duplicate.ensures.live
+    on_ok_map c.duplicate.result _ _ (λ h reach names l. h tables reach l) c.duplicate.ensures.live
 
 pub returns-in-Dup-clause-no_memory : goal.returns-in-Dup-clause-no_memory
 returns-in-Dup-clause-no_memory g c =
@@ -236,14 +236,14 @@ returns-in-Dup-clause-no_memory g c =
 pub returns-in-Mark-clause-step : goal.returns-in-Mark-clause-step
 returns-in-Mark-clause-step g c =
     let tables : Tables = tables_of c.args.code.now in
-    on_ok c.open_mark.result _ _
+    on_ok_map c.open_mark.result _ _
     (λ h. goes_in tables c.args.instr (Instrs.Mark c.in-Mark.label) c.args.frames.now.flat c.open_mark.new.frames.flat c.in-Mark.is h)
     c.open_mark.ensures.step
 
 pub returns-in-Mark-clause-live : goal.returns-in-Mark-clause-live
 returns-in-Mark-clause-live g c =
     let tables : Tables = tables_of c.args.code.now in
-    on_ok c.open_mark.result _ _ (λ h reach names l. h tables reach l) c.open_mark.ensures.live
+    on_ok_map c.open_mark.result _ _ (λ h reach names l. h tables reach l) c.open_mark.ensures.live
 
 pub returns-in-Mark-clause-no_memory : goal.returns-in-Mark-clause-no_memory
 returns-in-Mark-clause-no_memory g c =
@@ -253,14 +253,14 @@ returns-in-Mark-clause-no_memory g c =
 pub returns-in-Mark0-clause-step : goal.returns-in-Mark0-clause-step
 returns-in-Mark0-clause-step g c =
     let tables : Tables = tables_of c.args.code.now in
-    on_ok c.open_mark-in-Mark0.result _ _
+    on_ok_map c.open_mark-in-Mark0.result _ _
     (λ h. goes_in tables c.args.instr Instrs.Mark0 c.args.frames.now.flat c.open_mark-in-Mark0.new.frames.flat c.in-Mark0.is h)
     c.open_mark-in-Mark0.ensures.step
 
 pub returns-in-Mark0-clause-live : goal.returns-in-Mark0-clause-live
 returns-in-Mark0-clause-live g c =
     let tables : Tables = tables_of c.args.code.now in
-    on_ok c.open_mark-in-Mark0.result _ _ (λ h reach names l. h tables reach l) c.open_mark-in-Mark0.ensures.live
+    on_ok_map c.open_mark-in-Mark0.result _ _ (λ h reach names l. h tables reach l) c.open_mark-in-Mark0.ensures.live
 
 pub returns-in-Mark0-clause-no_memory : goal.returns-in-Mark0-clause-no_memory
 returns-in-Mark0-clause-no_memory g c =
@@ -270,13 +270,13 @@ returns-in-Mark0-clause-no_memory g c =
 pub returns-in-Esusp-clause-step : goal.returns-in-Esusp-clause-step
 returns-in-Esusp-clause-step g c =
     let tables : Tables = tables_of c.args.code.now in
-    on_ok c.give_suspended.result _ _
+    on_ok_map c.give_suspended.result _ _
     (λ h. goes_in tables c.args.instr Instrs.Esusp c.args.frames.now.flat c.give_suspended.new.frames.flat c.in-Esusp.is h) c.give_suspended.ensures.step
 
 pub returns-in-Esusp-clause-live : goal.returns-in-Esusp-clause-live
 returns-in-Esusp-clause-live g c =
     let tables : Tables = tables_of c.args.code.now in
-    on_ok c.give_suspended.result _ _ (λ h reach names l. h tables reach l) c.give_suspended.ensures.live
+    on_ok_map c.give_suspended.result _ _ (λ h reach names l. h tables reach l) c.give_suspended.ensures.live
 
 pub returns-in-Esusp-clause-no_memory : goal.returns-in-Esusp-clause-no_memory
 returns-in-Esusp-clause-no_memory g c =
@@ -307,13 +307,13 @@ returns-in-Goto-clause-live g c =
 pub returns-in-Ccase-clause-step : goal.returns-in-Ccase-clause-step
 returns-in-Ccase-clause-step g c =
     let tables : Tables = tables_of c.args.code.now in
-    on_ok c.push_below.result _ _ (λ h. goes_in tables c.args.instr Instrs.Ccase c.args.frames.now.flat c.push_below.new.frames.flat c.in-Ccase.is h)
+    on_ok_map c.push_below.result _ _ (λ h. goes_in tables c.args.instr Instrs.Ccase c.args.frames.now.flat c.push_below.new.frames.flat c.in-Ccase.is h)
     c.push_below.ensures.step
 
 pub returns-in-Ccase-clause-live : goal.returns-in-Ccase-clause-live
 returns-in-Ccase-clause-live g c =
     let tables : Tables = tables_of c.args.code.now in
-    on_ok c.push_below.result _ _ (λ h reach names l. h tables reach l) c.push_below.ensures.live
+    on_ok_map c.push_below.result _ _ (λ h reach names l. h tables reach l) c.push_below.ensures.live
 
 pub returns-in-Ccase-clause-no_memory : goal.returns-in-Ccase-clause-no_memory
 returns-in-Ccase-clause-no_memory g c =

@@ -1,6 +1,6 @@
 use Rattle.std.proofs.Common.{◌≡◌, ◌<◌, ◌+◌, ℕ, suc, length, slice_get, Some, sym, ap, ◌∙◌, arith}
 use Rattle.icn_code.specs.Codes.{Tables, proc_of}
-use Rattle.icn_code.specs.Seen.{tables_of}
+use Rattle.icn_code.specs.CodeTables.{tables_of}
 use Rattle.icn_run.specs.Step.{statics_before}
 use Rattle.icn_instructions.proofs.RangeSteps.{entry_at, few_statics, static_within, statics_next}
 use Rattle.icn_instructions.proofs.statics.first_static.Goals as goal

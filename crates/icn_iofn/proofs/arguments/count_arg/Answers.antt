@@ -6,9 +6,9 @@ use Rattle.icn_value.specs.Values.{Integer}
 use Rattle.icn_defs.specs.Arguments.{arg, arg_or, integer}
 use Rattle.icn_heap.specs.Extents.{value_in}
 use Rattle.icn_heap.specs.Heaps.{extent_of}
-use Rattle.icn_args.specs.Words.{IsFound}
-use Rattle.icn_args.proofs.Answering.{first_stops}
-use Rattle.icn_iofn.specs.Reading.{positive}
+use Rattle.icn_args.specs.RowWords.{IsFound}
+use Rattle.icn_args.proofs.RowAnswers.{first_stops}
+use Rattle.icn_iofn.specs.ReadParts.{positive}
 use Rattle.icn_iofn.proofs.ReadSteps.{found_behind}
 use Rattle.icn_iofn.proofs.arguments.count_arg.Goals as goal
 

@@ -2,7 +2,7 @@ use Rattle.std.proofs.Common.{◌∙◌, ap, subst}
 use Rattle.icn_value.specs.Values.{Input, Std}
 use Rattle.icn_defs.specs.Arguments.{file, value_or}
 use Rattle.icn_heap.specs.Keys.{file_of}
-use Rattle.icn_args.specs.Words.{IsFound}
+use Rattle.icn_args.specs.RowWords.{IsFound}
 use Rattle.icn_iofn.proofs.arguments.file_arg.Goals as goal
 
 pub returns-clause-found : goal.returns-clause-found

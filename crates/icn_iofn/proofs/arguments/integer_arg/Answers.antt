@@ -5,7 +5,7 @@ use Rattle.icn_value.specs.Values.{Integer}
 use Rattle.icn_defs.specs.Arguments.{integer, value_or}
 use Rattle.icn_heap.specs.Extents.{value_in}
 use Rattle.icn_heap.specs.Heaps.{extent_of}
-use Rattle.icn_args.specs.Words.{IsFound}
+use Rattle.icn_args.specs.RowWords.{IsFound}
 use Rattle.icn_iofn.proofs.arguments.integer_arg.Goals as goal
 
 pub integer_of-requires : goal.integer_of-requires

@@ -4,7 +4,7 @@ use Rattle.std.proofs.lemmas.Int.{to_z-of_z}
 use Rattle.icn_vars.specs.Stops.{StopsFinding}
 use Rattle.icn_defs.specs.Rows.{check, natural}
 use Rattle.icn_heap.specs.Extents.{value_in}
-use Rattle.icn_args.proofs.Answering.{first_stops}
+use Rattle.icn_args.proofs.RowAnswers.{first_stops}
 use Rattle.icn_iofn.proofs.ReadSteps.{err_lives}
 use Rattle.icn_iofn.proofs.arguments.positive.Goals as goal
 

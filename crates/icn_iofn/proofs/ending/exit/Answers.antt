@@ -7,7 +7,7 @@ use Rattle.icn_defs.specs.Arguments.{arg_or, integer}
 use Rattle.icn_defs.specs.Rows.{Ends, ends}
 use Rattle.icn_heap.specs.Extents.{value_in}
 use Rattle.icn_heap.specs.Heaps.{extent_of}
-use Rattle.icn_args.proofs.Answering.{row_stops}
+use Rattle.icn_args.proofs.RowAnswers.{row_stops}
 use Rattle.icn_iofn.proofs.ending.exit.Goals as goal
 
 pub returns-in_err-n-clause-row : goal.returns-in_err-n-clause-row

@@ -2,11 +2,11 @@ use Rattle.std.proofs.Common.{◌∙◌, ap, map, sym}
 use Rattle.icn_heap.specs.Extents.{value_in}
 use Rattle.icn_heap.specs.Heaps.{extent_of}
 use Rattle.icn_defs.specs.Applying.{function_of, function_row}
-use Rattle.icn_defs.specs.Reading.{the_values}
+use Rattle.icn_defs.specs.ReadAndAssign.{the_values}
 use Rattle.icn_vars.specs.Worlds.{item_in, setting_of}
 use Rattle.icn_streams.specs.Answers.{call_state}
 use Rattle.icn_streams.specs.Handed.{call_streams}
-use Rattle.icn_streams.proofs.Behind.{applies_same, stops_there}
+use Rattle.icn_streams.proofs.RowAnswers.{applies_same, stops_there}
 use Rattle.icn_iofn.proofs.functions.first.Goals as goal
 
 pub returns-in_err-vals : goal.returns-in_err-vals

@@ -4,8 +4,8 @@ use Rattle.icn_heap.specs.Heaps.{extent_of}
 use Rattle.icn_defs.specs.InputOutput.{exit_row}
 use Rattle.icn_vars.specs.Worlds.{reach_of}
 use Rattle.icn_streams.specs.Handed.{call_streams}
-use Rattle.icn_streams.proofs.Faultless.{faultless_applies}
-use Rattle.icn_streams.proofs.Idle.{items_all}
+use Rattle.icn_streams.proofs.QuietRows.{faultless_applies}
+use Rattle.icn_streams.proofs.IdleCalls.{keeps_items_refl}
 use Rattle.icn_vars.specs.Worlds.{setting_of}
 use Rattle.icn_iofn.proofs.functions.of_values.Goals as goal
 
@@ -16,7 +16,7 @@ returns-in-Exit g c = λ names. rw c.in-Exit.is
     (call_streams (g.I.Source.left c.args.input.now) (g.I.Source.faults c.args.input.now) (g.O.Sink.state c.args.out.now) (g.E.Sink.state c.args.err.now))
     c.exit.result (λ was. c.exit.ensures.row (setting_of was c.args.w.now (g.L.Locals.items c.args.l.now)))
     (c.exit.ensures.live (reach_of c.args.w.now (g.L.Locals.items c.args.l.now)) refl) c.requires.locals
-    (items_all (reach_of c.args.w.now (g.L.Locals.items c.args.l.now))))
+    (keeps_items_refl (reach_of c.args.w.now (g.L.Locals.items c.args.l.now))))
 
 pub returns-in-Read : goal.returns-in-Read
 returns-in-Read g c = λ names. rw c.in-Read.is (c.read.ensures (g.O.Sink.state c.args.out.now) (g.E.Sink.state c.args.err.now))

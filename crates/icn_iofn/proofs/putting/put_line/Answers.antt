@@ -6,8 +6,8 @@ use Rattle.icn_heap.specs.Extents.{IsLive}
 use Rattle.icn_heap.specs.Heaps.{extent_of}
 use Rattle.icn_heap.specs.Keys.{file_of}
 use Rattle.icn_host.specs.declared.fault.Fault.TheVariants.{NoMemory}
-use Rattle.icn_iofn.specs.Putting.{outputs, uncounted}
-use Rattle.icn_iofn.proofs.PutSteps.{both_then, broken_then, err_is, if_err, line_at, line_begins, line_breaks, line_ends, line_goes_on, line_stops, line_wants, nothing_left, on_err, on_ok}
+use Rattle.icn_iofn.specs.PutPieces.{outputs, uncounted}
+use Rattle.icn_iofn.proofs.PutSteps.{both_then, broken_then, if_err_known, if_err_map, line_at, line_begins, line_breaks, line_ends, line_goes_on, line_stops, line_wants, nothing_left, on_err_map, on_ok_map}
 use Rattle.icn_iofn.proofs.putting.put_line.Goals as goal
 
 pub loop-first-init : goal.loop-first-init
@@ -23,8 +23,8 @@ put_piece-requires g c =
 
 pub returns-in_err-selected-clause-err : goal.returns-in_err-selected-clause-err
 returns-in_err-selected-clause-err g c =
-    on_err c.from_residual.result
-    (err_is c.from_residual.result (λ fault. fault ≡ c.in_err-selected.field-0.0) c.in_err-selected.field-0.0 c.from_residual.ensures.1 refl)
+    on_err_map c.from_residual.result
+    (if_err_known c.from_residual.result (λ fault. fault ≡ c.in_err-selected.field-0.0) c.in_err-selected.field-0.0 c.from_residual.ensures.1 refl)
     (λ fault same. line_stops (extent_of c.args.heap.now) c.args.vals.now c.in-Some.first.now c.in-Some.others.now c.args.ends c.loop-first.is_first
     (file_of c.args.file) (file_of c.loop-first.selected)
     c.loop-first.buffer.items (outputs (g.O.Sink.state c.args.out.now) (g.E.Sink.state c.args.err.now))
@@ -39,7 +39,7 @@ returns-in_err-selected-clause-err g c =
 
 pub returns-in_err-selected-clause-cause : goal.returns-in_err-selected-clause-cause
 returns-in_err-selected-clause-cause g c =
-    err_is c.from_residual.result _ c.in_err-selected.field-0.0 c.from_residual.ensures.1
+    if_err_known c.from_residual.result _ c.in_err-selected.field-0.0 c.from_residual.ensures.1
     (broken_then c.in_err-selected.field-0.0 c.loop-first.invariant.counts c.in_err-selected.ensures.err.cause)
 
 pub loop-first-preserved : goal.loop-first-preserved
@@ -59,8 +59,8 @@ loop-first-preserved g c =
 
 pub returns-in_err-end_line-clause-err : goal.returns-in_err-end_line-clause-err
 returns-in_err-end_line-clause-err g c =
-    on_err c.from_residual-in_err-end_line.result
-    (err_is c.from_residual-in_err-end_line.result (λ fault. fault ≡ NoMemory) NoMemory c.from_residual-in_err-end_line.ensures.1 refl)
+    on_err_map c.from_residual-in_err-end_line.result
+    (if_err_known c.from_residual-in_err-end_line.result (λ fault. fault ≡ NoMemory) NoMemory c.from_residual-in_err-end_line.ensures.1 refl)
     (λ fault same.
     line_wants (extent_of c.args.heap.now) c.args.vals.now c.args.ends c.loop-first.is_first (file_of c.args.file) (file_of c.loop-first.selected)
     c.loop-first.buffer.items (outputs (g.O.Sink.state c.args.out.now) (g.E.Sink.state c.args.err.now))
@@ -73,11 +73,11 @@ returns-in_err-end_line-clause-err g c =
 
 pub returns-in_err-end_line-clause-cause : goal.returns-in_err-end_line-clause-cause
 returns-in_err-end_line-clause-cause g c =
-    err_is c.from_residual-in_err-end_line.result _ NoMemory c.from_residual-in_err-end_line.ensures.1 (uncounted c.loop-first.invariant.counts)
+    if_err_known c.from_residual-in_err-end_line.result _ NoMemory c.from_residual-in_err-end_line.ensures.1 (uncounted c.loop-first.invariant.counts)
 
 pub returns-clause-ok : goal.returns-clause-ok
 returns-clause-ok g c =
-    on_ok c.flush.result c.flush.ensures.ok
+    on_ok_map c.flush.result c.flush.ensures.ok
     (λ puts. line_ends (extent_of c.args.heap.now) c.args.vals.now c.args.ends c.loop-first.is_first (file_of c.args.file) (file_of c.loop-first.selected)
     c.loop-first.buffer.items (outputs (g.O.Sink.state c.args.out.now) (g.E.Sink.state c.args.err.now))
     (outputs (g.O.Sink.state c.loop-first.out) (g.E.Sink.state c.loop-first.err))
@@ -89,11 +89,11 @@ returns-clause-ok g c =
     c.deref.result.now (outputs (g.O.Sink.state c.flush.new.out) (g.E.Sink.state c.flush.new.err)) (c.deref.ensures.value ∙ c.in_ok-end_line.ensures) puts)
 
 pub returns-clause-counts : goal.returns-clause-counts
-returns-clause-counts g c = on_ok c.flush.result c.flush.ensures.ok (λ puts. both_then c.loop-first.invariant.counts puts.counts)
+returns-clause-counts g c = on_ok_map c.flush.result c.flush.ensures.ok (λ puts. both_then c.loop-first.invariant.counts puts.counts)
 
 pub returns-clause-err : goal.returns-clause-err
 returns-clause-err g c =
-    on_err c.flush.result c.flush.ensures.err
+    on_err_map c.flush.result c.flush.ensures.err
     (λ fault puts.
     line_breaks (extent_of c.args.heap.now) c.args.vals.now c.args.ends c.loop-first.is_first (file_of c.args.file) (file_of c.loop-first.selected)
     c.loop-first.buffer.items (outputs (g.O.Sink.state c.args.out.now) (g.E.Sink.state c.args.err.now))
@@ -107,4 +107,4 @@ returns-clause-err g c =
     (c.deref.ensures.value ∙ c.in_ok-end_line.ensures) puts)
 
 pub returns-clause-cause : goal.returns-clause-cause
-returns-clause-cause g c = if_err c.flush.result c.flush.ensures.err (λ fault puts. broken_then fault c.loop-first.invariant.counts puts.cause)
+returns-clause-cause g c = if_err_map c.flush.result c.flush.ensures.err (λ fault puts. broken_then fault c.loop-first.invariant.counts puts.cause)

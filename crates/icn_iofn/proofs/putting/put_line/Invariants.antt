@@ -1,7 +1,7 @@
 use Rattle.std.proofs.Common.{length}
 use Rattle.icn_heap.specs.Heaps.{extent_of}
 use Rattle.icn_heap.specs.Keys.{file_of}
-use Rattle.icn_iofn.specs.Putting.{outputs}
+use Rattle.icn_iofn.specs.PutPieces.{outputs}
 use Rattle.icn_iofn.proofs.PutSteps.{LineSo}
 use Rattle.icn_iofn.proofs.putting.put_line.Given as goal
 

@@ -4,18 +4,18 @@ use Rattle.icn_defs.specs.InputOutput.{newline, put_on}
 use Rattle.icn_heap.specs.Extents.{value_in}
 use Rattle.icn_heap.specs.Heaps.{extent_of}
 use Rattle.icn_heap.specs.Keys.{file_of}
-use Rattle.icn_args.specs.Words.{the_text}
+use Rattle.icn_args.specs.RowWords.{the_text}
 use Rattle.icn_host.specs.declared.fault.Fault.TheVariants.{NoMemory}
-use Rattle.icn_iofn.specs.Putting.{Advances, file_after, outputs, piece_in, text_of_piece, waiting_text}
-use Rattle.icn_iofn.proofs.PutSteps.{err_is, no_ok, stops_idle, text_piece, waits_more}
+use Rattle.icn_iofn.specs.PutPieces.{HasEffect, file_after, outputs, piece_in, text_of_piece, waiting_text}
+use Rattle.icn_iofn.proofs.PutSteps.{if_err_known, if_ok_of_error, stops_idle, text_piece, waits_more}
 use Rattle.icn_iofn.proofs.putting.put_piece.Goals as goal
 
 pub returns-in_err-push_text-in_default : goal.returns-in_err-push_text-in_default
 returns-in_err-push_text-in_default g c = record {
-  ok = no_ok c.from_residual.result _ _ c.from_residual.ensures.1;
-  file = no_ok c.from_residual.result _ _ c.from_residual.ensures.1;
+  ok = if_ok_of_error c.from_residual.result _ _ c.from_residual.ensures.1;
+  file = if_ok_of_error c.from_residual.result _ _ c.from_residual.ensures.1;
   err =
-      err_is c.from_residual.result _ NoMemory c.from_residual.ensures.1
+      if_err_known c.from_residual.result _ NoMemory c.from_residual.ensures.1
       (stops_idle (file_of c.args.file) c.args.buffer.now.items
       (text_of_piece newline (not c.args.ends) (piece_in (value_in (extent_of c.args.heap.now) c.args.val)))
       (outputs (g.O.Sink.state c.args.out.now) (g.E.Sink.state c.args.err.now)) NoMemory refl);
@@ -25,7 +25,7 @@ pub returns-in_ok-push_text-in_default : goal.returns-in_ok-push_text-in_default
 returns-in_ok-push_text-in_default g c = record {
   ok =
       subst
-      (λ p. Advances (waiting_text (file_of c.args.file) c.args.buffer.now.items (outputs (g.O.Sink.state c.args.out.now) (g.E.Sink.state c.args.err.now)))
+      (λ p. HasEffect (waiting_text (file_of c.args.file) c.args.buffer.now.items (outputs (g.O.Sink.state c.args.out.now) (g.E.Sink.state c.args.err.now)))
       (waiting_text (file_of c.args.file) c.push_text.new.buffer.items (outputs (g.O.Sink.state c.args.out.now) (g.E.Sink.state c.args.err.now)))
       (put_on (file_of c.args.file) (text_of_piece newline (not c.args.ends) p)))
       (sym (text_piece (extent_of c.args.heap.now) c.args.val c.in_default.not-Std))

@@ -1,13 +1,13 @@
 use Rattle.std.proofs.Common.{◌≡◌, ◌∙◌, ap, refl, rules}
 use Rattle.icn_heap.specs.Keys.{file_of}
 use Rattle.icn_host.specs.declared.fault.Fault.TheVariants.{NoMemory}
-use Rattle.icn_iofn.specs.Putting.{outputs}
-use Rattle.icn_iofn.proofs.PutSteps.{end_of, err_is, puts_waiting, stops_idle, waits_more}
+use Rattle.icn_iofn.specs.PutPieces.{outputs}
+use Rattle.icn_iofn.proofs.PutSteps.{end_of, if_err_known, puts_waiting, stops_idle, waits_more}
 use Rattle.icn_iofn.proofs.putting.select.Goals as goal
 
 pub returns-in_err-end_line-clause-err : goal.returns-in_err-end_line-clause-err
 returns-in_err-end_line-clause-err g c =
-    err_is c.from_residual.result _ NoMemory c.from_residual.ensures.1
+    if_err_known c.from_residual.result _ NoMemory c.from_residual.ensures.1
     (stops_idle (file_of c.args.file) c.args.buffer.now.items (end_of c.args.ends)
     (outputs (g.O.Sink.state c.args.out.now) (g.E.Sink.state c.args.err.now)) NoMemory refl)
 

@@ -11,8 +11,8 @@ use Rattle.icn_defs.specs.Rows.{check, gives_value}
 use Rattle.icn_vars.specs.Worlds.{setting_of}
 use Rattle.icn_streams.specs.Answers.{call_state}
 use Rattle.icn_streams.specs.Handed.{call_streams}
-use Rattle.icn_streams.proofs.Behind.{applies_same, stops_there}
-use Rattle.icn_iofn.specs.Reading.{read_from}
+use Rattle.icn_streams.proofs.RowAnswers.{applies_same, stops_there}
+use Rattle.icn_iofn.specs.ReadParts.{read_from}
 use Rattle.icn_iofn.proofs.reads.read.Goals as goal
 
 pub returns-in_err-file : goal.returns-in_err-file

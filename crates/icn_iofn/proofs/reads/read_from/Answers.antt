@@ -7,7 +7,7 @@ use Rattle.icn_streams.specs.Answers.{call_state}
 use Rattle.icn_streams.specs.Applies.{Applies}
 use Rattle.icn_streams.specs.Handed.{call_streams}
 use Rattle.icn_streams.specs.Readings.{asked_in}
-use Rattle.icn_iofn.specs.Reading.{read_from}
+use Rattle.icn_iofn.specs.ReadParts.{read_from}
 use Rattle.icn_iofn.proofs.reads.read_from.Goals as goal
 
 pub returns : goal.returns

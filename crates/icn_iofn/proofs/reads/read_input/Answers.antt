@@ -8,7 +8,7 @@ use Rattle.icn_value.specs.declared.item.Item.TheVariants.{Val as HeldVal}
 use Rattle.icn_value.specs.declared.val.Val.TheVariants.{Text as HeldText}
 use Rattle.icn_vars.specs.declared.outcome.Outcome.TheVariants.{Gives}
 use Rattle.icn_streams.specs.Readings.{asked_in}
-use Rattle.icn_streams.proofs.NextRead.{at_some}
+use Rattle.icn_streams.proofs.NextRead.{if_some_elim}
 use Rattle.icn_streams.proofs.ReadRows.{read_fails, read_gives, read_halts}
 use Rattle.icn_iofn.proofs.reads.read_input.Goals as goal
 
@@ -24,7 +24,7 @@ returns-in_err-text g c = λ output errors.
 
 pub returns-in-Some : goal.returns-in-Some
 returns-in-Some g c = λ output errors.
-    let text : IsText (extent_of c.read_text.new.w.heap) c.in-Some.text = at_some c.in_ok-text.field-0 c.in-Some.text
+    let text : IsText (extent_of c.read_text.new.w.heap) c.in-Some.text = if_some_elim c.in_ok-text.field-0 c.in-Some.text
     (IsText (extent_of c.read_text.new.w.heap)) c.in-Some.is c.in_ok-text.ensures.live in
     read_gives (asked_in c.args.ask) (λ text. gives_value (Text text)) (record { outside = λ text s. refl }) c.args.w.now c.read_text.new.w
     (g.L.Locals.items c.args.l.now)

@@ -7,8 +7,8 @@ use Rattle.icn_defs.specs.Rows.{ends}
 use Rattle.icn_vars.specs.Worlds.{setting_of}
 use Rattle.icn_streams.specs.Answers.{call_state}
 use Rattle.icn_streams.specs.Handed.{call_streams}
-use Rattle.icn_streams.proofs.Behind.{stops_there}
-use Rattle.icn_iofn.specs.Putting.{BrokenBy, outputs}
+use Rattle.icn_streams.proofs.RowAnswers.{stops_there}
+use Rattle.icn_iofn.specs.PutPieces.{BrokenBy, outputs}
 use Rattle.icn_iofn.proofs.WriteRows.{write_fails, write_wants, wrote_ends}
 use Rattle.icn_iofn.proofs.writes.stop.Goals as goal
 

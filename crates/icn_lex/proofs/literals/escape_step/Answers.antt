@@ -1,6 +1,6 @@
 use Rattle.std.proofs.Common.{sym, ◌∙◌}
 use Rattle.icn_lex.specs.Literals.{literal_of}
-use Rattle.icn_lex.proofs.Insides.{at_escape, not_empty}
+use Rattle.icn_lex.proofs.InsideLiterals.{at_escape, not_empty}
 use Rattle.icn_lex.proofs.literals.escape_step.Goals as goal
 
 pub returns-clause-exact : goal.returns-clause-exact

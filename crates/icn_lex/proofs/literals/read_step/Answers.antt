@@ -1,7 +1,7 @@
 use Rattle.std.proofs.Common.{◌∷◌, sym, ◌∙◌}
 use Rattle.icn_lex.specs.Literals.{literal_of, scan_escape, scan_inside}
-use Rattle.icn_lex.proofs.Places.{step_same}
-use Rattle.icn_lex.proofs.Insides.{at_quote, at_backslash, at_line_end, at_plain}
+use Rattle.icn_lex.proofs.ReadSoFar.{step_same}
+use Rattle.icn_lex.proofs.InsideLiterals.{at_quote, at_backslash, at_line_end, at_plain}
 use Rattle.icn_lex.proofs.literals.read_step.Goals as goal
 
 pub returns-then-first-opening-clause-exact : goal.returns-then-first-opening-clause-exact

@@ -1,5 +1,5 @@
 use Rattle.std.proofs.Common.{sym, ◌∙◌, refl, get_or}
-use Rattle.icn_lex.proofs.Values.{stays_large}
+use Rattle.icn_lex.proofs.DigitValues.{stays_large}
 use Rattle.icn_lex.proofs.numbers.value.Goals as goal
 
 pub returns-in_err-value-clause-found : goal.returns-in_err-value-clause-found

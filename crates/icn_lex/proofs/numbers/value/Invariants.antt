@@ -1,5 +1,5 @@
 use Rattle.std.proofs.Common.{◌≡◌, ◌≤◌, drop}
-use Rattle.icn_tree.specs.Numbers.{number_from, number_in}
+use Rattle.icn_tree.specs.IntegerLiterals.{number_from, number_in}
 use Rattle.icn_lex.proofs.numbers.value.Given as goal
 
 abbrev pub invariant-loop-digit : goal.invariant-loop-digit

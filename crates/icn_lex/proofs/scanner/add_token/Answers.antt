@@ -1,6 +1,6 @@
 use Rattle.std.proofs.Common.{sym, ◌∙◌}
-use Rattle.icn_lex.proofs.Texts.{at_opening}
-use Rattle.icn_lex.proofs.Places.{reads_same}
+use Rattle.icn_lex.proofs.OutsideLiterals.{at_opening}
+use Rattle.icn_lex.proofs.ReadSoFar.{reads_same}
 use Rattle.icn_lex.proofs.scanner.add_token.Goals as goal
 
 pub returns-then-is_quote-clause-exact : goal.returns-then-is_quote-clause-exact

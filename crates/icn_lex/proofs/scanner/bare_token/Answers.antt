@@ -1,5 +1,5 @@
 use Rattle.std.proofs.lemmas.Result.{err_from_is_err_and}
-use Rattle.icn_lex.proofs.Texts.{broken_all, token_all, token_within, shorter}
+use Rattle.icn_lex.proofs.OutsideLiterals.{broken_all, token_all, token_within, shorter}
 use Rattle.icn_lex.proofs.scanner.bare_token.Goals as goal
 
 pub returns-in_err-kind-clause-exact : goal.returns-in_err-kind-clause-exact

@@ -1,6 +1,6 @@
 use Rattle.std.proofs.Common.{false}
 use Rattle.icn_lex.specs.Literals.{literal_of, scan_text, scan_inside}
-use Rattle.icn_lex.proofs.Texts.{closed_all}
+use Rattle.icn_lex.proofs.OutsideLiterals.{closed_all}
 use Rattle.icn_lex.proofs.scanner.rest_of_literal.Goals as goal
 
 pub returns-in_ok-push-in-Closed-clause-exact : goal.returns-in_ok-push-in-Closed-clause-exact

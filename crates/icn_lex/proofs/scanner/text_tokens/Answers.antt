@@ -1,7 +1,7 @@
 use Rattle.std.proofs.Common.{sym, ◌∙◌}
 use Rattle.std.proofs.lemmas.Result.{err_from_is_err_and}
-use Rattle.icn_lex.proofs.Texts.{at_space, at_comment, at_text_end}
-use Rattle.icn_lex.proofs.Places.{reads_same}
+use Rattle.icn_lex.proofs.OutsideLiterals.{at_space, at_comment, at_text_end}
+use Rattle.icn_lex.proofs.ReadSoFar.{reads_same}
 use Rattle.icn_lex.proofs.scanner.text_tokens.Goals as goal
 
 pub loop-first-preserved-then-is_space : goal.loop-first-preserved-then-is_space

@@ -3,8 +3,8 @@ use Rattle.std.specs.Option.{option_map}
 use Rattle.std.proofs.lemmas.Result.{err_from_is_err_and}
 use Rattle.icn_tree.specs.Tokens.{lines_from}
 use Rattle.icn_lex.specs.Outcomes.{literal_read}
-use Rattle.icn_lex.proofs.Lines.{later_of, line_more, fault_outcome, unclosed_outcome, scanned_outcome}
-use Rattle.icn_lex.proofs.Places.{reads_same}
+use Rattle.icn_lex.proofs.ScannedLines.{later_of, line_more, fault_outcome, unclosed_outcome, scanned_outcome}
+use Rattle.icn_lex.proofs.ReadSoFar.{reads_same}
 use Rattle.icn_lex.proofs.scanner.tokens.Goals as goal
 
 pub loop-line-preserved : goal.loop-line-preserved
@@ -33,7 +33,7 @@ pub returns-in-Some : goal.returns-in-Some
 returns-in-Some c = record {
   exact =
       let lines = c.args.lines.now.lines.items in
-      rw c.unclosed.ensures
+      rw c.unclosed_fault.ensures
       (unclosed_outcome lines c.loop-line.tokens.items c.loop-line.line-index (literal_read c.in-Some.literal)
       (omega (arith, ap length c.deref-line-items.ensures.value)) (rw c.in-Some.is at c.loop-line.invariant));
 }

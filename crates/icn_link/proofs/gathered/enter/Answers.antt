@@ -1,4 +1,4 @@
-use Rattle.icn_link.proofs.Indices.{entered}
+use Rattle.icn_link.proofs.ReferenceTables.{entered}
 use Rattle.icn_link.proofs.gathered.enter.Goals as goal
 
 pub returns : goal.returns

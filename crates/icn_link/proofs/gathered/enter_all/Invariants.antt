@@ -1,5 +1,5 @@
 use Rattle.std.proofs.Common.{◌≡◌, drop}
-use Rattle.icn_link.specs.Gathering.{with_texts}
+use Rattle.icn_link.specs.FirstMentions.{with_texts}
 use Rattle.icn_link.specs.Views.{texts_seen}
 use Rattle.icn_link.proofs.gathered.enter_all.Given as goal
 

@@ -2,7 +2,7 @@ use Rattle.std.proofs.Common.{◌∙◌}
 use Rattle.icn_unit.specs.declared.unit.UnitInstr.{UnitInstr}
 use Rattle.icn_link.specs.Mentions.{field_in, mention_of}
 use Rattle.icn_link.specs.Views.{texts_seen}
-use Rattle.icn_link.proofs.Steps.{own_texts_step}
+use Rattle.icn_link.proofs.GatheringLoops.{own_texts_step}
 use Rattle.icn_link.proofs.gathered.enter_fields_used.Goals as goal
 
 pub loop-instr-preserved : goal.loop-instr-preserved

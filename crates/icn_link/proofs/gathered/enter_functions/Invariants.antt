@@ -1,6 +1,6 @@
 use Rattle.std.proofs.Common.{◌≡◌, drop}
 use Rattle.std.specs.List.{flat_map}
-use Rattle.icn_link.specs.Gathering.{with_texts}
+use Rattle.icn_link.specs.FirstMentions.{with_texts}
 use Rattle.icn_link.specs.Mentions.{function_in}
 use Rattle.icn_link.specs.Views.{texts_seen}
 use Rattle.icn_link.proofs.gathered.enter_functions.Given as goal

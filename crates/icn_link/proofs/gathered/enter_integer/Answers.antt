@@ -2,7 +2,7 @@ use Rattle.std.proofs.Common.{ap, ◌∙◌, rules}
 use Rattle.std.specs.Int.{w64}
 use Rattle.std.specs.Int.RustNames.{FitsSigned}
 use Rattle.std.proofs.lemmas.Int.{to_z-of_z}
-use Rattle.icn_link.specs.Gathering.{with_integer}
+use Rattle.icn_link.specs.FirstMentions.{with_integer}
 use Rattle.icn_link.proofs.gathered.enter_integer.Goals as goal
 
 pub returns : goal.returns

@@ -1,7 +1,7 @@
 use Rattle.std.proofs.Common.{◌∙◌}
 use Rattle.icn_unit.specs.declared.unit.UnitInstr.{UnitInstr}
 use Rattle.icn_link.specs.Mentions.{integer_in, mention_of}
-use Rattle.icn_link.proofs.Steps.{own_integers_step}
+use Rattle.icn_link.proofs.GatheringLoops.{own_integers_step}
 use Rattle.icn_link.proofs.gathered.enter_integers_used.Goals as goal
 
 pub loop-instr-preserved : goal.loop-instr-preserved

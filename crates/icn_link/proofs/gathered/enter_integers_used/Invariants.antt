@@ -1,6 +1,6 @@
 use Rattle.std.proofs.Common.{◌≡◌, drop}
 use Rattle.std.specs.List.{flat_map}
-use Rattle.icn_link.specs.Gathering.{with_integers}
+use Rattle.icn_link.specs.FirstMentions.{with_integers}
 use Rattle.icn_link.specs.Mentions.{integer_in, mention_of}
 use Rattle.icn_link.proofs.gathered.enter_integers_used.Given as goal
 

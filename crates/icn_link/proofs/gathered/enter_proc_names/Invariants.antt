@@ -1,6 +1,6 @@
 use Rattle.std.proofs.Common.{◌≡◌, drop}
 use Rattle.icn_unit.specs.PlainUnits.{proc_names}
-use Rattle.icn_link.specs.Gathering.{with_texts}
+use Rattle.icn_link.specs.FirstMentions.{with_texts}
 use Rattle.icn_link.specs.Views.{procs_seen, texts_seen}
 use Rattle.icn_link.proofs.gathered.enter_proc_names.Given as goal
 

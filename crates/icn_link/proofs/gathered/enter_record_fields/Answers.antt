@@ -3,7 +3,7 @@ use Rattle.icn_unit.specs.declared.unit.UnitDecl.{UnitDecl}
 use Rattle.icn_unit.specs.UnitViews.{decl_seen}
 use Rattle.icn_link.specs.Mentions.{fields_in}
 use Rattle.icn_link.specs.Views.{texts_seen}
-use Rattle.icn_link.proofs.Steps.{texts_step}
+use Rattle.icn_link.proofs.GatheringLoops.{texts_step}
 use Rattle.icn_link.proofs.gathered.enter_record_fields.Goals as goal
 
 pub loop-decl-preserved : goal.loop-decl-preserved

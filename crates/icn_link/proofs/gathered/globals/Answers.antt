@@ -2,10 +2,10 @@ use Rattle.std.proofs.Common.{◌∙◌, ap, Bor}
 use Rattle.icn_unit.specs.declared.unit.ProcCode.{ProcCode}
 use Rattle.icn_unit.specs.UnitViews.{proc_seen}
 use Rattle.std.specs.List.{flat_map}
-use Rattle.icn_link.specs.Gathering.{with_texts}
+use Rattle.icn_link.specs.FirstMentions.{with_texts}
 use Rattle.icn_link.specs.Mentions.{function_in, functions_in}
 use Rattle.icn_link.specs.Views.{texts_seen}
-use Rattle.icn_link.proofs.Steps.{texts_step}
+use Rattle.icn_link.proofs.GatheringLoops.{texts_step}
 use Rattle.icn_link.proofs.gathered.globals.Goals as goal
 
 pub loop-proc-preserved : goal.loop-proc-preserved

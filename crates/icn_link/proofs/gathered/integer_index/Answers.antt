@@ -4,7 +4,7 @@ use Rattle.std.specs.Int.RustNames.{FitsSigned}
 use Rattle.std.specs.List.{position}
 use Rattle.std.specs.Ordering.{int_eq}
 use Rattle.std.proofs.lemmas.Int.{to_z-of_z}
-use Rattle.icn_link.proofs.Indices.{found_index, no_index}
+use Rattle.icn_link.proofs.ReferenceTables.{found_index, no_index}
 use Rattle.icn_link.proofs.gathered.integer_index.Goals as goal
 
 pub returns-in-Some : goal.returns-in-Some

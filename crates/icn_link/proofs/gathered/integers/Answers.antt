@@ -3,9 +3,9 @@ use Rattle.icn_unit.specs.declared.unit.ProcCode.{ProcCode}
 use Rattle.icn_unit.specs.UnitViews.{proc_seen}
 use Rattle.std.specs.List.{flat_map}
 use Rattle.icn_unit.specs.declared.unit.UnitInstr.{UnitInstr}
-use Rattle.icn_link.specs.Gathering.{with_integers}
+use Rattle.icn_link.specs.FirstMentions.{with_integers}
 use Rattle.icn_link.specs.Mentions.{integer_in, mentioned_in, mention_of}
-use Rattle.icn_link.proofs.Steps.{integers_step}
+use Rattle.icn_link.proofs.GatheringLoops.{integers_step}
 use Rattle.icn_link.proofs.gathered.integers.Goals as goal
 
 pub loop-proc-preserved : goal.loop-proc-preserved

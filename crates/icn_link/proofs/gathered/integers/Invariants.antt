@@ -1,5 +1,5 @@
 use Rattle.std.proofs.Common.{◌≡◌, [], drop}
-use Rattle.icn_link.specs.Gathering.{with_integers}
+use Rattle.icn_link.specs.FirstMentions.{with_integers}
 use Rattle.icn_link.specs.Mentions.{integer_in, mentioned_by}
 use Rattle.icn_link.specs.Views.{procs_seen}
 use Rattle.icn_link.proofs.gathered.integers.Given as goal

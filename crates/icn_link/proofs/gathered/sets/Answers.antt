@@ -3,10 +3,10 @@ use Rattle.icn_unit.specs.declared.unit.ProcCode.{ProcCode}
 use Rattle.icn_unit.specs.UnitViews.{proc_seen}
 use Rattle.std.specs.List.{flat_map}
 use Rattle.icn_unit.specs.declared.unit.UnitInstr.{UnitInstr}
-use Rattle.icn_link.specs.Gathering.{with_texts}
+use Rattle.icn_link.specs.FirstMentions.{with_texts}
 use Rattle.icn_link.specs.Mentions.{mentioned_in, set_in, mention_of}
 use Rattle.icn_link.specs.Views.{texts_seen}
-use Rattle.icn_link.proofs.Steps.{texts_step}
+use Rattle.icn_link.proofs.GatheringLoops.{texts_step}
 use Rattle.icn_link.proofs.gathered.sets.Goals as goal
 
 pub loop-proc-preserved : goal.loop-proc-preserved

@@ -1,5 +1,5 @@
 use Rattle.std.proofs.Common.{◌≡◌, [], drop}
-use Rattle.icn_link.specs.Gathering.{with_texts}
+use Rattle.icn_link.specs.FirstMentions.{with_texts}
 use Rattle.icn_link.specs.Mentions.{set_in, mentioned_by}
 use Rattle.icn_link.specs.Views.{procs_seen, texts_seen}
 use Rattle.icn_link.proofs.gathered.sets.Given as goal

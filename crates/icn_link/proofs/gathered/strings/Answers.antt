@@ -1,9 +1,9 @@
 use Rattle.std.proofs.Common.{◌∙◌, ap}
 use Rattle.icn_unit.specs.PlainUnits.{proc_names}
-use Rattle.icn_link.specs.Gathering.{with_texts}
+use Rattle.icn_link.specs.FirstMentions.{with_texts}
 use Rattle.icn_link.specs.Mentions.{mentioned_by, record_names, text_in}
 use Rattle.icn_link.specs.Views.{decls_seen, procs_seen, texts_seen}
-use Rattle.icn_link.proofs.Steps.{five_rows}
+use Rattle.icn_link.proofs.GatheringLoops.{five_rows}
 use Rattle.icn_link.proofs.gathered.strings.Goals as goal
 
 pub returns : goal.returns

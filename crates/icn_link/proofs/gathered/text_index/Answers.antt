@@ -1,5 +1,5 @@
 use Rattle.std.proofs.Common.{sym, ◌∙◌}
-use Rattle.icn_link.proofs.Indices.{found_text, no_text}
+use Rattle.icn_link.proofs.ReferenceTables.{found_text, no_text}
 use Rattle.icn_link.proofs.gathered.text_index.Goals as goal
 
 pub returns-in-Some : goal.returns-in-Some

@@ -1,7 +1,7 @@
 use Rattle.std.proofs.Common.{◌≡◌, ◌+◌, ◌*◌, ap, arith, length, sym, ◌∙◌}
 use Rattle.std.proofs.lemmas.List.{length-map}
 use Rattle.icn_code.specs.Codes.{Tables, proc_of, procs_of, records_of}
-use Rattle.icn_code.specs.Seen.{tables_of}
+use Rattle.icn_code.specs.CodeTables.{tables_of}
 use Rattle.icn_image.specs.Spelling.{image_of}
 use Rattle.icn_link.specs.ImageSizes.{bodies_size, records_size, strings_size}
 use Rattle.icn_link.specs.LinkFaults.{count_told}

@@ -1,7 +1,7 @@
 use Rattle.std.proofs.Common.{List, map, ap, ◌∙◌}
 use Rattle.icn_code.specs.Codes.{Tables, procs_of, records_of}
-use Rattle.icn_unit.specs.PlainUnits.{Decl, Proc}
-use Rattle.icn_link.specs.Gathering.{text_index}
+use Rattle.icn_unit.specs.PlainUnits.{PlainDecl, PlainProc}
+use Rattle.icn_link.specs.FirstMentions.{text_index}
 use Rattle.icn_link.specs.Joined.{cset_of}
 use Rattle.icn_link.specs.Mentions.{AllMentions}
 use Rattle.icn_link.specs.Views.{AreFew, decls_seen, gathered_seen, procs_seen, texts_seen}
@@ -46,8 +46,8 @@ entries-requires-clause-statics c =
 pub invariant_of-result : goal.invariant_of-result
 invariant_of-result c =
     let M : AllMentions = gathered_seen c.args.tables.now in
-    let D : List Decl = decls_seen c.args.decls.now in
-    let P : List Proc = procs_seen c.args.procs.now in
+    let D : List PlainDecl = decls_seen c.args.decls.now in
+    let P : List PlainProc = procs_seen c.args.procs.now in
     let T : Tables = record {
       strings = c.in_ok-strings.strings.items;
       csets = c.in_ok-csets.csets.items;
@@ -71,8 +71,8 @@ invariant_of-result c =
 pub returns : goal.returns
 returns c =
     let M : AllMentions = gathered_seen c.args.tables.now in
-    let D : List Decl = decls_seen c.args.decls.now in
-    let P : List Proc = procs_seen c.args.procs.now in
+    let D : List PlainDecl = decls_seen c.args.decls.now in
+    let P : List PlainProc = procs_seen c.args.procs.now in
     let T : Tables = record {
       strings = c.in_ok-strings.strings.items;
       csets = c.in_ok-csets.csets.items;

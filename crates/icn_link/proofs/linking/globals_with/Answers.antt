@@ -1,7 +1,7 @@
 use Rattle.std.proofs.Common.{List, ℕ, Bor, [], ◌∷◌, ◌++◌, ap, ◌∙◌}
 use Rattle.icn_link.specs.Joined.{global_with}
 use Rattle.icn_link.specs.Views.{gathered_seen, entry_in}
-use Rattle.icn_link.proofs.Steps.{mapped_step}
+use Rattle.icn_link.proofs.GatheringLoops.{mapped_step}
 use Rattle.icn_link.proofs.linking.globals_with.Goals as goal
 
 pub loop-name-preserved : goal.loop-name-preserved

@@ -4,19 +4,19 @@ use Rattle.icn_link.specs.JoinableUnits.{is_joinable_decl, is_joinable_proc}
 use Rattle.icn_link.specs.LinkFaults.{IsFault, first_fault}
 use Rattle.icn_link.specs.Units.{units_seen}
 use Rattle.icn_link.specs.Views.{decls_seen, procs_seen}
-use Rattle.icn_link.proofs.Exits.{err_is}
+use Rattle.icn_link.proofs.RuleByRule.{if_err_known}
 use Rattle.icn_link.proofs.KeptUnits.{units_decls, units_joinable, units_procs}
-use Rattle.icn_link.proofs.Stages.{missing_exit, repeated_exit, units_fault, units_joined, units_kept}
+use Rattle.icn_link.proofs.LinkRules.{missing_exit, repeated_exit, units_fault, units_joined, units_kept}
 use Rattle.icn_link.proofs.linking.link.Goals as goal
 
 pub returns-in_err-check_links-clause-fault : goal.returns-in_err-check_links-clause-fault
 returns-in_err-check_links-clause-fault c =
-    err_is c.from_residual.result (IsFault (first_fault (units_seen c.args.units.now))) c.in_err-check_links.field-0.0 c.from_residual.ensures.1
+    if_err_known c.from_residual.result (IsFault (first_fault (units_seen c.args.units.now))) c.in_err-check_links.field-0.0 c.from_residual.ensures.1
     (missing_exit (units_seen c.args.units.now) c.in_err-check_links.field-0.0 c.in_err-check_links.ensures.fault)
 
 pub returns-in_err-check_owners-clause-fault : goal.returns-in_err-check_owners-clause-fault
 returns-in_err-check_owners-clause-fault c =
-    err_is c.from_residual-in_err-check_owners.result
+    if_err_known c.from_residual-in_err-check_owners.result
     (IsFault (first_fault (units_seen c.args.units.now))) c.in_err-check_owners.field-0.0 c.from_residual-in_err-check_owners.ensures.1
     (repeated_exit (units_seen c.args.units.now) c.in_err-check_owners.field-0.0 c.in_ok-check_links.ensures.none c.in_err-check_owners.ensures.fault)
 

@@ -1,7 +1,7 @@
 use Rattle.std.proofs.Common.{List, ℕ, Bor, [], ◌∷◌, ◌++◌, ap, ◌∙◌}
-use Rattle.icn_link.specs.Gathering.{text_index}
+use Rattle.icn_link.specs.FirstMentions.{text_index}
 use Rattle.icn_link.specs.Views.{texts_seen}
-use Rattle.icn_link.proofs.Steps.{mapped_step}
+use Rattle.icn_link.proofs.GatheringLoops.{mapped_step}
 use Rattle.icn_link.proofs.linking.text_indices.Goals as goal
 
 pub loop-text-preserved : goal.loop-text-preserved

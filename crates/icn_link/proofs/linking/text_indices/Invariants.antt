@@ -1,5 +1,5 @@
 use Rattle.std.proofs.Common.{◌≡◌, ◌++◌, drop, map}
-use Rattle.icn_link.specs.Gathering.{text_index}
+use Rattle.icn_link.specs.FirstMentions.{text_index}
 use Rattle.icn_link.specs.Views.{texts_seen}
 use Rattle.icn_link.proofs.linking.text_indices.Given as goal
 

@@ -1,5 +1,5 @@
 use Rattle.icn_link.specs.Mentions.{function_named}
-use Rattle.icn_link.proofs.Indices.{declared_null, undeclared_function}
+use Rattle.icn_link.proofs.ReferenceTables.{declared_null, undeclared_function}
 use Rattle.icn_link.proofs.linking.undeclared_start.Goals as goal
 
 pub returns-then-contains : goal.returns-then-contains

@@ -8,5 +8,6 @@ returns-then-contains-clause-none c =
 
 pub returns-else-contains-clause-fault : goal.returns-else-contains-clause-fault
 returns-else-contains-clause-fault c =
-    link_missing c.args.names.now.keys c.args.decl.now c.in-Link.text c.as_slice.result c.base_of-base.result c.contains.result c.args.index c.missing.result
-    c.in-Link.is c.as_slice.ensures c.base_of-base.ensures c.contains.ensures c.if-contains.false c.missing.ensures
+    link_missing c.args.names.now.keys c.args.decl.now c.in-Link.text c.as_slice.result c.base_of-base.result c.contains.result c.args.index
+    c.missing_name.result
+    c.in-Link.is c.as_slice.ensures c.base_of-base.ensures c.contains.ensures c.if-contains.false c.missing_name.ensures

@@ -1,6 +1,6 @@
 use Rattle.icn_link.specs.Units.{units_seen}
 use Rattle.icn_link.specs.Views.{texts_seen}
-use Rattle.icn_link.proofs.Exits.{list_fault, list_kept}
+use Rattle.icn_link.proofs.RuleByRule.{list_fault, list_kept}
 use Rattle.icn_link.proofs.LinkTexts.{missing_same}
 use Rattle.icn_link.proofs.missing.check_links.Goals as goal
 

@@ -1,5 +1,5 @@
 use Rattle.std.proofs.Common.{◌≡◌, [], drop}
-use Rattle.icn_link.specs.Gathering.{with_texts}
+use Rattle.icn_link.specs.FirstMentions.{with_texts}
 use Rattle.icn_link.specs.LinkFaults.{unit_names}
 use Rattle.icn_link.specs.Units.{units_seen}
 use Rattle.icn_link.specs.Views.{texts_seen}

@@ -1,5 +1,5 @@
 use Rattle.std.proofs.Common.{sym}
-use Rattle.icn_link.proofs.Repeating.{met_step}
+use Rattle.icn_link.proofs.RepeatedNames.{met_step}
 use Rattle.icn_link.proofs.repeats.check_repeats.Goals as goal
 
 pub loop-owner-preserved : goal.loop-owner-preserved

@@ -1,6 +1,6 @@
 use Rattle.std.proofs.Common.{drop, take, map}
 use Rattle.icn_link.specs.Views.{owner_seen}
-use Rattle.icn_link.proofs.Repeating.{Met}
+use Rattle.icn_link.proofs.RepeatedNames.{Met}
 use Rattle.icn_link.proofs.repeats.check_repeats.Given as goal
 
 abbrev pub invariant-loop-owner : goal.invariant-loop-owner

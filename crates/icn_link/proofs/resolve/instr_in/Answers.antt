@@ -3,7 +3,7 @@ use Rattle.std.specs.Int.{w64}
 use Rattle.std.specs.Int.RustNames.{FitsSigned}
 use Rattle.std.proofs.lemmas.Int.{to_z-of_z}
 use Rattle.icn_code.specs.declared.instr.Instr.TheVariants.{Int}
-use Rattle.icn_link.specs.Gathering.{integer_index}
+use Rattle.icn_link.specs.FirstMentions.{integer_index}
 use Rattle.icn_link.proofs.resolve.instr_in.Goals as goal
 
 pub returns-in-Int : goal.returns-in-Int

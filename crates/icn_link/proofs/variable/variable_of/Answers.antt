@@ -1,4 +1,4 @@
-use Rattle.icn_link.proofs.Indices.{held_global, held_local}
+use Rattle.icn_link.proofs.ReferenceTables.{held_global, held_local}
 use Rattle.icn_link.proofs.variable.variable_of.Goals as goal
 
 pub returns-then-contains : goal.returns-then-contains

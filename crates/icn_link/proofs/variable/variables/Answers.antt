@@ -2,7 +2,7 @@ use Rattle.std.proofs.Common.{◌≡◌, ◌+◌, ◌++◌, List, ℕ, drop, ari
 use Rattle.icn_unit.specs.declared.unit.UnitName.{UnitName}
 use Rattle.icn_link.specs.Joined.{locals_in, statics_in, variables}
 use Rattle.icn_link.specs.Views.{texts_seen}
-use Rattle.icn_link.proofs.Steps.{next_item}
+use Rattle.icn_link.proofs.GatheringLoops.{next_item}
 use Rattle.icn_link.proofs.variable.variables.Goals as goal
 
 pub loop-entry-preserved : goal.loop-entry-preserved

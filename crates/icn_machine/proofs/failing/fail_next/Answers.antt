@@ -1,16 +1,16 @@
 use Rattle.std.proofs.Common.{◌≡◌, ◌∙◌, subst, [], IfOk, rules}
 use Rattle.icn_value.specs.Store.{Names, Outside, outside_of}
-use Rattle.icn_named.specs.Named.{WorldNamed}
+use Rattle.law_names.specs.NamedSettings.{WorldNamed}
 use Rattle.icn_vars.specs.Worlds.{world_of}
 use Rattle.icn_vars.specs.Outcomes.{residual_in}
 use Rattle.icn_run.specs.Calls.{Op as Operation}
 use Rattle.icn_run.specs.Stacks.{flat}
 use Rattle.icn_run.specs.Step.{all_names, resume_by, without_mark}
-use Rattle.icn_run_named.specs.StateNames.{StackNamed}
-use Rattle.icn_control.specs.Machines.{HasStack, IsSound, extent, stack_seen, store_seen}
-use Rattle.icn_control.specs.declared.failing.Due.TheVariants as Dues
-use Rattle.icn_control.specs.declared.machine.Stage.{Stage}
-use Rattle.icn_control.specs.declared.machine.Stage.TheVariants as Stages
+use Rattle.law_steps.specs.StateNames.{StackNamed}
+use Rattle.icn_control.specs.Machines.{HasStack, IsSoundMachine, extent, stack_seen, store_seen}
+use Rattle.icn_control.specs.declared.failing.AfterFailure.TheVariants as AfterFailures
+use Rattle.icn_control.specs.declared.machine.RunState.{RunState}
+use Rattle.icn_control.specs.declared.machine.RunState.TheVariants as RunStates
 use Rattle.icn_machine.specs.Stepping.{FailsFurther, IsReady}
 use Rattle.icn_machine.proofs.FailingSteps.{Lands, at_due, by_due, due_named, failed, failed_further, failed_kept, failed_performing, failed_quietly, if_both, if_on, if_so, kept_seen, lands_performing, lands_quietly, never_failed}
 use Rattle.icn_machine.proofs.failing.fail_next.Goals as goal
@@ -69,7 +69,7 @@ pub resume-requires-clause-rest_named : goal.resume-requires-clause-rest_named
 resume-requires-clause-rest_named g c =
     let tables = c.requires.ready.0 in
     let k = kept_seen tables c.args.m.now c.requires.ready.1.1.kept (outside_of []) in
-    due_named _ c.fail_once.new.m c.fail_once.result (Dues.Resuming c.in-Resuming.rest) c.in-Resuming.is
+    due_named _ c.fail_once.new.m c.fail_once.result (AfterFailures.Resuming c.in-Resuming.rest) c.in-Resuming.is
     (c.fail_once.ensures.named.stack _ (subst (λ (n : Names). StackNamed n (stack_seen c.args.m.now)) c.requires.ready.1.0 k.named.0)).1
 
 pub end_failing-requires-clause-goes_on : goal.end_failing-requires-clause-goes_on
@@ -77,30 +77,32 @@ end_failing-requires-clause-goes_on g c =
     let tables = c.requires.ready.0 in
     let o : Outside = outside_of [] in
     let due : failed tables c.args.m.now o ≡ without_mark flat tables (stack_seen c.fail_once.new.m) (store_seen tables o c.fail_once.new.m)
-    = at_due tables o (failed tables c.args.m.now o) c.fail_once.new.m c.fail_once.result Dues.Leaving c.in-Leaving.is (c.fail_once.ensures.step tables o) in
+    = at_due tables o (failed tables c.args.m.now o) c.fail_once.new.m c.fail_once.result AfterFailures.Leaving c.in-Leaving.is
+    (c.fail_once.ensures.step tables o) in
     (tables, (o, λ e. never_failed tables c.args.m.now c.requires.ready.1.1.kept o (due ∙ e)))
 
 pub returns-in-Failing-clause-steps : goal.returns-in-Failing-clause-steps
 returns-in-Failing-clause-steps g c tables named ready =
-    failed_quietly tables c.args.m.now c.fail_once.new.m _ Stages.Fails
-    (λ o. at_due tables o (failed tables c.args.m.now o) c.fail_once.new.m c.fail_once.result Dues.Failing c.in-Failing.is (c.fail_once.ensures.step tables o))
+    failed_quietly tables c.args.m.now c.fail_once.new.m _ RunStates.Failing
+    (λ o. at_due tables o (failed tables c.args.m.now o) c.fail_once.new.m c.fail_once.result AfterFailures.Failing c.in-Failing.is
+    (c.fail_once.ensures.step tables o))
 
 pub returns-in-Failing-clause-ready : goal.returns-in-Failing-clause-ready
 returns-in-Failing-clause-ready g c tables named ready = record {
   sound = c.fail_once.ensures.sound tables ready.sound;
   stack = c.fail_once.ensures.runs;
   kept =
-      failed_kept tables c.steps_keep_names.ensures.kept c.steps_keep_sizes.ensures.kept c.args.m.now c.fail_once.new.m Stages.Fails ready.kept
-      (lands_quietly tables c.args.m.now c.fail_once.new.m Stages.Fails (λ o. at_due tables o (failed tables c.args.m.now o) c.fail_once.new.m
-      c.fail_once.result Dues.Failing c.in-Failing.is (c.fail_once.ensures.step tables o)));
+      failed_kept tables c.steps_keep_names.ensures.kept c.steps_keep_sizes.ensures.kept c.args.m.now c.fail_once.new.m RunStates.Failing ready.kept
+      (lands_quietly tables c.args.m.now c.fail_once.new.m RunStates.Failing (λ o. at_due tables o (failed tables c.args.m.now o) c.fail_once.new.m
+      c.fail_once.result AfterFailures.Failing c.in-Failing.is (c.fail_once.ensures.step tables o)));
 }
 
 pub returns-in-Failing-clause-further : goal.returns-in-Failing-clause-further
 returns-in-Failing-clause-further g c =
     let tables = c.requires.ready.0 in
-    failed_further tables c.args.m.now c.fail_once.new.m Stages.Fails c.requires.ready.1.1.sound.bounds
-    (lands_quietly tables c.args.m.now c.fail_once.new.m Stages.Fails (λ o. at_due tables o (failed tables c.args.m.now o) c.fail_once.new.m
-    c.fail_once.result Dues.Failing c.in-Failing.is (c.fail_once.ensures.step tables o)))
+    failed_further tables c.args.m.now c.fail_once.new.m RunStates.Failing c.requires.ready.1.1.sound.bounds
+    (lands_quietly tables c.args.m.now c.fail_once.new.m RunStates.Failing (λ o. at_due tables o (failed tables c.args.m.now o) c.fail_once.new.m
+    c.fail_once.result AfterFailures.Failing c.in-Failing.is (c.fail_once.ensures.step tables o)))
 
 pub returns-in-Failing-clause-within : goal.returns-in-Failing-clause-within
 returns-in-Failing-clause-within g c = record {
@@ -110,17 +112,18 @@ returns-in-Failing-clause-within g c = record {
 
 pub returns-in-Running-clause-steps : goal.returns-in-Running-clause-steps
 returns-in-Running-clause-steps g c tables named ready =
-    failed_quietly tables c.args.m.now c.fail_once.new.m _ Stages.Runs
-    (λ o. at_due tables o (failed tables c.args.m.now o) c.fail_once.new.m c.fail_once.result Dues.Running c.in-Running.is (c.fail_once.ensures.step tables o))
+    failed_quietly tables c.args.m.now c.fail_once.new.m _ RunStates.Running
+    (λ o. at_due tables o (failed tables c.args.m.now o) c.fail_once.new.m c.fail_once.result AfterFailures.Running c.in-Running.is
+    (c.fail_once.ensures.step tables o))
 
 pub returns-in-Running-clause-ready : goal.returns-in-Running-clause-ready
 returns-in-Running-clause-ready g c tables named ready = record {
   sound = c.fail_once.ensures.sound tables ready.sound;
   stack = c.fail_once.ensures.runs;
   kept =
-      failed_kept tables c.steps_keep_names.ensures.kept c.steps_keep_sizes.ensures.kept c.args.m.now c.fail_once.new.m Stages.Runs ready.kept
-      (lands_quietly tables c.args.m.now c.fail_once.new.m Stages.Runs (λ o. at_due tables o (failed tables c.args.m.now o) c.fail_once.new.m
-      c.fail_once.result Dues.Running c.in-Running.is (c.fail_once.ensures.step tables o)));
+      failed_kept tables c.steps_keep_names.ensures.kept c.steps_keep_sizes.ensures.kept c.args.m.now c.fail_once.new.m RunStates.Running ready.kept
+      (lands_quietly tables c.args.m.now c.fail_once.new.m RunStates.Running (λ o. at_due tables o (failed tables c.args.m.now o) c.fail_once.new.m
+      c.fail_once.result AfterFailures.Running c.in-Running.is (c.fail_once.ensures.step tables o)));
 }
 
 pub returns-in-Running-clause-within : goal.returns-in-Running-clause-within
@@ -133,7 +136,8 @@ pub returns-in-Beginning-clause-steps : goal.returns-in-Beginning-clause-steps
 returns-in-Beginning-clause-steps g c tables named ready =
     failed_quietly tables c.args.m.now c.begin_again.new.m _ c.begin_again.result
     (λ o. by_due tables o _ _ c.begin_again.new.m c.begin_again.result
-    (at_due tables o (failed tables c.args.m.now o) c.fail_once.new.m c.fail_once.result Dues.Beginning c.in-Beginning.is (c.fail_once.ensures.step tables o))
+    (at_due tables o (failed tables c.args.m.now o) c.fail_once.new.m c.fail_once.result AfterFailures.Beginning c.in-Beginning.is
+    (c.fail_once.ensures.step tables o))
     (c.begin_again.ensures.step tables o))
 
 pub returns-in-Beginning-clause-ready : goal.returns-in-Beginning-clause-ready
@@ -144,7 +148,7 @@ returns-in-Beginning-clause-ready g c tables named ready = record {
       failed_kept tables c.steps_keep_names.ensures.kept c.steps_keep_sizes.ensures.kept c.args.m.now c.begin_again.new.m c.begin_again.result
       ready.kept
       (lands_quietly tables c.args.m.now c.begin_again.new.m c.begin_again.result (λ o. by_due tables o _ _ c.begin_again.new.m c.begin_again.result (at_due
-      tables o (failed tables c.args.m.now o) c.fail_once.new.m c.fail_once.result Dues.Beginning c.in-Beginning.is
+      tables o (failed tables c.args.m.now o) c.fail_once.new.m c.fail_once.result AfterFailures.Beginning c.in-Beginning.is
       (c.fail_once.ensures.step tables o)) (c.begin_again.ensures.step tables o)));
 }
 
@@ -153,7 +157,8 @@ returns-in-Beginning-clause-further g c =
     let tables = c.requires.ready.0 in
     failed_further tables c.args.m.now c.begin_again.new.m c.begin_again.result c.requires.ready.1.1.sound.bounds
     (lands_quietly tables c.args.m.now c.begin_again.new.m c.begin_again.result (λ o. by_due tables o _ _ c.begin_again.new.m c.begin_again.result
-    (at_due tables o (failed tables c.args.m.now o) c.fail_once.new.m c.fail_once.result Dues.Beginning c.in-Beginning.is (c.fail_once.ensures.step tables o))
+    (at_due tables o (failed tables c.args.m.now o) c.fail_once.new.m c.fail_once.result AfterFailures.Beginning c.in-Beginning.is
+    (c.fail_once.ensures.step tables o))
     (c.begin_again.ensures.step tables o)))
 
 pub returns-in-Beginning-clause-within : goal.returns-in-Beginning-clause-within
@@ -166,7 +171,7 @@ pub returns-in-Reentering-clause-steps : goal.returns-in-Reentering-clause-steps
 returns-in-Reentering-clause-steps g c tables named ready =
     failed_quietly tables c.args.m.now c.reenter.new.m _ c.reenter.result
     (λ o. by_due tables o _ _ c.reenter.new.m c.reenter.result (at_due tables o (failed tables c.args.m.now o) c.fail_once.new.m c.fail_once.result
-    Dues.Reentering c.in-Reentering.is (c.fail_once.ensures.step tables o)) (c.reenter.ensures.step tables o))
+    AfterFailures.Reentering c.in-Reentering.is (c.fail_once.ensures.step tables o)) (c.reenter.ensures.step tables o))
 
 pub returns-in-Reentering-clause-ready : goal.returns-in-Reentering-clause-ready
 returns-in-Reentering-clause-ready g c tables named ready = record {
@@ -175,7 +180,7 @@ returns-in-Reentering-clause-ready g c tables named ready = record {
   kept =
       failed_kept tables c.steps_keep_names.ensures.kept c.steps_keep_sizes.ensures.kept c.args.m.now c.reenter.new.m c.reenter.result ready.kept
       (lands_quietly tables c.args.m.now c.reenter.new.m c.reenter.result (λ o. by_due tables o _ _ c.reenter.new.m c.reenter.result (at_due tables o
-      (failed tables c.args.m.now o) c.fail_once.new.m c.fail_once.result Dues.Reentering c.in-Reentering.is
+      (failed tables c.args.m.now o) c.fail_once.new.m c.fail_once.result AfterFailures.Reentering c.in-Reentering.is
       (c.fail_once.ensures.step tables o)) (c.reenter.ensures.step tables o)));
 }
 
@@ -184,7 +189,7 @@ returns-in-Reentering-clause-further g c =
     let tables = c.requires.ready.0 in
     failed_further tables c.args.m.now c.reenter.new.m c.reenter.result c.requires.ready.1.1.sound.bounds
     (lands_quietly tables c.args.m.now c.reenter.new.m c.reenter.result (λ o. by_due tables o _ _ c.reenter.new.m c.reenter.result (at_due tables o
-    (failed tables c.args.m.now o) c.fail_once.new.m c.fail_once.result Dues.Reentering c.in-Reentering.is
+    (failed tables c.args.m.now o) c.fail_once.new.m c.fail_once.result AfterFailures.Reentering c.in-Reentering.is
     (c.fail_once.ensures.step tables o)) (c.reenter.ensures.step tables o)))
 
 pub returns-in-Reentering-clause-within : goal.returns-in-Reentering-clause-within
@@ -197,7 +202,8 @@ pub returns-in-Leaving-clause-steps : goal.returns-in-Leaving-clause-steps
 returns-in-Leaving-clause-steps g c tables named ready =
     failed_quietly tables c.args.m.now c.end_failing.new.m _ c.end_failing.result
     (λ o. by_due tables o _ _ c.end_failing.new.m c.end_failing.result
-    (at_due tables o (failed tables c.args.m.now o) c.fail_once.new.m c.fail_once.result Dues.Leaving c.in-Leaving.is (c.fail_once.ensures.step tables o))
+    (at_due tables o (failed tables c.args.m.now o) c.fail_once.new.m c.fail_once.result AfterFailures.Leaving c.in-Leaving.is
+    (c.fail_once.ensures.step tables o))
     (c.end_failing.ensures.step tables o))
 
 pub returns-in-Leaving-clause-ready : goal.returns-in-Leaving-clause-ready
@@ -208,7 +214,8 @@ returns-in-Leaving-clause-ready g c tables named ready = record {
       failed_kept tables c.steps_keep_names.ensures.kept c.steps_keep_sizes.ensures.kept c.args.m.now c.end_failing.new.m c.end_failing.result
       ready.kept
       (lands_quietly tables c.args.m.now c.end_failing.new.m c.end_failing.result (λ o. by_due tables o _ _ c.end_failing.new.m c.end_failing.result
-      (at_due tables o (failed tables c.args.m.now o) c.fail_once.new.m c.fail_once.result Dues.Leaving c.in-Leaving.is (c.fail_once.ensures.step tables o))
+      (at_due tables o (failed tables c.args.m.now o) c.fail_once.new.m c.fail_once.result AfterFailures.Leaving c.in-Leaving.is
+      (c.fail_once.ensures.step tables o))
       (c.end_failing.ensures.step tables o)));
 }
 
@@ -217,7 +224,8 @@ returns-in-Leaving-clause-further g c =
     let tables = c.requires.ready.0 in
     failed_further tables c.args.m.now c.end_failing.new.m c.end_failing.result c.requires.ready.1.1.sound.bounds
     (lands_quietly tables c.args.m.now c.end_failing.new.m c.end_failing.result (λ o. by_due tables o _ _ c.end_failing.new.m c.end_failing.result
-    (at_due tables o (failed tables c.args.m.now o) c.fail_once.new.m c.fail_once.result Dues.Leaving c.in-Leaving.is (c.fail_once.ensures.step tables o))
+    (at_due tables o (failed tables c.args.m.now o) c.fail_once.new.m c.fail_once.result AfterFailures.Leaving c.in-Leaving.is
+    (c.fail_once.ensures.step tables o))
     (c.end_failing.ensures.step tables o)))
 
 pub returns-in-Leaving-clause-within : goal.returns-in-Leaving-clause-within
@@ -232,7 +240,7 @@ returns-in-Resuming-clause-steps g c tables named ready =
     (λ (o : Outside). resume_by flat tables (Operation (residual_in (extent c.fail_once.new.m) c.in-Resuming.rest)) (stack_seen c.fail_once.new.m)
     (store_seen tables o c.fail_once.new.m))
     c.args.m.now _ c.resume.new.m _ c.resume.result
-    (λ o. at_due tables o (failed tables c.args.m.now o) c.fail_once.new.m c.fail_once.result (Dues.Resuming c.in-Resuming.rest) c.in-Resuming.is
+    (λ o. at_due tables o (failed tables c.args.m.now o) c.fail_once.new.m c.fail_once.result (AfterFailures.Resuming c.in-Resuming.rest) c.in-Resuming.is
     (c.fail_once.ensures.step tables o))
     (c.resume.ensures.step tables)
 
@@ -243,13 +251,13 @@ returns-in-Resuming-clause-ready g c tables named ready =
     (λ (o : Outside). resume_by flat tables (Operation (residual_in (extent c.fail_once.new.m) c.in-Resuming.rest)) (stack_seen c.fail_once.new.m)
     (store_seen tables o c.fail_once.new.m))
     c.args.m.now _ c.resume.new.m _ c.resume.result
-    (λ o. at_due tables o (failed tables c.args.m.now o) c.fail_once.new.m c.fail_once.result (Dues.Resuming c.in-Resuming.rest) c.in-Resuming.is
+    (λ o. at_due tables o (failed tables c.args.m.now o) c.fail_once.new.m c.fail_once.result (AfterFailures.Resuming c.in-Resuming.rest) c.in-Resuming.is
     (c.fail_once.ensures.step tables o))
     (c.resume.ensures.step tables) in
-    let kept : IfOk c.resume.result (λ (stage : Stage). HasStack c.resume.new.m stage × Lands tables c.args.m.now c.resume.new.m stage)
+    let kept : IfOk c.resume.result (λ (stage : RunState). HasStack c.resume.new.m stage × Lands tables c.args.m.now c.resume.new.m stage)
     = if_both c.resume.result (HasStack c.resume.new.m) (Lands tables c.args.m.now c.resume.new.m) _ (λ stage p q. (p, q)) c.resume.ensures.keeps.stack lands in
-    if_on c.resume.result (IsSound tables c.resume.new.m)
-    (λ (stage : Stage). HasStack c.resume.new.m stage × Lands tables c.args.m.now c.resume.new.m stage) (IsReady tables c.resume.new.m)
+    if_on c.resume.result (IsSoundMachine tables c.resume.new.m)
+    (λ (stage : RunState). HasStack c.resume.new.m stage × Lands tables c.args.m.now c.resume.new.m stage) (IsReady tables c.resume.new.m)
     (λ stage sound q.
     record {
       sound = sound;
@@ -268,7 +276,7 @@ returns-in-Resuming-clause-further g c =
     (λ (o : Outside). resume_by flat tables (Operation (residual_in (extent c.fail_once.new.m) c.in-Resuming.rest)) (stack_seen c.fail_once.new.m)
     (store_seen tables o c.fail_once.new.m))
     c.args.m.now _ c.resume.new.m _ c.resume.result
-    (λ o. at_due tables o (failed tables c.args.m.now o) c.fail_once.new.m c.fail_once.result (Dues.Resuming c.in-Resuming.rest) c.in-Resuming.is
+    (λ o. at_due tables o (failed tables c.args.m.now o) c.fail_once.new.m c.fail_once.result (AfterFailures.Resuming c.in-Resuming.rest) c.in-Resuming.is
     (c.fail_once.ensures.step tables o))
     (c.resume.ensures.step tables))
 

@@ -1,6 +1,6 @@
 use Rattle.std.proofs.Common.{◌≡◌, ◌<◌, ◌-◌, refl, sym, ◌∙◌, subst, true, rules}
 use Rattle.icn_machine.specs.Stepping.{is_failing, stays}
-use Rattle.icn_machine.proofs.LoopSteps.{an_error, failing_goes, left_if, loop_err, loop_ok, no_answer, turns_fall}
+use Rattle.icn_machine.proofs.LoopSteps.{if_err_known, failing_goes, failing_left, loop_halts, loop_goes_on, if_ok_of_error, turns_fall}
 use Rattle.icn_machine.proofs.failing.fail_through.Goals as goal
 
 pub loop-m-init : goal.loop-m-init
@@ -16,34 +16,34 @@ fail_turn-requires g c =
 
 pub returns-in_err-stage-clause-steps : goal.returns-in_err-stage-clause-steps
 returns-in_err-stage-clause-steps g c tables named ready =
-    loop_err tables c.args.m.now c.args.from _ c.loop-m.m c.loop-m.stage c.loop-m.stage _ c.fail_turn.new.m _ c.in_err-stage.field-0.0
+    loop_halts tables c.args.m.now c.args.from _ c.loop-m.m c.loop-m.stage c.loop-m.stage _ c.fail_turn.new.m _ c.in_err-stage.field-0.0
     c.from_residual.result refl
     (failing_goes c.loop-m.stage (sym c.is_failing.ensures ∙ c.loop-m-test.true)) (c.loop-m.invariant.steps tables named ready)
     (c.in_err-stage.ensures.steps tables named (c.loop-m.invariant.ready tables named ready)) c.from_residual.ensures.1
 
 pub returns-in_err-stage-clause-ready : goal.returns-in_err-stage-clause-ready
-returns-in_err-stage-clause-ready g c tables named ready = no_answer c.from_residual.result _ _ c.from_residual.ensures.1
+returns-in_err-stage-clause-ready g c tables named ready = if_ok_of_error c.from_residual.result _ _ c.from_residual.ensures.1
 
 pub returns-in_err-stage-clause-fails_no_more : goal.returns-in_err-stage-clause-fails_no_more
-returns-in_err-stage-clause-fails_no_more g c = no_answer c.from_residual.result _ _ c.from_residual.ensures.1
+returns-in_err-stage-clause-fails_no_more g c = if_ok_of_error c.from_residual.result _ _ c.from_residual.ensures.1
 
 pub returns-in_err-stage-clause-within : goal.returns-in_err-stage-clause-within
 returns-in_err-stage-clause-within g c = record {
-  halt = an_error c.from_residual.result c.in_err-stage.field-0.0 _ c.from_residual.ensures.1 c.in_err-stage.ensures.within.halt;
+  halt = if_err_known c.from_residual.result c.in_err-stage.field-0.0 _ c.from_residual.ensures.1 c.in_err-stage.ensures.within.halt;
   limits = c.in_err-stage.ensures.within.limits ∙ c.loop-m.invariant.limits;
 }
 
 pub loop-m-smaller : goal.loop-m-smaller
 loop-m-smaller g c =
     let test : is_failing c.loop-m.stage ≡ true = sym c.is_failing.ensures ∙ c.loop-m-test.true in
-    subst (λ b. left_if (is_failing c.in_ok-stage.stage) (c.fail_turn.new.m.limits.turns - c.fail_turn.new.m.turns) < left_if b
+    subst (λ b. failing_left (is_failing c.in_ok-stage.stage) (c.fail_turn.new.m.limits.turns - c.fail_turn.new.m.turns) < failing_left b
     (c.loop-m.m.limits.turns - c.loop-m.m.turns))
     (sym test)
     (turns_fall c.loop-m.m c.fail_turn.new.m c.in_ok-stage.stage c.in_ok-stage.ensures.within.limits c.in_ok-stage.ensures.turn)
 
 pub loop-m-preserved : goal.loop-m-preserved
 loop-m-preserved g c = record {
-  steps = λ tables named ready. loop_ok tables c.args.m.now c.args.from _ c.loop-m.m c.loop-m.stage c.loop-m.stage _ c.fail_turn.new.m _ _ refl
+  steps = λ tables named ready. loop_goes_on tables c.args.m.now c.args.from _ c.loop-m.m c.loop-m.stage c.loop-m.stage _ c.fail_turn.new.m _ _ refl
       (failing_goes c.loop-m.stage (sym c.is_failing.ensures ∙ c.loop-m-test.true)) (c.loop-m.invariant.steps tables named ready)
       (c.in_ok-stage.ensures.steps tables named (c.loop-m.invariant.ready tables named ready));
   ready = λ tables named ready. c.in_ok-stage.ensures.ready tables named (c.loop-m.invariant.ready tables named ready);

@@ -3,7 +3,7 @@ use Rattle.icn_code.specs.Codes.{Tables}
 use Rattle.icn_run.specs.Step.{all_names}
 use Rattle.icn_streams.specs.Handed.{call_streams}
 use Rattle.icn_machine.specs.Stepping.{GoesOn, IsReady, is_failing}
-use Rattle.icn_machine.proofs.LoopSteps.{left_if}
+use Rattle.icn_machine.proofs.LoopSteps.{failing_left}
 use Rattle.icn_machine.proofs.failing.fail_through.Given as goal
 
 abbrev pub invariant-loop-m : goal.invariant-loop-m
@@ -17,4 +17,4 @@ invariant-loop-m g l = record {
 }
 
 abbrev pub decreases-loop-m : goal.decreases-loop-m
-decreases-loop-m g l = left_if (is_failing l.stage) (l.m.limits.turns - l.m.turns)
+decreases-loop-m g l = failing_left (is_failing l.stage) (l.m.limits.turns - l.m.turns)

@@ -3,24 +3,24 @@ use Rattle.std.proofs.lemmas.Option.{same_Some}
 use Rattle.icn_value.specs.Limited.{Bounds}
 use Rattle.icn_heap.specs.Heaps.{heap_of}
 use Rattle.icn_vars.specs.Worlds.{IsLiveItem, reach_of}
-use Rattle.icn_vars.proofs.KeptItems.{items_all}
+use Rattle.icn_vars.proofs.KeptItems.{keeps_items_refl}
 use Rattle.icn_frames.specs.Stacks as held
 use Rattle.icn_frames.specs.Stacks.{FlatStack}
 use Rattle.icn_coexp.specs.Transfers.{with_stack}
-use Rattle.icn_code.specs.Seen.{tables_of}
+use Rattle.icn_code.specs.CodeTables.{tables_of}
 use Rattle.icn_code.specs.declared.instr.Instr.TheVariants as Instrs
 use Rattle.icn_run.specs.Stacks.{flat}
 use Rattle.icn_run.specs.Step.{field_applied}
-use Rattle.icn_control.specs.Living.{IsLiveStack, with_locals}
+use Rattle.icn_control.specs.LiveStacks.{IsLiveStack, with_locals}
 use Rattle.icn_control.specs.Machines.{running_of}
 use Rattle.icn_control.specs.declared.machine.Machine.{Machine}
-use Rattle.icn_control.specs.declared.machine.Stage.TheVariants as Stages
-use Rattle.icn_control.proofs.ExhaustSteps.{under}
-use Rattle.icn_control.proofs.ListSteps.{no_more}
+use Rattle.icn_control.specs.declared.machine.RunState.TheVariants as RunStates
+use Rattle.icn_control.proofs.ExhaustSteps.{nat_lt_true}
+use Rattle.icn_control.proofs.ListSteps.{nat_lt_false}
 use Rattle.icn_control.proofs.LiteralSteps.{running_live}
 use Rattle.icn_control.proofs.LiveCalls.{live_pop}
 use Rattle.icn_control.proofs.MachineSteps.{stacks_on}
-use Rattle.icn_control.proofs.PartSteps.{at_halt}
+use Rattle.icn_control.proofs.StackAndWorldSteps.{match_halt}
 use Rattle.icn_machine.proofs.OperandCalls.{bound_comes, not_going, one_taken, operands_come, sound_after}
 use Rattle.icn_machine.proofs.fields.field.Goals as goal
 
@@ -34,7 +34,7 @@ returns-then-m-clause-step g c =
     let after : Machine g.row.K.Denot
     = record { world = m.world; stacks = with_stack m.stacks c.pop-item.new.self; turns = m.turns; begun = m.begun; limits = m.limits } in
     let none : nat_lt m.turns (heap_of m.world.heap).bounds.turns ≡ false
-    = ap (λ (x : Bounds). nat_lt m.turns x.turns) c.requires.stands.sound.1.bounds ∙ no_more m.turns m.limits.turns c.if-m.true in
+    = ap (λ (x : Bounds). nat_lt m.turns x.turns) c.requires.stands.sound.1.bounds ∙ nat_lt_false m.turns m.limits.turns c.if-m.true in
     bound_comes m after t (Instrs.Field c.args.field) 1 (field_applied flat t c.args.field) c.frames.result.now.flat c.pop-item.new.self.flat
     (c.pop-item.result ∷ []) (λ a st. refl) c.frames.ensures.running
     (one_taken c.frames.result.now.flat c.pop-item.new.self.flat c.pop-item.result c.pop-item.ensures.flat) none (λ outside. refl)
@@ -83,14 +83,14 @@ returns-in_err-push_field-clause-step g c =
     let after : Machine g.row.K.Denot
     = record { world = m.world; stacks = with_stack m.stacks c.push_field.new.frames; turns = m.turns + 1; begun = m.begun; limits = m.limits } in
     let more : nat_lt m.turns (heap_of m.world.heap).bounds.turns ≡ true
-    = ap (λ (x : Bounds). nat_lt m.turns x.turns) c.requires.stands.sound.1.bounds ∙ under m.turns m.limits.turns c.if-m.false in
+    = ap (λ (x : Bounds). nat_lt m.turns x.turns) c.requires.stands.sound.1.bounds ∙ nat_lt_true m.turns m.limits.turns c.if-m.false in
     operands_come m after c.requires.stands.sound.0 t (Instrs.Field c.args.field) 1 (field_applied flat t c.args.field) c.frames.result.now.flat
     c.pop-item.new.self.flat c.frames-2.result.now.flat c.push_field.new.frames.flat
     (c.pop-item.result ∷ []) (c.pop-item.result ∷ []) c.from_residual.result (λ a st. refl) c.frames.ensures.running
     (one_taken c.frames.result.now.flat c.pop-item.new.self.flat c.pop-item.result c.pop-item.ensures.flat) (same_Some _ _ c.frames-2.ensures.running) refl
-    more (items_all (reach_of m.world [])) c.requires.stands.sound.1.stacks
+    more (keeps_items_refl (reach_of m.world [])) c.requires.stands.sound.1.stacks
     (add-one m.turns) refl refl (not_going c.from_residual.result c.in_err-push_field.field-0.0 c.from_residual.ensures.1)
-    (λ st same. at_halt c.from_residual.result c.in_err-push_field.field-0.0 _ _ c.from_residual.ensures.1 (c.in_err-push_field.ensures.step st same))
+    (λ st same. match_halt c.from_residual.result c.in_err-push_field.field-0.0 _ _ c.from_residual.ensures.1 (c.in_err-push_field.ensures.step st same))
 
 pub returns-clause-step : goal.returns-clause-step
 returns-clause-step g c =
@@ -99,12 +99,12 @@ returns-clause-step g c =
     let after : Machine g.row.K.Denot
     = record { world = m.world; stacks = with_stack m.stacks c.push_field.new.frames; turns = m.turns + 1; begun = m.begun; limits = m.limits } in
     let more : nat_lt m.turns (heap_of m.world.heap).bounds.turns ≡ true
-    = ap (λ (x : Bounds). nat_lt m.turns x.turns) c.requires.stands.sound.1.bounds ∙ under m.turns m.limits.turns c.if-m.false in
+    = ap (λ (x : Bounds). nat_lt m.turns x.turns) c.requires.stands.sound.1.bounds ∙ nat_lt_true m.turns m.limits.turns c.if-m.false in
     operands_come m after c.requires.stands.sound.0 t (Instrs.Field c.args.field) 1 (field_applied flat t c.args.field) c.frames.result.now.flat
     c.pop-item.new.self.flat c.frames-2.result.now.flat c.push_field.new.frames.flat
-    (c.pop-item.result ∷ []) (c.pop-item.result ∷ []) (Ok Stages.Runs) (λ a st. refl) c.frames.ensures.running
+    (c.pop-item.result ∷ []) (c.pop-item.result ∷ []) (Ok RunStates.Running) (λ a st. refl) c.frames.ensures.running
     (one_taken c.frames.result.now.flat c.pop-item.new.self.flat c.pop-item.result c.pop-item.ensures.flat) (same_Some _ _ c.frames-2.ensures.running) refl
-    more (items_all (reach_of m.world [])) c.requires.stands.sound.1.stacks
+    more (keeps_items_refl (reach_of m.world [])) c.requires.stands.sound.1.stacks
     (add-one m.turns) refl refl tt (c.in_ok-push_field.ensures.step)
 
 pub returns-clause-keeps : goal.returns-clause-keeps
@@ -117,7 +117,7 @@ returns-clause-keeps g c = record {
       let back = live_pop tables (reach_of m.world []) c.frames.result.now.flat c.pop-item.new.self.flat c.pop-item.result c.pop-item.ensures.flat live in
       let here : IsLiveStack tables (reach_of m.world []) c.frames-2.result.now.flat
       = subst (λ (x : FlatStack). IsLiveStack tables (reach_of m.world []) x) (same_Some _ _ c.frames-2.ensures.running) back.rest in
-      sound_after m after tables c.push_field.new.frames.flat refl refl refl (items_all (reach_of m.world []))
+      sound_after m after tables c.push_field.new.frames.flat refl refl refl (keeps_items_refl (reach_of m.world []))
       (c.in_ok-push_field.ensures.live tables here) (record { bounds = refl; coexps = refl }) k);
   halt = search rules;
   limits = refl;

@@ -8,21 +8,21 @@ use Rattle.icn_vars.specs.Worlds.{Reach, IsLiveItem, reach_of}
 use Rattle.icn_frames.specs.Stacks as held
 use Rattle.icn_frames.specs.Stacks.{FlatStack}
 use Rattle.icn_coexp.specs.Transfers.{with_stack}
-use Rattle.icn_code.specs.Seen.{tables_of}
+use Rattle.icn_code.specs.CodeTables.{tables_of}
 use Rattle.icn_code.specs.declared.instr.Instr.TheVariants as Instrs
 use Rattle.icn_run.specs.Stacks.{flat}
 use Rattle.icn_run.specs.Step.{all_names, applied_to_elements}
-use Rattle.icn_run_named.specs.StateNames.{StackNamed}
-use Rattle.icn_control.specs.Living.{IsLiveStack, with_locals}
-use Rattle.icn_control.specs.Machines.{IsSound, running_of}
+use Rattle.law_steps.specs.StateNames.{StackNamed}
+use Rattle.icn_control.specs.LiveStacks.{IsLiveStack, with_locals}
+use Rattle.icn_control.specs.Machines.{IsSoundMachine, running_of}
 use Rattle.icn_control.specs.declared.machine.Machine.{Machine}
-use Rattle.icn_control.specs.Standing.{stack_in}
-use Rattle.icn_control.specs.Taking.{KeepsCounts, take_operands}
-use Rattle.icn_control.proofs.ExhaustSteps.{under}
-use Rattle.icn_control.proofs.ListSteps.{no_more}
+use Rattle.icn_control.specs.StackViews.{stack_in}
+use Rattle.icn_control.specs.TakenOperands.{KeepsCounts, take_operands}
+use Rattle.icn_control.proofs.ExhaustSteps.{nat_lt_true}
+use Rattle.icn_control.proofs.ListSteps.{nat_lt_false}
 use Rattle.icn_control.proofs.LiteralSteps.{running_live}
 use Rattle.icn_control.proofs.MachineSteps.{stacks_on}
-use Rattle.icn_control.proofs.TakeSteps.{live_taken}
+use Rattle.icn_control.proofs.TakenOperandSteps.{live_taken}
 use Rattle.icn_machine.proofs.OperandCalls.{both_on, bound_performs, going_has_stack, operands_perform, sound_after, store_left, taken_named}
 use Rattle.icn_machine.proofs.invoking.appl.Goals as goal
 
@@ -36,7 +36,7 @@ returns-then-m-clause-step g c =
     let after : Machine g.row.K.Denot
     = record { world = m.world; stacks = with_stack m.stacks c.take_two-two.new.frames; turns = m.turns; begun = m.begun; limits = m.limits } in
     let none : nat_lt m.turns (heap_of m.world.heap).bounds.turns ≡ false
-    = ap (λ (x : Bounds). nat_lt m.turns x.turns) c.requires.stands.sound.1.bounds ∙ no_more m.turns m.limits.turns c.if-m.true in
+    = ap (λ (x : Bounds). nat_lt m.turns x.turns) c.requires.stands.sound.1.bounds ∙ nat_lt_false m.turns m.limits.turns c.if-m.true in
     bound_performs m after t Instrs.Appl 2 (applied_to_elements flat t) c.frames.result.now.flat c.take_two-two.new.frames.flat
     (c.take_two-two.result.0 ∷ c.take_two-two.result.1 ∷ []) _
     (λ a st. refl) c.frames.ensures.running
@@ -134,7 +134,7 @@ returns-clause-step g c =
       limits = m.limits;
     } in
     let more : nat_lt m.turns (heap_of m.world.heap).bounds.turns ≡ true
-    = ap (λ (x : Bounds). nat_lt m.turns x.turns) c.requires.stands.sound.1.bounds ∙ under m.turns m.limits.turns c.if-m.false in
+    = ap (λ (x : Bounds). nat_lt m.turns x.turns) c.requires.stands.sound.1.bounds ∙ nat_lt_true m.turns m.limits.turns c.if-m.false in
     operands_perform m after c.requires.stands.sound.0 t Instrs.Appl 2 (applied_to_elements flat t) c.frames.result.now.flat c.take_two-two.new.frames.flat
     c.frames-2.result.now.flat c.call_with_elements.new.frames.flat
     (c.take_two-two.result.0 ∷ c.take_two-two.result.1 ∷ []) (c.take_two-two.result.0 ∷ c.take_two-two.result.1 ∷ []) _ _ c.call_with_elements.result
@@ -161,7 +161,7 @@ returns-clause-sound g c k =
     let here : IsLiveStack t (reach_of m.world []) c.frames-2.result.now.flat
     = subst (λ (x : FlatStack). IsLiveStack t (reach_of m.world []) x) (same_Some _ _ c.frames-2.ensures.running) rest.rest in
     both_on c.call_with_elements.result (IsLiveStack t (reach_of c.call_with_elements.new.world []) c.call_with_elements.new.frames.flat)
-    (KeepsCounts m.world c.call_with_elements.new.world) (IsSound t after)
+    (KeepsCounts m.world c.call_with_elements.new.world) (IsSoundMachine t after)
     (c.call_with_elements.ensures.live here) c.call_with_elements.ensures.leaves.counts
     (λ l counts. sound_after m after t c.call_with_elements.new.frames.flat refl refl refl c.call_with_elements.ensures.leaves.kept l counts k)
 

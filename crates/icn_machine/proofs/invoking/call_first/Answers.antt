@@ -3,20 +3,20 @@ use Rattle.std.specs.List.{All}
 use Rattle.std.proofs.lemmas.List.Elements.{All-head, All-tail}
 use Rattle.icn_value.specs.declared.item.Item.{Item}
 use Rattle.icn_heap.specs.Heaps.{extent_of, heap_of}
-use Rattle.icn_named.specs.Named.{ItemNamed}
-use Rattle.icn_named.specs.Sizes.{FitSizes}
+use Rattle.law_names.specs.NamedSettings.{ItemNamed}
+use Rattle.law_names.specs.RowSizes.{FitSizes}
 use Rattle.icn_vars.specs.Stops.{halt_of}
 use Rattle.icn_vars.specs.Worlds.{Reach, IsLiveItem, item_in, reach_of}
-use Rattle.icn_vars.proofs.KeptItems.{items_all}
+use Rattle.icn_vars.proofs.KeptItems.{keeps_items_refl}
 use Rattle.icn_frames.specs.Stacks as held
 use Rattle.icn_frames.specs.Stacks.{FlatStack}
-use Rattle.icn_code.specs.Seen.{tables_of}
+use Rattle.icn_code.specs.CodeTables.{tables_of}
 use Rattle.icn_run.specs.Stacks.{flat}
 use Rattle.icn_run.specs.Step.{all_names}
-use Rattle.icn_run_named.specs.KeepingSizes.{field_count}
-use Rattle.icn_run_named.specs.StateNames.{StackNamed}
-use Rattle.icn_control.specs.Living.{IsLiveStack, with_locals}
-use Rattle.icn_control.specs.Standing.{stack_in}
+use Rattle.law_steps.specs.KeepingSizes.{field_count}
+use Rattle.law_steps.specs.StateNames.{StackNamed}
+use Rattle.icn_control.specs.LiveStacks.{IsLiveStack, with_locals}
+use Rattle.icn_control.specs.StackViews.{stack_in}
 use Rattle.icn_machine.proofs.CallFacts.{no_names_left, nothing_on}
 use Rattle.icn_machine.proofs.InvokeSteps.{first_event, first_stops}
 use Rattle.icn_machine.proofs.invoking.call_first.Goals as goal
@@ -37,7 +37,7 @@ returns-in_err-callee-clause-step g c =
 
 pub returns-in_err-callee-clause-leaves : goal.returns-in_err-callee-clause-leaves
 returns-in_err-callee-clause-leaves g c = record {
-  kept = items_all (reach_of c.args.world.now []);
+  kept = keeps_items_refl (reach_of c.args.world.now []);
   counts = search rules;
   halt = search rules;
 }
@@ -81,7 +81,8 @@ call_value-requires-clause-given g c = record {
   items_named = (
       let all = extent_of c.args.world.now.heap in
       All-tail (ItemNamed (g.N.Names.known c.args.names.now)) (item_in all c.in-Some.first.now) (map (item_in all) c.in-Some.others.now)
-      (subst (λ (xs : List Item). All (ItemNamed (g.N.Names.known c.args.names.now)) (map (item_in all) xs)) c.in-Some.ensures.cases.0 c.requires.given.items_named));
+      (subst (λ (xs : List Item). All (ItemNamed (g.N.Names.known c.args.names.now)) (map (item_in all) xs)) c.in-Some.ensures.cases.0
+      c.requires.given.items_named));
 }
 
 pub returns-clause-step : goal.returns-clause-step

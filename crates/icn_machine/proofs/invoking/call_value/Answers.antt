@@ -2,12 +2,12 @@ use Rattle.std.proofs.Common.{map, refl, sym, ◌∙◌}
 use Rattle.icn_defs.specs.StepRows as step_rows
 use Rattle.icn_heap.specs.Heaps.{extent_of}
 use Rattle.icn_vars.specs.Worlds.{item_in}
-use Rattle.icn_code.specs.Seen.{tables_of}
+use Rattle.icn_code.specs.CodeTables.{tables_of}
 use Rattle.icn_run.specs.Stacks.{flat}
 use Rattle.icn_run.specs.Step.{all_names, invoke_value}
-use Rattle.icn_run_named.specs.KeepingSizes.{field_count}
+use Rattle.law_steps.specs.KeepingSizes.{field_count}
 use Rattle.icn_heap.specs.Extents.{value_in}
-use Rattle.icn_control.specs.Standing.{stack_in}
+use Rattle.icn_control.specs.StackViews.{stack_in}
 use Rattle.icn_machine.proofs.CallFacts.{bare_store, call_named, call_sized, sizes_stay_on}
 use Rattle.icn_machine.proofs.InvokeSteps.{function_event}
 use Rattle.icn_machine.proofs.PerformEvents.{row_going, still_event}
@@ -48,7 +48,8 @@ returns-in-None-clause-named g c =
     let w = c.args.world.now in
     call_named c.steps_keep_names.ensures.kept (tables_of c.args.code.now) (g.N.Names.known c.args.names.now) w c.invoke.new.world c.args.frames.now.flat
     c.invoke.new.frames.flat c.args.callee (map (item_in (extent_of w.heap)) c.args.items.now)
-    c.invoke.result c.requires.known (sym c.function_of.ensures.function ∙ c.in-None.is) c.requires.given.items_named c.requires.here.stack_named c.requires.here.world_named
+    c.invoke.result c.requires.known
+    (sym c.function_of.ensures.function ∙ c.in-None.is) c.requires.given.items_named c.requires.here.stack_named c.requires.here.world_named
     c.invoke.ensures.step c.invoke.ensures.going
 
 pub returns-in-None-clause-sized : goal.returns-in-None-clause-sized

@@ -1,22 +1,22 @@
 use Rattle.std.proofs.Common.{◌<◌, ◌^◌, [], List, Ok, Err, length, map, refl, sym, ◌∙◌, subst, rules}
 use Rattle.icn_value.specs.declared.item.Item.{Item}
-use Rattle.icn_named.specs.Named.{ItemNamed}
+use Rattle.law_names.specs.NamedSettings.{ItemNamed}
 use Rattle.icn_run.specs.Stacks.{flat}
 use Rattle.std.specs.List.{All}
 use Rattle.icn_heap.specs.Heaps.{extent_of, heap_of}
-use Rattle.icn_named.specs.Sizes.{FitSizes}
+use Rattle.law_names.specs.RowSizes.{FitSizes}
 use Rattle.icn_vars.specs.Stops.{halt_of}
 use Rattle.icn_vars.specs.Worlds.{Reach, IsLiveItem, item_in, reach_of}
-use Rattle.icn_vars.proofs.KeptItems.{items_all}
+use Rattle.icn_vars.proofs.KeptItems.{keeps_items_refl}
 use Rattle.icn_frames.specs.Stacks as held
 use Rattle.icn_frames.specs.Stacks.{FlatStack}
-use Rattle.icn_code.specs.Seen.{tables_of}
+use Rattle.icn_code.specs.CodeTables.{tables_of}
 use Rattle.icn_run.specs.Step.{all_names}
-use Rattle.icn_run_named.specs.KeepingSizes.{field_count}
-use Rattle.icn_run_named.specs.StateNames.{StackNamed}
-use Rattle.icn_control.specs.Living.{IsLiveStack, with_locals}
-use Rattle.icn_control.specs.Standing.{stack_in}
-use Rattle.icn_control.proofs.TakeSteps.{found_at}
+use Rattle.law_steps.specs.KeepingSizes.{field_count}
+use Rattle.law_steps.specs.StateNames.{StackNamed}
+use Rattle.icn_control.specs.LiveStacks.{IsLiveStack, with_locals}
+use Rattle.icn_control.specs.StackViews.{stack_in}
+use Rattle.icn_control.proofs.TakenOperandSteps.{found_at}
 use Rattle.icn_machine.proofs.CallFacts.{no_names_left, nothing_on}
 use Rattle.icn_machine.proofs.ElementSteps.{callee_stops, elements_event, elements_stop, from_stops}
 use Rattle.icn_machine.proofs.invoking.call_with_elements.Goals as goal
@@ -29,7 +29,7 @@ returns-in_err-callee-clause-step g c =
 
 pub returns-in_err-callee-clause-leaves : goal.returns-in_err-callee-clause-leaves
 returns-in_err-callee-clause-leaves g c = record {
-  kept = items_all (reach_of c.args.world.now []);
+  kept = keeps_items_refl (reach_of c.args.world.now []);
   counts = search rules;
   halt = search rules;
 }
@@ -66,7 +66,7 @@ returns-in_err-from-clause-step g c =
 
 pub returns-in_err-from-clause-leaves : goal.returns-in_err-from-clause-leaves
 returns-in_err-from-clause-leaves g c = record {
-  kept = items_all (reach_of c.args.world.now []);
+  kept = keeps_items_refl (reach_of c.args.world.now []);
   counts = search rules;
   halt = search rules;
 }
@@ -93,7 +93,7 @@ returns-in_err-elements_of-clause-step g c =
 
 pub returns-in_err-elements_of-clause-leaves : goal.returns-in_err-elements_of-clause-leaves
 returns-in_err-elements_of-clause-leaves g c = record {
-  kept = items_all (reach_of c.args.world.now []);
+  kept = keeps_items_refl (reach_of c.args.world.now []);
   counts = search rules;
   halt = search rules;
 }

@@ -4,26 +4,26 @@ use Rattle.std.specs.List.{All}
 use Rattle.icn_value.specs.Limited.{Bounds}
 use Rattle.icn_value.specs.declared.item.Item.{Item}
 use Rattle.icn_heap.specs.Heaps.{extent_of, heap_of}
-use Rattle.icn_named.specs.Named.{ItemNamed}
+use Rattle.law_names.specs.NamedSettings.{ItemNamed}
 use Rattle.icn_vars.specs.Worlds.{Reach, IsLiveItem, item_in, reach_of}
 use Rattle.icn_frames.specs.Stacks as held
 use Rattle.icn_frames.specs.Stacks.{FlatStack}
 use Rattle.icn_coexp.specs.Transfers.{with_stack}
-use Rattle.icn_code.specs.Seen.{tables_of}
+use Rattle.icn_code.specs.CodeTables.{tables_of}
 use Rattle.icn_code.specs.declared.instr.Instr.TheVariants as Instrs
 use Rattle.icn_run.specs.Stacks.{flat}
 use Rattle.icn_run.specs.Step.{all_names, invoked_with}
-use Rattle.icn_run_named.specs.StateNames.{StackNamed}
-use Rattle.icn_control.specs.Living.{IsLiveStack, with_locals}
-use Rattle.icn_control.specs.Machines.{IsSound, does, running_of}
+use Rattle.law_steps.specs.StateNames.{StackNamed}
+use Rattle.icn_control.specs.LiveStacks.{IsLiveStack, with_locals}
+use Rattle.icn_control.specs.Machines.{IsSoundMachine, does, running_of}
 use Rattle.icn_control.specs.declared.machine.Machine.{Machine}
-use Rattle.icn_control.specs.Standing.{stack_in}
-use Rattle.icn_control.specs.Taking.{KeepsCounts, take_operands}
-use Rattle.icn_control.proofs.ExhaustSteps.{under}
-use Rattle.icn_control.proofs.ListSteps.{no_more}
+use Rattle.icn_control.specs.StackViews.{stack_in}
+use Rattle.icn_control.specs.TakenOperands.{KeepsCounts, take_operands}
+use Rattle.icn_control.proofs.ExhaustSteps.{nat_lt_true}
+use Rattle.icn_control.proofs.ListSteps.{nat_lt_false}
 use Rattle.icn_control.proofs.LiteralSteps.{running_live}
 use Rattle.icn_control.proofs.MachineSteps.{stacks_on}
-use Rattle.icn_control.proofs.TakeSteps.{live_taken}
+use Rattle.icn_control.proofs.TakenOperandSteps.{live_taken}
 use Rattle.icn_machine.proofs.OperandCalls.{both_on, bound_performs, going_has_stack, lacks_memory, operands_perform, sound_after, store_left, taken_length, taken_named}
 use Rattle.icn_machine.proofs.invoking.invoke.Goals as goal
 
@@ -47,7 +47,7 @@ returns-then-m-clause-step g c =
     let after : Machine g.row.K.Denot
     = record { world = m.world; stacks = with_stack m.stacks c.take_operands.new.frames; turns = m.turns; begun = m.begun; limits = m.limits } in
     let none : nat_lt m.turns (heap_of m.world.heap).bounds.turns ≡ false
-    = ap (λ (x : Bounds). nat_lt m.turns x.turns) c.requires.stands.sound.1.bounds ∙ no_more m.turns m.limits.turns c.if-m.true in
+    = ap (λ (x : Bounds). nat_lt m.turns x.turns) c.requires.stands.sound.1.bounds ∙ nat_lt_false m.turns m.limits.turns c.if-m.true in
     bound_performs m after t (Instrs.Invoke c.args.count) (suc c.args.count) (invoked_with flat t) c.frames.result.now.flat c.take_operands.new.frames.flat
     c.take_operands.new.items.items _
     (λ a st. refl) c.frames.ensures.running
@@ -156,13 +156,14 @@ returns-clause-step g c =
       limits = m.limits;
     } in
     let more : nat_lt m.turns (heap_of m.world.heap).bounds.turns ≡ true
-    = ap (λ (x : Bounds). nat_lt m.turns x.turns) c.requires.stands.sound.1.bounds ∙ under m.turns m.limits.turns c.if-m.false in
+    = ap (λ (x : Bounds). nat_lt m.turns x.turns) c.requires.stands.sound.1.bounds ∙ nat_lt_true m.turns m.limits.turns c.if-m.false in
     operands_perform m after c.requires.stands.sound.0 t (Instrs.Invoke c.args.count) (suc c.args.count) (invoked_with flat t) c.frames.result.now.flat
     c.take_operands.new.frames.flat c.frames-2.result.now.flat c.call_first.new.frames.flat
     c.take_operands.new.items.items c.deref.result.now _ _ c.call_first.result (λ a st. refl) c.frames.ensures.running
     (subst (λ (n : ℕ). take_operands n c.frames.result.now.flat ≡ Some (c.take_operands.new.items.items, c.take_operands.new.frames.flat))
     (add-one c.args.count) c.in-Ok.ensures.taken)
-    (same_Some _ _ c.frames-2.ensures.running) c.deref.ensures.value more c.call_first.ensures.leaves.kept c.requires.stands.sound.1.stacks (add-one m.turns) refl refl
+    (same_Some _ _ c.frames-2.ensures.running) c.deref.ensures.value more c.call_first.ensures.leaves.kept c.requires.stands.sound.1.stacks
+    (add-one m.turns) refl refl
     c.call_first.ensures.going c.call_first.ensures.step
 
 pub returns-clause-sound : goal.returns-clause-sound
@@ -183,7 +184,7 @@ returns-clause-sound g c k =
     let here : IsLiveStack t (reach_of m.world []) c.frames-2.result.now.flat
     = subst (λ (x : FlatStack). IsLiveStack t (reach_of m.world []) x) (same_Some _ _ c.frames-2.ensures.running) rest.rest in
     both_on c.call_first.result (IsLiveStack t (reach_of c.call_first.new.world []) c.call_first.new.frames.flat) (KeepsCounts m.world c.call_first.new.world)
-    (IsSound t after)
+    (IsSoundMachine t after)
     (c.call_first.ensures.live here) c.call_first.ensures.leaves.counts
     (λ l counts. sound_after m after t c.call_first.new.frames.flat refl refl refl c.call_first.ensures.leaves.kept l counts k)
 
@@ -204,6 +205,7 @@ pub returns-clause-store_named : goal.returns-clause-store_named
 returns-clause-store_named g c outside h =
     let m = c.args.m.now in
     let names = g.N.Names.known c.args.names.now in
-    store_left c.requires.stands.sound.0 names (all_names (tables_of c.args.code.now)) outside m.world c.call_first.new.world m.turns (m.turns + 1) m.begun.items
+    store_left c.requires.stands.sound.0 names (all_names (tables_of c.args.code.now)) outside m.world c.call_first.new.world m.turns
+    (m.turns + 1) m.begun.items
     m.stacks.table c.call_first.new.frames.flat c.call_first.result
     c.call_first.ensures.leaves.kept c.requires.stands.sound.1.stacks c.call_first.ensures.named h

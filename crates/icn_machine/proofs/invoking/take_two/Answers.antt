@@ -1,4 +1,4 @@
-use Rattle.icn_control.proofs.TakeSteps.{pop_there}
+use Rattle.icn_control.proofs.TakenOperandSteps.{pop_there}
 use Rattle.icn_machine.proofs.ElementSteps.{second_pops, two_taken}
 use Rattle.std.proofs.Common.{[]}
 use Rattle.icn_machine.proofs.invoking.take_two.Goals as goal

@@ -4,21 +4,21 @@ use Rattle.icn_value.specs.Limited.{Bounds}
 use Rattle.icn_defs.specs.Arities.{arity}
 use Rattle.icn_defs.specs.StepRows as rows
 use Rattle.icn_heap.specs.Heaps.{extent_of, heap_of}
-use Rattle.icn_named.specs.Named.{ItemNamed}
+use Rattle.law_names.specs.NamedSettings.{ItemNamed}
 use Rattle.icn_vars.specs.Worlds.{item_in, reach_of, world_of}
 use Rattle.icn_coexp.specs.Transfers.{with_stack}
 use Rattle.icn_run.specs.Stacks.{flat}
 use Rattle.icn_run.specs.Step.{all_names, operate}
-use Rattle.icn_run_named.proofs.CallsNamed as named
+use Rattle.law_steps.proofs.CallsNamed as named
 use Rattle.icn_control.specs.Machines.{store_in, store_seen}
-use Rattle.icn_control.specs.Standing.{stack_in}
+use Rattle.icn_control.specs.StackViews.{stack_in}
 use Rattle.icn_control.specs.declared.machine.Machine.{Machine}
-use Rattle.icn_control.proofs.ExhaustSteps.{under}
-use Rattle.icn_control.proofs.ListSteps.{no_more, turn_bound}
+use Rattle.icn_control.proofs.ExhaustSteps.{nat_lt_true}
+use Rattle.icn_control.proofs.ListSteps.{nat_lt_false, turn_bound}
 use Rattle.icn_control.proofs.LiteralSteps.{running_live}
 use Rattle.icn_control.proofs.MachineSteps.{stacks_on}
-use Rattle.icn_control.proofs.TakeSteps.{live_taken}
-use Rattle.icn_machine.proofs.OperateSteps.{both_ok, has_stack, named_running, named_taken, op_is, operates, performs_idle, performs_on, performs_still, sound_after, taken_as, taken_count}
+use Rattle.icn_control.proofs.TakenOperandSteps.{live_taken}
+use Rattle.icn_machine.proofs.OperateSteps.{on_ok_both, has_stack, named_running, named_taken, op_is, operates, performs_idle, performs_on, performs_still, sound_after, taken_as, taken_count}
 use Rattle.icn_machine.proofs.operations.operate.Goals as goal
 
 pub returns-in_default-clause-step : goal.returns-in_default-clause-step
@@ -32,7 +32,7 @@ returns-then-m-clause-step g c tables names =
     let all = extent_of m.world.heap in
     let taken = taken_as c.arity.result (arity c.args.op) c.frames.result.now.flat k k items items c.in-Ok.ensures.taken c.arity.ensures refl refl in
     let none : nat_lt m.turns (heap_of m.world.heap).bounds.turns ≡ false
-    = ap (λ (x : Bounds). nat_lt m.turns x.turns) c.requires.stands.sound.1.bounds ∙ no_more m.turns m.limits.turns c.if-m.true in
+    = ap (λ (x : Bounds). nat_lt m.turns x.turns) c.requires.stands.sound.1.bounds ∙ nat_lt_false m.turns m.limits.turns c.if-m.true in
     performs_still _ _ _ _
     (λ was. op_is all tables m.stacks.table c.frames.result.now.flat k items c.args.op (store_seen tables was m) c.frames.ensures.running taken
     ∙ turn_bound tables (store_seen tables was m)
@@ -86,8 +86,11 @@ perform-requires-clause-here g c = record {
       let k = c.frames-2.result.now.flat in
       let items = c.take_operands.new.items.items in
       let taken = taken_as c.arity.result c.arity.result f c.take_operands.new.frames.flat k items items c.in-Ok.ensures.taken refl
-      c.frames-2.ensures.running refl in
-      (t, (live_taken t reach c.arity.result f k items taken (running_live t reach m.stacks.table f c.frames.ensures.running c.requires.stands.sound.1.stacks)).rest));
+      c.frames-2.ensures.running refl in (
+        t,
+        (live_taken t reach c.arity.result f k items taken
+            (running_live t reach m.stacks.table f c.frames.ensures.running c.requires.stands.sound.1.stacks)).rest,
+      ));
   stack_named = (
       let m = c.args.m.now in
       let names = g.N.Names.known c.args.names.now in
@@ -114,7 +117,8 @@ perform-requires-clause-given g c = record {
       let xs = c.deref.result.now in
       let taken = taken_as c.arity.result c.arity.result f c.take_operands.new.frames.flat k c.take_operands.new.items.items xs c.in-Ok.ensures.taken
       refl c.frames-2.ensures.running c.deref.ensures.value in
-      (live_taken t reach c.arity.result f k xs taken (running_live t reach m.stacks.table f c.frames.ensures.running c.requires.stands.sound.1.stacks)).items_live);
+      (live_taken t reach c.arity.result f k xs taken
+      (running_live t reach m.stacks.table f c.frames.ensures.running c.requires.stands.sound.1.stacks)).items_live);
   items_named = (
       let m = c.args.m.now in
       let names = g.N.Names.known c.args.names.now in
@@ -123,7 +127,8 @@ perform-requires-clause-given g c = record {
       let k = c.take_operands.new.frames.flat in
       let xs = c.deref.result.now in
       let taken = taken_as c.arity.result c.arity.result f k k c.take_operands.new.items.items xs c.in-Ok.ensures.taken refl refl c.deref.ensures.value in
-      let there = named_taken names all c.arity.result f k xs taken (named_running names all m.stacks.table f c.frames.ensures.running c.requires.named.stack_named) in
+      let there = named_taken names all c.arity.result f k xs taken
+      (named_running names all m.stacks.table f c.frames.ensures.running c.requires.named.stack_named) in
       named.all_of (ItemNamed names) (map (item_in all) xs) there.items_named);
 }
 
@@ -137,7 +142,7 @@ returns-clause-step g c tables names =
     let taken = taken_as c.arity.result (arity c.args.op) f c.take_operands.new.frames.flat k c.take_operands.new.items.items xs c.in-Ok.ensures.taken
     c.arity.ensures c.frames-2.ensures.running c.deref.ensures.value in
     let more : nat_lt m.turns (heap_of m.world.heap).bounds.turns ≡ true
-    = ap (λ (x : Bounds). nat_lt m.turns x.turns) c.requires.stands.sound.1.bounds ∙ under m.turns m.limits.turns c.if-m.false in
+    = ap (λ (x : Bounds). nat_lt m.turns x.turns) c.requires.stands.sound.1.bounds ∙ nat_lt_true m.turns m.limits.turns c.if-m.false in
     let after : Machine g.row.K.Denot
     = record { world = c.perform.new.world; stacks = with_stack m.stacks c.perform.new.frames; turns = m.turns + 1; begun = m.begun; limits = m.limits } in
     performs_on after c.requires.stands.sound.0 tables m.world m.turns m.stacks.table k c.perform.new.frames.flat row _ _ _ c.perform.result
@@ -159,7 +164,7 @@ returns-clause-keeps g c = record {
       let live = (live_taken tables reach c.arity.result f k items taken (running_live tables reach m.stacks.table f c.frames.ensures.running s.stacks)).rest in
       let after : Machine g.row.K.Denot
       = record { world = c.perform.new.world; stacks = with_stack m.stacks c.perform.new.frames; turns = m.turns + 1; begun = m.begun; limits = m.limits } in
-      both_ok c.perform.result _ _ _ (c.perform.ensures.live tables live) c.perform.ensures.leaves.counts
+      on_ok_both c.perform.result _ _ _ (c.perform.ensures.live tables live) c.perform.ensures.leaves.counts
       (λ l counts. sound_after m after tables c.perform.new.frames.flat c.perform.ensures.leaves.kept refl refl refl s l counts));
   halt = search rules;
   limits = refl;

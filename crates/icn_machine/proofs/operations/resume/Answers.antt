@@ -7,17 +7,17 @@ use Rattle.icn_vars.specs.Worlds.{reach_of}
 use Rattle.icn_coexp.specs.Transfers.{with_stack}
 use Rattle.icn_control.specs.Machines.{store_seen}
 use Rattle.icn_control.specs.declared.machine.Machine.{Machine}
-use Rattle.icn_control.proofs.ExhaustSteps.{under}
-use Rattle.icn_control.proofs.ListSteps.{no_more, turn_bound}
+use Rattle.icn_control.proofs.ExhaustSteps.{nat_lt_true}
+use Rattle.icn_control.proofs.ListSteps.{nat_lt_false, turn_bound}
 use Rattle.icn_control.proofs.LiteralSteps.{running_live}
-use Rattle.icn_machine.proofs.OperateSteps.{both_ok, has_stack, named_running, performs_on, performs_still, rest_running, resumes, sound_after}
+use Rattle.icn_machine.proofs.OperateSteps.{on_ok_both, has_stack, named_running, performs_on, performs_still, rest_running, resumes, sound_after}
 use Rattle.icn_machine.proofs.operations.resume.Goals as goal
 
 pub returns-then-m-clause-step : goal.returns-then-m-clause-step
 returns-then-m-clause-step g c tables =
     let m = c.args.m.now in
     let none : nat_lt m.turns (heap_of m.world.heap).bounds.turns ≡ false
-    = ap (λ (x : Bounds). nat_lt m.turns x.turns) c.requires.stands.sound.1.bounds ∙ no_more m.turns m.limits.turns c.if-m.true in
+    = ap (λ (x : Bounds). nat_lt m.turns x.turns) c.requires.stands.sound.1.bounds ∙ nat_lt_false m.turns m.limits.turns c.if-m.true in
     performs_still _ _ _ _ (λ was. turn_bound tables (store_seen tables was m) (store_seen tables was m) _ none refl)
 
 pub returns-then-m-clause-keeps : goal.returns-then-m-clause-keeps
@@ -55,7 +55,7 @@ returns-clause-step g c tables =
     let row = rows.again (residual_in (extent_of m.world.heap) c.args.rest) in
     let f = c.frames.result.now.flat in
     let more : nat_lt m.turns (heap_of m.world.heap).bounds.turns ≡ true
-    = ap (λ (x : Bounds). nat_lt m.turns x.turns) c.requires.stands.sound.1.bounds ∙ under m.turns m.limits.turns c.if-m.false in
+    = ap (λ (x : Bounds). nat_lt m.turns x.turns) c.requires.stands.sound.1.bounds ∙ nat_lt_true m.turns m.limits.turns c.if-m.false in
     let after : Machine g.row.K.Denot
     = record {
       world = c.perform_again.new.world;
@@ -82,7 +82,7 @@ returns-clause-keeps g c = record {
         limits = m.limits;
       } in
       let live = running_live tables (reach_of m.world []) m.stacks.table c.frames.result.now.flat c.frames.ensures.running s.stacks in
-      both_ok c.perform_again.result _ _ _ (c.perform_again.ensures.live tables live) c.perform_again.ensures.leaves.counts
+      on_ok_both c.perform_again.result _ _ _ (c.perform_again.ensures.live tables live) c.perform_again.ensures.leaves.counts
       (λ l counts. sound_after m after tables c.perform_again.new.frames.flat c.perform_again.ensures.leaves.kept refl refl refl s l counts));
   halt = search rules;
   limits = refl;

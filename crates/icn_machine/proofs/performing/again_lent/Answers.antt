@@ -4,7 +4,7 @@ use Rattle.icn_vars.specs.Worlds.{Reach, reach_of}
 use Rattle.icn_vars.specs.Outcomes.{IsLiveResidual}
 use Rattle.icn_frames.specs.Stacks as flat
 use Rattle.icn_frames.specs.Stacks.{FlatStack}
-use Rattle.icn_control.proofs.Deref.{live_locals}
+use Rattle.icn_control.proofs.OperandValues.{live_locals}
 use Rattle.icn_machine.proofs.PerformSteps.{locals_named, reach_is}
 use Rattle.icn_machine.proofs.performing.again_lent.Goals as goal
 

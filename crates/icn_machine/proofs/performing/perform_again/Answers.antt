@@ -5,7 +5,7 @@ use Rattle.icn_heap.specs.Heaps.{extent_of}
 use Rattle.icn_vars.specs.Outcomes.{residual_in}
 use Rattle.icn_vars.specs.Worlds.{reach_of, setting_of}
 use Rattle.icn_frames.specs.Stacks as flat
-use Rattle.icn_run_named.proofs.RowCounts.{rows_keep_counts}
+use Rattle.law_steps.proofs.RowCounts.{rows_keep_counts}
 use Rattle.icn_machine.proofs.PerformSteps.{counts_after, given_row, halt_live, kept_after, named_with, names_left, outcome_live, performs_err, performs_lack, stack_live}
 use Rattle.icn_machine.proofs.performing.perform_again.Goals as goal
 

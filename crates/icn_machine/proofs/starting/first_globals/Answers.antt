@@ -5,7 +5,7 @@ use Rattle.icn_value.specs.declared.val.Val.{Val}
 use Rattle.icn_heap.specs.Extents.{IsLive, value_in}
 use Rattle.icn_code.specs.declared.code.Global.{Global}
 use Rattle.icn_code.specs.Rules.{is_global}
-use Rattle.icn_code.specs.Seen.{tables_of}
+use Rattle.icn_code.specs.CodeTables.{tables_of}
 use Rattle.icn_run.specs.Step.{global_value}
 use Rattle.icn_machine.proofs.StartLoops.{all_globals, first_fits, one_global, start_fits}
 use Rattle.icn_machine.proofs.StartSteps.{globals_fit}

@@ -2,7 +2,7 @@ use Rattle.std.proofs.Common.{◌≡◌, ◌++◌, true, length, map}
 use Rattle.std.specs.List.{All, list_all}
 use Rattle.icn_heap.specs.Extents.{Extent, IsLive, value_in}
 use Rattle.icn_code.specs.Rules.{is_global}
-use Rattle.icn_code.specs.Seen.{tables_of}
+use Rattle.icn_code.specs.CodeTables.{tables_of}
 use Rattle.icn_run.specs.Step.{first_globals, global_value}
 use Rattle.icn_machine.proofs.starting.first_globals.Given as goal
 

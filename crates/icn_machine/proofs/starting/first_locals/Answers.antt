@@ -7,7 +7,7 @@ use Rattle.icn_vars.specs.declared.stop.Stop.TheVariants as Stops
 use Rattle.icn_vars.specs.Worlds.{reach_of}
 use Rattle.icn_frames.specs.Stacks.{FlatStack}
 use Rattle.icn_code.specs.Codes.{proc_of}
-use Rattle.icn_control.specs.Living.{IsLiveStack}
+use Rattle.icn_control.specs.LiveStacks.{IsLiveStack}
 use Rattle.icn_calls.proofs.ParameterSteps.{length_with_nulls, live_with_nulls}
 use Rattle.icn_machine.proofs.StartSteps.{any_tables, bare_live, begins_err, begins_runs, enough_levels, list_stops, makes_of, parameters_stop}
 use Rattle.icn_machine.proofs.starting.first_locals.Goals as goal

@@ -2,9 +2,9 @@ use Rattle.std.proofs.Common.{◌++◌, List, map, replicate, ap, ◌∙◌}
 use Rattle.std.specs.List.{sum_by}
 use Rattle.icn_value.specs.declared.val.Val.{Val}
 use Rattle.icn_value.specs.declared.val.Val.TheVariants.{Null}
-use Rattle.icn_code.specs.declared.code.Procedure.{Procedure}
+use Rattle.icn_code.specs.declared.code.LinkedProcedure.{LinkedProcedure}
 use Rattle.icn_code.specs.Codes.{proc_of}
-use Rattle.icn_code.specs.Seen.{tables_of}
+use Rattle.icn_code.specs.CodeTables.{tables_of}
 use Rattle.icn_run.specs.Step.{statics_of}
 use Rattle.icn_machine.proofs.StartLoops.{all_statics, one_static}
 use Rattle.icn_machine.proofs.starting.first_statics.Goals as goal
@@ -13,7 +13,7 @@ pub loop-first-init : goal.loop-first-init
 loop-first-init c =
     record {
       is = ap (λ (xs : List Val). xs ++ replicate (sum_by statics_of (map proc_of c.as_slice-rest.result.now)) Null) c.new-vals.ensures.items
-          ∙ ap (λ (ps : List Procedure). replicate (sum_by statics_of (map proc_of ps)) Null) c.as_slice-rest.ensures.value;
+          ∙ ap (λ (ps : List LinkedProcedure). replicate (sum_by statics_of (map proc_of ps)) Null) c.as_slice-rest.ensures.value;
     }
 
 pub loop-first-preserved : goal.loop-first-preserved

@@ -2,7 +2,7 @@ use Rattle.std.proofs.Common.{◌≡◌, ◌++◌, length, map, replicate}
 use Rattle.std.specs.List.{sum_by}
 use Rattle.icn_value.specs.declared.val.Val.TheVariants.{Null}
 use Rattle.icn_code.specs.Codes.{proc_of}
-use Rattle.icn_code.specs.Seen.{tables_of}
+use Rattle.icn_code.specs.CodeTables.{tables_of}
 use Rattle.icn_run.specs.Step.{statics_of}
 use Rattle.icn_machine.proofs.starting.first_statics.Given as goal
 

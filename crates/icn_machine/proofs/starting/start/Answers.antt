@@ -1,7 +1,7 @@
 use Rattle.std.proofs.Common.{sym, ap, ◌∙◌}
 use Rattle.std.specs.Option.{option_map}
 use Rattle.icn_code.specs.Codes.{proc_of}
-use Rattle.icn_code.specs.Seen.{tables_of}
+use Rattle.icn_code.specs.CodeTables.{tables_of}
 use Rattle.icn_machine.specs.Starting.{launch_with}
 use Rattle.icn_machine.proofs.StartSteps.{main_there, start_none}
 use Rattle.icn_machine.proofs.starting.start.Goals as goal

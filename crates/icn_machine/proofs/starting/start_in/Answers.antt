@@ -10,9 +10,9 @@ use Rattle.icn_heap.specs.Heaps.{extent_of, heap_of}
 use Rattle.icn_frames.specs.Stacks as held
 use Rattle.icn_coexp.specs.Transfers.{first_table}
 use Rattle.icn_code.specs.Codes.{Proc, proc_of}
-use Rattle.icn_code.specs.Seen.{tables_of}
+use Rattle.icn_code.specs.CodeTables.{tables_of}
 use Rattle.icn_vars.specs.declared.world.World.{World}
-use Rattle.icn_control.specs.Living.{variable_count, variables_of}
+use Rattle.icn_control.specs.LiveStacks.{variable_count, variables_of}
 use Rattle.icn_calls.proofs.RuleSteps.{collects_one}
 use Rattle.icn_machine.specs.Starting.{BeginsWith, launch_with}
 use Rattle.icn_machine.proofs.StartSteps.{locals_stop, start_levels, start_sound, starts_as, starts_with_halt}

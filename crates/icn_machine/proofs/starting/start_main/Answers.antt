@@ -1,5 +1,5 @@
 use Rattle.icn_code.specs.Codes.{proc_of}
-use Rattle.icn_code.specs.Seen.{tables_of}
+use Rattle.icn_code.specs.CodeTables.{tables_of}
 use Rattle.icn_machine.specs.Starting.{launch_with}
 use Rattle.icn_machine.proofs.StartSteps.{starts_with_halt, words_stop}
 use Rattle.icn_machine.proofs.starting.start_main.Goals as goal

@@ -3,7 +3,7 @@ use Rattle.icn_value.specs.Values.{Procedure}
 use Rattle.icn_code.specs.declared.code.Start.{Start}
 use Rattle.icn_code.specs.declared.code.Start.TheVariants as Starts
 use Rattle.icn_code.specs.Rules.{is_start}
-use Rattle.icn_code.specs.Seen.{tables_of}
+use Rattle.icn_code.specs.CodeTables.{tables_of}
 use Rattle.icn_run.specs.Step.{start_value}
 use Rattle.icn_machine.proofs.StartSteps.{few_procs, few_records}
 use Rattle.icn_machine.proofs.starting.start_value.Goals as goal

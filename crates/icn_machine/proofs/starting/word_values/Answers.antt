@@ -6,7 +6,7 @@ use Rattle.std.proofs.lemmas.List.{length-map}
 use Rattle.std.proofs.lemmas.List.Elements.{All-nil, All-push, All-same}
 use Rattle.icn_heap.specs.Extents.{IsLive, value_in}
 use Rattle.icn_heap.specs.Heaps.{extent_of, heap_of}
-use Rattle.icn_vars.proofs.Growing.{locals_grow}
+use Rattle.icn_vars.proofs.GrowingWorlds.{locals_grow}
 use Rattle.icn_machine.proofs.StartLoops.{all_words, first_charged, one_word, one_word_charged, word_refused, words_charged, words_lack}
 use Rattle.icn_machine.proofs.starting.word_values.Goals as goal
 

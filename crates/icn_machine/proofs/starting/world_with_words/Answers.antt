@@ -6,7 +6,7 @@ use Rattle.icn_value.specs.Limited.{limits_of}
 use Rattle.icn_heap.specs.Extents.{IsLive, value_in}
 use Rattle.icn_heap.specs.Heaps.{extent_of, heap_of}
 use Rattle.icn_heap.specs.declared.heap.Heap.{Heap as HeldHeap}
-use Rattle.icn_code.specs.Seen.{tables_of}
+use Rattle.icn_code.specs.CodeTables.{tables_of}
 use Rattle.icn_run.specs.Step.{static_count}
 use Rattle.icn_vars.specs.declared.stop.Stop.TheVariants as Stops
 use Rattle.icn_machine.proofs.StartLoops.{nulls_live_any, words_fit, words_fit_err, words_fit_ok, world_is}

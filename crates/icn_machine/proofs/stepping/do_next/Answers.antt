@@ -1,6 +1,6 @@
 use Rattle.std.proofs.Common.{◌≡◌, ◌∙◌, sym, subst, true}
 use Rattle.std.proofs.lemmas.Option.{same_Some}
-use Rattle.icn_code.specs.Seen.{tables_of}
+use Rattle.icn_code.specs.CodeTables.{tables_of}
 use Rattle.icn_code.specs.declared.instr.Instr.{Instr}
 use Rattle.icn_control.specs.Machines.{does}
 use Rattle.icn_machine.specs.Stepping.{is_whole}

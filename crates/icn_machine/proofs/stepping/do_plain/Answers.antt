@@ -1,6 +1,6 @@
 use Rattle.std.proofs.Common.{[]}
 use Rattle.icn_value.specs.Store.{outside_of}
-use Rattle.icn_code.specs.Seen.{tables_of}
+use Rattle.icn_code.specs.CodeTables.{tables_of}
 use Rattle.icn_control.specs.Machines.{does}
 use Rattle.icn_machine.proofs.DoingSteps.{whole_done}
 use Rattle.icn_machine.proofs.NextSteps.{applied_kind, calls_none, done_ready, lands_quietly_by}

@@ -1,7 +1,7 @@
 use Rattle.std.proofs.Common.{sym, rules}
-use Rattle.icn_code.specs.Seen.{tables_of}
+use Rattle.icn_code.specs.CodeTables.{tables_of}
 use Rattle.icn_machine.proofs.DoingSteps.{staged_err}
-use Rattle.icn_machine.proofs.LoopSteps.{an_error, no_answer}
+use Rattle.icn_machine.proofs.LoopSteps.{if_err_known, if_ok_of_error}
 use Rattle.icn_machine.proofs.stepping.fail_to_next.Goals as goal
 
 pub fail_through-requires : goal.fail_through-requires
@@ -13,11 +13,11 @@ returns-in_err-stage-clause-steps g c =
     c.from_residual.ensures.1 (c.in_err-stage.ensures.steps (tables_of c.args.code.now) (sym c.requires.known) c.requires.ready)
 
 pub returns-in_err-stage-clause-ready : goal.returns-in_err-stage-clause-ready
-returns-in_err-stage-clause-ready g c = no_answer c.from_residual.result _ _ c.from_residual.ensures.1
+returns-in_err-stage-clause-ready g c = if_ok_of_error c.from_residual.result _ _ c.from_residual.ensures.1
 
 pub returns-in_err-stage-clause-within : goal.returns-in_err-stage-clause-within
 returns-in_err-stage-clause-within g c = record {
-  halt = an_error c.from_residual.result c.in_err-stage.field-0.0 _ c.from_residual.ensures.1 c.in_err-stage.ensures.within.halt;
+  halt = if_err_known c.from_residual.result c.in_err-stage.field-0.0 _ c.from_residual.ensures.1 c.in_err-stage.ensures.within.halt;
   limits = c.in_err-stage.ensures.within.limits;
 }
 

@@ -1,12 +1,12 @@
 use Rattle.std.proofs.Common.{◌≢◌, ap, subst, refl, [], Option, Some}
 use Rattle.icn_value.specs.Store.{Outside, outside_of}
 use Rattle.icn_code.specs.Codes.{Tables}
-use Rattle.icn_code.specs.Seen.{tables_of}
+use Rattle.icn_code.specs.CodeTables.{tables_of}
 use Rattle.icn_frames.specs.Stacks.{FlatStack}
 use Rattle.icn_heap.specs.Heaps.{extent_of}
 use Rattle.icn_run.specs.Stacks.{flat}
 use Rattle.icn_run.specs.Step.{running, step, stuck}
-use Rattle.icn_control.specs.Standing.{stack_in}
+use Rattle.icn_control.specs.StackViews.{stack_in}
 use Rattle.icn_control.specs.Machines.{running_of, store_seen}
 use Rattle.icn_coexp.specs.Transfers.{with_stack}
 use Rattle.icn_control.specs.declared.machine.Machine.{Machine}

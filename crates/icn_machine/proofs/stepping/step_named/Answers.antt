@@ -1,8 +1,8 @@
 use Rattle.std.proofs.Common.{◌≡◌, ◌∙◌, sym, true, false, rules}
-use Rattle.icn_code.specs.Seen.{tables_of}
-use Rattle.icn_control.specs.declared.machine.Stage.TheVariants as Stages
+use Rattle.icn_code.specs.CodeTables.{tables_of}
+use Rattle.icn_control.specs.declared.machine.RunState.TheVariants as RunStates
 use Rattle.icn_machine.proofs.DoingSteps.{advanced_err, err_memory, then_fails}
-use Rattle.icn_machine.proofs.LoopSteps.{an_error, failing_goes, no_answer}
+use Rattle.icn_machine.proofs.LoopSteps.{if_err_known, failing_goes, if_ok_of_error}
 use Rattle.icn_machine.proofs.stepping.step_named.Goals as goal
 
 pub do_next-requires-clause-known : goal.do_next-requires-clause-known
@@ -13,11 +13,11 @@ do_next-requires-clause-ready g c = c.requires.ready
 
 pub returns-in_err-stage-clause-steps : goal.returns-in_err-stage-clause-steps
 returns-in_err-stage-clause-steps g c =
-    advanced_err (tables_of c.args.code.now) c.args.m.now Stages.Runs _ c.do_next.new.m _ c.in_err-stage.field-0.0 c.from_residual.result
+    advanced_err (tables_of c.args.code.now) c.args.m.now RunStates.Running _ c.do_next.new.m _ c.in_err-stage.field-0.0 c.from_residual.result
     c.from_residual.ensures.1 c.in_err-stage.ensures.steps
 
 pub returns-in_err-stage-clause-ready : goal.returns-in_err-stage-clause-ready
-returns-in_err-stage-clause-ready g c = no_answer c.from_residual.result _ _ c.from_residual.ensures.1
+returns-in_err-stage-clause-ready g c = if_ok_of_error c.from_residual.result _ _ c.from_residual.ensures.1
 
 pub returns-in_err-stage-clause-no_memory : goal.returns-in_err-stage-clause-no_memory
 returns-in_err-stage-clause-no_memory g c instr at whole =
@@ -25,7 +25,7 @@ returns-in_err-stage-clause-no_memory g c instr at whole =
 
 pub returns-in_err-stage-clause-within : goal.returns-in_err-stage-clause-within
 returns-in_err-stage-clause-within g c = record {
-  halt = an_error c.from_residual.result c.in_err-stage.field-0.0 _ c.from_residual.ensures.1 c.in_err-stage.ensures.within.halt;
+  halt = if_err_known c.from_residual.result c.in_err-stage.field-0.0 _ c.from_residual.ensures.1 c.in_err-stage.ensures.within.halt;
   limits = c.in_err-stage.ensures.within.limits;
 }
 
@@ -37,7 +37,7 @@ fail_to_next-requires-clause-ready g c = c.in_ok-stage.ensures.ready
 
 pub returns-then-is_failing-clause-steps : goal.returns-then-is_failing-clause-steps
 returns-then-is_failing-clause-steps g c =
-    then_fails (tables_of c.args.code.now) c.args.m.now Stages.Runs _ c.do_next.new.m c.in_ok-stage.stage _ c.fail_to_next.new.m _ _
+    then_fails (tables_of c.args.code.now) c.args.m.now RunStates.Running _ c.do_next.new.m c.in_ok-stage.stage _ c.fail_to_next.new.m _ _
     (failing_goes c.in_ok-stage.stage (sym c.is_failing.ensures ∙ c.if-is_failing.true)) c.in_ok-stage.ensures.steps c.fail_to_next.ensures.steps
 
 pub returns-then-is_failing-clause-ready : goal.returns-then-is_failing-clause-ready

@@ -1,5 +1,5 @@
 use Rattle.std.proofs.Common.{◌≡◌, ◌<◌, ◌^◌, ap, ◌∙◌, arith, length}
-use Rattle.icn_code.specs.Seen.{tables_of}
+use Rattle.icn_code.specs.CodeTables.{tables_of}
 use Rattle.icn_frames.specs.Stacks as flat
 use Rattle.icn_run.specs.Step.{instrs_of}
 use Rattle.icn_machine.proofs.CodeRules.{few_instrs, index_as}

@@ -1,6 +1,6 @@
 use Rattle.icn_heap.specs.Heaps.{extent_of}
 use Rattle.icn_vars.specs.Outcomes.{residual_in}
-use Rattle.icn_streams.proofs.Faultless.{faultless_applies}
+use Rattle.icn_streams.proofs.QuietRows.{faultless_applies}
 use Rattle.icn_streams.specs.Handed.{call_streams}
 use Rattle.icn_defs.specs.Applying.{again}
 use Rattle.icn_ops.proofs.applying.again.Goals as goal

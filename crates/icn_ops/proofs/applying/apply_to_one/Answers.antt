@@ -3,8 +3,8 @@ use Rattle.icn_defs.specs.Elements.{random_row}
 use Rattle.icn_defs.specs.Rows.{fails}
 use Rattle.icn_heap.specs.Heaps.{extent_of}
 use Rattle.icn_vars.specs.Worlds.{item_in, reach_of}
-use Rattle.icn_vars.proofs.KeptItems.{items_all}
-use Rattle.icn_streams.proofs.Faultless.{faultless_applies}
+use Rattle.icn_vars.proofs.KeptItems.{keeps_items_refl}
+use Rattle.icn_streams.proofs.QuietRows.{faultless_applies}
 use Rattle.icn_streams.specs.Handed.{call_streams}
 use Rattle.icn_vars.specs.declared.outcome.Outcome.TheVariants.{Fails as FailsOutcome}
 use Rattle.icn_ops.proofs.applying.apply_to_one.Goals as goal
@@ -21,4 +21,4 @@ returns-in-Random g c = λ output errors. rw c.in-Random.is
 pub returns-in-Refresh : goal.returns-in-Refresh
 returns-in-Refresh g c = λ output errors. rw c.in-Refresh.is (faultless_applies fails c.args.w.now c.args.w.now (g.L.Locals.items c.args.l.now)
     (g.L.Locals.items c.args.l.now) (call_streams (g.I.Source.left c.args.input.now) (g.I.Source.faults c.args.input.now) output errors) (Ok FailsOutcome)
-    (λ was. refl) (record { live = tt }) c.requires.locals (items_all (reach_of c.args.w.now (g.L.Locals.items c.args.l.now))))
+    (λ was. refl) (record { live = tt }) c.requires.locals (keeps_items_refl (reach_of c.args.w.now (g.L.Locals.items c.args.l.now))))

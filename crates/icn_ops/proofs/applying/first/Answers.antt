@@ -3,7 +3,7 @@ use Rattle.icn_defs.specs.Rows.{Row}
 use Rattle.icn_heap.specs.Heaps.{extent_of}
 use Rattle.icn_vars.specs.Worlds.{item_in, setting_of}
 use Rattle.icn_vars.specs.Outcomes.{ComesToAnswer}
-use Rattle.icn_streams.proofs.Faultless.{faultless_applies}
+use Rattle.icn_streams.proofs.QuietRows.{faultless_applies}
 use Rattle.icn_streams.specs.Answers.{call_state}
 use Rattle.icn_streams.specs.Handed.{call_streams}
 use Rattle.icn_defs.specs.Applying.{operation_row}

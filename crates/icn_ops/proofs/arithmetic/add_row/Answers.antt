@@ -4,9 +4,9 @@ use Rattle.icn_text.specs.IntegerArithmetic.{sum}
 use Rattle.icn_defs.specs.Arithmetic.{add_row}
 use Rattle.icn_heap.specs.Heaps.{extent_of}
 use Rattle.icn_vars.specs.Worlds.{item_in, reach_of, setting_of}
-use Rattle.icn_args.proofs.Answering.{answer_then, row_stops, stop_lives}
+use Rattle.icn_args.proofs.RowAnswers.{answer_then, row_stops, stop_lives}
 use Rattle.icn_ops.specs.Operands.{two_numbers, gives_computed}
-use Rattle.icn_ops.proofs.Steps.{held_two}
+use Rattle.icn_ops.proofs.TwoOperandSteps.{held_two}
 use Rattle.icn_ops.proofs.arithmetic.add_row.Goals as goal
 
 pub returns-in_err-m-clause-row : goal.returns-in_err-m-clause-row
@@ -24,12 +24,12 @@ pub returns-clause-row : goal.returns-clause-row
 returns-clause-row g c = λ outside.
     answer_then (extent_of c.args.w.now.heap) (add_row (item_in (extent_of c.args.w.now.heap) c.args.x) (item_in (extent_of c.args.w.now.heap) c.args.y))
     (gives_computed c.add.result) (setting_of outside c.args.w.now (g.L.Locals.items c.args.l.now))
-    (setting_of outside c.args.w.now (g.L.Locals.items c.args.l.now)) (setting_of outside c.args.w.now (g.L.Locals.items c.args.l.now)) c.given.result
+    (setting_of outside c.args.w.now (g.L.Locals.items c.args.l.now)) (setting_of outside c.args.w.now (g.L.Locals.items c.args.l.now)) c.integer_outcome.result
     (c.in_ok-m.ensures.found outside (λ (two : ℤ × ℤ). gives_computed (sum two.0 two.1))
     ∙ ap (λ found. gives_computed found (setting_of outside c.args.w.now (g.L.Locals.items c.args.l.now))) (sym (c.add.ensures ∙ held_two sum
     c.in_ok-m.m c.in_ok-m.n (let fits : FitsSigned w64 c.in_ok-m.m = search rules in fits) (let fits : FitsSigned w64 c.in_ok-m.n = search rules in fits))))
-    (c.given.ensures.row (extent_of c.args.w.now.heap) (setting_of outside c.args.w.now (g.L.Locals.items c.args.l.now)))
+    (c.integer_outcome.ensures.row (extent_of c.args.w.now.heap) (setting_of outside c.args.w.now (g.L.Locals.items c.args.l.now)))
 
 pub returns-clause-live : goal.returns-clause-live
 returns-clause-live g c =
-    c.given.ensures.live (reach_of c.args.w.now (g.L.Locals.items c.args.l.now))
+    c.integer_outcome.ensures.live (reach_of c.args.w.now (g.L.Locals.items c.args.l.now))

@@ -3,13 +3,13 @@ use Rattle.std.specs.Int.{w64}
 use Rattle.icn_text.specs.IntegerArithmetic.{difference, within_64_bits}
 use Rattle.icn_defs.specs.Arguments.{number}
 use Rattle.icn_defs.specs.Arithmetic.{negate_row}
-use Rattle.icn_defs.specs.Reading.{the_value}
+use Rattle.icn_defs.specs.ReadAndAssign.{the_value}
 use Rattle.icn_heap.specs.Extents.{value_in}
 use Rattle.icn_heap.specs.Heaps.{extent_of}
 use Rattle.icn_vars.specs.Worlds.{item_in, reach_of, setting_of}
-use Rattle.icn_args.proofs.Answering.{answer_then, row_stops, stop_lives}
+use Rattle.icn_args.proofs.RowAnswers.{answer_then, row_stops, stop_lives}
 use Rattle.icn_ops.specs.Operands.{gives_computed}
-use Rattle.icn_ops.proofs.Steps.{negated, held_one}
+use Rattle.icn_ops.proofs.TwoOperandSteps.{negated, held_one}
 use Rattle.std.specs.Prelude.{neg_ℤ}
 use Rattle.icn_ops.proofs.arithmetic.negate_row.Goals as goal
 
@@ -46,13 +46,13 @@ pub returns-clause-row : goal.returns-clause-row
 returns-clause-row g c = λ outside.
     answer_then (extent_of c.args.w.now.heap) (negate_row (item_in (extent_of c.args.w.now.heap) c.args.x)) (gives_computed c.sub.result)
     (setting_of outside c.args.w.now (g.L.Locals.items c.args.l.now)) (setting_of outside c.args.w.now (g.L.Locals.items c.args.l.now))
-    (setting_of outside c.args.w.now (g.L.Locals.items c.args.l.now)) c.given.result
+    (setting_of outside c.args.w.now (g.L.Locals.items c.args.l.now)) c.integer_outcome.result
     (c.in_ok-val.ensures.value outside (λ v. number v (λ n. gives_computed (within_64_bits (neg_ℤ n))))
     ∙ (c.in_ok-n.ensures.found (setting_of outside c.args.w.now (g.L.Locals.items c.args.l.now)) (λ n. gives_computed (within_64_bits (neg_ℤ n)))
     ∙ ap (λ found. gives_computed found (setting_of outside c.args.w.now (g.L.Locals.items c.args.l.now)))
     (sym (c.sub.ensures ∙ (held_one (difference (pos 0)) c.in_ok-n.n (let fits : FitsSigned w64 c.in_ok-n.n = search rules in fits) ∙ negated c.in_ok-n.n)))))
-    (c.given.ensures.row (extent_of c.args.w.now.heap) (setting_of outside c.args.w.now (g.L.Locals.items c.args.l.now)))
+    (c.integer_outcome.ensures.row (extent_of c.args.w.now.heap) (setting_of outside c.args.w.now (g.L.Locals.items c.args.l.now)))
 
 pub returns-clause-live : goal.returns-clause-live
 returns-clause-live g c =
-    c.given.ensures.live (reach_of c.args.w.now (g.L.Locals.items c.args.l.now))
+    c.integer_outcome.ensures.live (reach_of c.args.w.now (g.L.Locals.items c.args.l.now))

@@ -6,9 +6,9 @@ use Rattle.icn_value.specs.Values.{Integer}
 use Rattle.icn_defs.specs.Rows.{gives_value, passing}
 use Rattle.icn_heap.specs.Heaps.{extent_of}
 use Rattle.icn_vars.specs.Worlds.{item_in, reach_of, setting_of}
-use Rattle.icn_args.proofs.Answering.{row_stops, stop_lives}
+use Rattle.icn_args.proofs.RowAnswers.{row_stops, stop_lives}
 use Rattle.icn_ops.specs.Operands.{compared_numbers}
-use Rattle.icn_ops.proofs.Steps.{held_one}
+use Rattle.icn_ops.proofs.TwoOperandSteps.{held_one}
 use Rattle.icn_ops.proofs.comparisons.greater_or_equal_row.Goals as goal
 
 pub returns-in_err-order-clause-row : goal.returns-in_err-order-clause-row

@@ -6,7 +6,7 @@ use Rattle.icn_defs.specs.Rows.{gives_value, passing}
 use Rattle.icn_heap.specs.Extents.{text_in}
 use Rattle.icn_heap.specs.Heaps.{extent_of}
 use Rattle.icn_vars.specs.Worlds.{item_in, reach_of, setting_of}
-use Rattle.icn_args.proofs.Answering.{row_stops, stop_lives}
+use Rattle.icn_args.proofs.RowAnswers.{row_stops, stop_lives}
 use Rattle.icn_ops.specs.Operands.{compared_texts}
 use Rattle.icn_ops.proofs.comparisons.lexically_greater_row.Goals as goal
 

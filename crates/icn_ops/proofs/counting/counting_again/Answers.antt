@@ -1,7 +1,7 @@
 use Rattle.std.proofs.Common.{◌∙◌, sym, ap}
 use Rattle.icn_text.specs.IntegerArithmetic.{sum}
 use Rattle.icn_defs.specs.Arithmetic.{count_from}
-use Rattle.icn_ops.proofs.Steps.{held_two, fitting_sum}
+use Rattle.icn_ops.proofs.TwoOperandSteps.{held_two, fitting_sum}
 use Rattle.std.specs.Result.{result_ok}
 use Rattle.icn_ops.proofs.counting.counting_again.Goals as goal
 

@@ -5,9 +5,9 @@ use Rattle.icn_defs.specs.Arithmetic.{count_from}
 use Rattle.icn_defs.specs.Rows.{check}
 use Rattle.icn_heap.specs.Heaps.{extent_of}
 use Rattle.icn_vars.specs.Worlds.{item_in, reach_of, setting_of}
-use Rattle.icn_args.proofs.Answering.{row_stops, stop_lives}
+use Rattle.icn_args.proofs.RowAnswers.{row_stops, stop_lives}
 use Rattle.icn_ops.specs.Operands.{three_integers}
-use Rattle.icn_ops.proofs.Steps.{held_one, held_three}
+use Rattle.icn_ops.proofs.TwoOperandSteps.{held_one, held_three}
 use Rattle.std.specs.Ordering.{int_eq}
 use Rattle.icn_ops.proofs.counting.to_by_row.Goals as goal
 

@@ -2,12 +2,12 @@ use Rattle.std.proofs.Common.{◌≡◌, ◌∙◌, ◌+◌, ◌<◌, ◌≤◌,
 use Rattle.icn_value.specs.Values.{Var}
 use Rattle.icn_defs.specs.Conversions.{held_text}
 use Rattle.icn_defs.specs.Elements.{part_of}
-use Rattle.icn_defs.specs.Reading.{reads}
+use Rattle.icn_defs.specs.ReadAndAssign.{reads}
 use Rattle.icn_defs.specs.Rows.{Suspends, VariableBytes, passing, present, suspends}
 use Rattle.icn_heap.specs.Extents.{text_in, value_in}
 use Rattle.icn_heap.specs.Heaps.{extent_of}
 use Rattle.icn_vars.specs.Worlds.{reach_of, setting_of, variable_in}
-use Rattle.icn_args.proofs.Answering.{row_stops}
+use Rattle.icn_args.proofs.RowAnswers.{row_stops}
 use Rattle.icn_ops.proofs.ElementRows.{variable_byte, variable_end, variable_other}
 use Rattle.icn_ops.proofs.elements.variable_bytes_from.Goals as goal
 

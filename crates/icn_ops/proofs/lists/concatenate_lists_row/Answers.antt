@@ -6,7 +6,7 @@ use Rattle.icn_defs.specs.Rows.{Gives, gives_list, gives_value, new_list_of}
 use Rattle.icn_heap.specs.Extents.{value_in}
 use Rattle.icn_heap.specs.Heaps.{extent_of, heap_of}
 use Rattle.icn_vars.specs.Worlds.{item_in, reach_of, setting_of}
-use Rattle.icn_args.proofs.Answering.{answer_then, row_stops, stop_lives}
+use Rattle.icn_args.proofs.RowAnswers.{answer_then, row_stops, stop_lives}
 use Rattle.icn_ops.specs.Operands.{two_lists}
 use Rattle.icn_vars.specs.Stops.{StopsFinding}
 use Rattle.icn_ops.proofs.lists.concatenate_lists_row.Goals as goal

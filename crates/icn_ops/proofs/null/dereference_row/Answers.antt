@@ -1,8 +1,8 @@
-use Rattle.icn_defs.specs.Reading.{the_value}
+use Rattle.icn_defs.specs.ReadAndAssign.{the_value}
 use Rattle.icn_defs.specs.Rows.{gives_value}
 use Rattle.icn_heap.specs.Heaps.{extent_of}
 use Rattle.icn_vars.specs.Worlds.{item_in, reach_of, setting_of}
-use Rattle.icn_args.proofs.Answering.{row_stops, stop_lives}
+use Rattle.icn_args.proofs.RowAnswers.{row_stops, stop_lives}
 use Rattle.icn_ops.proofs.null.dereference_row.Goals as goal
 
 pub returns-in_err-val-clause-row : goal.returns-in_err-val-clause-row

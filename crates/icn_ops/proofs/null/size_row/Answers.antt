@@ -2,13 +2,13 @@ use Rattle.std.proofs.Common.{◌∙◌, sym, ap, ℕ, pos, Option}
 use Rattle.std.specs.Prelude.{Some}
 use Rattle.icn_value.specs.Values.{Integer, Val}
 use Rattle.icn_value.specs.Sizes.{size_of}
-use Rattle.icn_defs.specs.Reading.{the_value}
+use Rattle.icn_defs.specs.ReadAndAssign.{the_value}
 use Rattle.icn_defs.specs.Rows.{Gives, gives_value, present}
 use Rattle.icn_heap.specs.Extents.{value_in}
 use Rattle.icn_heap.specs.Heaps.{extent_of}
 use Rattle.icn_vars.specs.Worlds.{item_in, reach_of, setting_of}
-use Rattle.icn_args.proofs.Answering.{row_stops, stop_lives}
-use Rattle.icn_ops.proofs.Steps.{held_size}
+use Rattle.icn_args.proofs.RowAnswers.{row_stops, stop_lives}
+use Rattle.icn_ops.proofs.TwoOperandSteps.{held_size}
 use Rattle.icn_ops.proofs.null.size_row.Goals as goal
 
 pub returns-in_err-val-clause-row : goal.returns-in_err-val-clause-row

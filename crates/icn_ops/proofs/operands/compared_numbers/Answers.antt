@@ -4,9 +4,9 @@ use Rattle.std.specs.declared.cmp.Ordering.{Ordering}
 use Rattle.std.specs.Int.{w64}
 use Rattle.icn_heap.specs.Heaps.{extent_of}
 use Rattle.icn_vars.specs.Worlds.{item_in, setting_of}
-use Rattle.icn_args.proofs.Answering.{first_stops}
+use Rattle.icn_args.proofs.RowAnswers.{first_stops}
 use Rattle.icn_ops.specs.Operands.{two_numbers}
-use Rattle.icn_ops.proofs.Steps.{held_one, held_two}
+use Rattle.icn_ops.proofs.TwoOperandSteps.{held_one, held_two}
 use Rattle.icn_ops.proofs.operands.compared_numbers.Goals as goal
 
 pub returns-in_err-m-clause-found : goal.returns-in_err-m-clause-found

@@ -5,7 +5,7 @@ use Rattle.std.specs.declared.cmp.Ordering.{Ordering}
 use Rattle.icn_heap.specs.Extents.{text_in}
 use Rattle.icn_heap.specs.Heaps.{extent_of}
 use Rattle.icn_vars.specs.Worlds.{item_in, setting_of}
-use Rattle.icn_args.proofs.Answering.{first_stops}
+use Rattle.icn_args.proofs.RowAnswers.{first_stops}
 use Rattle.icn_ops.specs.Operands.{two_texts, ordered_text_in}
 use Rattle.icn_ops.proofs.operands.compared_texts.Goals as goal
 

@@ -1,12 +1,12 @@
 use Rattle.icn_value.specs.Values.{Value}
 use Rattle.icn_defs.specs.Arguments.{string}
-use Rattle.icn_defs.specs.Reading.{the_value}
+use Rattle.icn_defs.specs.ReadAndAssign.{the_value}
 use Rattle.icn_defs.specs.Rows.{costs_text}
 use Rattle.icn_heap.specs.Extents.{value_in, text_in}
 use Rattle.icn_heap.specs.Heaps.{extent_of}
 use Rattle.icn_vars.specs.Worlds.{item_in, setting_of}
-use Rattle.icn_args.proofs.Answering.{first_stops, stop_lives_on, stops_within, then_stops}
-use Rattle.icn_ops.proofs.Steps.{text_found}
+use Rattle.icn_args.proofs.RowAnswers.{first_stops, stop_lives_on, stops_within, then_stops}
+use Rattle.icn_ops.proofs.TwoOperandSteps.{text_found}
 use Rattle.icn_ops.proofs.operands.one_text.Goals as goal
 
 pub returns-in_err-val-clause-found : goal.returns-in_err-val-clause-found

@@ -5,9 +5,9 @@ use Rattle.icn_defs.specs.Arguments.{integer}
 use Rattle.icn_heap.specs.Extents.{value_in}
 use Rattle.icn_heap.specs.Heaps.{extent_of}
 use Rattle.icn_vars.specs.Worlds.{item_in, setting_of}
-use Rattle.icn_args.proofs.Answering.{first_stops, stops_behind, stops_within, then_stops}
+use Rattle.icn_args.proofs.RowAnswers.{first_stops, stops_behind, stops_within, then_stops}
 use Rattle.icn_ops.specs.Operands.{three_values}
-use Rattle.icn_ops.proofs.Steps.{held_three}
+use Rattle.icn_ops.proofs.TwoOperandSteps.{held_three}
 use Rattle.icn_ops.proofs.operands.three_integers.Goals as goal
 
 pub returns-in_err-from-clause-found : goal.returns-in_err-from-clause-found

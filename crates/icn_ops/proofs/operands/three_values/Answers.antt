@@ -1,10 +1,10 @@
 use Rattle.std.proofs.Common.{◌∙◌}
 use Rattle.icn_value.specs.Values.{Value}
-use Rattle.icn_defs.specs.Reading.{the_value}
+use Rattle.icn_defs.specs.ReadAndAssign.{the_value}
 use Rattle.icn_heap.specs.Extents.{value_in}
 use Rattle.icn_heap.specs.Heaps.{extent_of}
 use Rattle.icn_vars.specs.Worlds.{item_in, setting_of}
-use Rattle.icn_args.proofs.Answering.{first_stops, stops_within, then_stops}
+use Rattle.icn_args.proofs.RowAnswers.{first_stops, stops_within, then_stops}
 use Rattle.icn_ops.specs.Operands.{two_values, three_in}
 use Rattle.icn_ops.proofs.operands.three_values.Goals as goal
 

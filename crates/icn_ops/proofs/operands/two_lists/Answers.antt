@@ -4,7 +4,7 @@ use Rattle.icn_defs.specs.Arguments.{list}
 use Rattle.icn_heap.specs.Extents.{value_in}
 use Rattle.icn_heap.specs.Heaps.{extent_of}
 use Rattle.icn_vars.specs.Worlds.{item_in, setting_of}
-use Rattle.icn_args.proofs.Answering.{first_stops, stop_lives_on, stops_behind, stops_within, then_stops}
+use Rattle.icn_args.proofs.RowAnswers.{first_stops, stop_lives_on, stops_behind, stops_within, then_stops}
 use Rattle.icn_ops.specs.Operands.{two_values}
 use Rattle.icn_ops.proofs.operands.two_lists.Goals as goal
 

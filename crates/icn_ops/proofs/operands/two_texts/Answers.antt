@@ -5,10 +5,10 @@ use Rattle.icn_defs.specs.Rows.{costs_texts}
 use Rattle.icn_heap.specs.Extents.{value_in}
 use Rattle.icn_heap.specs.Heaps.{extent_of}
 use Rattle.icn_vars.specs.Worlds.{item_in, setting_of}
-use Rattle.icn_args.proofs.Answering.{first_stops, stop_lives_on, stops_behind, stops_within, then_stops}
+use Rattle.icn_args.proofs.RowAnswers.{first_stops, stop_lives_on, stops_behind, stops_within, then_stops}
 use Rattle.icn_ops.specs.Operands.{two_values, texts_in}
-use Rattle.icn_ops.proofs.Steps.{texts_found}
-use Rattle.icn_args.specs.Words.{the_text}
+use Rattle.icn_ops.proofs.TwoOperandSteps.{texts_found}
+use Rattle.icn_args.specs.RowWords.{the_text}
 use Rattle.icn_ops.proofs.operands.two_texts.Goals as goal
 
 pub returns-in_err-a-clause-found : goal.returns-in_err-a-clause-found

@@ -6,8 +6,8 @@ use Rattle.icn_heap.specs.Extents.{text_in, value_in}
 use Rattle.icn_heap.specs.Heaps.{extent_of}
 use Rattle.icn_vars.specs.Worlds.{item_in, reach_of, setting_of, variable_in}
 use Rattle.icn_vars.proofs.KeptItems.{item_kept, item_stays}
-use Rattle.icn_args.specs.Words.{the_text}
-use Rattle.icn_args.proofs.Answering.{row_stops_at, stop_lives}
+use Rattle.icn_args.specs.RowWords.{the_text}
+use Rattle.icn_args.proofs.RowAnswers.{row_stops_at, stop_lives}
 use Rattle.icn_ops.proofs.RandomRows.{byte_lacking, byte_picked}
 use Rattle.icn_ops.proofs.random.random_byte.Goals as goal
 

@@ -1,10 +1,10 @@
 use Rattle.icn_defs.specs.Conversions.{held_integer}
 use Rattle.icn_defs.specs.Elements.{random_by, random_row}
-use Rattle.icn_defs.specs.Reading.{the_value}
+use Rattle.icn_defs.specs.ReadAndAssign.{the_value}
 use Rattle.icn_heap.specs.Extents.{value_in}
 use Rattle.icn_heap.specs.Heaps.{extent_of}
 use Rattle.icn_vars.specs.Worlds.{item_in, reach_of, setting_of}
-use Rattle.icn_args.proofs.Answering.{answer_then, row_stops, stop_lives}
+use Rattle.icn_args.proofs.RowAnswers.{answer_then, row_stops, stop_lives}
 use Rattle.icn_ops.proofs.random.random_row.Goals as goal
 
 pub returns-in_err-val-clause-row : goal.returns-in_err-val-clause-row

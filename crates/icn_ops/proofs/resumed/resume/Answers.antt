@@ -2,7 +2,7 @@ use Rattle.std.proofs.Common.{FitsSigned, rules, sym, ◌∙◌}
 use Rattle.std.specs.Int.{w64}
 use Rattle.icn_heap.specs.Heaps.{extent_of}
 use Rattle.icn_vars.specs.Worlds.{reach_of, setting_of}
-use Rattle.icn_ops.proofs.Steps.{held_three}
+use Rattle.icn_ops.proofs.TwoOperandSteps.{held_three}
 use Rattle.icn_defs.specs.Arithmetic.{counting_again}
 use Rattle.icn_ops.proofs.resumed.resume.Goals as goal
 

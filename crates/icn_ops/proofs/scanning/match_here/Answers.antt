@@ -1,7 +1,7 @@
 use Rattle.icn_heap.specs.Extents.{text_in}
 use Rattle.icn_heap.specs.Heaps.{extent_of}
 use Rattle.icn_vars.specs.Worlds.{setting_of}
-use Rattle.icn_ops.proofs.Steps.{moved}
+use Rattle.icn_ops.proofs.TwoOperandSteps.{moved}
 use Rattle.icn_ops.proofs.scanning.match_here.Goals as goal
 
 pub returns-then-stands-clause-row : goal.returns-then-stands-clause-row

@@ -1,8 +1,8 @@
 use Rattle.std.proofs.Common.{◌∙◌}
 use Rattle.icn_heap.specs.Heaps.{extent_of}
 use Rattle.icn_vars.specs.Worlds.{item_in, reach_of, setting_of}
-use Rattle.icn_vars.proofs.KeptItems.{items_then}
-use Rattle.icn_args.proofs.Answering.{row_stops, stop_lives}
+use Rattle.icn_vars.proofs.KeptItems.{keeps_items_trans}
+use Rattle.icn_args.proofs.RowAnswers.{row_stops, stop_lives}
 use Rattle.icn_ops.specs.Operands.{one_text, matches_here}
 use Rattle.icn_ops.proofs.scanning.tab_match_row.Goals as goal
 
@@ -23,5 +23,5 @@ returns-clause-row g c = λ outside.
 
 pub returns-clause-kept : goal.returns-clause-kept
 returns-clause-kept g c =
-    items_then (reach_of c.args.w.now (g.L.Locals.items c.args.l.now)) (reach_of c.one_text.new.w (g.L.Locals.items c.args.l.now))
+    keeps_items_trans (reach_of c.args.w.now (g.L.Locals.items c.args.l.now)) (reach_of c.one_text.new.w (g.L.Locals.items c.args.l.now))
     (reach_of c.match_here.new.w (g.L.Locals.items c.args.l.now)) c.one_text.ensures.kept c.match_here.ensures.kept

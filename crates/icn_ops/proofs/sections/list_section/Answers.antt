@@ -10,7 +10,7 @@ use Rattle.icn_defs.specs.Rows.{gives_list}
 use Rattle.icn_heap.specs.Extents.{value_in}
 use Rattle.icn_heap.specs.Heaps.{extent_of, heap_of}
 use Rattle.icn_vars.specs.Worlds.{item_in, reach_of, setting_of}
-use Rattle.icn_args.proofs.Answering.{answer_then, row_stops, stop_lives}
+use Rattle.icn_args.proofs.RowAnswers.{answer_then, row_stops, stop_lives}
 use Rattle.icn_ops.specs.Sections.{second_of}
 use Rattle.icn_ops.proofs.PlaceRows.{places_held}
 use Rattle.icn_value.specs.declared.val.Val.TheVariants.{List as ListVal}

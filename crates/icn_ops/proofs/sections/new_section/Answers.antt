@@ -7,7 +7,7 @@ use Rattle.icn_heap.specs.Extents.{value_in}
 use Rattle.icn_heap.specs.Heaps.{extent_of, heap_of}
 use Rattle.icn_vars.specs.Worlds.{reach_of, setting_of}
 use Rattle.icn_vars.specs.Stops.{StopsFinding}
-use Rattle.icn_args.proofs.Answering.{row_stops, stop_lives}
+use Rattle.icn_args.proofs.RowAnswers.{row_stops, stop_lives}
 use Rattle.icn_ops.proofs.sections.new_section.Goals as goal
 
 pub returns-in_err-made-clause-row : goal.returns-in_err-made-clause-row

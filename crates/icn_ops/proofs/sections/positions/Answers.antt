@@ -5,9 +5,9 @@ use Rattle.icn_defs.specs.Rows.{number_or_error}
 use Rattle.icn_heap.specs.Extents.{value_in}
 use Rattle.icn_heap.specs.Heaps.{extent_of}
 use Rattle.icn_vars.specs.Stops.{StopsFinding}
-use Rattle.icn_args.proofs.Answering.{first_stops, stop_lives_on, stops_behind, stops_within, then_stops}
+use Rattle.icn_args.proofs.RowAnswers.{first_stops, stop_lives_on, stops_behind, stops_within, then_stops}
 use Rattle.icn_ops.specs.Sections.{second_of}
-use Rattle.icn_ops.proofs.Steps.{held_two}
+use Rattle.icn_ops.proofs.TwoOperandSteps.{held_two}
 use Rattle.icn_ops.proofs.sections.positions.Goals as goal
 
 pub returns-in_err-m-clause-found : goal.returns-in_err-m-clause-found

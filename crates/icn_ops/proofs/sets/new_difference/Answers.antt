@@ -7,12 +7,12 @@ use Rattle.icn_vars.specs.Worlds.{setting_of}
 use Rattle.icn_ops.proofs.SetMaking.{set_made, set_refused}
 use Rattle.icn_defs.specs.Operations.{new_set_of, difference}
 use Rattle.icn_value.specs.Store.{having_heap, set_at}
-use Rattle.icn_vars.proofs.Changing.{cells_change, fields_behind}
-use Rattle.icn_vars.proofs.Growing.{heap_changed}
+use Rattle.icn_vars.proofs.HeapChanges.{cells_change, fields_behind}
+use Rattle.icn_vars.proofs.GrowingWorlds.{heap_changed}
 use Rattle.icn_vars.specs.Stops.{stop_of}
-use Rattle.icn_args.specs.Words.{IsFound}
-use Rattle.icn_args.proofs.Answering.{found_err}
-use Rattle.icn_heap.specs.Making.{having_members}
+use Rattle.icn_args.specs.RowWords.{IsFound}
+use Rattle.icn_args.proofs.RowAnswers.{found_stops}
+use Rattle.icn_heap.specs.MadeStructures.{having_members}
 use Rattle.icn_ops.proofs.sets.new_difference.Goals as goal
 
 pub returns-in_err-difference-clause-found : goal.returns-in_err-difference-clause-found
@@ -22,7 +22,7 @@ returns-in_err-difference-clause-found g c = λ outside.
     (setting_of outside c.args.w.now (g.L.Locals.items c.args.l.now)) setting (value_in (extent_of c.difference.new.self)) c.from_residual.result)
     (heap_changed outside c.args.w.now.heap c.difference.new.self c.args.w.now.pair c.args.w.now.random c.args.w.now.globals.items c.args.w.now.statics.items
     (g.L.Locals.items c.args.l.now) c.difference.ensures.kept c.in_err-difference.ensures.unchanged c.args.w.now.sound c.requires.locals)
-    (found_err (extent_of c.difference.new.self)
+    (found_stops (extent_of c.difference.new.self)
     (new_set_of (difference (set_at (heap_of c.args.w.now.heap) c.args.first) (set_at (heap_of c.args.w.now.heap) c.args.second)))
     (setting_of outside c.args.w.now (g.L.Locals.items c.args.l.now)) (setting_of outside c.args.w.now (g.L.Locals.items c.args.l.now))
     (value_in (extent_of c.difference.new.self)) (stop_of c.in_err-difference.field-0.0) c.from_residual.result c.from_residual.ensures.1

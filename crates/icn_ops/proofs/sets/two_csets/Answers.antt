@@ -2,7 +2,7 @@ use Rattle.std.proofs.Common.{◌∙◌, ℕ, List}
 use Rattle.icn_value.specs.Members.{members_of}
 use Rattle.icn_heap.specs.Extents.{value_in}
 use Rattle.icn_heap.specs.Heaps.{extent_of}
-use Rattle.icn_args.proofs.Answering.{first_stops, stops_within, then_stops}
+use Rattle.icn_args.proofs.RowAnswers.{first_stops, stops_within, then_stops}
 use Rattle.icn_ops.specs.Operands.{csets_in, one_cset}
 use Rattle.icn_ops.proofs.sets.two_csets.Goals as goal
 

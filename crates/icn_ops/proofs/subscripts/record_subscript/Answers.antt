@@ -10,7 +10,7 @@ use Rattle.icn_defs.specs.Rows.{Gives, gives}
 use Rattle.icn_heap.specs.Extents.{value_in}
 use Rattle.icn_heap.specs.Heaps.{extent_of, heap_of}
 use Rattle.icn_vars.specs.Worlds.{reach_of, setting_of}
-use Rattle.icn_args.proofs.Answering.{row_stops, stop_lives}
+use Rattle.icn_args.proofs.RowAnswers.{row_stops, stop_lives}
 use Rattle.icn_ops.proofs.PlaceRows.{element_held}
 use Rattle.icn_ops.proofs.subscripts.record_subscript.Goals as goal
 

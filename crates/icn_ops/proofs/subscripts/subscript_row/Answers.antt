@@ -4,7 +4,7 @@ use Rattle.icn_defs.specs.Variables.{subscript_of, subscript_row}
 use Rattle.icn_heap.specs.Extents.{value_in}
 use Rattle.icn_heap.specs.Heaps.{extent_of}
 use Rattle.icn_vars.specs.Worlds.{item_in, reach_of, setting_of}
-use Rattle.icn_args.proofs.Answering.{answer_then, row_stops, stop_lives}
+use Rattle.icn_args.proofs.RowAnswers.{answer_then, row_stops, stop_lives}
 use Rattle.icn_ops.specs.Operands.{two_values}
 use Rattle.icn_ops.proofs.subscripts.subscript_row.Goals as goal
 

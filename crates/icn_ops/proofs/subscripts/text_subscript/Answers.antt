@@ -12,8 +12,8 @@ use Rattle.icn_heap.specs.Extents.{text_in, value_in}
 use Rattle.icn_heap.specs.Heaps.{extent_of}
 use Rattle.icn_vars.specs.Worlds.{item_in, reach_of, setting_of, variable_in}
 use Rattle.icn_vars.proofs.KeptItems.{item_kept, item_stays}
-use Rattle.icn_args.specs.Words.{the_text}
-use Rattle.icn_args.proofs.Answering.{answer_then, row_stops, row_stops_at, stop_lives}
+use Rattle.icn_args.specs.RowWords.{the_text}
+use Rattle.icn_args.proofs.RowAnswers.{answer_then, row_stops, row_stops_at, stop_lives}
 use Rattle.icn_ops.proofs.PlaceRows.{element_held, part_given}
 use Rattle.icn_ops.proofs.subscripts.text_subscript.Goals as goal
 

@@ -3,13 +3,13 @@ use Rattle.icn_value.specs.Values.{Chars, Val}
 use Rattle.icn_value.specs.Members.{members, contains}
 use Rattle.icn_defs.specs.Arguments.{cset}
 use Rattle.icn_defs.specs.Operations.{complement_row}
-use Rattle.icn_defs.specs.Reading.{the_value}
+use Rattle.icn_defs.specs.ReadAndAssign.{the_value}
 use Rattle.icn_defs.specs.Rows.{Gives, gives_value}
 use Rattle.icn_heap.specs.Extents.{value_in}
 use Rattle.icn_heap.specs.Heaps.{extent_of}
 use Rattle.icn_vars.specs.Worlds.{item_in, reach_of, setting_of}
-use Rattle.icn_args.proofs.Answering.{answer_then, row_stops, stop_lives}
-use Rattle.icn_ops.proofs.Steps.{complemented}
+use Rattle.icn_args.proofs.RowAnswers.{answer_then, row_stops, stop_lives}
+use Rattle.icn_ops.proofs.TwoOperandSteps.{complemented}
 use Rattle.icn_ops.proofs.texts.complement_row.Goals as goal
 
 pub returns-in_err-val-clause-row : goal.returns-in_err-val-clause-row

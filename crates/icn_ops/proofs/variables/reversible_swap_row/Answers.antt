@@ -1,14 +1,14 @@
 use Rattle.std.proofs.Common.{◌∙◌, []}
 use Rattle.icn_value.specs.Values.{Value, Variable, Var}
 use Rattle.icn_value.specs.Store.{outside_of}
-use Rattle.icn_defs.specs.Reading.{exchanges, mover_of as defined_mover, the_value, the_variable}
+use Rattle.icn_defs.specs.ReadAndAssign.{exchanges, mover_of as defined_mover, the_value, the_variable}
 use Rattle.icn_defs.specs.Rows.{UndoExchange, fails, suspends}
 use Rattle.icn_defs.specs.Variables.{reversible_swap_row}
 use Rattle.icn_heap.specs.Extents.{value_in}
 use Rattle.icn_heap.specs.Heaps.{extent_of}
 use Rattle.icn_vars.specs.Outcomes.{mover_of}
 use Rattle.icn_vars.specs.Worlds.{item_in, reach_of, setting_of, variable_in}
-use Rattle.icn_args.proofs.Answering.{answer_then, row_stops, stop_lives}
+use Rattle.icn_args.proofs.RowAnswers.{answer_then, row_stops, stop_lives}
 use Rattle.icn_ops.proofs.VariableRows.{same_exchange, still_holds}
 use Rattle.icn_ops.proofs.variables.reversible_swap_row.Goals as goal
 

@@ -1,12 +1,12 @@
 use Rattle.std.proofs.Common.{◌∙◌}
 use Rattle.icn_value.specs.Values.{Value, Variable, Var}
-use Rattle.icn_defs.specs.Reading.{exchanges, the_value, the_variable}
+use Rattle.icn_defs.specs.ReadAndAssign.{exchanges, the_value, the_variable}
 use Rattle.icn_defs.specs.Rows.{fails, gives}
 use Rattle.icn_defs.specs.Variables.{swap_row}
 use Rattle.icn_heap.specs.Extents.{value_in}
 use Rattle.icn_heap.specs.Heaps.{extent_of}
 use Rattle.icn_vars.specs.Worlds.{item_in, reach_of, setting_of, variable_in}
-use Rattle.icn_args.proofs.Answering.{answer_then, row_stops, stop_lives}
+use Rattle.icn_args.proofs.RowAnswers.{answer_then, row_stops, stop_lives}
 use Rattle.icn_ops.proofs.variables.swap_row.Goals as goal
 
 pub returns-in_err-of_left-clause-row : goal.returns-in_err-of_left-clause-row

@@ -1,9 +1,9 @@
-use Rattle.icn_defs.specs.Reading.{undoes}
+use Rattle.icn_defs.specs.ReadAndAssign.{undoes}
 use Rattle.icn_defs.specs.Rows.{fails}
 use Rattle.icn_heap.specs.Extents.{value_in}
 use Rattle.icn_heap.specs.Heaps.{extent_of}
 use Rattle.icn_vars.specs.Worlds.{reach_of, setting_of, variable_in}
-use Rattle.icn_args.proofs.Answering.{row_stops_at, stop_lives}
+use Rattle.icn_args.proofs.RowAnswers.{row_stops_at, stop_lives}
 use Rattle.icn_ops.proofs.UndoMemory.{no_want}
 use Rattle.icn_ops.proofs.variables.undo_assign_again.Goals as goal
 

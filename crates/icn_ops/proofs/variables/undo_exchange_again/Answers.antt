@@ -1,10 +1,10 @@
-use Rattle.icn_defs.specs.Reading.{undoes_exchange}
+use Rattle.icn_defs.specs.ReadAndAssign.{undoes_exchange}
 use Rattle.icn_defs.specs.Rows.{fails}
 use Rattle.icn_heap.specs.Extents.{value_in}
 use Rattle.icn_heap.specs.Heaps.{extent_of}
 use Rattle.icn_vars.specs.Outcomes.{mover_of}
 use Rattle.icn_vars.specs.Worlds.{reach_of, setting_of, variable_in}
-use Rattle.icn_args.proofs.Answering.{row_stops_at, stop_lives}
+use Rattle.icn_args.proofs.RowAnswers.{row_stops_at, stop_lives}
 use Rattle.icn_ops.proofs.variables.undo_exchange_again.Goals as goal
 
 pub returns-in_err-undo_exchange-clause-row : goal.returns-in_err-undo_exchange-clause-row

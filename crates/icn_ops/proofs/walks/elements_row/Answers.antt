@@ -1,13 +1,13 @@
 use Rattle.std.proofs.Common.{ap, ◌∙◌}
 use Rattle.icn_defs.specs.Conversions.{group_of}
 use Rattle.icn_defs.specs.Elements.{elements_of, elements_row}
-use Rattle.icn_defs.specs.Reading.{the_value}
+use Rattle.icn_defs.specs.ReadAndAssign.{the_value}
 use Rattle.icn_heap.specs.Extents.{value_in}
 use Rattle.icn_heap.specs.Heaps.{extent_of}
 use Rattle.icn_vars.specs.Worlds.{item_in, setting_of}
 use Rattle.icn_ops.proofs.OtherKinds.{no_file}
-use Rattle.icn_streams.proofs.Faultless.{faultless_applies}
-use Rattle.icn_streams.proofs.Behind.{applies_same, stops_there}
+use Rattle.icn_streams.proofs.QuietRows.{faultless_applies}
+use Rattle.icn_streams.proofs.RowAnswers.{applies_same, stops_there}
 use Rattle.icn_streams.specs.Answers.{call_state}
 use Rattle.icn_streams.specs.Handed.{call_streams}
 use Rattle.icn_defs.specs.Lines.{lines_row}

@@ -4,8 +4,8 @@ use Rattle.icn_defs.specs.Rows.{costs_text}
 use Rattle.icn_heap.specs.Extents.{text_in, value_in}
 use Rattle.icn_heap.specs.Heaps.{extent_of}
 use Rattle.icn_vars.specs.Worlds.{item_in, reach_of, setting_of, variable_in}
-use Rattle.icn_args.specs.Words.{the_text}
-use Rattle.icn_args.proofs.Answering.{answer_then, row_stops_at, stop_lives}
+use Rattle.icn_args.specs.RowWords.{the_text}
+use Rattle.icn_args.proofs.RowAnswers.{answer_then, row_stops_at, stop_lives}
 use Rattle.icn_ops.proofs.walks.text_elements.Goals as goal
 
 pub returns-in-Some-clause-row : goal.returns-in-Some-clause-row

@@ -1,6 +1,6 @@
 use Rattle.std.proofs.Common.{sym, ap, ◌∙◌}
 use Rattle.icn_parse.specs.PartReading.{item_read}
-use Rattle.icn_parse.proofs.Looping.{items_begun, items_more}
+use Rattle.icn_parse.proofs.ParserLoops.{items_begun, items_more}
 use Rattle.icn_parse.proofs.names.read_items.Goals as goal
 
 pub loop-alloc-init : goal.loop-alloc-init

@@ -1,6 +1,6 @@
 use Rattle.std.proofs.Common.{◌≡◌, length}
 use Rattle.icn_parse.specs.FileReading.{item_of as item_at_token, further, some_read}
-use Rattle.icn_parse.proofs.Looping.{behind_all}
+use Rattle.icn_parse.proofs.ParserLoops.{behind_all}
 use Rattle.icn_parse.proofs.names.read_items.Given as goal
 
 -- what was read, and what stands behind it, is all of it

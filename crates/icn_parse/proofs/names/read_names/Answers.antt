@@ -1,6 +1,6 @@
 use Rattle.std.proofs.Common.{sym, ap, ◌∙◌}
 use Rattle.icn_parse.specs.FileReading.{name_read}
-use Rattle.icn_parse.proofs.Looping.{names_begun, names_more}
+use Rattle.icn_parse.proofs.ParserLoops.{names_begun, names_more}
 use Rattle.icn_parse.proofs.names.read_names.Goals as goal
 
 pub loop-alloc-init : goal.loop-alloc-init

@@ -2,7 +2,7 @@ use Rattle.std.proofs.Common.{map, sym}
 use Rattle.std.proofs.lemmas.Result.{err_from_is_err_and}
 use Rattle.icn_tree.specs.TreeOf.{declaration_of}
 use Rattle.icn_parse.specs.Outcomes.{is_tree}
-use Rattle.icn_parse.proofs.Answering.{unfit_breaks}
+use Rattle.icn_parse.proofs.ReadOutcomes.{unfit_breaks}
 use Rattle.icn_parse.proofs.parser.parse.Goals as goal
 
 pub returns-clause-exact : goal.returns-clause-exact

@@ -3,7 +3,7 @@ use Rattle.std.proofs.lemmas.Result.{err_from_is_err_and}
 use Rattle.icn_tree.specs.declared.rule.Rule.TheVariants.{S2}
 use Rattle.icn_tree.specs.TreeOf.{declaration_of}
 use Rattle.icn_parse.specs.Outcomes.{TooHigh, IsOutcome}
-use Rattle.icn_parse.proofs.Answering.{broken_as, high_tree, low_tree, stop_breaks}
+use Rattle.icn_parse.proofs.ReadOutcomes.{broken_as, high_tree, low_tree, stop_breaks}
 use Rattle.icn_parse.proofs.parser.read_declarations.Goals as goal
 
 pub returns-in_err-all : goal.returns-in_err-all

@@ -1,6 +1,6 @@
 use Rattle.std.proofs.Common.{map, sym, ap, subst, ◌∙◌}
 use Rattle.icn_tree.specs.TreeOf.{locals_of}
-use Rattle.icn_parse.proofs.Looping.{LocalsSo, locals_begun, locals_more, locals_shorter, map_last}
+use Rattle.icn_parse.proofs.ParserLoops.{LocalsSo, locals_begun, locals_more, locals_shorter, map_last}
 use Rattle.icn_parse.proofs.procedure.read_all_locals.Goals as goal
 
 pub loop-kind-init : goal.loop-kind-init

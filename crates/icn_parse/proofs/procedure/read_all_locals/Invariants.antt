@@ -1,6 +1,6 @@
 use Rattle.std.proofs.Common.{length, map}
 use Rattle.icn_tree.specs.TreeOf.{locals_of}
-use Rattle.icn_parse.proofs.Looping.{LocalsSo}
+use Rattle.icn_parse.proofs.ParserLoops.{LocalsSo}
 use Rattle.icn_parse.proofs.procedure.read_all_locals.Given as goal
 
 -- what was read, and what stands behind it, is all of it

@@ -1,5 +1,5 @@
 use Rattle.std.proofs.Common.{sym, ◌∙◌}
-use Rattle.icn_prep.proofs.Trimming.{end_blank}
+use Rattle.icn_prep.proofs.TrimmedEnds.{end_blank}
 use Rattle.icn_prep.proofs.bytes.trimmed_end.Goals as goal
 
 pub loop-last-preserved : goal.loop-last-preserved

@@ -1,7 +1,7 @@
 use Rattle.std.proofs.Common.{arith, ◌∙◌, ap, sym, ◌∷◌, drop, ◌+◌}
 use Rattle.std.proofs.lemmas.Bool.{eqb-true}
 use Rattle.icn_prep.specs.FileLines.{lines_of}
-use Rattle.icn_prep.proofs.Cutting.{cut_at, cut_none}
+use Rattle.icn_prep.proofs.FirstLines.{cut_at, cut_none}
 use Rattle.icn_prep.proofs.cut.first_line.Goals as goal
 
 pub returns-in-Some-clause-cut : goal.returns-in-Some-clause-cut

@@ -1,4 +1,4 @@
-use Rattle.icn_prep.proofs.Cutting.{return_at, byte_at}
+use Rattle.icn_prep.proofs.FirstLines.{return_at, byte_at}
 use Rattle.icn_prep.proofs.cut.without_return.Goals as goal
 
 pub returns-then-last-eq13 : goal.returns-then-last-eq13

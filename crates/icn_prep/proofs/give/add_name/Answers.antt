@@ -1,5 +1,5 @@
 use Rattle.std.proofs.Common.{arith}
-use Rattle.icn_prep.proofs.Sizing.{files_stay}
+use Rattle.icn_prep.proofs.LineLengths.{files_stay}
 use Rattle.icn_prep.proofs.give.add_name.Goals as goal
 
 pub invariant_of-reading-clause-named : goal.invariant_of-reading-clause-named

@@ -1,7 +1,7 @@
 use Rattle.std.proofs.Common.{arith}
 use Rattle.std.proofs.lemmas.Bool.Decides.{nat_tests}
 use Rattle.std.proofs.lemmas.Str.{is_utf8-from_IsUtf8, IsUtf8-from_is_utf8}
-use Rattle.icn_prep.proofs.Trimming.{named_file, unnamed_file}
+use Rattle.icn_prep.proofs.TrimmedEnds.{named_file, unnamed_file}
 use Rattle.icn_prep.proofs.operand.file_name.Goals as goal
 
 pub returns-in-Ok : goal.returns-in-Ok

@@ -1,6 +1,6 @@
 use Rattle.std.proofs.Common.{arith}
 use Rattle.icn_tree.specs.Characters.{is_digit}
-use Rattle.icn_prep.proofs.Trimming.{front_passes}
+use Rattle.icn_prep.proofs.TrimmedEnds.{front_passes}
 use Rattle.icn_prep.proofs.operand.line_operand.Goals as goal
 
 pub number_of-requires-clause-digits : goal.number_of-requires-clause-digits

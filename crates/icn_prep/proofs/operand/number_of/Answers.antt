@@ -1,5 +1,5 @@
 use Rattle.std.proofs.Common.{arith}
-use Rattle.icn_prep.proofs.Numbers.{has_room, digit_within}
+use Rattle.icn_prep.proofs.DigitValues.{has_room, digit_within}
 use Rattle.icn_prep.proofs.operand.number_of.Goals as goal
 
 pub overflow_mul-value : goal.overflow_mul-value

@@ -1,7 +1,7 @@
 use Rattle.std.proofs.Common.{◌∙◌, take, ap, ◌++◌, arith, Err}
 use Rattle.icn_prep.specs.CursorViews.{cursor_of}
 use Rattle.icn_prep.specs.StateViews.{state_of}
-use Rattle.icn_prep.proofs.Stores.{if_some_weaker, answers, included_there, absent_answers}
+use Rattle.icn_prep.proofs.StoreLookups.{if_some_weaker, answers, included_there, absent_answers}
 use Rattle.icn_prep.proofs.source.included_content.Goals as goal
 
 pub returns-in-Ok-2-clause-exact : goal.returns-in-Ok-2-clause-exact

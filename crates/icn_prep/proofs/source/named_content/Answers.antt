@@ -1,5 +1,5 @@
 use Rattle.std.proofs.Common.{◌∙◌, take, ap, ◌++◌}
-use Rattle.icn_prep.proofs.Stores.{if_some_weaker, answers, named_there}
+use Rattle.icn_prep.proofs.StoreLookups.{if_some_weaker, answers, named_there}
 use Rattle.icn_prep.proofs.source.named_content.Goals as goal
 
 pub returns-in-Ok-clause-exact : goal.returns-in-Ok-clause-exact

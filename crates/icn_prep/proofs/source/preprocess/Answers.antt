@@ -5,9 +5,9 @@ use Rattle.std.proofs.lemmas.Result.{err_from_is_err_and}
 use Rattle.icn_prep.specs.CursorViews.{cursor_of}
 use Rattle.icn_prep.specs.SourceLines.{named_file, include_file}
 use Rattle.icn_prep.specs.StateViews.{state_of}
-use Rattle.icn_prep.proofs.Sizing.{joined_within}
-use Rattle.icn_prep.proofs.Stores.{if_some_told, some_of}
-use Rattle.icn_prep.proofs.Stacking.{file_ended, file_refused, file_includes, including_refused, line_refused, file_begun, answered, named_front, named_push}
+use Rattle.icn_prep.proofs.LineLengths.{joined_within}
+use Rattle.icn_prep.proofs.StoreLookups.{if_some_told, some_of}
+use Rattle.icn_prep.proofs.FileStacks.{file_ended, file_refused, file_includes, including_refused, line_refused, file_begun, answered, named_front, named_push}
 use Rattle.icn_prep.proofs.source.preprocess.Goals as goal
 
 pub returns-in_err-stop-clause-exact : goal.returns-in_err-stop-clause-exact
@@ -70,7 +70,8 @@ loop-file-preserved-in-Some-stop g c = record {
       let stops = rw c.in-Some-stop.is at step in
       let includes = file_includes held (named_file held c.args.name.now (held c.args.name.now)) c.loop-file.stack.items c.pop.new.self.items c.in-Some.file
       (state_of c.loop-file.reading) (state_of c.read_lines.new.reading)
-      (cursor_of c.read_lines.new.cursor) _ c.in-Some-stop.at (c.loop-file.invariant.so held told) c.in-Some.ensures.items (rw c.deref.ensures.value at stops) in
+      (cursor_of c.read_lines.new.cursor) _ c.in-Some-stop.at (c.loop-file.invariant.so held told) c.in-Some.ensures.items
+      (rw c.deref.ensures.value at stops) in
       let depth : c.len.result ≡ length c.pop.new.self.items = omega (arith, c.len.ensures, c.pop.new.self.ok.0) in
       let named : c.deref-in-Some-stop.result.now ≡ string_bytes c.in-Some-stop.name = c.deref-in-Some-stop.ensures in
       let now : g.F.Files.held c.loop-file.files ≡ Some held = c.loop-file.invariant.same ∙ told in

@@ -3,7 +3,7 @@ use Rattle.std.specs.Prelude.{slice_get, vec_len, All}
 use Rattle.icn_host.specs.FileMaps.{FileMap}
 use Rattle.icn_prep.specs.SourceLines.{named_file}
 use Rattle.icn_prep.specs.StateViews.{state_of}
-use Rattle.icn_prep.proofs.Stacking.{StackSo}
+use Rattle.icn_prep.proofs.FileStacks.{StackSo}
 use Rattle.icn_prep.proofs.source.preprocess.Given as goal
 
 abbrev pub invariant-loop-file : goal.invariant-loop-file

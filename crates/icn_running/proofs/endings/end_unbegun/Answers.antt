@@ -1,5 +1,5 @@
 use Rattle.icn_heap.specs.Heaps.{extent_of, heap_of}
-use Rattle.icn_code.specs.Seen.{tables_of}
+use Rattle.icn_code.specs.CodeTables.{tables_of}
 use Rattle.icn_run.specs.Step.{all_names}
 use Rattle.icn_running.proofs.EndsAtStart.{halts_unbegun}
 use Rattle.icn_running.proofs.endings.end_unbegun.Goals as goal

@@ -2,13 +2,13 @@ use Rattle.std.proofs.Common.{ℕ, List, [], Err, refl, subst}
 use Rattle.icn_value.specs.Store.{outside_of}
 use Rattle.icn_defs.specs.Running.{Launch}
 use Rattle.icn_code.specs.Codes.{Tables}
-use Rattle.icn_code.specs.Seen.{tables_of}
+use Rattle.icn_code.specs.CodeTables.{tables_of}
 use Rattle.icn_code.specs.declared.code.Code.{Code}
 use Rattle.icn_run.specs.Stacks.{Frames}
 use Rattle.icn_run.specs.Step.{all_names, first_store}
 use Rattle.icn_streams.specs.Handed.{call_streams}
 use Rattle.icn_machine.specs.Starting.{StartsAs, launch_with}
-use Rattle.icn_running.proofs.Counting.{unbegun_counts}
+use Rattle.icn_running.proofs.RisenCounts.{unbegun_counts}
 use Rattle.icn_running.proofs.RunAnswers.{run_breaks, run_ends, run_reports, unbegun_answers}
 use Rattle.icn_running.proofs.Starts.{start_lasts, start_ready}
 use Rattle.icn_running.proofs.EndsAtStart.{start_halts}

@@ -1,7 +1,7 @@
-use Rattle.icn_code.specs.Seen.{tables_of}
+use Rattle.icn_code.specs.CodeTables.{tables_of}
 use Rattle.icn_run.specs.Step.{all_names}
 use Rattle.icn_streams.specs.Handed.{call_streams}
-use Rattle.icn_running.proofs.Counting.{machine_counts}
+use Rattle.icn_running.proofs.RisenCounts.{machine_counts}
 use Rattle.icn_running.proofs.RunAnswers.{started_answers}
 use Rattle.icn_running.proofs.launching.run_started.Goals as goal
 

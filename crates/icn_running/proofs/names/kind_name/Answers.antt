@@ -1,6 +1,6 @@
 use Rattle.std.proofs.Common.{arith}
-use Rattle.icn_code.specs.Seen.{tables_of}
-use Rattle.icn_running.proofs.Naming.{kind_there, kind_missing}
+use Rattle.icn_code.specs.CodeTables.{tables_of}
+use Rattle.icn_running.proofs.NamedOrNot.{kind_there, kind_missing}
 use Rattle.icn_running.proofs.names.kind_name.Goals as goal
 
 pub returns-then-place-len : goal.returns-then-place-len

@@ -1,10 +1,10 @@
 use Rattle.std.proofs.Common.{◌≡◌, OnOk, subst, codes}
-use Rattle.icn_code.specs.Seen.{tables_of}
+use Rattle.icn_code.specs.CodeTables.{tables_of}
 use Rattle.icn_defs.specs.Images.{image}
 use Rattle.icn_heap.specs.Extents.{value_in}
 use Rattle.icn_heap.specs.Heaps.{extent_of, heap_of}
 use Rattle.icn_run.specs.Step.{all_names}
-use Rattle.icn_running.proofs.Images.{between}
+use Rattle.icn_running.proofs.PlainImages.{between}
 use Rattle.icn_running.proofs.report.push_shown.Goals as goal
 
 pub returns : goal.returns

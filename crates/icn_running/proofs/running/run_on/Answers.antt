@@ -1,10 +1,10 @@
 use Rattle.std.proofs.Common.{◌≡◌, ◌<◌, ◌-◌, refl, sym, ◌∙◌, subst, true}
-use Rattle.icn_code.specs.Seen.{tables_of}
-use Rattle.icn_machine.specs.declared.stepping.Stepped.{Stepped}
+use Rattle.icn_code.specs.CodeTables.{tables_of}
+use Rattle.icn_machine.specs.declared.stepping.AfterStep.{AfterStep}
 use Rattle.icn_machine.specs.Stepping.{IsReady, stays}
-use Rattle.icn_machine.specs.Steps.{stage_of}
-use Rattle.icn_machine.proofs.LoopSteps.{an_error, left_if, no_answer}
-use Rattle.icn_running.specs.Ons.{is_on}
+use Rattle.icn_machine.specs.AfterInstruction.{stage_of}
+use Rattle.icn_machine.proofs.LoopSteps.{if_err_known, failing_left, if_ok_of_error}
+use Rattle.icn_running.specs.DueInstructions.{is_on}
 use Rattle.icn_running.proofs.LoopSteps.{on_is, on_true, run_err, run_ok, run_over, stopped_err, turns_fall}
 use Rattle.icn_running.proofs.running.run_on.Goals as goal
 
@@ -20,7 +20,7 @@ pub run_to_turn-requires : goal.run_to_turn-requires
 run_to_turn-requires g c =
     let on = on_is c.loop-stepped.stepped (sym c.is_on.ensures ∙ c.loop-stepped-test.true) in
     record {
-      ready = subst (λ (s : Stepped). IsReady (tables_of c.args.code.now.code) c.loop-stepped.m (stage_of s)) on c.loop-stepped.invariant.ready;
+      ready = subst (λ (s : AfterStep). IsReady (tables_of c.args.code.now.code) c.loop-stepped.m (stage_of s)) on c.loop-stepped.invariant.ready;
       lasts = c.loop-stepped.invariant.lasts (on_true c.loop-stepped.stepped on);
     }
 
@@ -34,10 +34,11 @@ returns-in_err-stepped-clause-steps g c =
     c.in_err-stepped.ensures.steps c.from_residual.ensures.1) c.from_residual.ensures.1
 
 pub returns-in_err-stepped-clause-stops : goal.returns-in_err-stepped-clause-stops
-returns-in_err-stepped-clause-stops g c = no_answer c.from_residual.result _ _ c.from_residual.ensures.1
+returns-in_err-stepped-clause-stops g c = if_ok_of_error c.from_residual.result _ _ c.from_residual.ensures.1
 
 pub returns-in_err-stepped-clause-halt : goal.returns-in_err-stepped-clause-halt
-returns-in_err-stepped-clause-halt g c = an_error c.from_residual.result c.in_err-stepped.field-0.0 _ c.from_residual.ensures.1 c.in_err-stepped.ensures.halt
+returns-in_err-stepped-clause-halt g c =
+    if_err_known c.from_residual.result c.in_err-stepped.field-0.0 _ c.from_residual.ensures.1 c.in_err-stepped.ensures.halt
 
 pub returns-in_err-stepped-clause-limits : goal.returns-in_err-stepped-clause-limits
 returns-in_err-stepped-clause-limits g c = c.in_err-stepped.ensures.limits ∙ c.loop-stepped.invariant.limits
@@ -45,8 +46,8 @@ returns-in_err-stepped-clause-limits g c = c.in_err-stepped.ensures.limits ∙ c
 pub loop-stepped-smaller : goal.loop-stepped-smaller
 loop-stepped-smaller g c =
     let test : is_on c.loop-stepped.stepped ≡ true = sym c.is_on.ensures ∙ c.loop-stepped-test.true in
-    subst (λ b. left_if (is_on c.in_ok-stepped.stepped) (c.run_to_turn.new.m.limits.turns - c.run_to_turn.new.m.turns)
-    < left_if b (c.loop-stepped.m.limits.turns - c.loop-stepped.m.turns)) (sym test)
+    subst (λ b. failing_left (is_on c.in_ok-stepped.stepped) (c.run_to_turn.new.m.limits.turns - c.run_to_turn.new.m.turns)
+    < failing_left b (c.loop-stepped.m.limits.turns - c.loop-stepped.m.turns)) (sym test)
     (turns_fall c.loop-stepped.m c.run_to_turn.new.m c.in_ok-stepped.stepped c.in_ok-stepped.ensures.limits c.in_ok-stepped.ensures.turn)
 
 pub loop-stepped-preserved : goal.loop-stepped-preserved

@@ -1,11 +1,11 @@
 use Rattle.std.proofs.Common.{◌≡◌, ◌<◌, inl, refl, sym, ◌∙◌, subst, true}
-use Rattle.icn_code.specs.Seen.{tables_of}
-use Rattle.icn_machine.specs.declared.stepping.Stepped.{Stepped}
+use Rattle.icn_code.specs.CodeTables.{tables_of}
+use Rattle.icn_machine.specs.declared.stepping.AfterStep.{AfterStep}
 use Rattle.icn_machine.specs.Stepping.{IsReady, advances, stays}
-use Rattle.icn_machine.specs.Steps.{stage_of}
-use Rattle.icn_machine.proofs.LoopSteps.{an_error, left_if, no_answer}
-use Rattle.icn_running.specs.Lasting.{left_now}
-use Rattle.icn_running.specs.Ons.{is_within}
+use Rattle.icn_machine.specs.AfterInstruction.{stage_of}
+use Rattle.icn_machine.proofs.LoopSteps.{if_err_known, failing_left, if_ok_of_error}
+use Rattle.icn_running.specs.WorkLeft.{left_now}
+use Rattle.icn_running.specs.DueInstructions.{is_within}
 use Rattle.icn_running.proofs.LoopSteps.{ended_by_turn, lasts_next, left_falls, on_true, run_err, run_ok, turn_next, within_is}
 use Rattle.icn_running.proofs.running.run_to_turn.Goals as goal
 
@@ -22,7 +22,7 @@ loop-stepped-init g c = record {
 pub step-requires : goal.step-requires
 step-requires g c =
     let on = within_is c.loop-stepped.stepped c.loop-stepped.m.turns c.args.m.now.turns (sym c.is_within.ensures ∙ c.loop-stepped-test.true) in
-    record { ready = subst (λ (s : Stepped). IsReady (tables_of c.args.code.now.code) c.loop-stepped.m (stage_of s)) on.0 c.loop-stepped.invariant.ready }
+    record { ready = subst (λ (s : AfterStep). IsReady (tables_of c.args.code.now.code) c.loop-stepped.m (stage_of s)) on.0 c.loop-stepped.invariant.ready }
 
 pub returns-in_err-stepped-clause-steps : goal.returns-in_err-stepped-clause-steps
 returns-in_err-stepped-clause-steps g c =
@@ -32,16 +32,17 @@ returns-in_err-stepped-clause-steps g c =
     (advances c.in_err-stepped.ensures.steps) c.from_residual.ensures.1
 
 pub returns-in_err-stepped-clause-ready : goal.returns-in_err-stepped-clause-ready
-returns-in_err-stepped-clause-ready g c = no_answer c.from_residual.result _ _ c.from_residual.ensures.1
+returns-in_err-stepped-clause-ready g c = if_ok_of_error c.from_residual.result _ _ c.from_residual.ensures.1
 
 pub returns-in_err-stepped-clause-lasts : goal.returns-in_err-stepped-clause-lasts
-returns-in_err-stepped-clause-lasts g c = no_answer c.from_residual.result _ _ c.from_residual.ensures.1
+returns-in_err-stepped-clause-lasts g c = if_ok_of_error c.from_residual.result _ _ c.from_residual.ensures.1
 
 pub returns-in_err-stepped-clause-turn : goal.returns-in_err-stepped-clause-turn
-returns-in_err-stepped-clause-turn g c = no_answer c.from_residual.result _ _ c.from_residual.ensures.1
+returns-in_err-stepped-clause-turn g c = if_ok_of_error c.from_residual.result _ _ c.from_residual.ensures.1
 
 pub returns-in_err-stepped-clause-halt : goal.returns-in_err-stepped-clause-halt
-returns-in_err-stepped-clause-halt g c = an_error c.from_residual.result c.in_err-stepped.field-0.0 _ c.from_residual.ensures.1 c.in_err-stepped.ensures.within.halt
+returns-in_err-stepped-clause-halt g c =
+    if_err_known c.from_residual.result c.in_err-stepped.field-0.0 _ c.from_residual.ensures.1 c.in_err-stepped.ensures.within.halt
 
 pub returns-in_err-stepped-clause-limits : goal.returns-in_err-stepped-clause-limits
 returns-in_err-stepped-clause-limits g c = c.in_err-stepped.ensures.within.limits ∙ c.loop-stepped.invariant.limits
@@ -51,8 +52,8 @@ loop-stepped-smaller g c =
     let tables = tables_of c.args.code.now.code in
     let test : is_within c.loop-stepped.stepped c.loop-stepped.m.turns c.args.m.now.turns ≡ true = sym c.is_within.ensures ∙ c.loop-stepped-test.true in
     let on = within_is c.loop-stepped.stepped c.loop-stepped.m.turns c.args.m.now.turns test in
-    subst (λ b. left_if (is_within c.in_ok-stepped.stepped c.step.new.m.turns c.args.m.now.turns) (left_now tables c.step.new.m)
-    < left_if b (left_now tables c.loop-stepped.m))
+    subst (λ b. failing_left (is_within c.in_ok-stepped.stepped c.step.new.m.turns c.args.m.now.turns) (left_now tables c.step.new.m)
+    < failing_left b (left_now tables c.loop-stepped.m))
     (sym test)
     (left_falls tables c.loop-stepped.m _ c.step.new.m _ (c.loop-stepped.invariant.lasts (on_true c.loop-stepped.stepped on.0))
     c.in_ok-stepped.stepped c.args.m.now.turns on.1 c.in_ok-stepped.ensures.steps)

@@ -1,18 +1,18 @@
 use Rattle.std.proofs.Common.{◌≡◌, ◌⊎◌, Ok}
 use Rattle.std.specs.Prelude.{IsTrue}
-use Rattle.icn_code.specs.Seen.{tables_of}
+use Rattle.icn_code.specs.CodeTables.{tables_of}
 use Rattle.icn_streams.specs.Handed.{call_streams}
-use Rattle.icn_control.specs.declared.machine.Stage.TheVariants as Stages
+use Rattle.icn_control.specs.declared.machine.RunState.TheVariants as RunStates
 use Rattle.icn_machine.specs.Stepping.{GoesOn, IsReady}
-use Rattle.icn_machine.specs.Steps.{stage_of}
-use Rattle.icn_machine.proofs.LoopSteps.{left_if}
-use Rattle.icn_running.specs.Lasting.{Lasts, MadeTurn, left_now}
-use Rattle.icn_running.specs.Ons.{is_on, is_within}
+use Rattle.icn_machine.specs.AfterInstruction.{stage_of}
+use Rattle.icn_machine.proofs.LoopSteps.{failing_left}
+use Rattle.icn_running.specs.WorkLeft.{Lasts, MadeTurn, left_now}
+use Rattle.icn_running.specs.DueInstructions.{is_on, is_within}
 use Rattle.icn_running.proofs.running.run_to_turn.Given as goal
 
 abbrev pub invariant-loop-stepped : goal.invariant-loop-stepped
 invariant-loop-stepped g l = record {
-  steps : GoesOn (tables_of l.code.code) l.initial.m Stages.Runs
+  steps : GoesOn (tables_of l.code.code) l.initial.m RunStates.Running
       (call_streams (g.I.Source.left l.initial.input) (g.I.Source.faults l.initial.input) (g.O.Sink.state l.initial.out) (g.E.Sink.state l.initial.err))
       l.m (call_streams (g.I.Source.left l.input) (g.I.Source.faults l.input) (g.O.Sink.state l.out) (g.E.Sink.state l.err)) (Ok (stage_of l.stepped));
   ready : IsReady (tables_of l.code.code) l.m (stage_of l.stepped);
@@ -23,4 +23,4 @@ invariant-loop-stepped g l = record {
 }
 
 abbrev pub decreases-loop-stepped : goal.decreases-loop-stepped
-decreases-loop-stepped g l = left_if (is_within l.stepped l.m.turns l.turns) (left_now (tables_of l.code.code) l.m)
+decreases-loop-stepped g l = failing_left (is_within l.stepped l.m.turns l.turns) (left_now (tables_of l.code.code) l.m)

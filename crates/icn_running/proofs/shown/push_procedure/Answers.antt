@@ -1,7 +1,7 @@
 use Rattle.std.proofs.Common.{◌∙◌, sym}
-use Rattle.icn_code.specs.Seen.{tables_of}
+use Rattle.icn_code.specs.CodeTables.{tables_of}
 use Rattle.icn_run.specs.Step.{all_names}
-use Rattle.icn_running.proofs.Naming.{unnamed_shown}
+use Rattle.icn_running.proofs.NamedOrNot.{unnamed_shown}
 use Rattle.icn_running.proofs.shown.push_procedure.Goals as goal
 
 pub returns-else-has_name : goal.returns-else-has_name

@@ -1,5 +1,5 @@
 use Rattle.std.proofs.Common.{sym, subst}
-use Rattle.icn_convert.specs.Naming.{AreRecordsNamed}
+use Rattle.icn_convert.specs.ProgramNames.{AreRecordsNamed}
 use Rattle.icn_running.proofs.shown.push_text.Goals as goal
 
 pub image-requires-clause-records : goal.image-requires-clause-records

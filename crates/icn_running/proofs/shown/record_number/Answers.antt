@@ -1,5 +1,5 @@
 use Rattle.std.proofs.Common.{◌∙◌, arith, ◌<◌}
-use Rattle.icn_code.specs.Seen.{tables_of}
+use Rattle.icn_code.specs.CodeTables.{tables_of}
 use Rattle.icn_heap.specs.Heaps.{extent_of}
 use Rattle.icn_run.specs.Step.{all_names}
 use Rattle.icn_running.proofs.RecordNumbers.{one_more, no_more, tested, counted_more, counted_same}

@@ -1,6 +1,6 @@
 use Rattle.std.proofs.Common.{◌≡◌, ◌≤◌, ◌+◌, take}
 use Rattle.std.specs.List.{count_by}
-use Rattle.icn_code.specs.Seen.{tables_of}
+use Rattle.icn_code.specs.CodeTables.{tables_of}
 use Rattle.icn_heap.specs.Heaps.{heap_of}
 use Rattle.icn_run.specs.Step.{all_names}
 use Rattle.icn_running.proofs.RecordNumbers.{is_namesake}

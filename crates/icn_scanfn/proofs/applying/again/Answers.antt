@@ -5,7 +5,7 @@ use Rattle.icn_defs.specs.Applying.{again}
 use Rattle.icn_heap.specs.Heaps.{extent_of}
 use Rattle.icn_vars.specs.Outcomes.{outcome_in, residual_in}
 use Rattle.icn_vars.specs.Worlds.{setting_of}
-use Rattle.icn_args.specs.Words.{Answers}
+use Rattle.icn_args.specs.RowWords.{Answers}
 use Rattle.icn_scanfn.proofs.applying.again.Goals as goal
 
 pub undo_position_again-requires-clause-place : goal.undo_position_again-requires-clause-place

@@ -3,7 +3,7 @@ use Rattle.icn_value.specs.Members.{members_of}
 use Rattle.icn_heap.specs.Extents.{text_in}
 use Rattle.icn_heap.specs.Heaps.{extent_of}
 use Rattle.icn_vars.specs.Worlds.{setting_of}
-use Rattle.icn_scanfn.proofs.Ends.{balanced_on, no_more_balanced}
+use Rattle.icn_scanfn.proofs.KnownPlaces.{balanced_on, no_more_balanced}
 use Rattle.icn_scanfn.proofs.balancing.balanced_again.Goals as goal
 
 pub returns-then-place-last-clause-row : goal.returns-then-place-last-clause-row

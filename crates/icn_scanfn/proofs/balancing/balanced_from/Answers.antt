@@ -4,7 +4,7 @@ use Rattle.icn_defs.specs.Rows.{Balanced}
 use Rattle.icn_heap.specs.Extents.{text_in}
 use Rattle.icn_heap.specs.Heaps.{extent_of}
 use Rattle.icn_vars.specs.Worlds.{setting_of}
-use Rattle.icn_scanfn.proofs.Ends.{balanced_found, place_held}
+use Rattle.icn_scanfn.proofs.KnownPlaces.{balanced_found, place_held}
 use Rattle.icn_scanfn.proofs.balancing.balanced_from.Goals as goal
 
 pub returns-in-Some-clause-row : goal.returns-in-Some-clause-row

@@ -3,7 +3,7 @@ use Rattle.icn_value.specs.Members.{members_of}
 use Rattle.icn_heap.specs.Extents.{text_in}
 use Rattle.icn_heap.specs.Heaps.{extent_of}
 use Rattle.icn_vars.specs.Worlds.{setting_of}
-use Rattle.icn_scanfn.proofs.Ends.{no_more_members}
+use Rattle.icn_scanfn.proofs.KnownPlaces.{no_more_members}
 use Rattle.icn_scanfn.proofs.finding.among_again.Goals as goal
 
 pub returns-else-place-last-clause-row : goal.returns-else-place-last-clause-row

@@ -2,7 +2,7 @@ use Rattle.std.proofs.Common.{arith}
 use Rattle.icn_heap.specs.Extents.{text_in}
 use Rattle.icn_heap.specs.Heaps.{extent_of}
 use Rattle.icn_vars.specs.Worlds.{setting_of}
-use Rattle.icn_scanfn.proofs.Ends.{no_more_text}
+use Rattle.icn_scanfn.proofs.KnownPlaces.{no_more_text}
 use Rattle.icn_scanfn.proofs.finding.found_again.Goals as goal
 
 pub returns-else-place-last-clause-row : goal.returns-else-place-last-clause-row

@@ -3,7 +3,7 @@ use Rattle.icn_defs.specs.Rows.{Found}
 use Rattle.icn_heap.specs.Extents.{text_in}
 use Rattle.icn_heap.specs.Heaps.{extent_of}
 use Rattle.icn_vars.specs.Worlds.{setting_of}
-use Rattle.icn_scanfn.proofs.Ends.{text_found, place_held}
+use Rattle.icn_scanfn.proofs.KnownPlaces.{text_found, place_held}
 use Rattle.icn_scanfn.proofs.finding.found_from.Goals as goal
 
 pub returns-in-Some-clause-row : goal.returns-in-Some-clause-row

@@ -2,7 +2,7 @@ use Rattle.std.proofs.Common.{◌∙◌, map}
 use Rattle.icn_heap.specs.Extents.{value_in}
 use Rattle.icn_heap.specs.Heaps.{extent_of}
 use Rattle.icn_vars.specs.Worlds.{setting_of}
-use Rattle.icn_args.proofs.Answering.{row_stops}
+use Rattle.icn_args.proofs.RowAnswers.{row_stops}
 use Rattle.icn_scanfn.specs.Searches.{cset_search, upto_in}
 use Rattle.icn_scanfn.proofs.finding.upto_row.Goals as goal
 

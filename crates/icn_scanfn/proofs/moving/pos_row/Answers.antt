@@ -4,9 +4,9 @@ use Rattle.icn_heap.specs.Extents.{value_in}
 use Rattle.icn_heap.specs.Heaps.{extent_of}
 use Rattle.icn_vars.specs.Stops.{StopsFinding}
 use Rattle.icn_vars.specs.Worlds.{setting_of}
-use Rattle.icn_args.proofs.Answering.{row_stops}
+use Rattle.icn_args.proofs.RowAnswers.{row_stops}
 use Rattle.std.specs.Int.{w64}
-use Rattle.icn_scanfn.proofs.Moves.{held}
+use Rattle.icn_scanfn.proofs.Moves.{held_integer}
 use Rattle.icn_scanfn.specs.Moves.{tests_position}
 use Rattle.icn_scanfn.proofs.moving.pos_row.Goals as goal
 
@@ -23,4 +23,5 @@ returns-clause-row g c = λ outside.
     let s = setting_of outside c.args.w.now (g.L.Locals.items c.args.l.now) in
     let all = extent_of c.args.w.now.heap in
     sym (ap (λ v. integer v tests_position s) (c.arg.ensures.value all)) ∙ (c.in_ok-n.ensures.found s tests_position
-    ∙ (sym (held (λ n. tests_position n s) c.in_ok-n.n (let fits : FitsSigned w64 c.in_ok-n.n = search rules in fits)) ∙ c.position_tested.ensures.row outside))
+    ∙ (sym (held_integer (λ n. tests_position n s) c.in_ok-n.n (let fits : FitsSigned w64 c.in_ok-n.n = search rules in fits))
+    ∙ c.position_tested.ensures.row outside))

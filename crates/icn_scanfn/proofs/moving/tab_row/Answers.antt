@@ -4,9 +4,9 @@ use Rattle.icn_heap.specs.Extents.{value_in}
 use Rattle.icn_heap.specs.Heaps.{extent_of}
 use Rattle.icn_vars.specs.Stops.{StopsFinding}
 use Rattle.icn_vars.specs.Worlds.{setting_of}
-use Rattle.icn_args.proofs.Answering.{row_stops}
+use Rattle.icn_args.proofs.RowAnswers.{row_stops}
 use Rattle.std.specs.Int.{w64}
-use Rattle.icn_scanfn.proofs.Moves.{held}
+use Rattle.icn_scanfn.proofs.Moves.{held_integer}
 use Rattle.icn_scanfn.specs.Moves.{tabs_by}
 use Rattle.icn_scanfn.proofs.moving.tab_row.Goals as goal
 
@@ -22,4 +22,4 @@ returns-clause-row g c = λ outside.
     let s = setting_of outside c.args.w.now (g.L.Locals.items c.args.l.now) in
     let all = extent_of c.args.w.now.heap in
     sym (ap (λ v. integer v tabs_by s) (c.arg.ensures.value all)) ∙ (c.in_ok-n.ensures.found s tabs_by
-    ∙ (sym (held (λ n. tabs_by n s) c.in_ok-n.n (let fits : FitsSigned w64 c.in_ok-n.n = search rules in fits)) ∙ c.tab_by.ensures.row outside))
+    ∙ (sym (held_integer (λ n. tabs_by n s) c.in_ok-n.n (let fits : FitsSigned w64 c.in_ok-n.n = search rules in fits)) ∙ c.tab_by.ensures.row outside))

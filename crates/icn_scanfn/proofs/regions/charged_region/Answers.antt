@@ -5,7 +5,7 @@ use Rattle.icn_defs.specs.Scanning.{region_from}
 use Rattle.icn_heap.specs.Extents.{text_in, value_in}
 use Rattle.icn_heap.specs.Heaps.{extent_of}
 use Rattle.icn_vars.specs.Worlds.{setting_of}
-use Rattle.icn_args.proofs.Answering.{first_stops}
+use Rattle.icn_args.proofs.RowAnswers.{first_stops}
 use Rattle.icn_scanfn.specs.Regions.{given_in, searched_in}
 use Rattle.icn_scanfn.proofs.GivenRegions.{charge_stopped, charged_found, region_held}
 use Rattle.icn_scanfn.proofs.regions.charged_region.Goals as goal

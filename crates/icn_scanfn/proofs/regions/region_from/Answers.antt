@@ -5,10 +5,10 @@ use Rattle.icn_defs.specs.Conversions.{is_null}
 use Rattle.icn_defs.specs.Scanning.{region_from}
 use Rattle.icn_heap.specs.Extents.{IsLive, text_in, value_in}
 use Rattle.icn_value.specs.declared.val.Val.TheVariants.{Integer as IntegerVal, Text as TextVal}
-use Rattle.icn_args.proofs.Answering.{stop_lives_on}
+use Rattle.icn_args.proofs.RowAnswers.{stop_lives_on}
 use Rattle.icn_heap.specs.Heaps.{extent_of}
 use Rattle.icn_vars.specs.Worlds.{setting_of}
-use Rattle.icn_args.specs.Words.{the_text}
+use Rattle.icn_args.specs.RowWords.{the_text}
 use Rattle.icn_scanfn.specs.Regions.{given_in}
 use Rattle.icn_scanfn.proofs.GivenRegions.{first_given, found_as, last_given, made_given, no_first, no_last, no_text, region_by, region_found, region_held, text_given, three}
 use Rattle.icn_scanfn.proofs.regions.region_from.Goals as goal

@@ -2,8 +2,8 @@ use Rattle.std.proofs.Common.{◌∙◌, map, rules, FitsSigned, w64}
 use Rattle.icn_heap.specs.Extents.{text_in, value_in}
 use Rattle.icn_heap.specs.Heaps.{extent_of}
 use Rattle.icn_vars.specs.Worlds.{setting_of}
-use Rattle.icn_args.specs.Words.{the_text}
-use Rattle.icn_args.proofs.Answering.{stop_lives_on}
+use Rattle.icn_args.specs.RowWords.{the_text}
+use Rattle.icn_args.proofs.RowAnswers.{stop_lives_on}
 use Rattle.icn_scanfn.specs.Regions.{given_in, searched_in}
 use Rattle.icn_scanfn.proofs.GivenRegions.{region_held}
 use Rattle.icn_scanfn.proofs.SearchSteps.{no_given, no_texts, no_wanted, text_and_region}

@@ -1,6 +1,6 @@
 use Rattle.std.proofs.Common.{◌∙◌, sym, arith}
 use Rattle.icn_value.specs.Members.{members_of}
-use Rattle.icn_scanfn.proofs.Places.{is_member, counts_up, counts_none, counts_down, counts_same}
+use Rattle.icn_scanfn.proofs.PlaceByPlace.{is_member, counts_up, counts_none, counts_down, counts_same}
 use Rattle.icn_scanfn.proofs.searching.count_behind.Goals as goal
 
 pub returns-then-has-clause-value : goal.returns-then-has-clause-value

@@ -1,5 +1,5 @@
 use Rattle.std.proofs.Common.{arith}
-use Rattle.icn_scanfn.proofs.Places.{balanced_at_zero}
+use Rattle.icn_scanfn.proofs.PlaceByPlace.{balanced_at_zero}
 use Rattle.icn_scanfn.proofs.searching.is_balanced_member.Goals as goal
 
 pub returns-then-count-eq0 : goal.returns-then-count-eq0

@@ -1,6 +1,6 @@
 use Rattle.std.proofs.Common.{◌∙◌, sym, arith}
 use Rattle.icn_value.specs.Members.{members_of}
-use Rattle.icn_scanfn.proofs.Places.{balanced_here, balanced_later, balanced_over}
+use Rattle.icn_scanfn.proofs.PlaceByPlace.{balanced_here, balanced_later, balanced_over}
 use Rattle.icn_scanfn.proofs.searching.next_balanced.Goals as goal
 
 pub returns-then-is_balanced_member-clause-value : goal.returns-then-is_balanced_member-clause-value

@@ -1,7 +1,7 @@
 use Rattle.std.proofs.Common.{◌∙◌, ◌-◌, sym, arith, get_or}
 use Rattle.icn_value.specs.Members.{contains, members_of}
 use Rattle.icn_defs.specs.Scanning.{byte_behind}
-use Rattle.icn_scanfn.proofs.Places.{is_member, found_here, found_later}
+use Rattle.icn_scanfn.proofs.PlaceByPlace.{is_member, found_here, found_later}
 use Rattle.icn_scanfn.proofs.searching.next_member.Goals as goal
 
 pub returns-then-has-clause-value : goal.returns-then-has-clause-value

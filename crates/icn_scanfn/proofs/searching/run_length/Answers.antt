@@ -1,6 +1,6 @@
 use Rattle.std.proofs.Common.{◌∙◌, ◌-◌, sym, arith, get_or}
 use Rattle.icn_value.specs.Members.{contains, members_of}
-use Rattle.icn_scanfn.proofs.Places.{is_member, runs_on, runs_no_more}
+use Rattle.icn_scanfn.proofs.PlaceByPlace.{is_member, runs_on, runs_no_more}
 use Rattle.icn_scanfn.proofs.searching.run_length.Goals as goal
 
 pub loop-at-preserved : goal.loop-at-preserved

@@ -2,7 +2,7 @@ use Rattle.std.proofs.Common.{◌∙◌}
 use Rattle.icn_value.specs.Members.{members_of}
 use Rattle.icn_heap.specs.Heaps.{extent_of}
 use Rattle.icn_scanfn.specs.Regions.{searched_in}
-use Rattle.icn_scanfn.proofs.Ends.{any_fails, any_passes}
+use Rattle.icn_scanfn.proofs.KnownPlaces.{any_fails, any_passes}
 use Rattle.icn_scanfn.proofs.testing.any_in.Goals as goal
 
 pub returns-then-has_behind-clause-row : goal.returns-then-has_behind-clause-row

@@ -1,5 +1,5 @@
 use Rattle.std.proofs.Common.{◌-◌, arith, get_or}
-use Rattle.icn_scanfn.proofs.Places.{member_below}
+use Rattle.icn_scanfn.proofs.PlaceByPlace.{member_below}
 use Rattle.icn_scanfn.proofs.testing.has_behind.Goals as goal
 
 pub returns-then-from-to-clause-value : goal.returns-then-from-to-clause-value

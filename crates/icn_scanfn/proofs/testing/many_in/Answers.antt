@@ -2,7 +2,7 @@ use Rattle.std.proofs.Common.{◌∙◌, arith}
 use Rattle.icn_value.specs.Members.{members_of}
 use Rattle.icn_heap.specs.Heaps.{extent_of}
 use Rattle.icn_scanfn.specs.Regions.{searched_in}
-use Rattle.icn_scanfn.proofs.Ends.{many_fails, many_passes}
+use Rattle.icn_scanfn.proofs.KnownPlaces.{many_fails, many_passes}
 use Rattle.icn_scanfn.proofs.testing.many_in.Goals as goal
 
 pub returns-then-count-gt0-clause-row : goal.returns-then-count-gt0-clause-row

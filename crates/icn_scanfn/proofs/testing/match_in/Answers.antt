@@ -2,7 +2,7 @@ use Rattle.std.proofs.Common.{◌∙◌}
 use Rattle.icn_heap.specs.Extents.{text_in}
 use Rattle.icn_heap.specs.Heaps.{extent_of}
 use Rattle.icn_scanfn.specs.Regions.{searched_in}
-use Rattle.icn_scanfn.proofs.Ends.{match_fails, match_passes}
+use Rattle.icn_scanfn.proofs.KnownPlaces.{match_fails, match_passes}
 use Rattle.icn_scanfn.proofs.testing.match_in.Goals as goal
 
 pub returns-then-stands-clause-row : goal.returns-then-stands-clause-row

@@ -2,7 +2,7 @@ use Rattle.std.proofs.Common.{◌∙◌, map}
 use Rattle.icn_heap.specs.Extents.{value_in}
 use Rattle.icn_heap.specs.Heaps.{extent_of}
 use Rattle.icn_vars.specs.Worlds.{reach_of, setting_of}
-use Rattle.icn_args.proofs.Answering.{row_stops}
+use Rattle.icn_args.proofs.RowAnswers.{row_stops}
 use Rattle.icn_scanfn.specs.Searches.{text_search, match_in}
 use Rattle.icn_scanfn.proofs.testing.match_row.Goals as goal
 

@@ -1,6 +1,6 @@
 -- A line that was read is that of some input.
 use Rattle.std.proofs.Common.{◌≡◌, false, rules}
-use Rattle.icn_host.specs.declared.fault.Line.TheVariants.{End}
+use Rattle.icn_host.specs.declared.fault.LineEnd.TheVariants.{End}
 use Rattle.icn_streams.proofs.SomeInput.{line_read}
 use Rattle.icn_streams.proofs.filling.fill_line.Goals as goal
 

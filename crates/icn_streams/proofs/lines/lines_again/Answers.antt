@@ -2,7 +2,7 @@
 use Rattle.std.proofs.Common.{refl}
 use Rattle.icn_heap.specs.Extents.{IsText}
 use Rattle.icn_heap.specs.Heaps.{extent_of}
-use Rattle.icn_streams.proofs.NextRead.{at_some}
+use Rattle.icn_streams.proofs.NextRead.{if_some_elim}
 use Rattle.icn_value.specs.Store.{ALine}
 use Rattle.icn_value.specs.Values.{Text, Val}
 use Rattle.icn_defs.specs.Rows.{InputLines, suspends}
@@ -25,7 +25,7 @@ returns-in_err-line g c = λ output errors.
 
 pub returns-in-Some : goal.returns-in-Some
 returns-in-Some g c = λ output errors.
-    let text : IsText (extent_of c.read_text.new.w.heap) c.in-Some.line = at_some c.in_ok-line.field-0 c.in-Some.line
+    let text : IsText (extent_of c.read_text.new.w.heap) c.in-Some.line = if_some_elim c.in_ok-line.field-0 c.in-Some.line
     (IsText (extent_of c.read_text.new.w.heap)) c.in-Some.is c.in_ok-line.ensures.live in
     read_gives ALine (λ line. suspends (Val (Text line)) InputLines) (record { outside = λ text s. refl }) c.args.w.now c.read_text.new.w
     (g.L.Locals.items c.args.l.now)

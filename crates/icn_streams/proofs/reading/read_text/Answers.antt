@@ -4,7 +4,7 @@ use Rattle.icn_defs.specs.Interruptions.{after_reading}
 use Rattle.icn_streams.specs.Answers.{call_state}
 use Rattle.icn_streams.specs.Handed.{call_streams}
 use Rattle.icn_streams.specs.Readings.{Fills, asked_in}
-use Rattle.icn_streams.proofs.NextRead.{at_some, reads_err, reads_none, reads_some}
+use Rattle.icn_streams.proofs.NextRead.{if_some_elim, reads_err, reads_none, reads_some}
 use Rattle.icn_streams.proofs.SomeInput.{some_err, some_fault, some_none, some_text, some_want}
 use Rattle.icn_streams.proofs.reading.read_text.Goals as goal
 
@@ -16,7 +16,7 @@ returns-in_err-text_of-in-Ok-true-clause-reads g c = λ was output errors told.
     (call_state c.text_of.new.w (g.L.Locals.items c.args.l.now)
     (call_streams (g.I.Source.left c.fill.new.input) (g.I.Source.faults c.fill.new.input) output errors))
     c.in-Ok-true.field-0 c.fill.new.buffer.items c.deref.result.now c.in_err-text_of-in-Ok-true.field-0.0 c.from_residual.result
-    (at_some (g.I.Source.left c.args.input.now) was.left
+    (if_some_elim (g.I.Source.left c.args.input.now) was.left
     (λ left. Fills (asked_in c.args.ask) left c.in-Ok-true.field-0 c.fill.new.buffer.items (g.I.Source.left c.fill.new.input)) told c.in-Ok-true.ensures.ok)
     c.in-Ok-true.field-0-test c.deref.ensures.value
     (c.in_err-text_of-in-Ok-true.ensures.step (after_reading (asked_in c.args.ask) was)) c.from_residual.ensures.1
@@ -29,7 +29,7 @@ returns-in_ok-text_of-in-Ok-true-clause-reads g c = λ was output errors told.
     (call_state c.text_of.new.w (g.L.Locals.items c.args.l.now)
     (call_streams (g.I.Source.left c.fill.new.input) (g.I.Source.faults c.fill.new.input) output errors))
     c.in-Ok-true.field-0 c.fill.new.buffer.items c.deref.result.now c.in_ok-text_of-in-Ok-true.field-0
-    (at_some (g.I.Source.left c.args.input.now) was.left
+    (if_some_elim (g.I.Source.left c.args.input.now) was.left
     (λ left. Fills (asked_in c.args.ask) left c.in-Ok-true.field-0 c.fill.new.buffer.items (g.I.Source.left c.fill.new.input)) told c.in-Ok-true.ensures.ok)
     c.in-Ok-true.field-0-test c.deref.ensures.value c.in_ok-text_of-in-Ok-true.ensures.text
     (c.in_ok-text_of-in-Ok-true.ensures.step (after_reading (asked_in c.args.ask) was))
@@ -42,7 +42,7 @@ returns-in-Ok-false-clause-reads g c = λ was output errors told.
     (call_state c.args.w.now (g.L.Locals.items c.args.l.now)
     (call_streams (g.I.Source.left c.fill.new.input) (g.I.Source.faults c.fill.new.input) output errors))
     c.in-Ok-false.field-0 c.fill.new.buffer.items
-    (at_some (g.I.Source.left c.args.input.now) was.left
+    (if_some_elim (g.I.Source.left c.args.input.now) was.left
     (λ left. Fills (asked_in c.args.ask) left c.in-Ok-false.field-0 c.fill.new.buffer.items (g.I.Source.left c.fill.new.input)) told c.in-Ok-false.ensures.ok)
     c.in-Ok-false.field-0-test refl
 

@@ -1,7 +1,7 @@
 use Rattle.std.proofs.Common.{◌∙◌, sym, map}
 use Rattle.icn_heap.specs.Extents.{value_in}
 use Rattle.icn_heap.specs.Heaps.{extent_of}
-use Rattle.icn_strfn.proofs.Steps as steps
+use Rattle.icn_strfn.proofs.CheckedRows as steps
 use Rattle.icn_strfn.proofs.laid_rows.checked_mapping.Goals as goal
 
 pub returns-then-lacks_text-clause-stops : goal.returns-then-lacks_text-clause-stops

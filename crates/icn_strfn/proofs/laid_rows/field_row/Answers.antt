@@ -6,14 +6,14 @@ use Rattle.icn_defs.specs.Rows.{builds, costs_texts}
 use Rattle.icn_defs.specs.Strings.{field_row}
 use Rattle.icn_heap.specs.Extents.{value_in}
 use Rattle.icn_heap.specs.Heaps.{extent_of}
-use Rattle.icn_vars.proofs.KeptItems.{items_then}
+use Rattle.icn_vars.proofs.KeptItems.{keeps_items_trans}
 use Rattle.icn_vars.specs.Worlds.{setting_of}
-use Rattle.icn_args.specs.Words.{HasText, the_text}
+use Rattle.icn_args.specs.RowWords.{HasText, the_text}
 use Rattle.icn_strfn.specs.Layouts.{laid_out}
 use Rattle.icn_strfn.specs.TextArguments.{or_default}
 use Rattle.icn_strfn.specs.declared.text_arguments.DefaultText.TheVariants.{Blank}
-use Rattle.icn_strfn.proofs.Coming.{goes_on, stops_at, stops_so}
-use Rattle.icn_strfn.proofs.Steps as steps
+use Rattle.icn_strfn.proofs.RowAnswers.{row_goes_on, row_stops_at, stops_so}
+use Rattle.icn_strfn.proofs.CheckedRows as steps
 use Rattle.icn_strfn.proofs.laid_rows.field_row.Goals as goal
 
 pub returns-in_err-width-clause-row : goal.returns-in_err-width-clause-row
@@ -31,7 +31,7 @@ two_texts-requires-clause-second_has g c =
 
 pub returns-in_err-span-clause-row : goal.returns-in_err-span-clause-row
 returns-in_err-span-clause-row g c = λ outside.
-    stops_at (extent_of c.two_texts.new.w.heap) (field_row (laid_out c.args.layout) (map (value_in (extent_of c.args.w.now.heap)) c.args.args.now))
+    row_stops_at (extent_of c.two_texts.new.w.heap) (field_row (laid_out c.args.layout) (map (value_in (extent_of c.args.w.now.heap)) c.args.args.now))
     (costs_texts ((value_in (extent_of c.args.w.now.heap) c.arg-val.result) ∷ (value_in (extent_of c.args.w.now.heap) c.arg-other.result) ∷ []))
     (builds (laid_out c.args.layout (the_text (value_in (extent_of c.args.w.now.heap) c.arg-val.result)) c.in_ok-width.width
     (the_text (or_default Blank (value_in (extent_of c.args.w.now.heap) c.arg-other.result)))))
@@ -45,9 +45,10 @@ returns-in_err-span-clause-row g c = λ outside.
 
 pub returns-clause-row : goal.returns-clause-row
 returns-clause-row g c = λ outside.
-    goes_on (extent_of c.built.new.w.heap) (field_row (laid_out c.args.layout) (map (value_in (extent_of c.args.w.now.heap)) c.args.args.now))
+    row_goes_on (extent_of c.build_text.new.w.heap) (field_row (laid_out c.args.layout) (map (value_in (extent_of c.args.w.now.heap)) c.args.args.now))
     (builds c.deref.result.now) (setting_of outside c.args.w.now (g.L.Locals.items c.args.l.now))
-    (setting_of outside c.two_texts.new.w (g.L.Locals.items c.args.l.now)) (setting_of outside c.built.new.w (g.L.Locals.items c.args.l.now)) c.built.result
+    (setting_of outside c.two_texts.new.w (g.L.Locals.items c.args.l.now))
+    (setting_of outside c.build_text.new.w (g.L.Locals.items c.args.l.now)) c.build_text.result
     (steps.field_left (map (value_in (extent_of c.args.w.now.heap)) c.args.args.now) (value_in (extent_of c.args.w.now.heap) c.arg-val.result)
     (value_in (extent_of c.args.w.now.heap) c.arg-other.result) (laid_out c.args.layout) c.in_ok-width.width
     (setting_of outside c.args.w.now (g.L.Locals.items c.args.l.now))
@@ -59,10 +60,10 @@ returns-clause-row g c = λ outside.
     (sym c.in_ok-span.ensures.first_text ∙ sym c.bytes.ensures)
     ∙ (ap (laid_out c.args.layout c.bytes.result.now c.in_ok-width.width) (sym c.in_ok-span.ensures.second_text ∙ sym c.bytes-2.ensures)
     ∙ (sym c.in_ok-made.ensures ∙ sym c.deref.ensures.value)))))
-    (c.built.ensures.row outside)
+    (c.build_text.ensures.row outside)
 
 pub returns-clause-kept : goal.returns-clause-kept
-returns-clause-kept g c = items_then _ _ _ c.two_texts.ensures.kept c.built.ensures.kept
+returns-clause-kept g c = keeps_items_trans _ _ _ c.two_texts.ensures.kept c.build_text.ensures.kept
 
 pub returns-then-lacks_room-clause-row : goal.returns-then-lacks_room-clause-row
 returns-then-lacks_room-clause-row g c = λ outside.

@@ -5,15 +5,15 @@ use Rattle.icn_defs.specs.Rows.{builds, costs_text, costs_texts}
 use Rattle.icn_defs.specs.Strings.{map_row, map_byte}
 use Rattle.icn_heap.specs.Extents.{value_in}
 use Rattle.icn_heap.specs.Heaps.{extent_of}
-use Rattle.icn_vars.proofs.KeptItems.{items_then}
+use Rattle.icn_vars.proofs.KeptItems.{keeps_items_trans}
 use Rattle.icn_vars.specs.Worlds.{setting_of}
-use Rattle.icn_args.specs.Words.{HasText, the_text}
+use Rattle.icn_args.specs.RowWords.{HasText, the_text}
 use Rattle.icn_strfn.specs.TextArguments.{or_default}
 use Rattle.icn_strfn.specs.declared.text_arguments.DefaultText.TheVariants.{Upper, Lower}
-use Rattle.icn_strfn.proofs.Coming.{goes_on, stops_at, stops_so}
+use Rattle.icn_strfn.proofs.RowAnswers.{row_goes_on, row_stops_at, stops_so}
 use Rattle.icn_strfn.proofs.KeptArguments.{argument_stays, same_argument}
 use Rattle.icn_strfn.proofs.TooLong.{too_long}
-use Rattle.icn_strfn.proofs.Steps as steps
+use Rattle.icn_strfn.proofs.CheckedRows as steps
 use Rattle.icn_strfn.proofs.laid_rows.map_row.Goals as goal
 
 pub returns-in_err-checked_mapping-clause-row : goal.returns-in_err-checked_mapping-clause-row
@@ -32,7 +32,7 @@ two_texts-requires-clause-second_has g c = subst (λ (v : Value). HasText (or_de
 
 pub returns-in_err-span-clause-row : goal.returns-in_err-span-clause-row
 returns-in_err-span-clause-row g c = λ outside.
-    stops_at (extent_of c.two_texts.new.w.heap) (map_row (map (value_in (extent_of c.args.w.now.heap)) c.args.args.now))
+    row_stops_at (extent_of c.two_texts.new.w.heap) (map_row (map (value_in (extent_of c.args.w.now.heap)) c.args.args.now))
     (costs_texts ((value_in (extent_of c.args.w.now.heap) c.arg-val.result) ∷ (value_in (extent_of c.args.w.now.heap) c.arg-from.result) ∷ []))
     (costs_text (value_in (extent_of c.args.w.now.heap) c.arg-to.result)
     (builds (map (map_byte (the_text (or_default Upper (value_in (extent_of c.args.w.now.heap) c.arg-from.result))) (the_text (or_default Lower
@@ -56,7 +56,7 @@ text_argument-requires-clause-has g c = subst (λ (v : Value). HasText (or_defau
 
 pub returns-in_err-second-clause-row : goal.returns-in_err-second-clause-row
 returns-in_err-second-clause-row g c = λ outside.
-    stops_at (extent_of c.text_argument.new.w.heap)
+    row_stops_at (extent_of c.text_argument.new.w.heap)
     (map_row (map (value_in (extent_of c.args.w.now.heap)) c.args.args.now)) (costs_text (value_in (extent_of c.two_texts.new.w.heap) c.arg-to.result))
     (builds (map (map_byte (the_text (or_default Upper (value_in (extent_of c.args.w.now.heap) c.arg-from.result))) (the_text (or_default Lower
     (value_in (extent_of c.args.w.now.heap) c.arg-to.result)))) (the_text (value_in (extent_of c.args.w.now.heap) c.arg-val.result))))
@@ -115,9 +115,9 @@ returns-then-lacks_room-clause-row g c = λ outside.
 
 pub returns-clause-row : goal.returns-clause-row
 returns-clause-row g c = λ outside.
-    goes_on (extent_of c.built.new.w.heap) (map_row (map (value_in (extent_of c.args.w.now.heap)) c.args.args.now)) (builds c.deref.result.now)
+    row_goes_on (extent_of c.build_text.new.w.heap) (map_row (map (value_in (extent_of c.args.w.now.heap)) c.args.args.now)) (builds c.deref.result.now)
     (setting_of outside c.args.w.now (g.L.Locals.items c.args.l.now)) (setting_of outside c.text_argument.new.w (g.L.Locals.items c.args.l.now))
-    (setting_of outside c.built.new.w (g.L.Locals.items c.args.l.now)) c.built.result
+    (setting_of outside c.build_text.new.w (g.L.Locals.items c.args.l.now)) c.build_text.result
     ((((steps.map_left (map (value_in (extent_of c.args.w.now.heap)) c.args.args.now) (value_in (extent_of c.args.w.now.heap) c.arg-val.result)
     (value_in (extent_of c.args.w.now.heap) c.arg-from.result) (value_in (extent_of c.args.w.now.heap) c.arg-to.result)
     (setting_of outside c.args.w.now (g.L.Locals.items c.args.l.now)) (c.arg-val.ensures.value (extent_of c.args.w.now.heap))
@@ -143,7 +143,7 @@ returns-clause-row g c = λ outside.
     (sym (c.bytes-4.ensures ∙ (c.in_ok-second.ensures.text ∙ ap (λ (v : Value). the_text (or_default Lower v))
     (c.two_texts.ensures.kept.extent.value c.arg-to.result (c.arg-to.ensures.live (extent_of c.args.w.now.heap) c.requires.args)))))
     ∙ (sym c.in_ok-made.ensures ∙ sym c.deref.ensures.value))))))
-    (c.built.ensures.row outside)
+    (c.build_text.ensures.row outside)
 
 pub returns-clause-kept : goal.returns-clause-kept
-returns-clause-kept g c = items_then _ _ _ c.two_texts.ensures.kept (items_then _ _ _ c.text_argument.ensures.kept c.built.ensures.kept)
+returns-clause-kept g c = keeps_items_trans _ _ _ c.two_texts.ensures.kept (keeps_items_trans _ _ _ c.text_argument.ensures.kept c.build_text.ensures.kept)

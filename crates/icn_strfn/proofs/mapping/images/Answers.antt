@@ -1,6 +1,6 @@
 use Rattle.std.proofs.Common.{length}
 use Rattle.std.proofs.lemmas.Slice.Zip.{zip_end}
-use Rattle.icn_strfn.proofs.Images.{pairs_done}
+use Rattle.icn_strfn.proofs.MappedBytes.{pairs_done}
 use Rattle.icn_strfn.proofs.mapping.images.Goals as goal
 
 pub returns : goal.returns

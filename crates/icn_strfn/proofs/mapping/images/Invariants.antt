@@ -1,7 +1,7 @@
 use Rattle.std.proofs.Common.{◌≡◌, ℕ, ◌<◌, length, get_or, drop, fold}
 use Rattle.std.specs.List.{zip}
 use Rattle.icn_defs.specs.Strings.{map_byte}
-use Rattle.icn_strfn.proofs.Images.{becomes}
+use Rattle.icn_strfn.proofs.MappedBytes.{becomes}
 use Rattle.icn_strfn.proofs.mapping.images.Given as goal
 
 -- with the pairs that are left, each byte becomes what it is to become

@@ -2,11 +2,11 @@ use Rattle.icn_defs.specs.Rows.{costs_text}
 use Rattle.icn_heap.specs.Extents.{value_in}
 use Rattle.icn_heap.specs.Heaps.{extent_of}
 use Rattle.icn_vars.specs.Worlds.{setting_of}
-use Rattle.icn_args.proofs.Answering.{passed_err}
+use Rattle.icn_args.proofs.RowAnswers.{passed_stops}
 use Rattle.icn_strfn.proofs.text_arguments.text_argument.Goals as goal
 
 pub returns-in_err-span-in_default-clause-step : goal.returns-in_err-span-in_default-clause-step
 returns-in_err-span-in_default-clause-step g c = λ outside.
-    passed_err (extent_of c.text_of.new.w.heap) (costs_text (value_in (extent_of c.args.w.now.heap) c.args.val))
+    passed_stops (extent_of c.text_of.new.w.heap) (costs_text (value_in (extent_of c.args.w.now.heap) c.args.val))
     (setting_of outside c.args.w.now (g.L.Locals.items c.args.l.now)) (setting_of outside c.text_of.new.w (g.L.Locals.items c.args.l.now))
     c.in_err-span-in_default.field-0.0 c.from_residual.result c.from_residual.ensures.1 (c.in_err-span-in_default.ensures.step outside)

@@ -5,8 +5,8 @@ use Rattle.icn_heap.specs.Extents.{value_in}
 use Rattle.icn_heap.specs.Heaps.{extent_of}
 use Rattle.icn_vars.specs.Stops.{StopsPassing}
 use Rattle.icn_vars.specs.Worlds.{setting_of}
-use Rattle.icn_args.specs.Words.{HasText, the_text}
-use Rattle.icn_args.proofs.Answering.{first_part_stops, then_part_stops}
+use Rattle.icn_args.specs.RowWords.{HasText, the_text}
+use Rattle.icn_args.proofs.RowAnswers.{first_part_stops, then_part_stops}
 use Rattle.icn_strfn.specs.TextArguments.{or_default}
 use Rattle.icn_strfn.proofs.text_arguments.two_texts.Goals as goal
 

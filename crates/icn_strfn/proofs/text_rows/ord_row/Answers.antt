@@ -5,14 +5,14 @@ use Rattle.icn_defs.specs.Strings.{gives_integer, ord_row}
 use Rattle.icn_heap.specs.Extents.{value_in}
 use Rattle.icn_heap.specs.Heaps.{extent_of}
 use Rattle.icn_vars.specs.Worlds.{setting_of}
-use Rattle.icn_args.specs.Words.{the_text}
-use Rattle.icn_strfn.proofs.Coming.{stops_at}
-use Rattle.icn_strfn.proofs.Steps as steps
+use Rattle.icn_args.specs.RowWords.{the_text}
+use Rattle.icn_strfn.proofs.RowAnswers.{row_stops_at}
+use Rattle.icn_strfn.proofs.CheckedRows as steps
 use Rattle.icn_strfn.proofs.text_rows.ord_row.Goals as goal
 
 pub returns-in_err-span-clause-row : goal.returns-in_err-span-clause-row
 returns-in_err-span-clause-row g c = λ outside.
-    stops_at (extent_of c.text_of.new.w.heap) (ord_row (map (value_in (extent_of c.args.w.now.heap)) c.args.args.now))
+    row_stops_at (extent_of c.text_of.new.w.heap) (ord_row (map (value_in (extent_of c.args.w.now.heap)) c.args.args.now))
     (costs_text (value_in (extent_of c.args.w.now.heap) c.arg-val.result))
     (gives_integer (pos (slice_index (the_text (value_in (extent_of c.args.w.now.heap) c.arg-val.result)) 0)))
     (setting_of outside c.args.w.now (g.L.Locals.items c.args.l.now)) (setting_of outside c.args.w.now (g.L.Locals.items c.args.l.now))

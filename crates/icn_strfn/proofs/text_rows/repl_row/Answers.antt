@@ -8,11 +8,11 @@ use Rattle.icn_defs.specs.Rows.{builds, costs_text}
 use Rattle.icn_defs.specs.Strings.{repl_row}
 use Rattle.icn_heap.specs.Extents.{value_in}
 use Rattle.icn_heap.specs.Heaps.{extent_of}
-use Rattle.icn_vars.proofs.KeptItems.{items_then}
+use Rattle.icn_vars.proofs.KeptItems.{keeps_items_trans}
 use Rattle.icn_vars.specs.Worlds.{setting_of}
-use Rattle.icn_args.specs.Words.{the_text}
-use Rattle.icn_strfn.proofs.Coming.{goes_on, stops_at}
-use Rattle.icn_strfn.proofs.Steps as steps
+use Rattle.icn_args.specs.RowWords.{the_text}
+use Rattle.icn_strfn.proofs.RowAnswers.{row_goes_on, row_stops_at}
+use Rattle.icn_strfn.proofs.CheckedRows as steps
 use Rattle.icn_strfn.proofs.text_rows.repl_row.Goals as goal
 
 pub returns-in_default-clause-row : goal.returns-in_default-clause-row
@@ -22,61 +22,68 @@ returns-in_default-clause-row g c =
     (c.arg-val.ensures.value (extent_of c.args.w.now.heap)) (c.arg-times.ensures.value (extent_of c.args.w.now.heap))
     (c.if-lacks_text.ensures (extent_of c.args.w.now.heap)) (sym c.to_integer.ensures ∙ c.in_default.is)
 
-pub returns-in_default-natural-clause-row : goal.returns-in_default-natural-clause-row
-returns-in_default-natural-clause-row g c = λ outside. steps.repl_below (map (value_in (extent_of c.args.w.now.heap)) c.args.args.now)
+pub returns-in_default-natural_number-clause-row : goal.returns-in_default-natural_number-clause-row
+returns-in_default-natural_number-clause-row g c = λ outside. steps.repl_below (map (value_in (extent_of c.args.w.now.heap)) c.args.args.now)
     (value_in (extent_of c.args.w.now.heap) c.arg-val.result) (value_in (extent_of c.args.w.now.heap) c.arg-times.result) c.in-Some.n
     (setting_of outside c.args.w.now (g.L.Locals.items c.args.l.now)) (c.arg-val.ensures.value (extent_of c.args.w.now.heap))
     (c.arg-times.ensures.value (extent_of c.args.w.now.heap)) (c.if-lacks_text.ensures (extent_of c.args.w.now.heap)) (sym c.to_integer.ensures ∙ c.in-Some.is)
-    (let fits : FitsSigned w64 c.in-Some.n = search rules in rw (to_z-of_z w64 c.in-Some.n fits) at (sym c.natural.ensures ∙ c.in_default-natural.is))
+    (let fits : FitsSigned w64 c.in-Some.n = search rules in
+    rw (to_z-of_z w64 c.in-Some.n fits) at (sym c.natural_number.ensures ∙ c.in_default-natural_number.is))
 
 pub returns-in_err-span-clause-row : goal.returns-in_err-span-clause-row
 returns-in_err-span-clause-row g c = λ outside.
-    stops_at (extent_of c.text_of.new.w.heap) (repl_row (map (value_in (extent_of c.args.w.now.heap)) c.args.args.now))
+    row_stops_at (extent_of c.text_of.new.w.heap) (repl_row (map (value_in (extent_of c.args.w.now.heap)) c.args.args.now))
     (costs_text (value_in (extent_of c.args.w.now.heap) c.arg-val.result))
-    (builds (concat (replicate c.in-Some-natural.count (the_text (value_in (extent_of c.args.w.now.heap) c.arg-val.result)))))
+    (builds (concat (replicate c.in-Some-natural_number.count (the_text (value_in (extent_of c.args.w.now.heap) c.arg-val.result)))))
     (setting_of outside c.args.w.now (g.L.Locals.items c.args.l.now)) (setting_of outside c.args.w.now (g.L.Locals.items c.args.l.now))
     (setting_of outside c.text_of.new.w (g.L.Locals.items c.args.l.now)) c.in_err-span.field-0.0 c.from_residual.result
     (steps.repl_left (map (value_in (extent_of c.args.w.now.heap)) c.args.args.now)
-    (value_in (extent_of c.args.w.now.heap) c.arg-val.result) (value_in (extent_of c.args.w.now.heap) c.arg-times.result) c.in-Some.n c.in-Some-natural.count
+    (value_in (extent_of c.args.w.now.heap) c.arg-val.result)
+    (value_in (extent_of c.args.w.now.heap) c.arg-times.result) c.in-Some.n c.in-Some-natural_number.count
     (setting_of outside c.args.w.now (g.L.Locals.items c.args.l.now)) (c.arg-val.ensures.value (extent_of c.args.w.now.heap))
     (c.arg-times.ensures.value (extent_of c.args.w.now.heap)) (c.if-lacks_text.ensures (extent_of c.args.w.now.heap))
-    (sym c.to_integer.ensures ∙ c.in-Some.is) (steps.natural_some c.in-Some.n c.in-Some-natural.count (let fits : FitsSigned w64 c.in-Some.n = search rules in
-    rw (to_z-of_z w64 c.in-Some.n fits) at (sym c.natural.ensures ∙ c.in-Some-natural.is)))) c.from_residual.ensures.1 (c.in_err-span.ensures.step outside)
+    (sym c.to_integer.ensures ∙ c.in-Some.is)
+    (steps.natural_some c.in-Some.n c.in-Some-natural_number.count (let fits : FitsSigned w64 c.in-Some.n = search rules in
+    rw (to_z-of_z w64 c.in-Some.n fits) at (sym c.natural_number.ensures ∙ c.in-Some-natural_number.is)))) c.from_residual.ensures.1
+    (c.in_err-span.ensures.step outside)
 
 pub returns-clause-row : goal.returns-clause-row
 returns-clause-row g c = λ outside.
-    goes_on (extent_of c.built.new.w.heap) (repl_row (map (value_in (extent_of c.args.w.now.heap)) c.args.args.now)) (builds c.deref.result.now)
+    row_goes_on (extent_of c.build_text.new.w.heap) (repl_row (map (value_in (extent_of c.args.w.now.heap)) c.args.args.now)) (builds c.deref.result.now)
     (setting_of outside c.args.w.now (g.L.Locals.items c.args.l.now)) (setting_of outside c.text_of.new.w (g.L.Locals.items c.args.l.now))
-    (setting_of outside c.built.new.w (g.L.Locals.items c.args.l.now)) c.built.result
+    (setting_of outside c.build_text.new.w (g.L.Locals.items c.args.l.now)) c.build_text.result
     (steps.repl_left (map (value_in (extent_of c.args.w.now.heap)) c.args.args.now)
-    (value_in (extent_of c.args.w.now.heap) c.arg-val.result) (value_in (extent_of c.args.w.now.heap) c.arg-times.result) c.in-Some.n c.in-Some-natural.count
+    (value_in (extent_of c.args.w.now.heap) c.arg-val.result)
+    (value_in (extent_of c.args.w.now.heap) c.arg-times.result) c.in-Some.n c.in-Some-natural_number.count
     (setting_of outside c.args.w.now (g.L.Locals.items c.args.l.now)) (c.arg-val.ensures.value (extent_of c.args.w.now.heap))
     (c.arg-times.ensures.value (extent_of c.args.w.now.heap)) (c.if-lacks_text.ensures (extent_of c.args.w.now.heap))
-    (sym c.to_integer.ensures ∙ c.in-Some.is) (steps.natural_some c.in-Some.n c.in-Some-natural.count (let fits : FitsSigned w64 c.in-Some.n = search rules in
-    rw (to_z-of_z w64 c.in-Some.n fits) at (sym c.natural.ensures ∙ c.in-Some-natural.is))) ∙ (c.in_ok-span.ensures.step outside
-    (builds (concat (replicate c.in-Some-natural.count (the_text (value_in (extent_of c.args.w.now.heap) c.arg-val.result)))))
+    (sym c.to_integer.ensures ∙ c.in-Some.is)
+    (steps.natural_some c.in-Some.n c.in-Some-natural_number.count (let fits : FitsSigned w64 c.in-Some.n = search rules in
+    rw (to_z-of_z w64 c.in-Some.n fits) at (sym c.natural_number.ensures ∙ c.in-Some-natural_number.is))) ∙ (c.in_ok-span.ensures.step outside
+    (builds (concat (replicate c.in-Some-natural_number.count (the_text (value_in (extent_of c.args.w.now.heap) c.arg-val.result)))))
     ∙ ap (λ bytes. builds bytes (setting_of outside c.text_of.new.w (g.L.Locals.items c.args.l.now)))
-    (ap (λ bytes. concat (replicate c.in-Some-natural.count bytes)) (sym c.in_ok-span.ensures.text ∙ sym c.bytes-2.ensures)
+    (ap (λ bytes. concat (replicate c.in-Some-natural_number.count bytes)) (sym c.in_ok-span.ensures.text ∙ sym c.bytes-2.ensures)
     ∙ (sym c.in_ok-made.ensures ∙ sym c.deref.ensures.value))))
-    (c.built.ensures.row outside)
+    (c.build_text.ensures.row outside)
 
 pub returns-clause-kept : goal.returns-clause-kept
-returns-clause-kept g c = items_then _ _ _ c.text_of.ensures.kept c.built.ensures.kept
+returns-clause-kept g c = keeps_items_trans _ _ _ c.text_of.ensures.kept c.build_text.ensures.kept
 
 pub returns-then-lacks_room-clause-row : goal.returns-then-lacks_room-clause-row
 returns-then-lacks_room-clause-row g c = λ outside.
-    let made : List ℕ = concat (replicate c.in-Some-natural.count (the_text (value_in (extent_of c.args.w.now.heap) c.arg-val.result))) in
+    let made : List ℕ = concat (replicate c.in-Some-natural_number.count (the_text (value_in (extent_of c.args.w.now.heap) c.arg-val.result))) in
     let same : length c.bytes.result.now
     ≡ length (the_text (value_in (extent_of c.args.w.now.heap) c.arg-val.result)) = ap length (c.bytes.ensures ∙ c.in_ok-span.ensures.text) in
     steps.repl_left (map (value_in (extent_of c.args.w.now.heap)) c.args.args.now) (value_in (extent_of c.args.w.now.heap) c.arg-val.result)
-    (value_in (extent_of c.args.w.now.heap) c.arg-times.result) c.in-Some.n c.in-Some-natural.count
+    (value_in (extent_of c.args.w.now.heap) c.arg-times.result) c.in-Some.n c.in-Some-natural_number.count
     (setting_of outside c.args.w.now (g.L.Locals.items c.args.l.now)) (c.arg-val.ensures.value (extent_of c.args.w.now.heap))
     (c.arg-times.ensures.value (extent_of c.args.w.now.heap)) (c.if-lacks_text.ensures (extent_of c.args.w.now.heap))
-    (sym c.to_integer.ensures ∙ c.in-Some.is) (steps.natural_some c.in-Some.n c.in-Some-natural.count (let fits : FitsSigned w64 c.in-Some.n = search rules in
-    rw (to_z-of_z w64 c.in-Some.n fits) at (sym c.natural.ensures ∙ c.in-Some-natural.is))) ∙ (c.in_ok-span.ensures.step outside (builds made)
+    (sym c.to_integer.ensures ∙ c.in-Some.is)
+    (steps.natural_some c.in-Some.n c.in-Some-natural_number.count (let fits : FitsSigned w64 c.in-Some.n = search rules in
+    rw (to_z-of_z w64 c.in-Some.n fits) at (sym c.natural_number.ensures ∙ c.in-Some-natural_number.is))) ∙ (c.in_ok-span.ensures.step outside (builds made)
     ∙ too_long made (setting_of outside c.text_of.new.w (g.L.Locals.items c.args.l.now)) (omega (
       arith,
       c.if-lacks_room.ensures,
-      repeated_long c.in-Some-natural.count (the_text (value_in (extent_of c.args.w.now.heap) c.arg-val.result))
+      repeated_long c.in-Some-natural_number.count (the_text (value_in (extent_of c.args.w.now.heap) c.arg-val.result))
           (length c.bytes.result.now) _ same c.saturating_mul.ensures,
     )))

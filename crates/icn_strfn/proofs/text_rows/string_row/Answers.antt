@@ -5,9 +5,9 @@ use Rattle.icn_defs.specs.Strings.{string_row}
 use Rattle.icn_heap.specs.Extents.{text_in, value_in}
 use Rattle.icn_heap.specs.Heaps.{extent_of}
 use Rattle.icn_vars.specs.Worlds.{setting_of}
-use Rattle.icn_args.specs.Words.{the_text}
-use Rattle.icn_strfn.proofs.Coming.{gives_text, stops_at}
-use Rattle.icn_strfn.proofs.Steps as steps
+use Rattle.icn_args.specs.RowWords.{the_text}
+use Rattle.icn_strfn.proofs.RowAnswers.{gives_text, row_stops_at}
+use Rattle.icn_strfn.proofs.CheckedRows as steps
 use Rattle.icn_strfn.proofs.text_rows.string_row.Goals as goal
 
 pub returns-then-lacks_text-clause-row : goal.returns-then-lacks_text-clause-row
@@ -17,7 +17,7 @@ returns-then-lacks_text-clause-row g c = λ outside. steps.string_fails (map (va
 
 pub returns-in_err-span-clause-row : goal.returns-in_err-span-clause-row
 returns-in_err-span-clause-row g c = λ outside.
-    stops_at (extent_of c.text_of.new.w.heap) (string_row (map (value_in (extent_of c.args.w.now.heap)) c.args.args.now))
+    row_stops_at (extent_of c.text_of.new.w.heap) (string_row (map (value_in (extent_of c.args.w.now.heap)) c.args.args.now))
     (costs_text (value_in (extent_of c.args.w.now.heap) c.arg-val.result))
     (gives_value (Text (the_text (value_in (extent_of c.args.w.now.heap) c.arg-val.result))))
     (setting_of outside c.args.w.now (g.L.Locals.items c.args.l.now)) (setting_of outside c.args.w.now (g.L.Locals.items c.args.l.now))

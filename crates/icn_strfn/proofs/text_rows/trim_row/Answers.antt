@@ -10,9 +10,9 @@ use Rattle.icn_defs.specs.Strings.{trim_row}
 use Rattle.icn_heap.specs.Extents.{text_in, value_in}
 use Rattle.icn_heap.specs.Heaps.{extent_of}
 use Rattle.icn_vars.specs.Worlds.{setting_of}
-use Rattle.icn_args.specs.Words.{the_text}
-use Rattle.icn_strfn.proofs.Coming.{gives_text, stops_at}
-use Rattle.icn_strfn.proofs.Steps as steps
+use Rattle.icn_args.specs.RowWords.{the_text}
+use Rattle.icn_strfn.proofs.RowAnswers.{gives_text, row_stops_at}
+use Rattle.icn_strfn.proofs.CheckedRows as steps
 use Rattle.icn_strfn.proofs.text_rows.trim_row.Goals as goal
 
 pub to_cset-requires : goal.to_cset-requires
@@ -33,7 +33,7 @@ text_of-requires-clause-live g c = c.arg-val.ensures.live _ c.requires.args
 
 pub returns-in_err-span-clause-row : goal.returns-in_err-span-clause-row
 returns-in_err-span-clause-row g c = λ outside.
-    stops_at (extent_of c.text_of.new.w.heap) (trim_row (map (value_in (extent_of c.args.w.now.heap)) c.args.args.now))
+    row_stops_at (extent_of c.text_of.new.w.heap) (trim_row (map (value_in (extent_of c.args.w.now.heap)) c.args.args.now))
     (costs_text (value_in (extent_of c.args.w.now.heap) c.arg-val.result))
     (gives_value (Text (take (length (the_text (value_in (extent_of c.args.w.now.heap) c.arg-val.result)) - suffix_len (contains (members_of c.in-Some.bytes))
     (the_text (value_in (extent_of c.args.w.now.heap) c.arg-val.result))) (the_text (value_in (extent_of c.args.w.now.heap) c.arg-val.result)))))

@@ -4,8 +4,8 @@ use Rattle.icn_heap.specs.Heaps.{extent_of, heap_of}
 use Rattle.icn_vars.specs.Worlds.{setting_of}
 use Rattle.std.proofs.lemmas.List.{length-map}
 use Rattle.icn_structs.specs.Numbered.{with_left}
-use Rattle.icn_vars.proofs.Changing.{same_records}
-use Rattle.icn_structfn.proofs.Additions.{added, not_added, unfinished}
+use Rattle.icn_vars.proofs.HeapChanges.{same_records}
+use Rattle.icn_structfn.proofs.AddedElements.{elements_added, not_added, unfinished}
 use Rattle.icn_structfn.proofs.adding.add_left.Goals as goal
 
 pub returns-in_err-room_for_cells-clause-step : goal.returns-in_err-room_for_cells-clause-step
@@ -21,7 +21,7 @@ returns-in_err-push_each-clause-step g c outside =
 
 pub returns-clause-step : goal.returns-clause-step
 returns-clause-step g c =
-    added with_left c.args.list c.args.w.now.heap c.push_each.new.heap c.args.w.now.pair c.args.w.now.random c.args.w.now.globals.items
+    elements_added with_left c.args.list c.args.w.now.heap c.push_each.new.heap c.args.w.now.pair c.args.w.now.random c.args.w.now.globals.items
     c.args.w.now.statics.items (g.L.Locals.items c.args.l.now) c.push_each.ensures.kept
     c.args.w.now.sound c.requires.locals (map (value_in (extent_of c.args.w.now.heap)) c.args.vals.now)
     (rw (length-map c.args.vals.now (value_in (extent_of c.args.w.now.heap))) c.in_ok-room_for_cells.ensures.answer) c.in_ok-push_each.ensures.step

@@ -7,26 +7,27 @@ use Rattle.icn_vars.specs.Worlds.{setting_of}
 use Rattle.icn_structs.specs.Numbered.{with_right}
 use Rattle.icn_defs.specs.Rows.{gives_value}
 use Rattle.icn_defs.specs.Structures.{or_null, put_row}
-use Rattle.icn_structfn.specs.Adding.{adds}
-use Rattle.icn_structfn.proofs.Additions.{adds_row}
-use Rattle.icn_structfn.proofs.Rows.{stops_passing}
+use Rattle.icn_structfn.specs.AddedElements.{adds}
+use Rattle.icn_structfn.proofs.AddedElements.{adds_row}
+use Rattle.icn_structfn.proofs.RowAnswers.{stops_passing}
 use Rattle.icn_structfn.proofs.adding.put.Goals as goal
 
 pub add_right-requires-clause-vals : goal.add_right-requires-clause-vals
-add_right-requires-clause-vals g c = c.added.ensures.live (extent_of c.args.w.now.heap) c.requires.args
+add_right-requires-clause-vals g c = c.values_to_add.ensures.live (extent_of c.args.w.now.heap) c.requires.args
 
 pub returns-in_err-add_right-in-List-clause-row : goal.returns-in_err-add_right-in-List-clause-row
 returns-in_err-add_right-in-List-clause-row g c outside =
     let before : Setting = setting_of outside c.args.w.now (g.L.Locals.items c.args.l.now) in
     let after : Setting = setting_of outside c.add_right.new.w (g.L.Locals.items c.args.l.now) in
     let same : put_row (map (value_in (extent_of c.args.w.now.heap)) c.args.args.now) before
-    ≡ adds with_right c.in-List.id (map (value_in (extent_of c.args.w.now.heap)) c.added.result.now) (gives_value (AList c.in-List.id)) before =
+    ≡ adds with_right c.in-List.id (map (value_in (extent_of c.args.w.now.heap)) c.values_to_add.result.now) (gives_value (AList c.in-List.id)) before =
     ap (λ (v : Value). adds_row with_right v (or_null (drop 1 (map (value_in (extent_of c.args.w.now.heap)) c.args.args.now))) before)
     (sym (c.arg-list.ensures.value (extent_of c.args.w.now.heap)) ∙ ap (value_in (extent_of c.args.w.now.heap)) c.in-List.is)
     ∙ ap (λ (vs : List Value). adds with_right c.in-List.id vs (gives_value (AList c.in-List.id)) before)
-    (sym (c.added.ensures.value (extent_of c.args.w.now.heap))) in
+    (sym (c.values_to_add.ensures.value (extent_of c.args.w.now.heap))) in
     stops_passing (extent_of c.add_right.new.w.heap) (put_row (map (value_in (extent_of c.args.w.now.heap)) c.args.args.now))
-    (adds with_right c.in-List.id (map (value_in (extent_of c.args.w.now.heap)) c.added.result.now)) (gives_value (AList c.in-List.id)) before before after
+    (adds with_right c.in-List.id (map (value_in (extent_of c.args.w.now.heap)) c.values_to_add.result.now))
+    (gives_value (AList c.in-List.id)) before before after
     c.in_err-add_right-in-List.field-0.0 c.from_residual.result same c.from_residual.ensures.1 (c.in_err-add_right-in-List.ensures.step outside)
 
 pub returns-in_ok-add_right-in-List-clause-row : goal.returns-in_ok-add_right-in-List-clause-row
@@ -35,5 +36,5 @@ returns-in_ok-add_right-in-List-clause-row g c outside =
     ap (λ (v : Value). adds_row with_right v (or_null (drop 1 (map (value_in (extent_of c.args.w.now.heap)) c.args.args.now))) before)
     (sym (c.arg-list.ensures.value (extent_of c.args.w.now.heap)) ∙ ap (value_in (extent_of c.args.w.now.heap)) c.in-List.is)
     ∙ (ap (λ (vs : List Value). adds with_right c.in-List.id vs (gives_value (AList c.in-List.id)) before)
-    (sym (c.added.ensures.value (extent_of c.args.w.now.heap)))
+    (sym (c.values_to_add.ensures.value (extent_of c.args.w.now.heap)))
     ∙ c.in_ok-add_right-in-List.ensures.step outside (gives_value (AList c.in-List.id)))

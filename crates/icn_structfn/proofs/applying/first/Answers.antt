@@ -3,7 +3,7 @@ use Rattle.icn_text.specs.declared.func.Func.{Func}
 use Rattle.icn_defs.specs.Applying.{function_of}
 use Rattle.icn_heap.specs.Extents.{value_in}
 use Rattle.icn_heap.specs.Heaps.{extent_of}
-use Rattle.icn_args.specs.Words.{Answers}
+use Rattle.icn_args.specs.RowWords.{Answers}
 use Rattle.icn_structfn.proofs.applying.first.Goals as goal
 
 pub returns-in-Copy-clause-row : goal.returns-in-Copy-clause-row

@@ -6,13 +6,13 @@ use Rattle.icn_vars.specs.Worlds.{setting_of}
 use Rattle.icn_defs.specs.Arguments.{arg}
 use Rattle.icn_heap.specs.Extents.{value_in}
 use Rattle.icn_heap.specs.Heaps.{extent_of, heap_of}
-use Rattle.icn_structfn.proofs.Keeping.{no_list}
-use Rattle.icn_structfn.proofs.Taking.{failed, given, left_none, not_taken, takes}
+use Rattle.icn_structfn.proofs.KeptFields.{no_list}
+use Rattle.icn_structfn.proofs.TakenElements.{none_taken, element_taken, left_none, not_taken, takes_element}
 use Rattle.icn_structfn.proofs.ends.get.Goals as goal
 
 pub returns-in-Some-clause-row : goal.returns-in-Some-clause-row
 returns-in-Some-clause-row g c =
-    given c.args.w.now.heap c.get.new.self c.args.w.now.pair c.args.w.now.random c.args.w.now.globals.items c.args.w.now.statics.items
+    element_taken c.args.w.now.heap c.get.new.self c.args.w.now.pair c.args.w.now.random c.args.w.now.globals.items c.args.w.now.statics.items
     (g.L.Locals.items c.args.l.now) c.get.ensures.kept
     c.args.w.now.sound c.requires.locals leftmost without_left (arg (map (value_in (extent_of c.args.w.now.heap)) c.args.args.now) 0) c.in-List.id
     (sym (c.arg-list.ensures.value (extent_of c.args.w.now.heap)) ∙ ap (value_in (extent_of c.args.w.now.heap)) c.in-List.is)
@@ -20,7 +20,7 @@ returns-in-Some-clause-row g c =
 
 pub returns-in-None-clause-row : goal.returns-in-None-clause-row
 returns-in-None-clause-row g c =
-    failed c.args.w.now.heap c.get.new.self c.args.w.now.pair c.args.w.now.random c.args.w.now.globals.items c.args.w.now.statics.items
+    none_taken c.args.w.now.heap c.get.new.self c.args.w.now.pair c.args.w.now.random c.args.w.now.globals.items c.args.w.now.statics.items
     (g.L.Locals.items c.args.l.now) c.get.ensures.kept
     c.args.w.now.sound c.requires.locals leftmost without_left (arg (map (value_in (extent_of c.args.w.now.heap)) c.args.args.now) 0) c.in-List.id
     (sym (c.arg-list.ensures.value (extent_of c.args.w.now.heap)) ∙ ap (value_in (extent_of c.args.w.now.heap)) c.in-List.is)
@@ -28,7 +28,7 @@ returns-in-None-clause-row g c =
 
 pub returns-in_default-clause-row : goal.returns-in_default-clause-row
 returns-in_default-clause-row g c outside =
-    ap (λ (v : Value). takes leftmost without_left v (setting_of outside c.args.w.now (g.L.Locals.items c.args.l.now)))
+    ap (λ (v : Value). takes_element leftmost without_left v (setting_of outside c.args.w.now (g.L.Locals.items c.args.l.now)))
     (sym (c.arg-list.ensures.value (extent_of c.args.w.now.heap)))
     ∙ not_taken leftmost without_left (value_in (extent_of c.args.w.now.heap) c.arg-list.result)
     (no_list (extent_of c.args.w.now.heap) c.arg-list.result c.in_default.not-List) (setting_of outside c.args.w.now (g.L.Locals.items c.args.l.now))

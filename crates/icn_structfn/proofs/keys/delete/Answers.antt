@@ -5,8 +5,8 @@ use Rattle.icn_heap.specs.Heaps.{extent_of}
 use Rattle.icn_defs.specs.Arguments.{arg}
 use Rattle.icn_defs.specs.Rows.{Gives}
 use Rattle.icn_vars.specs.Worlds.{setting_of}
-use Rattle.icn_vars.proofs.Growing.{heap_changed, setting_over}
-use Rattle.icn_structfn.proofs.Inserting.{takes_out, takes_out_is}
+use Rattle.icn_vars.proofs.GrowingWorlds.{heap_changed, setting_over}
+use Rattle.icn_structfn.proofs.InsertedKeys.{takes_out, takes_out_is}
 use Rattle.icn_structfn.proofs.keys.delete.Goals as goal
 
 pub returns-in-Ok-clause-row : goal.returns-in-Ok-clause-row

@@ -6,8 +6,8 @@ use Rattle.icn_defs.specs.Arguments.{arg}
 use Rattle.icn_defs.specs.Rows.{Gives, gives_value}
 use Rattle.icn_vars.specs.Worlds.{setting_of}
 use Rattle.icn_defs.specs.Structures.{insert_row}
-use Rattle.icn_structfn.specs.Keepers.{inserts_in}
-use Rattle.icn_structfn.proofs.Rows.{stops_passing}
+use Rattle.icn_structfn.specs.SetsAndTables.{inserts_in}
+use Rattle.icn_structfn.proofs.RowAnswers.{stops_passing}
 use Rattle.icn_structfn.proofs.keys.insert.Goals as goal
 
 pub returns-in_err-insert_into-clause-row : goal.returns-in_err-insert_into-clause-row

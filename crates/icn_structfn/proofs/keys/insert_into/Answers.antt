@@ -9,11 +9,11 @@ use Rattle.icn_structs.specs.PairLists.{with_value_of}
 use Rattle.icn_value.specs.Sameness.{has_value, same, with_member}
 use Rattle.icn_value.specs.Store.{with_set, with_table}
 use Rattle.icn_value.specs.Changes.{having_member, value_at_key, with_pair}
-use Rattle.icn_vars.proofs.Growing.{setting_over}
-use Rattle.icn_vars.proofs.Changing.{fields_behind, unless_change}
-use Rattle.icn_args.specs.Words.{IsPassed}
-use Rattle.icn_structfn.specs.Keepers.{inserts_in}
-use Rattle.icn_structfn.proofs.Inserting.{charged, member_after, not_charged, pair_after}
+use Rattle.icn_vars.proofs.GrowingWorlds.{setting_over}
+use Rattle.icn_vars.proofs.HeapChanges.{fields_behind, unless_change}
+use Rattle.icn_args.specs.RowWords.{IsPassed}
+use Rattle.icn_structfn.specs.SetsAndTables.{inserts_in}
+use Rattle.icn_structfn.proofs.InsertedKeys.{charged, member_after, not_charged, pair_after}
 use Rattle.icn_structfn.proofs.keys.insert_into.Goals as goal
 
 pub returns-in_err-add-in-Set-clause-step : goal.returns-in_err-add-in-Set-clause-step

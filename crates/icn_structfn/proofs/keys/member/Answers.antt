@@ -4,7 +4,7 @@ use Rattle.icn_heap.specs.Extents.{value_in}
 use Rattle.icn_heap.specs.Heaps.{extent_of}
 use Rattle.icn_defs.specs.Arguments.{arg, keeper_of}
 use Rattle.icn_vars.specs.Worlds.{setting_of}
-use Rattle.icn_structfn.proofs.Inserting.{is_missing, is_none, is_there, looks_for}
+use Rattle.icn_structfn.proofs.InsertedKeys.{is_missing, is_none, is_there, looks_for}
 use Rattle.icn_structfn.proofs.keys.member.Goals as goal
 
 pub returns-in-Some-true-clause-row : goal.returns-in-Some-true-clause-row

@@ -2,13 +2,13 @@ use Rattle.std.proofs.Common.{refl, ◌+◌, length, replicate}
 use Rattle.icn_value.specs.Changes.{having_list}
 use Rattle.icn_heap.specs.Extents.{value_in}
 use Rattle.icn_heap.specs.Heaps.{extent_of, heap_of}
-use Rattle.icn_vars.proofs.Changing.{cells_change, fields_behind}
-use Rattle.icn_structfn.proofs.NewStructures.{made, refused, list_number, lists_stay}
+use Rattle.icn_vars.proofs.HeapChanges.{cells_change, fields_behind}
+use Rattle.icn_structfn.proofs.NewStructures.{structure_made, structure_refused, list_number, lists_stay}
 use Rattle.icn_structfn.proofs.making.filled_list.Goals as goal
 
 pub returns-in_err-make_list-clause-found : goal.returns-in_err-make_list-clause-found
 returns-in_err-make_list-clause-found g c =
-    refused c.args.w.now.heap c.make_list.new.self c.args.w.now.pair c.args.w.now.random c.args.w.now.globals.items c.args.w.now.statics.items
+    structure_refused c.args.w.now.heap c.make_list.new.self c.args.w.now.pair c.args.w.now.random c.args.w.now.globals.items c.args.w.now.statics.items
     (g.L.Locals.items c.args.l.now) c.make_list.ensures.kept
     c.args.w.now.sound c.requires.locals (1 + length (replicate c.args.count (value_in (extent_of c.args.w.now.heap) c.args.fill)))
     (having_list (replicate c.args.count (value_in (extent_of c.args.w.now.heap) c.args.fill))) list_number
@@ -17,7 +17,7 @@ returns-in_err-make_list-clause-found g c =
 
 pub returns-clause-found : goal.returns-clause-found
 returns-clause-found g c =
-    made c.args.w.now.heap c.make_list.new.self c.args.w.now.pair c.args.w.now.random c.args.w.now.globals.items c.args.w.now.statics.items
+    structure_made c.args.w.now.heap c.make_list.new.self c.args.w.now.pair c.args.w.now.random c.args.w.now.globals.items c.args.w.now.statics.items
     (g.L.Locals.items c.args.l.now) c.make_list.ensures.kept
     c.args.w.now.sound c.requires.locals (1 + length (replicate c.args.count (value_in (extent_of c.args.w.now.heap) c.args.fill)))
     (having_list (replicate c.args.count (value_in (extent_of c.args.w.now.heap) c.args.fill))) list_number

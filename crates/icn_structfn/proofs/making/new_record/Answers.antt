@@ -2,12 +2,12 @@ use Rattle.std.proofs.Common.{refl, ◌+◌, map, length}
 use Rattle.icn_value.specs.Changes.{having_record}
 use Rattle.icn_heap.specs.Extents.{value_in}
 use Rattle.icn_heap.specs.Heaps.{extent_of, heap_of}
-use Rattle.icn_structfn.proofs.NewStructures.{fields_new, made, refused, record_number, records_stay}
+use Rattle.icn_structfn.proofs.NewStructures.{fields_new, structure_made, structure_refused, record_number, records_stay}
 use Rattle.icn_structfn.proofs.making.new_record.Goals as goal
 
 pub returns-in_err-make_rec-clause-found : goal.returns-in_err-make_rec-clause-found
 returns-in_err-make_rec-clause-found g c =
-    refused c.args.w.now.heap c.make_rec.new.self c.args.w.now.pair c.args.w.now.random c.args.w.now.globals.items c.args.w.now.statics.items
+    structure_refused c.args.w.now.heap c.make_rec.new.self c.args.w.now.pair c.args.w.now.random c.args.w.now.globals.items c.args.w.now.statics.items
     (g.L.Locals.items c.args.l.now) c.make_rec.ensures.kept
     c.args.w.now.sound c.requires.locals (1 + length (map (value_in (extent_of c.args.w.now.heap)) c.args.fields.now))
     (having_record c.args.kind (map (value_in (extent_of c.args.w.now.heap)) c.args.fields.now)) record_number
@@ -16,7 +16,7 @@ returns-in_err-make_rec-clause-found g c =
 
 pub returns-clause-found : goal.returns-clause-found
 returns-clause-found g c =
-    made c.args.w.now.heap c.make_rec.new.self c.args.w.now.pair c.args.w.now.random c.args.w.now.globals.items c.args.w.now.statics.items
+    structure_made c.args.w.now.heap c.make_rec.new.self c.args.w.now.pair c.args.w.now.random c.args.w.now.globals.items c.args.w.now.statics.items
     (g.L.Locals.items c.args.l.now) c.make_rec.ensures.kept
     c.args.w.now.sound c.requires.locals (1 + length (map (value_in (extent_of c.args.w.now.heap)) c.args.fields.now))
     (having_record c.args.kind (map (value_in (extent_of c.args.w.now.heap)) c.args.fields.now)) record_number

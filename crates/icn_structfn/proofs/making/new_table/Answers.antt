@@ -2,13 +2,13 @@ use Rattle.std.proofs.Common.{refl}
 use Rattle.icn_value.specs.Changes.{having_table}
 use Rattle.icn_heap.specs.Extents.{value_in}
 use Rattle.icn_heap.specs.Heaps.{extent_of, heap_of}
-use Rattle.icn_vars.proofs.Changing.{cells_change, fields_behind}
-use Rattle.icn_structfn.proofs.NewStructures.{made, refused, table_number, tables_stay}
+use Rattle.icn_vars.proofs.HeapChanges.{cells_change, fields_behind}
+use Rattle.icn_structfn.proofs.NewStructures.{structure_made, structure_refused, table_number, tables_stay}
 use Rattle.icn_structfn.proofs.making.new_table.Goals as goal
 
 pub returns-in_err-make_table-clause-found : goal.returns-in_err-make_table-clause-found
 returns-in_err-make_table-clause-found g c =
-    refused c.args.w.now.heap c.make_table.new.self c.args.w.now.pair c.args.w.now.random c.args.w.now.globals.items c.args.w.now.statics.items
+    structure_refused c.args.w.now.heap c.make_table.new.self c.args.w.now.pair c.args.w.now.random c.args.w.now.globals.items c.args.w.now.statics.items
     (g.L.Locals.items c.args.l.now) c.make_table.ensures.kept
     c.args.w.now.sound c.requires.locals 1 (having_table (value_in (extent_of c.args.w.now.heap) c.args.default)) table_number
     (value_in (extent_of c.make_table.new.self)) c.in_err-make_table.field-0.0 c.from_residual.result c.in_err-make_table.ensures.unchanged
@@ -16,7 +16,7 @@ returns-in_err-make_table-clause-found g c =
 
 pub returns-clause-found : goal.returns-clause-found
 returns-clause-found g c =
-    made c.args.w.now.heap c.make_table.new.self c.args.w.now.pair c.args.w.now.random c.args.w.now.globals.items c.args.w.now.statics.items
+    structure_made c.args.w.now.heap c.make_table.new.self c.args.w.now.pair c.args.w.now.random c.args.w.now.globals.items c.args.w.now.statics.items
     (g.L.Locals.items c.args.l.now) c.make_table.ensures.kept
     c.args.w.now.sound c.requires.locals 1 (having_table (value_in (extent_of c.args.w.now.heap) c.args.default)) table_number
     (tables_stay (heap_of c.args.w.now.heap))

@@ -1,15 +1,15 @@
 use Rattle.std.proofs.Common.{refl, ◌+◌, length}
 use Rattle.icn_value.specs.Store.{set_at}
 use Rattle.icn_heap.specs.Extents.{value_in}
-use Rattle.icn_heap.specs.Making.{having_members}
+use Rattle.icn_heap.specs.MadeStructures.{having_members}
 use Rattle.icn_heap.specs.Heaps.{extent_of, heap_of}
-use Rattle.icn_vars.proofs.Changing.{cells_change, fields_behind}
-use Rattle.icn_structfn.proofs.NewStructures.{made, refused, set_number, sets_stay}
+use Rattle.icn_vars.proofs.HeapChanges.{cells_change, fields_behind}
+use Rattle.icn_structfn.proofs.NewStructures.{structure_made, structure_refused, set_number, sets_stay}
 use Rattle.icn_structfn.proofs.making.set_like.Goals as goal
 
 pub returns-in_err-copy_set-clause-found : goal.returns-in_err-copy_set-clause-found
 returns-in_err-copy_set-clause-found g c =
-    refused c.args.w.now.heap c.copy_set.new.self c.args.w.now.pair c.args.w.now.random c.args.w.now.globals.items c.args.w.now.statics.items
+    structure_refused c.args.w.now.heap c.copy_set.new.self c.args.w.now.pair c.args.w.now.random c.args.w.now.globals.items c.args.w.now.statics.items
     (g.L.Locals.items c.args.l.now) c.copy_set.ensures.kept
     c.args.w.now.sound c.requires.locals (1 + length (set_at (heap_of c.args.w.now.heap) c.args.set))
     (having_members (set_at (heap_of c.args.w.now.heap) c.args.set)) set_number
@@ -18,7 +18,7 @@ returns-in_err-copy_set-clause-found g c =
 
 pub returns-clause-found : goal.returns-clause-found
 returns-clause-found g c =
-    made c.args.w.now.heap c.copy_set.new.self c.args.w.now.pair c.args.w.now.random c.args.w.now.globals.items c.args.w.now.statics.items
+    structure_made c.args.w.now.heap c.copy_set.new.self c.args.w.now.pair c.args.w.now.random c.args.w.now.globals.items c.args.w.now.statics.items
     (g.L.Locals.items c.args.l.now) c.copy_set.ensures.kept
     c.args.w.now.sound c.requires.locals (1 + length (set_at (heap_of c.args.w.now.heap) c.args.set))
     (having_members (set_at (heap_of c.args.w.now.heap) c.args.set)) set_number

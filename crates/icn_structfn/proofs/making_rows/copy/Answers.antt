@@ -6,8 +6,8 @@ use Rattle.icn_defs.specs.Rows.{gives_value}
 use Rattle.icn_defs.specs.Structures.{copy_of, copy_row}
 use Rattle.icn_vars.specs.Worlds.{setting_of}
 use Rattle.icn_structfn.specs.Copies.{copy_of_value}
-use Rattle.icn_structfn.proofs.Copying.{copies}
-use Rattle.icn_structfn.proofs.Rows.{stops_finding}
+use Rattle.icn_structfn.proofs.CopiedStructures.{copies}
+use Rattle.icn_structfn.proofs.RowAnswers.{stops_finding}
 use Rattle.icn_structfn.proofs.making_rows.copy.Goals as goal
 
 pub returns-in_err-copy-clause-row : goal.returns-in_err-copy-clause-row

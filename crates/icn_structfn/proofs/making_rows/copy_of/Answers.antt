@@ -7,7 +7,7 @@ use Rattle.icn_defs.specs.Rows.{new_list_of}
 use Rattle.icn_defs.specs.Structures.{new_record_of, new_table_of}
 use Rattle.icn_vars.specs.Worlds.{setting_of}
 use Rattle.icn_structfn.specs.Copies.{copy_of_value}
-use Rattle.icn_structfn.proofs.Rows.{found_as}
+use Rattle.icn_structfn.proofs.RowAnswers.{found_as}
 use Rattle.icn_structfn.proofs.making_rows.copy_of.Goals as goal
 
 pub returns-in_ok-items-in-List-clause-found : goal.returns-in_ok-items-in-List-clause-found

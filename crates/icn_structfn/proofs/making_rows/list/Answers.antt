@@ -6,8 +6,8 @@ use Rattle.icn_defs.specs.Arguments.{arg, integer, value_or}
 use Rattle.icn_defs.specs.Rows.{gives_list, gives_value, natural, new_list_of}
 use Rattle.icn_defs.specs.Structures.{list_row}
 use Rattle.icn_vars.specs.Worlds.{reach_of, setting_of}
-use Rattle.icn_args.proofs.Answering.{stop_lives}
-use Rattle.icn_structfn.proofs.Rows.{stops_finding}
+use Rattle.icn_args.proofs.RowAnswers.{stop_lives}
+use Rattle.icn_structfn.proofs.RowAnswers.{stops_finding}
 use Rattle.std.proofs.Common.{rules, FitsSigned, w64, to_z, of_z}
 use Rattle.std.proofs.lemmas.Int.{to_z-of_z}
 use Rattle.icn_structfn.proofs.making_rows.list.Goals as goal

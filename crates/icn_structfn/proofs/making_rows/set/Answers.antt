@@ -6,8 +6,8 @@ use Rattle.icn_defs.specs.Rows.{gives_value}
 use Rattle.icn_defs.specs.Structures.{new_set_by, set_row}
 use Rattle.icn_vars.specs.Worlds.{setting_of}
 use Rattle.icn_structfn.specs.Copies.{set_of_value}
-use Rattle.icn_structfn.proofs.Copying.{sets}
-use Rattle.icn_structfn.proofs.Rows.{stops_finding}
+use Rattle.icn_structfn.proofs.CopiedStructures.{sets}
+use Rattle.icn_structfn.proofs.RowAnswers.{stops_finding}
 use Rattle.icn_structfn.proofs.making_rows.set.Goals as goal
 
 pub returns-in_err-set-clause-row : goal.returns-in_err-set-clause-row

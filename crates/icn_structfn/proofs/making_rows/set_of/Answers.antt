@@ -5,7 +5,7 @@ use Rattle.icn_heap.specs.Heaps.{extent_of}
 use Rattle.icn_defs.specs.Operations.{new_set_of}
 use Rattle.icn_vars.specs.Worlds.{setting_of}
 use Rattle.icn_structfn.specs.Copies.{set_of_value}
-use Rattle.icn_structfn.proofs.Rows.{found_as}
+use Rattle.icn_structfn.proofs.RowAnswers.{found_as}
 use Rattle.icn_structfn.proofs.making_rows.set_of.Goals as goal
 
 pub returns-in-Null-clause-found : goal.returns-in-Null-clause-found

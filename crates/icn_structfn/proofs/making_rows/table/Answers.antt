@@ -5,7 +5,7 @@ use Rattle.icn_heap.specs.Heaps.{extent_of}
 use Rattle.icn_defs.specs.Rows.{gives_value}
 use Rattle.icn_defs.specs.Structures.{new_table_of, table_row}
 use Rattle.icn_vars.specs.Worlds.{setting_of}
-use Rattle.icn_structfn.proofs.Rows.{stops_finding}
+use Rattle.icn_structfn.proofs.RowAnswers.{stops_finding}
 use Rattle.icn_structfn.proofs.making_rows.table.Goals as goal
 
 pub returns-in_err-table-clause-row : goal.returns-in_err-table-clause-row

@@ -4,10 +4,10 @@ use Rattle.std.proofs.lemmas.Result.{IfOk-weaker}
 use Rattle.icn_value.specs.Values.{Null}
 use Rattle.icn_defs.specs.Structures.{key_cmp}
 use Rattle.icn_heap.specs.Extents.{values_in}
-use Rattle.row_laws.proofs.SortOrder.{ties_are_one, total_keys}
-use Rattle.row_laws.proofs.SortedOnce.{keys_alone}
+use Rattle.law_rows.proofs.SortOrder.{ties_are_one, total_keys}
+use Rattle.law_rows.proofs.SortedOnce.{keys_alone}
 use Rattle.icn_heap.specs.Heaps.{extent_of, heap_of}
-use Rattle.icn_structfn.proofs.Placing.{ordered}
+use Rattle.icn_structfn.proofs.SortedPlaces.{ordered}
 use Rattle.icn_structfn.proofs.ordering.by_key.Goals as goal
 
 pub returns-clause-order : goal.returns-clause-order

@@ -1,11 +1,11 @@
 use Rattle.std.proofs.Common.{rules, map}
 use Rattle.std.proofs.lemmas.Cmp.{on_total}
-use Rattle.row_laws.proofs.SortOrder.{total_entries}
+use Rattle.law_rows.proofs.SortOrder.{total_entries}
 use Rattle.icn_defs.specs.Structures.{entry_cmp}
 use Rattle.icn_heap.specs.Extents.{values_in}
 use Rattle.icn_structfn.specs.Sorting.{pair_at}
 use Rattle.icn_heap.specs.Heaps.{extent_of, heap_of}
-use Rattle.icn_structfn.proofs.Placing.{sorted_by_closure}
+use Rattle.icn_structfn.proofs.SortedPlaces.{sorted_by_closure}
 use Rattle.icn_structfn.proofs.ordering.places_by_entry.Goals as goal
 
 pub returns-clause-sorted : goal.returns-clause-sorted

@@ -2,7 +2,7 @@ use Rattle.std.proofs.Common.{map}
 use Rattle.std.proofs.lemmas.List.Elements.{All-push, All-same}
 use Rattle.icn_defs.specs.Arguments.{arg}
 use Rattle.icn_heap.specs.Extents.{IsLive, value_in}
-use Rattle.icn_structfn.proofs.Placing.{all_taken, one_taken}
+use Rattle.icn_structfn.proofs.SortedPlaces.{all_taken, one_taken}
 use Rattle.icn_structfn.proofs.ordering.values_at.Goals as goal
 
 pub loop-first-preserved : goal.loop-first-preserved

@@ -5,7 +5,7 @@ use Rattle.icn_defs.specs.Rows.{new_list_of}
 use Rattle.icn_heap.specs.Extents.{value_in}
 use Rattle.icn_heap.specs.Heaps.{extent_of, heap_of}
 use Rattle.icn_vars.specs.Worlds.{setting_of}
-use Rattle.icn_structfn.proofs.Rows.{found_as}
+use Rattle.icn_structfn.proofs.RowAnswers.{found_as}
 use Rattle.icn_structfn.proofs.sorting.list_in_order.Goals as goal
 
 pub returns-clause-found : goal.returns-clause-found

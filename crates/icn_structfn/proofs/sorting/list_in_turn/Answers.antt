@@ -5,7 +5,7 @@ use Rattle.icn_heap.specs.Extents.{IsLive, value_in, values_in}
 use Rattle.icn_heap.specs.Heaps.{extent_of}
 use Rattle.icn_vars.specs.Worlds.{setting_of}
 use Rattle.icn_structfn.specs.Sorting.{in_turn}
-use Rattle.icn_structfn.proofs.Rows.{found_as}
+use Rattle.icn_structfn.proofs.RowAnswers.{found_as}
 use Rattle.icn_structfn.proofs.sorting.list_in_turn.Goals as goal
 
 pub new_list-requires-clause-items : goal.new_list-requires-clause-items

@@ -5,9 +5,9 @@ use Rattle.icn_defs.specs.Structures.{pair_lists}
 use Rattle.icn_heap.specs.Extents.{value_in, values_in}
 use Rattle.icn_heap.specs.Heaps.{extent_of}
 use Rattle.icn_vars.specs.Worlds.{setting_of}
-use Rattle.icn_args.specs.Words.{IsFound}
-use Rattle.icn_args.proofs.Answering.{first_stops}
-use Rattle.icn_structfn.proofs.Rows.{found_behind}
+use Rattle.icn_args.specs.RowWords.{IsFound}
+use Rattle.icn_args.proofs.RowAnswers.{first_stops}
+use Rattle.icn_structfn.proofs.RowAnswers.{found_behind}
 use Rattle.icn_structfn.proofs.sorting.list_of_lists.Goals as goal
 
 pub returns-in_err-lists-clause-found : goal.returns-in_err-lists-clause-found

@@ -8,14 +8,14 @@ use Rattle.icn_defs.specs.Rows.{new_list_of}
 use Rattle.icn_defs.specs.Structures.{pair_lists}
 use Rattle.icn_heap.specs.Extents.{AreLive, IsLive, value_in, values_in}
 use Rattle.icn_heap.specs.Heaps.{extent_of}
-use Rattle.icn_heap.proofs.Keeping.{live_kept, values_kept}
+use Rattle.icn_heap.proofs.GrowingHeaps.{live_kept, values_kept}
 use Rattle.icn_vars.specs.Stops.{StopsFinding}
 use Rattle.icn_vars.specs.Worlds.{reach_of, setting_of}
-use Rattle.icn_vars.proofs.KeptItems.{items_all, items_then}
-use Rattle.icn_args.proofs.Answering.{found_err}
+use Rattle.icn_vars.proofs.KeptItems.{keeps_items_refl, keeps_items_trans}
+use Rattle.icn_args.proofs.RowAnswers.{found_stops}
 use Rattle.icn_structfn.specs.Sorting.{pair_lists_behind}
-use Rattle.icn_structfn.proofs.Rows.{nothing_left}
-use Rattle.icn_structfn.proofs.SortRows.{Left, all_made, one_made, one_stops, two_live, two_same}
+use Rattle.icn_structfn.proofs.RowAnswers.{nothing_left}
+use Rattle.icn_structfn.proofs.SortRows.{ListsLeft, all_made, one_made, one_stops, two_live, two_same}
 use Rattle.icn_structfn.proofs.sorting.lists_of.Goals as goal
 
 pub loop-first-init : goal.loop-first-init
@@ -23,7 +23,7 @@ loop-first-init g c = record {
   locals = c.requires.locals;
   left = c.requires.pairs;
   made = All-same (IsLive (extent_of c.args.w.now.heap)) _ _ c.new-lists.ensures.items (All-nil (IsLive (extent_of c.args.w.now.heap)));
-  kept = items_all (reach_of c.args.w.now (g.L.Locals.items c.args.l.now));
+  kept = keeps_items_refl (reach_of c.args.w.now (g.L.Locals.items c.args.l.now));
   is = λ outside next.
       ap (λ (lists : List Val). pair_lists_behind (map (value_in (extent_of c.args.w.now.heap)) lists) (map (values_in (extent_of c.args.w.now.heap))
       c.args.pairs.now) next (setting_of outside c.args.w.now (g.L.Locals.items c.args.l.now))) (sym c.new-lists.ensures.items);
@@ -41,7 +41,7 @@ new_list-requires-clause-items g c =
 
 pub returns-in_err-list-clause-found : goal.returns-in_err-list-clause-found
 returns-in_err-list-clause-found g c outside =
-    found_err (extent_of c.new_list.new.w.heap) (pair_lists (map (values_in (extent_of c.args.w.now.heap)) c.args.pairs.now))
+    found_stops (extent_of c.new_list.new.w.heap) (pair_lists (map (values_in (extent_of c.args.w.now.heap)) c.args.pairs.now))
     (setting_of outside c.args.w.now (g.L.Locals.items c.args.l.now)) (setting_of outside c.new_list.new.w (g.L.Locals.items c.args.l.now))
     (λ lists. map (value_in (extent_of c.new_list.new.w.heap)) lists.items) c.in_err-list.field-0.0 c.from_residual.result c.from_residual.ensures.1
     (one_stops (map (values_in (extent_of c.args.w.now.heap)) c.args.pairs.now) (setting_of outside c.args.w.now (g.L.Locals.items c.args.l.now))
@@ -62,7 +62,7 @@ loop-first-preserved g c = record {
   left = All-rest (AreLive (extent_of c.args.w.now.heap)) _ _ _ c.in-Some.ensures.cases.0 c.loop-first.invariant.left;
   made = All-same (IsLive (extent_of c.new_list.new.w.heap)) _ _ c.in_ok-add.ensures (All-push (IsLive (extent_of c.new_list.new.w.heap))
       _ _ (live_kept c.new_list.ensures.kept.extent c.loop-first.lists.items c.loop-first.invariant.made) c.in_ok-list.ensures.live);
-  kept = items_then _ _ _ c.loop-first.invariant.kept c.new_list.ensures.kept;
+  kept = keeps_items_trans _ _ _ c.loop-first.invariant.kept c.new_list.ensures.kept;
   is = λ outside.
       let shown : (map (value_in (extent_of c.loop-first.w.heap)) c.loop-first.lists.items) ++ value_in (extent_of c.new_list.new.w.heap) c.in_ok-list.list ∷ []
       ≡ map (value_in (extent_of c.new_list.new.w.heap)) c.add.new.vals.items =
@@ -70,7 +70,7 @@ loop-first-preserved g c = record {
       ∙ (map-append (value_in (extent_of c.new_list.new.w.heap)) c.loop-first.lists.items (c.in_ok-list.list ∷ [])
       ∙ ap (λ (values : List Value). values ++ value_in (extent_of c.new_list.new.w.heap) c.in_ok-list.list ∷ [])
       (values_kept c.new_list.ensures.kept.extent c.loop-first.lists.items c.loop-first.invariant.made))) in
-      subst (λ (values : List Value). Left (map (values_in (extent_of c.args.w.now.heap)) c.args.pairs.now)
+      subst (λ (values : List Value). ListsLeft (map (values_in (extent_of c.args.w.now.heap)) c.args.pairs.now)
       (setting_of outside c.args.w.now (g.L.Locals.items c.args.l.now)) values (map (values_in (extent_of c.args.w.now.heap)) c.in-Some.others.now)
       (setting_of outside c.new_list.new.w (g.L.Locals.items c.args.l.now))) shown
       (one_made (map (values_in (extent_of c.args.w.now.heap)) c.args.pairs.now) (setting_of outside c.args.w.now (g.L.Locals.items c.args.l.now))

@@ -4,7 +4,7 @@ use Rattle.icn_value.specs.Store.{Outside}
 use Rattle.icn_heap.specs.Extents.{AreLive, IsLive, value_in, values_in}
 use Rattle.icn_heap.specs.Heaps.{extent_of}
 use Rattle.icn_vars.specs.Worlds.{KeepsItems, reach_of, setting_of}
-use Rattle.icn_structfn.proofs.SortRows.{Left}
+use Rattle.icn_structfn.proofs.SortRows.{ListsLeft}
 use Rattle.icn_structfn.proofs.sorting.lists_of.Given as goal
 
 abbrev pub invariant-loop-first : goal.invariant-loop-first
@@ -14,7 +14,7 @@ invariant-loop-first g l = record {
   made : All (IsLive (extent_of l.w.heap)) l.lists.items;
   kept : KeepsItems (reach_of l.initial.w (g.L.Locals.items l.l)) (reach_of l.w (g.L.Locals.items l.l));
   is : (outside : Outside)
-      → Left (map (values_in (extent_of l.initial.w.heap)) l.pairs) (setting_of outside l.initial.w (g.L.Locals.items l.l))
+      → ListsLeft (map (values_in (extent_of l.initial.w.heap)) l.pairs) (setting_of outside l.initial.w (g.L.Locals.items l.l))
       (map (value_in (extent_of l.w.heap)) l.lists.items) (map (values_in (extent_of l.initial.w.heap)) l.rest) (setting_of outside l.w (g.L.Locals.items l.l));
 }
 

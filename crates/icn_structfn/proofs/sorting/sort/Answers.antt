@@ -8,7 +8,7 @@ use Rattle.icn_defs.specs.Rows.{gives_value}
 use Rattle.icn_defs.specs.Structures.{sort_row}
 use Rattle.icn_vars.specs.Worlds.{setting_of}
 use Rattle.icn_structfn.specs.Sorting.{sorted_value}
-use Rattle.icn_structfn.proofs.Rows.{stops_finding}
+use Rattle.icn_structfn.proofs.RowAnswers.{stops_finding}
 use Rattle.icn_structfn.proofs.SortRows.{sort_asks, sort_goes_on, sorts_by}
 use Rattle.icn_structfn.proofs.sorting.sort.Goals as goal
 

@@ -9,12 +9,12 @@ use Rattle.icn_defs.specs.Images.{value_cmp}
 use Rattle.icn_defs.specs.Rows.{new_list_of}
 use Rattle.icn_heap.specs.Extents.{value_in, values_in}
 use Rattle.icn_heap.specs.Heaps.{extent_of, heap_of}
-use Rattle.icn_named.specs.Named.{PairNamed, ValueNamed}
+use Rattle.law_names.specs.NamedSettings.{PairNamed, ValueNamed}
 use Rattle.icn_vars.specs.Worlds.{setting_of}
 use Rattle.icn_structfn.specs.declared.sorting.TableOrder.{TableOrder}
 use Rattle.icn_structfn.specs.Sorting.{order_of, sorted_pairs, sorted_value}
 use Rattle.icn_structfn.proofs.NamedValues.{fields_named, list_named, pairs_named, set_named}
-use Rattle.icn_structfn.proofs.Rows.{found_as}
+use Rattle.icn_structfn.proofs.RowAnswers.{found_as}
 use Rattle.icn_structfn.proofs.SortRows.{no_structure}
 use Rattle.icn_structfn.proofs.sorting.sorted_list.Goals as goal
 

@@ -6,7 +6,7 @@ use Rattle.icn_heap.specs.Heaps.{extent_of, heap_of}
 use Rattle.icn_vars.specs.Worlds.{setting_of}
 use Rattle.icn_structfn.specs.declared.sorting.TableOrder.{TableOrder}
 use Rattle.icn_structfn.specs.Sorting.{in_turn, list_of_pairs, sorted_pairs}
-use Rattle.icn_structfn.proofs.Rows.{found_as}
+use Rattle.icn_structfn.proofs.RowAnswers.{found_as}
 use Rattle.icn_structfn.proofs.sorting.sorted_table.Goals as goal
 
 pub returns-in_ok-sorted-in-ListsByKey-clause-found : goal.returns-in_ok-sorted-in-ListsByKey-clause-found

@@ -1,5 +1,5 @@
 use Rattle.std.proofs.Common.{sym, ◌∙◌}
-use Rattle.icn_translate.proofs.Lists.{one_element}
+use Rattle.icn_translate.proofs.ExpressionLists.{one_element}
 use Rattle.icn_translate.proofs.expr.is_no_element.Goals as goal
 
 pub returns : goal.returns

@@ -1,8 +1,8 @@
 use Rattle.std.proofs.Common.{map, ◌∙◌}
 use Rattle.icn_unit.specs.UnitViews.{proc_seen}
 use Rattle.icn_translate.specs.FileUnits.{codes_in}
-use Rattle.icn_translate.proofs.Entries.{part_step}
-use Rattle.icn_translate.proofs.Numbering.{room_at}
+use Rattle.icn_translate.proofs.DraftStarts.{part_step}
+use Rattle.icn_translate.proofs.RowNumbers.{room_at}
 use Rattle.icn_translate.proofs.file.proc_codes.Goals as goal
 
 pub put_codes-requires : goal.put_codes-requires

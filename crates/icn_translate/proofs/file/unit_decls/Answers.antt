@@ -1,7 +1,7 @@
 use Rattle.std.proofs.Common.{map, ◌∙◌}
 use Rattle.icn_unit.specs.UnitViews.{decl_seen}
 use Rattle.icn_translate.specs.FileUnits.{lines_in}
-use Rattle.icn_translate.proofs.Entries.{part_step}
+use Rattle.icn_translate.proofs.DraftStarts.{part_step}
 use Rattle.icn_translate.proofs.file.unit_decls.Goals as goal
 
 pub loop-decl-preserved : goal.loop-decl-preserved

@@ -1,9 +1,9 @@
 use Rattle.std.proofs.Common.{◌≡◌, length, map, ap, arith}
 use Rattle.std.specs.List.{flat_map}
 use Rattle.icn_tree.specs.TreeOf.{locals_of}
-use Rattle.icn_translate.specs.Numbers.{local_numbers}
+use Rattle.icn_translate.specs.NumbersTaken.{local_numbers}
 use Rattle.icn_translate.specs.ProcCodes.{local_texts, texts_of}
-use Rattle.icn_translate.proofs.Entries.{all_declared}
+use Rattle.icn_translate.proofs.DraftStarts.{all_declared}
 use Rattle.icn_translate.proofs.procedure.declared_names.Goals as goal
 
 pub returns-clause-names : goal.returns-clause-names

@@ -1,8 +1,8 @@
 use Rattle.std.proofs.Common.{◌≡◌, length, map, ap, ◌∙◌, arith}
 use Rattle.icn_translate.specs.Drafts.{with_names}
 use Rattle.icn_translate.specs.ProcCodes.{texts_of}
-use Rattle.icn_translate.proofs.Entries.{names_step}
-use Rattle.icn_translate.proofs.Numbering.{locals_left}
+use Rattle.icn_translate.proofs.DraftStarts.{names_step}
+use Rattle.icn_translate.proofs.RowNumbers.{locals_left}
 use Rattle.icn_translate.proofs.procedure.enter_locals.Goals as goal
 
 pub loop-local-preserved : goal.loop-local-preserved

@@ -2,7 +2,7 @@ use Rattle.std.proofs.Common.{◌≡◌, ◌+◌, ◌≤◌, drop, length, map}
 use Rattle.std.specs.List.{flat_map}
 use Rattle.icn_tree.specs.TreeOf.{locals_of}
 use Rattle.icn_translate.specs.Drafts.{with_names}
-use Rattle.icn_translate.specs.Numbers.{local_numbers}
+use Rattle.icn_translate.specs.NumbersTaken.{local_numbers}
 use Rattle.icn_translate.specs.ProcCodes.{local_texts}
 use Rattle.icn_translate.proofs.procedure.enter_locals.Given as goal
 

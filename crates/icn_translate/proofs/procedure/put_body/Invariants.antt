@@ -1,6 +1,6 @@
 use Rattle.std.proofs.Common.{◌≡◌, ◌+◌, ◌≤◌, drop}
 use Rattle.icn_tree.specs.TreeOf.{all_of}
-use Rattle.icn_translate.specs.Numbers.{all_numbers}
+use Rattle.icn_translate.specs.NumbersTaken.{all_numbers}
 use Rattle.icn_translate.specs.Room.{numbers_given}
 use Rattle.icn_translate.specs.Translation.{body}
 use Rattle.icn_translate.specs.Views.{draft_of}

@@ -1,7 +1,7 @@
 use Rattle.std.proofs.Common.{◌++◌, map, ap, ◌∙◌}
 use Rattle.icn_tree.specs.declared.tree.Name.{Name}
 use Rattle.icn_translate.specs.ProcCodes.{entry_of}
-use Rattle.icn_translate.proofs.Entries.{entries_step}
+use Rattle.icn_translate.proofs.DraftStarts.{entries_step}
 use Rattle.icn_translate.proofs.procedure.put_locals.Goals as goal
 
 pub loop-local-preserved : goal.loop-local-preserved

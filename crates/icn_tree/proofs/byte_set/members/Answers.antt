@@ -1,5 +1,5 @@
 use Rattle.std.proofs.Common.{ap, sym, ◌∙◌}
-use Rattle.icn_tree.proofs.Members.{members_below-zero, member_joins, other_stays}
+use Rattle.icn_tree.proofs.SetMembers.{members_below-zero, member_joins, other_stays}
 use Rattle.icn_tree.proofs.byte_set.members.Goals as goal
 use Rattle.icn_tree.proofs.byte_set.members.Goals.{then-is_present+in_ok-push, else-is_present}
 

@@ -1,6 +1,6 @@
 use Rattle.std.proofs.Common.{refl, ◌∙◌, false, true}
 use Rattle.std.proofs.lemmas.List.{get_or-replicate, length-set}
-use Rattle.icn_tree.proofs.Members.{mark_more}
+use Rattle.icn_tree.proofs.SetMembers.{mark_more}
 use Rattle.icn_tree.proofs.byte_set.present.Goals as goal
 
 pub loop-byte-init : goal.loop-byte-init

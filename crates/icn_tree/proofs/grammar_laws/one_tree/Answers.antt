@@ -1,5 +1,5 @@
-use Rattle.icn_tree.proofs.Files.{one_file, one_declaration}
-use Rattle.icn_tree.proofs.Expressions.{one_expression}
+use Rattle.icn_tree.proofs.OneFileTree.{one_file, one_declaration}
+use Rattle.icn_tree.proofs.OneExpressionTree.{one_expression}
 use Rattle.icn_tree.proofs.grammar_laws.one_tree.Goals as goal
 
 pub returns : goal.returns

@@ -3,7 +3,7 @@ use Rattle.icn_tree.specs.declared.token.Kind.TheVariants.{Word as WordKind}
 use Rattle.icn_tree.specs.declared.token.Word.{Word}
 use Rattle.icn_tree.specs.declared.token.Word.TheVariants.{By, Do, Else, Of, Then, To}
 use Rattle.icn_tree.specs.Semicolons.{is_beginner}
-use Rattle.icn_tree.proofs.Scanning.{all_none, all_next, cut_before, cut_behind}
+use Rattle.icn_tree.proofs.KeptByScans.{all_none, all_next, cut_before, cut_behind}
 use Rattle.icn_tree.proofs.token_laws.semicolons_inserted.Goals as goal
 
 pub returns-clause-before : goal.returns-clause-before

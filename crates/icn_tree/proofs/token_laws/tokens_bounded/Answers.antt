@@ -1,4 +1,4 @@
-use Rattle.icn_tree.proofs.Scanning.{tokens_sound, all_sized, all_formed, tokens_counted}
+use Rattle.icn_tree.proofs.KeptByScans.{tokens_sound, all_sized, all_formed, tokens_counted}
 use Rattle.icn_tree.proofs.token_laws.tokens_bounded.Goals as goal
 
 pub returns-clause-count : goal.returns-clause-count

@@ -5,7 +5,7 @@ use Rattle.std.specs.Option.{option_copied}
 use Rattle.std.proofs.lemmas.Result.{err_from_is_err_and}
 use Rattle.icn_ucode.specs.DeclViews.{reading_seen}
 use Rattle.icn_ucode.proofs.DeclLines.{unended_decls, next_decls, stopped_decls, finished_decls}
-use Rattle.icn_ucode.proofs.TextLines.{shorter, line_len, some_left, none_left}
+use Rattle.icn_ucode.proofs.TextLines.{shorter, line_length, some_left, none_left}
 use Rattle.icn_ucode.proofs.decl_reader.read_decls.Goals as goal
 
 pub returns-in_err-reading : goal.returns-in_err-reading
@@ -26,7 +26,7 @@ returns-in_default c =
 
 pub loop-rest-smaller : goal.loop-rest-smaller
 loop-rest-smaller c =
-    shorter c.loop-rest.rest.now c.in-Some.behind.now (line_len c.loop-rest.rest.now) (sym (ap option_copied c.in-Some.is) ∙ c.cut_line.ensures.behind)
+    shorter c.loop-rest.rest.now c.in-Some.behind.now (line_length c.loop-rest.rest.now) (sym (ap option_copied c.in-Some.is) ∙ c.cut_line.ensures.behind)
 
 pub loop-rest-preserved : goal.loop-rest-preserved
 loop-rest-preserved c =

@@ -1,7 +1,7 @@
 use Rattle.std.specs.List.{flat_map}
 use Rattle.icn_unit.specs.UnitTexts.{head_text, name_text, instr_text}
 use Rattle.icn_unit.specs.UnitViews.{proc_seen}
-use Rattle.icn_unit.proofs.Writing.{put_last, proc_pieces}
+use Rattle.icn_unit.proofs.GrowingTexts.{put_last, proc_pieces}
 use Rattle.icn_unit.proofs.writer.put_proc.Goals as goal
 
 pub returns : goal.returns

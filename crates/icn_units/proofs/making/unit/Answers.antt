@@ -2,7 +2,7 @@ use Rattle.std.proofs.Common.{◌≡◌, true, map, ap, sym, subst, ◌∙◌}
 use Rattle.std.specs.List.{list_all}
 use Rattle.icn_tree.specs.TreeOf.{declaration_of, declarations_of}
 use Rattle.icn_translate.specs.FileUnits.{proc_codes, unit_decls}
-use Rattle.icn_translate.specs.Numbers.{HaveRoom}
+use Rattle.icn_translate.specs.NumbersTaken.{HaveRoom}
 use Rattle.icn_unit.specs.UnitViews.{decl_seen, proc_seen}
 use Rattle.icn_units.specs.TypeBounds.{bytes_fit, numbers_fit}
 use Rattle.icn_units.proofs.RoomOfFiles.{checked_room}

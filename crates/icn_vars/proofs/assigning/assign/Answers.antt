@@ -1,8 +1,8 @@
 use Rattle.std.proofs.Common.{ap}
 use Rattle.icn_value.specs.declared.item.VarRef.TheVariants.{Whole as HeldWhole}
 use Rattle.icn_value.specs.Values.{Whole}
-use Rattle.icn_defs.specs.Facts.{can_hold}
-use Rattle.icn_defs.specs.Reading.{assigns_or, assigns_root}
+use Rattle.icn_defs.specs.RowFacts.{can_hold}
+use Rattle.icn_defs.specs.ReadAndAssign.{assigns_or, assigns_root}
 use Rattle.icn_heap.specs.Extents.{value_in}
 use Rattle.icn_heap.specs.Heaps.{extent_of}
 use Rattle.icn_vars.specs.Worlds.{root_in, setting_of}

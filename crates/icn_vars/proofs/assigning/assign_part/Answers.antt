@@ -4,11 +4,11 @@ use Rattle.icn_value.specs.declared.val.Val.TheVariants.{Text as TextVal}
 use Rattle.icn_value.specs.Values.{Part, Root, Text}
 use Rattle.icn_defs.specs.Calls.{GoesOn}
 use Rattle.icn_defs.specs.Conversions.{text_of}
-use Rattle.icn_defs.specs.Reading.{assigns_or, assigns_root, reads_text, with_part}
+use Rattle.icn_defs.specs.ReadAndAssign.{assigns_or, assigns_root, reads_text, with_part}
 use Rattle.icn_heap.specs.Extents.{text_in, value_in}
 use Rattle.icn_heap.specs.Heaps.{extent_of}
 use Rattle.icn_vars.specs.Worlds.{KeepsItems, reach_of, root_in, setting_of}
-use Rattle.icn_vars.proofs.KeptItems.{items_then, root_kept, root_stays}
+use Rattle.icn_vars.proofs.KeptItems.{keeps_items_trans, root_kept, root_stays}
 use Rattle.icn_vars.proofs.PartChanges.{assign_err, part_built, part_bytes_stop, part_text_stops, part_unread, root_as, root_false, root_stops, root_true, some_is}
 use Rattle.icn_vars.proofs.assigning.assign_part.Goals as goal
 
@@ -57,7 +57,7 @@ returns-in_err-text-clause-assigned g c = λ outside.
 pub assign_root-requires-clause-root : goal.assign_root-requires-clause-root
 assign_root-requires-clause-root g c =
     let kept : KeepsItems (reach_of c.args.w.now (g.L.Locals.items c.args.l.now)) (reach_of c.replace.new.w (g.L.Locals.items c.args.l.now)) =
-    items_then (reach_of c.args.w.now (g.L.Locals.items c.args.l.now)) (reach_of c.made_text.new.w (g.L.Locals.items c.args.l.now))
+    keeps_items_trans (reach_of c.args.w.now (g.L.Locals.items c.args.l.now)) (reach_of c.made_text.new.w (g.L.Locals.items c.args.l.now))
     (reach_of c.replace.new.w (g.L.Locals.items c.args.l.now)) c.made_text.ensures.kept c.replace.ensures.kept in
     root_stays kept c.args.root c.requires.root
 
@@ -70,7 +70,7 @@ returns-in_err-assign_root-clause-assigned g c = λ outside.
     (setting_of outside c.args.w.now (g.L.Locals.items c.args.l.now)) text (setting_of outside c.args.w.now (g.L.Locals.items c.args.l.now)))
     (sym (c.made_text.ensures.kept.extent.bytes c.in_ok-whole.whole c.in_ok-whole.ensures.live)) (c.in_ok-whole.ensures.value outside) in
     let kept : KeepsItems (reach_of c.args.w.now (g.L.Locals.items c.args.l.now)) (reach_of c.replace.new.w (g.L.Locals.items c.args.l.now)) =
-    items_then (reach_of c.args.w.now (g.L.Locals.items c.args.l.now)) (reach_of c.made_text.new.w (g.L.Locals.items c.args.l.now))
+    keeps_items_trans (reach_of c.args.w.now (g.L.Locals.items c.args.l.now)) (reach_of c.made_text.new.w (g.L.Locals.items c.args.l.now))
     (reach_of c.replace.new.w (g.L.Locals.items c.args.l.now)) c.made_text.ensures.kept c.replace.ensures.kept in
     assign_err (extent_of c.assign_root.new.w.heap) (λ refused.
     assigns_or refused (Part (root_in (extent_of c.args.w.now.heap) c.args.root) c.args.place c.args.len) (value_in (extent_of c.args.w.now.heap) c.args.val))
@@ -103,10 +103,10 @@ returns-then-branch-clause-assigned g c = λ outside.
     (setting_of outside c.args.w.now (g.L.Locals.items c.args.l.now)) text (setting_of outside c.args.w.now (g.L.Locals.items c.args.l.now)))
     (sym (c.made_text.ensures.kept.extent.bytes c.in_ok-whole.whole c.in_ok-whole.ensures.live)) (c.in_ok-whole.ensures.value outside) in
     let kept : KeepsItems (reach_of c.args.w.now (g.L.Locals.items c.args.l.now)) (reach_of c.replace.new.w (g.L.Locals.items c.args.l.now)) =
-    items_then (reach_of c.args.w.now (g.L.Locals.items c.args.l.now)) (reach_of c.made_text.new.w (g.L.Locals.items c.args.l.now))
+    keeps_items_trans (reach_of c.args.w.now (g.L.Locals.items c.args.l.now)) (reach_of c.made_text.new.w (g.L.Locals.items c.args.l.now))
     (reach_of c.replace.new.w (g.L.Locals.items c.args.l.now)) c.made_text.ensures.kept c.replace.ensures.kept in
     let last : KeepsItems (reach_of c.args.w.now (g.L.Locals.items c.args.l.now)) (reach_of c.assign_root.new.w (g.L.Locals.items c.assign_root.new.l)) =
-    items_then (reach_of c.args.w.now (g.L.Locals.items c.args.l.now)) (reach_of c.replace.new.w (g.L.Locals.items c.args.l.now))
+    keeps_items_trans (reach_of c.args.w.now (g.L.Locals.items c.args.l.now)) (reach_of c.replace.new.w (g.L.Locals.items c.args.l.now))
     (reach_of c.assign_root.new.w (g.L.Locals.items c.assign_root.new.l)) kept c.assign_root.ensures.kept in
     λ refused next.
     part_built (extent_of c.assign_root.new.w.heap) (root_in (extent_of c.args.w.now.heap) c.args.root) c.args.place c.args.len
@@ -132,10 +132,10 @@ returns-then-branch-clause-assigned g c = λ outside.
 pub returns-then-branch-clause-live : goal.returns-then-branch-clause-live
 returns-then-branch-clause-live g c =
     let kept : KeepsItems (reach_of c.args.w.now (g.L.Locals.items c.args.l.now)) (reach_of c.replace.new.w (g.L.Locals.items c.args.l.now)) =
-    items_then (reach_of c.args.w.now (g.L.Locals.items c.args.l.now)) (reach_of c.made_text.new.w (g.L.Locals.items c.args.l.now))
+    keeps_items_trans (reach_of c.args.w.now (g.L.Locals.items c.args.l.now)) (reach_of c.made_text.new.w (g.L.Locals.items c.args.l.now))
     (reach_of c.replace.new.w (g.L.Locals.items c.args.l.now)) c.made_text.ensures.kept c.replace.ensures.kept in
     let last : KeepsItems (reach_of c.args.w.now (g.L.Locals.items c.args.l.now)) (reach_of c.assign_root.new.w (g.L.Locals.items c.assign_root.new.l)) =
-    items_then (reach_of c.args.w.now (g.L.Locals.items c.args.l.now)) (reach_of c.replace.new.w (g.L.Locals.items c.args.l.now))
+    keeps_items_trans (reach_of c.args.w.now (g.L.Locals.items c.args.l.now)) (reach_of c.replace.new.w (g.L.Locals.items c.args.l.now))
     (reach_of c.assign_root.new.w (g.L.Locals.items c.assign_root.new.l)) kept c.assign_root.ensures.kept in
     record { live = (root_stays last c.args.root c.requires.root, c.requires.place) }
 
@@ -148,7 +148,7 @@ returns-else-branch-clause-assigned g c = λ outside.
     (setting_of outside c.args.w.now (g.L.Locals.items c.args.l.now)) text (setting_of outside c.args.w.now (g.L.Locals.items c.args.l.now)))
     (sym (c.made_text.ensures.kept.extent.bytes c.in_ok-whole.whole c.in_ok-whole.ensures.live)) (c.in_ok-whole.ensures.value outside) in
     let kept : KeepsItems (reach_of c.args.w.now (g.L.Locals.items c.args.l.now)) (reach_of c.replace.new.w (g.L.Locals.items c.args.l.now)) =
-    items_then (reach_of c.args.w.now (g.L.Locals.items c.args.l.now)) (reach_of c.made_text.new.w (g.L.Locals.items c.args.l.now))
+    keeps_items_trans (reach_of c.args.w.now (g.L.Locals.items c.args.l.now)) (reach_of c.made_text.new.w (g.L.Locals.items c.args.l.now))
     (reach_of c.replace.new.w (g.L.Locals.items c.args.l.now)) c.made_text.ensures.kept c.replace.ensures.kept in
     λ refused next.
     part_built (extent_of c.assign_root.new.w.heap) (root_in (extent_of c.args.w.now.heap) c.args.root) c.args.place c.args.len

@@ -1,6 +1,6 @@
 use Rattle.std.proofs.Common.{ap}
-use Rattle.icn_defs.specs.Facts.{can_hold}
-use Rattle.icn_defs.specs.Reading.{assigns_both}
+use Rattle.icn_defs.specs.RowFacts.{can_hold}
+use Rattle.icn_defs.specs.ReadAndAssign.{assigns_both}
 use Rattle.icn_defs.specs.Rows.{Neither, Right}
 use Rattle.icn_heap.specs.Extents.{value_in}
 use Rattle.icn_heap.specs.Heaps.{extent_of}

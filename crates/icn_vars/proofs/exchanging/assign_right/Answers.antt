@@ -1,5 +1,5 @@
 use Rattle.std.proofs.Common.{◌∙◌, ap}
-use Rattle.icn_defs.specs.Facts.{can_hold}
+use Rattle.icn_defs.specs.RowFacts.{can_hold}
 use Rattle.icn_defs.specs.Rows.{Left, Neither}
 use Rattle.icn_heap.specs.Extents.{value_in}
 use Rattle.icn_heap.specs.Heaps.{extent_of}

@@ -1,4 +1,4 @@
-use Rattle.icn_defs.specs.Reading.{mover_of as defined_mover}
+use Rattle.icn_defs.specs.ReadAndAssign.{mover_of as defined_mover}
 use Rattle.icn_heap.specs.Extents.{value_in}
 use Rattle.icn_heap.specs.Heaps.{extent_of}
 use Rattle.icn_vars.specs.Outcomes.{mover_of}

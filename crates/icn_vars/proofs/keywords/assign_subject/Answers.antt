@@ -2,7 +2,7 @@ use Rattle.std.proofs.Common.{◌≡◌, rules, true}
 use Rattle.std.specs.Prelude.{is_some}
 use Rattle.icn_value.specs.Values.{Subject}
 use Rattle.icn_defs.specs.Conversions.{text_of}
-use Rattle.icn_defs.specs.Reading.{assigns_keyword}
+use Rattle.icn_defs.specs.ReadAndAssign.{assigns_keyword}
 use Rattle.icn_heap.specs.Extents.{text_in, value_in}
 use Rattle.icn_heap.specs.Heaps.{extent_of}
 use Rattle.icn_vars.specs.Worlds.{setting_of}

@@ -2,13 +2,13 @@ use Rattle.std.proofs.Common.{refl}
 use Rattle.std.specs.Prelude.{is_some}
 use Rattle.icn_value.specs.Values.{Key}
 use Rattle.icn_value.specs.Changes.{value_at_key, with_pair}
-use Rattle.icn_defs.specs.Reading.{assigns_root}
+use Rattle.icn_defs.specs.ReadAndAssign.{assigns_root}
 use Rattle.icn_heap.specs.Extents.{value_in}
 use Rattle.icn_heap.specs.Heaps.{extent_of, heap_of}
 use Rattle.icn_vars.specs.Stops.{stop_of}
 use Rattle.icn_vars.specs.Worlds.{setting_of}
-use Rattle.icn_vars.proofs.Changing.{fields_behind, unless_change}
-use Rattle.icn_vars.proofs.Growing.{setting_over}
+use Rattle.icn_vars.proofs.HeapChanges.{fields_behind, unless_change}
+use Rattle.icn_vars.proofs.GrowingWorlds.{setting_over}
 use Rattle.icn_vars.proofs.RootChanges.{key_assigned, key_stops, root_err}
 use Rattle.icn_vars.proofs.roots.assign_key.Goals as goal
 

@@ -4,7 +4,7 @@ use Rattle.std.proofs.lemmas.Int.{to_z-of_z}
 use Rattle.icn_value.specs.Changes.{with_field}
 use Rattle.icn_heap.specs.Extents.{value_in}
 use Rattle.icn_heap.specs.Heaps.{extent_of, heap_of}
-use Rattle.icn_vars.proofs.Changing.{fields_by, fields_set}
+use Rattle.icn_vars.proofs.HeapChanges.{fields_by, fields_set}
 use Rattle.icn_vars.proofs.ReadValues.{field_there}
 use Rattle.icn_vars.proofs.RootChanges.{field_assigned, global_assigned, local_assigned, static_assigned}
 use Rattle.icn_vars.proofs.roots.assign_root.Goals as goal

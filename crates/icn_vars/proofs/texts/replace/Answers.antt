@@ -1,13 +1,13 @@
 use Rattle.std.proofs.Common.{◌≡◌, ◌∙◌, refl, ap, subst, length, Ok}
 use Rattle.icn_value.specs.Changes.{Refuses, charged_strings}
-use Rattle.icn_defs.specs.Reading.{with_part}
+use Rattle.icn_defs.specs.ReadAndAssign.{with_part}
 use Rattle.icn_defs.specs.Rows.{costs_bytes}
 use Rattle.icn_heap.specs.Extents.{text_in}
 use Rattle.icn_heap.specs.Heaps.{extent_of, heap_of}
 use Rattle.icn_vars.specs.Stops.{stop_of}
 use Rattle.icn_vars.specs.Worlds.{setting_of}
-use Rattle.icn_vars.proofs.Changing.{bytes_change, fields_charged, passes, stops, stops_at}
-use Rattle.icn_vars.proofs.Growing.{setting_over}
+use Rattle.icn_vars.proofs.HeapChanges.{bytes_change, fields_charged, change_passes, change_stops, stopped_part}
+use Rattle.icn_vars.proofs.GrowingWorlds.{setting_over}
 use Rattle.icn_vars.proofs.texts.replace.Goals as goal
 
 pub returns-in_err-build-clause-passes : goal.returns-in_err-build-clause-passes
@@ -16,11 +16,11 @@ returns-in_err-build-clause-passes g c = λ outside.
     ≡ (with_part (text_in (extent_of c.args.w.now.heap) c.args.whole) c.args.place c.args.len (text_in (extent_of c.args.w.now.heap) c.args.new)) =
     c.deref.ensures.value ∙ (c.in_ok-bytes.ensures ∙ (ap (λ whole. with_part whole c.args.place c.args.len c.bytes-2.result.now) c.bytes.ensures
     ∙ ap (λ new. with_part (text_in (extent_of c.args.w.now.heap) c.args.whole) c.args.place c.args.len new) c.bytes-2.ensures)) in
-    stops_at (extent_of c.build.new.self) (costs_bytes (length (with_part (text_in (extent_of c.args.w.now.heap) c.args.whole) c.args.place c.args.len
+    stopped_part (extent_of c.build.new.self) (costs_bytes (length (with_part (text_in (extent_of c.args.w.now.heap) c.args.whole) c.args.place c.args.len
     (text_in (extent_of c.args.w.now.heap) c.args.new)))) (setting_of outside c.args.w.now (g.L.Locals.items c.args.l.now)) (setting_over outside
     c.build.new.self c.args.w.now.pair c.args.w.now.random c.args.w.now.globals.items c.args.w.now.statics.items (g.L.Locals.items c.args.l.now))
     (stop_of c.in_err-build.field-0.0) c.from_residual-in_err-build.result c.from_residual-in_err-build.ensures.1
-    (stops c.args.w.now.heap c.build.new.self c.args.w.now.pair c.args.w.now.random c.args.w.now.globals.items c.args.w.now.statics.items
+    (change_stops c.args.w.now.heap c.build.new.self c.args.w.now.pair c.args.w.now.random c.args.w.now.globals.items c.args.w.now.statics.items
     (g.L.Locals.items c.args.l.now) c.build.ensures.kept c.args.w.now.sound c.requires.locals (bytes_change
     (length (with_part (text_in (extent_of c.args.w.now.heap) c.args.whole) c.args.place c.args.len (text_in (extent_of c.args.w.now.heap) c.args.new))))
     c.in_err-build.ensures.unchanged c.in_err-build.field-0.0
@@ -33,7 +33,7 @@ returns-clause-passes g c = λ outside.
     ≡ (with_part (text_in (extent_of c.args.w.now.heap) c.args.whole) c.args.place c.args.len (text_in (extent_of c.args.w.now.heap) c.args.new)) =
     c.deref.ensures.value ∙ (c.in_ok-bytes.ensures ∙ (ap (λ whole. with_part whole c.args.place c.args.len c.bytes-2.result.now) c.bytes.ensures
     ∙ ap (λ new. with_part (text_in (extent_of c.args.w.now.heap) c.args.whole) c.args.place c.args.len new) c.bytes-2.ensures)) in
-    passes c.args.w.now.heap c.build.new.self c.args.w.now.pair c.args.w.now.random c.args.w.now.globals.items c.args.w.now.statics.items
+    change_passes c.args.w.now.heap c.build.new.self c.args.w.now.pair c.args.w.now.random c.args.w.now.globals.items c.args.w.now.statics.items
     (g.L.Locals.items c.args.l.now) c.build.ensures.kept c.args.w.now.sound c.requires.locals (bytes_change
     (length (with_part (text_in (extent_of c.args.w.now.heap) c.args.whole) c.args.place c.args.len (text_in (extent_of c.args.w.now.heap) c.args.new))))
     (subst (λ bytes. charged_strings (heap_of c.args.w.now.heap) (length bytes) ≡ Ok (heap_of c.build.new.self)) same c.in_ok-build.ensures.step) outside

@@ -1,17 +1,17 @@
 use Rattle.std.proofs.Common.{None}
-use Rattle.icn_defs.specs.Reading.{undoes_exchange}
+use Rattle.icn_defs.specs.ReadAndAssign.{undoes_exchange}
 use Rattle.icn_defs.specs.Rows.{wrong}
 use Rattle.icn_heap.specs.Extents.{value_in}
 use Rattle.icn_heap.specs.Heaps.{extent_of}
 use Rattle.icn_vars.specs.Outcomes.{mover_of}
 use Rattle.icn_vars.specs.Worlds.{setting_of, variable_in}
-use Rattle.icn_vars.proofs.Changing.{stops_at}
+use Rattle.icn_vars.proofs.HeapChanges.{stopped_part}
 use Rattle.icn_vars.proofs.Exchanges.{undo_exchange_stops}
 use Rattle.icn_vars.proofs.undoing.undo_exchange.Goals as goal
 
 pub returns-in_err-assign_both-clause-undone : goal.returns-in_err-assign_both-clause-undone
 returns-in_err-assign_both-clause-undone g c = λ outside.
-    stops_at (extent_of c.assign_both.new.w.heap)
+    stopped_part (extent_of c.assign_both.new.w.heap)
     (undoes_exchange (mover_of c.args.mover) (variable_in (extent_of c.args.w.now.heap) c.args.left) (variable_in (extent_of c.args.w.now.heap) c.args.right)
     (value_in (extent_of c.args.w.now.heap) c.args.old_left) (value_in (extent_of c.args.w.now.heap) c.args.old_right))
     (setting_of outside c.args.w.now (g.L.Locals.items c.args.l.now)) (setting_of outside c.assign_both.new.w (g.L.Locals.items c.assign_both.new.l))

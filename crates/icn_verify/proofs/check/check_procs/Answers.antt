@@ -1,8 +1,8 @@
 use Rattle.std.proofs.Common.{◌^◌, ◌<◌, ◌≤◌, IfSome, MatchOption, length, sym, subst, arith}
 use Rattle.icn_code.specs.Codes.{proc_of}
-use Rattle.icn_verify.specs.Reaching.{AreWithin}
+use Rattle.icn_verify.specs.ReachingShapes.{AreWithin}
 use Rattle.icn_verify.specs.Faults.{IsSound, IsFirstOf}
-use Rattle.icn_verify.proofs.Checking.{proc_at, sound_on, sound_all}
+use Rattle.icn_verify.proofs.ProcedureChecks.{proc_at, sound_on, sound_all}
 use Rattle.icn_verify.proofs.check.check_procs.Goals as goal
 
 pub first_fault-requires-clause-short : goal.first_fault-requires-clause-short

@@ -1,5 +1,5 @@
-use Rattle.icn_verify.proofs.Giving.{found_answer}
-use Rattle.icn_verify.proofs.Checking.{found_within}
+use Rattle.icn_verify.proofs.SoundInstructions.{found_answer}
+use Rattle.icn_verify.proofs.ProcedureChecks.{found_within}
 use Rattle.icn_verify.proofs.check.first_fault.Goals as goal
 
 pub returns-clause-first : goal.returns-clause-first

@@ -1,9 +1,9 @@
 use Rattle.std.proofs.Common.{sym, subst}
 use Rattle.icn_code.specs.Codes.{procs_of}
-use Rattle.icn_code.specs.Seen.{tables_of}
+use Rattle.icn_code.specs.CodeTables.{tables_of}
 use Rattle.icn_verify.specs.Refusals.{AreBounded}
-use Rattle.icn_verify.proofs.Bounding.{bounded}
+use Rattle.icn_verify.proofs.TableRules.{tables_are_bounded}
 use Rattle.icn_verify.proofs.check.verify.Goals as goal
 
 pub check_procs-requires : goal.check_procs-requires
-check_procs-requires c = subst (λ procs. AreBounded (procs_of procs)) (sym c.deref.ensures.value) (bounded (tables_of c.args.code) c.args.code.rules)
+check_procs-requires c = subst (λ procs. AreBounded (procs_of procs)) (sym c.deref.ensures.value) (tables_are_bounded (tables_of c.args.code) c.args.code.rules)

@@ -1,8 +1,8 @@
 use Rattle.std.proofs.Common.{length, ap, subst, sym, ◌≡◌, ◌∙◌}
 use Rattle.icn_verify.specs.Passing.{first_table}
-use Rattle.icn_verify.specs.Counting.{IsLowTable}
+use Rattle.icn_verify.specs.ShapeCounts.{IsLowTable}
 use Rattle.icn_verify.specs.Stacks.{table_in}
-use Rattle.icn_verify.proofs.Rising.{low_first}
+use Rattle.icn_verify.proofs.RisingCounts.{low_first}
 use Rattle.icn_verify.proofs.pass.fault_of.Goals as goal
 
 pub judge-requires-clause-low : goal.judge-requires-clause-low

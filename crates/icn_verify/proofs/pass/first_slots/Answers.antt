@@ -1,7 +1,7 @@
 use Rattle.std.proofs.Common.{◌≡◌, ◌+◌, replicate, slice_set, ap, ◌∙◌, refl}
 use Rattle.icn_verify.specs.declared.table.Slot.TheVariants.{Free, One}
 use Rattle.icn_verify.specs.Stacks.{table_in}
-use Rattle.icn_verify.proofs.Tables.{first_filled}
+use Rattle.icn_verify.proofs.SlotTables.{first_filled}
 use Rattle.icn_verify.proofs.pass.first_slots.Goals as goal
 
 pub returns-clause-table : goal.returns-clause-table

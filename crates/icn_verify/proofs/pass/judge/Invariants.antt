@@ -1,7 +1,7 @@
 use Rattle.std.proofs.Common.{◌≡◌, ◌≤◌, ◌+◌, length, drop}
 use Rattle.icn_verify.specs.Passing.{first_fault}
 use Rattle.icn_verify.specs.Stacks.{AreKept, table_in}
-use Rattle.icn_verify.specs.Counting.{IsLowTable}
+use Rattle.icn_verify.specs.ShapeCounts.{IsLowTable}
 use Rattle.icn_verify.proofs.pass.judge.Given as goal
 
 abbrev pub invariant-loop-address : goal.invariant-loop-address

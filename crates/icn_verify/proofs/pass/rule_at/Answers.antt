@@ -1,7 +1,7 @@
 use Rattle.std.proofs.Common.{sym, ap, ◌∙◌}
 use Rattle.icn_verify.specs.Passing.{rule_at}
 use Rattle.icn_verify.specs.Stacks.{table_in}
-use Rattle.icn_verify.proofs.Tables.{at_slot_is}
+use Rattle.icn_verify.proofs.SlotTables.{at_slot_is}
 use Rattle.icn_verify.proofs.pass.rule_at.Goals as goal
 
 pub returns-in-One : goal.returns-in-One

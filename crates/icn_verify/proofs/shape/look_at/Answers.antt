@@ -1,5 +1,5 @@
 use Rattle.std.proofs.Common.{sym, ◌∙◌}
-use Rattle.icn_verify.proofs.Looking.{look_from}
+use Rattle.icn_verify.proofs.BaseLevels.{look_from}
 use Rattle.icn_verify.proofs.shape.look_at.Goals as goal
 
 pub loop-mark-init : goal.loop-mark-init

@@ -1,6 +1,6 @@
 use Rattle.std.proofs.Common.{◌≡◌, drop}
 use Rattle.icn_verify.specs.Shapes.{look_of, plain_of}
-use Rattle.icn_verify.proofs.Looking.{look_by}
+use Rattle.icn_verify.proofs.BaseLevels.{look_by}
 use Rattle.icn_verify.proofs.shape.look_at.Given as goal
 
 abbrev pub invariant-loop-mark : goal.invariant-loop-mark

@@ -1,12 +1,12 @@
 use Rattle.std.proofs.Common.{◌≡◌, None, ◌∙◌, ap, subst}
 use Rattle.std.proofs.lemmas.Result.{err_from_is_err_and}
-use Rattle.icn_code.specs.Seen.{tables_of}
+use Rattle.icn_code.specs.CodeTables.{tables_of}
 use Rattle.icn_image.specs.Spelling.{image_of}
 use Rattle.icn_link.specs.Joined.{joined_code}
 use Rattle.icn_link.specs.LinkFaults.{first_fault}
 use Rattle.icn_link.specs.Units.{units_seen}
-use Rattle.icont_top.specs.declared.programs.Made.{Made}
-use Rattle.icont_top.specs.Making.{RefusesLink}
+use Rattle.icont_top.specs.declared.programs.MadeProgram.{MadeProgram}
+use Rattle.icont_top.specs.MadeUnits.{RefusesLink}
 use Rattle.icont_top.proofs.UnitPrograms.{code_refused, link_refused, made_of, sources_verified}
 use Rattle.icont_top.proofs.programs.make.Goals as goal
 
@@ -16,8 +16,8 @@ returns-in_err-code-clause-made c list stands =
     rw (p.1, p.2) (link_refused c.args.members.now list c.in_err-code.field-0.0 stands
     (subst (λ units. RefusesLink (units_seen units) c.in_err-code.field-0.0) c.deref.ensures.value c.in_err-code.ensures.refused))
 
-pub verified-requires : goal.verified-requires
-verified-requires c = record {
+pub verify_linked-requires : goal.verify_linked-requires
+verify_linked-requires c = record {
   sources = sources_verified c.translations_join.ensures c.joined_code_is_verified.ensures c.args.members.now (tables_of c.in_ok-code.code)
       c.requires.sound (c.in_ok-code.ensures.code ∙ ap (λ units. joined_code (units_seen units)) c.deref.ensures.value);
 }
@@ -31,7 +31,7 @@ returns-in_err-code-2-clause-made c list stands =
 
 pub returns-in-Ok-clause-made : goal.returns-in-Ok-clause-made
 returns-in-Ok-clause-made c list stands =
-    let made : Made = record { code = c.in_ok-code-2.code; image = c.in-Ok.image } in
+    let made : MadeProgram = record { code = c.in_ok-code-2.code; image = c.in-Ok.image } in
     made_of c.translations_join.ensures c.args.members.now list made (tables_of c.in_ok-code.code) stands
     (c.in_ok-code.ensures.code ∙ ap (λ units. joined_code (units_seen units)) c.deref.ensures.value)
     (subst (λ units. first_fault (units_seen units) ≡ None) c.deref.ensures.value c.in_ok-code.ensures.fits)

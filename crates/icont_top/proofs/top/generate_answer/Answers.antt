@@ -1,24 +1,24 @@
 use Rattle.std.proofs.Common.{refl, ap, Ok, Err}
 use Rattle.icn_answer.proofs.FaultCounts.{no_cause, unmoved}
-use Rattle.icn_run_answer.proofs.Counts.{refused_ends, absence_of}
-use Rattle.icn_run_answer.proofs.Leaving.{leaves_both}
+use Rattle.icn_run_answer.proofs.CountCauses.{refused_ends, absence_of}
+use Rattle.icn_run_answer.proofs.OutsideLeft.{leaves_both}
 use Rattle.icn_run_answer.proofs.Reports.{reports_of}
-use Rattle.icn_answer.proofs.ToldContent.{if_some}
+use Rattle.icn_answer.proofs.ToldContent.{if_some_intro}
 use Rattle.icont_units.specs.Generated.{GeneratedComes}
 use Rattle.icont_top.specs.Job.{of_number}
 use Rattle.icont_top.proofs.AnswersGiven.{command_refuses, loading_no_image, loading_no_read, loading_no_run, loading_no_write, no_command}
-use Rattle.icont_top.proofs.Topmost.{asked_program, refused_done}
+use Rattle.icont_top.proofs.CallOutcomes.{asked_program, refused_done}
 use Rattle.icont_top.proofs.top.generate_answer.Goals as goal
 
 pub returns-in-Ok-clause-done : goal.returns-in-Ok-clause-done
 returns-in-Ok-clause-done g c words asks =
-    if_some (g.F.Files.held c.args.files.now) _ (λ held e.
+    if_some_intro (g.F.Files.held c.args.files.now) _ (λ held e.
     let made = c.in-Ok.ensures.program in
     c.image_answer.ensures.done words held made.0 (record { plans = of_number c.args.number c.args.turns (Ok made.0) asks made.1.0; is = made.1.1.1 }) e)
 
 pub returns-in-Err-clause-done : goal.returns-in-Err-clause-done
 returns-in-Err-clause-done g c words asks =
-    if_some (g.F.Files.held c.args.files.now) _ (λ held e.
+    if_some_intro (g.F.Files.held c.args.files.now) _ (λ held e.
     refused_done c.in-Err.answer c.refuse.result _ _ _ _ _ _ _ (loading_no_image c.in-Err.answer c.in-Err.ensures.others)
     (loading_no_write c.in-Err.answer c.in-Err.ensures.others) (loading_no_read c.in-Err.answer c.in-Err.ensures.others)
     (asked_program (GeneratedComes c.args.number) _ c.in-Err.answer (λ result comes. of_number c.args.number c.args.turns result asks comes)

@@ -1,9 +1,9 @@
 use Rattle.std.proofs.Common.{map}
 use Rattle.std.specs.Prelude.{string_bytes}
 use Rattle.std.specs.Option.{option_map}
-use Rattle.icn_run_answer.proofs.Counts.{faultless_of}
+use Rattle.icn_run_answer.proofs.CountCauses.{faultless_of}
 use Rattle.icn_run_answer.proofs.Reports.{line_of_reports}
-use Rattle.icn_answer.proofs.ToldContent.{at_some, if_some}
+use Rattle.icn_answer.proofs.ToldContent.{if_some_elim, if_some_intro}
 use Rattle.icont_words.specs.declared.words.Task.TheVariants as Held
 use Rattle.icont_words.specs.Asking.{run_seen}
 use Rattle.icont_words.specs.Words.{Generate, Link, Translate}
@@ -71,7 +71,7 @@ returns-in-Ok-Translate-clause-command g c =
 
 pub returns-in-Ok-Translate-clause-links : goal.returns-in-Ok-Translate-clause-links
 returns-in-Ok-Translate-clause-links g c =
-    if_some (g.F.Files.held c.args.files.now) _ (λ held e. units_miss c.one_reading.ensures.one (map string_bytes c.args.words.now) (texts
+    if_some_intro (g.F.Files.held c.args.files.now) _ (λ held e. units_miss c.one_reading.ensures.one (map string_bytes c.args.words.now) (texts
     c.deref.result.now) held
     (names_asked (map string_bytes c.args.words.now) Translate c.deref.result.now c.in-Ok-Translate.names.items c.deref.ensures.value
     (task_asked (map string_bytes c.args.words.now) c.in-Ok-Translate.field-0 (Held.Translate c.in-Ok-Translate.names) c.in-Ok-Translate.field-0-is
@@ -136,13 +136,13 @@ returns-in-Ok-Link-clause-command g c =
 
 pub returns-in-Ok-Link-clause-links : goal.returns-in-Ok-Link-clause-links
 returns-in-Ok-Link-clause-links g c =
-    if_some (g.F.Files.held c.args.files.now) _ (λ held e. link_misses c.one_reading.ensures.one (map string_bytes c.args.words.now) (texts
+    if_some_intro (g.F.Files.held c.args.files.now) _ (λ held e. link_misses c.one_reading.ensures.one (map string_bytes c.args.words.now) (texts
     c.deref-in-Ok-Link.result.now) _ _ held
     (names_asked (map string_bytes c.args.words.now) (λ names. Link names (option_map (λ name. name.now) c.in-Ok-Link.image) (option_map run_seen
     c.in-Ok-Link.run'))
     c.deref-in-Ok-Link.result.now c.in-Ok-Link.names.items c.deref-in-Ok-Link.ensures.value
     (task_asked (map string_bytes c.args.words.now) c.in-Ok-Link.field-0 (Held.Link c.in-Ok-Link.names c.in-Ok-Link.image c.in-Ok-Link.run')
-    c.in-Ok-Link.field-0-is c.in-Ok-Link.ensures)) (at_some _ (g.F.Files.held c.args.files.now) held e c.link_answer.ensures.links))
+    c.in-Ok-Link.field-0-is c.in-Ok-Link.ensures)) (if_some_elim _ (g.F.Files.held c.args.files.now) held e c.link_answer.ensures.links))
 
 pub returns-in-Ok-Generate-clause-outcome : goal.returns-in-Ok-Generate-clause-outcome
 returns-in-Ok-Generate-clause-outcome g c =
@@ -185,7 +185,7 @@ returns-in-Ok-Generate-clause-command g c =
 
 pub returns-in-Ok-Generate-clause-links : goal.returns-in-Ok-Generate-clause-links
 returns-in-Ok-Generate-clause-links g c =
-    if_some (g.F.Files.held c.args.files.now) _ (λ held e. number_misses c.one_reading.ensures.one (map string_bytes c.args.words.now)
+    if_some_intro (g.F.Files.held c.args.files.now) _ (λ held e. number_misses c.one_reading.ensures.one (map string_bytes c.args.words.now)
     c.in-Ok-Generate.number c.in-Ok-Generate.turns held
     (task_asked (map string_bytes c.args.words.now) c.in-Ok-Generate.field-0 (Held.Generate c.in-Ok-Generate.number c.in-Ok-Generate.turns)
     c.in-Ok-Generate.field-0-is c.in-Ok-Generate.ensures))
@@ -252,7 +252,7 @@ returns-in-Err-clause-command g c =
 
 pub returns-in-Err-clause-links : goal.returns-in-Err-clause-links
 returns-in-Err-clause-links g c =
-    if_some (g.F.Files.held c.args.files.now) _ (λ held e. words_miss (map string_bytes c.args.words.now) c.in-Err.fault c.words_answer.result
+    if_some_intro (g.F.Files.held c.args.files.now) _ (λ held e. words_miss (map string_bytes c.args.words.now) c.in-Err.fault c.words_answer.result
     c.refuse.result c.words_answer.ensures c.refuse.ensures.line
     c.one_reading.ensures.one held c.in-Err.ensures)
 
@@ -289,10 +289,10 @@ returns-in-Err-clause-written g c =
     c.in-Err.ensures)
 
 pub returns-in-Ok-Translate-clause-input : goal.returns-in-Ok-Translate-clause-input
-returns-in-Ok-Translate-clause-input g c = if_some (g.I.Source.left c.args.input.now) _ (λ left d. (0, d))
+returns-in-Ok-Translate-clause-input g c = if_some_intro (g.I.Source.left c.args.input.now) _ (λ left d. (0, d))
 
 pub returns-in-Err-clause-input : goal.returns-in-Err-clause-input
-returns-in-Err-clause-input g c = if_some (g.I.Source.left c.args.input.now) _ (λ left d. (0, d))
+returns-in-Err-clause-input g c = if_some_intro (g.I.Source.left c.args.input.now) _ (λ left d. (0, d))
 
 pub returns-in-Ok-Link-clause-causes : goal.returns-in-Ok-Link-clause-causes
 returns-in-Ok-Link-clause-causes g c = c.link_answer.ensures.leaves.causes

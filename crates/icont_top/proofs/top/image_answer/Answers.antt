@@ -1,15 +1,15 @@
 use Rattle.std.proofs.Common.{◌∙◌, ap, arith, Err, refl}
 use Rattle.std.specs.Option.{option_map}
 use Rattle.icn_answer.specs.declared.answer.Answer.TheVariants.{Wrote}
-use Rattle.icn_run_answer.proofs.Counts.{none_counts, own_counts, run_no_absence, run_no_file}
-use Rattle.icn_run_answer.proofs.Leaving.{leaves_both}
+use Rattle.icn_run_answer.proofs.CountCauses.{none_counts, own_counts, run_no_absence, run_no_file}
+use Rattle.icn_run_answer.proofs.OutsideLeft.{leaves_both}
 use Rattle.icn_answer.proofs.NoFaults.{wrote_no_fault}
 use Rattle.icn_run_answer.proofs.Reports.{own_reports}
-use Rattle.icn_answer.proofs.ToldContent.{at_some, if_some}
+use Rattle.icn_answer.proofs.ToldContent.{if_some_elim, if_some_intro}
 use Rattle.icont_words.specs.Asking.{run_seen}
-use Rattle.icont_units.proofs.Matching.{same_Err}
+use Rattle.icont_units.proofs.EqualResults.{err_injective}
 use Rattle.icont_top.proofs.AnswersGiven.{said_name, torn_no_absence, torn_no_read, torn_no_write}
-use Rattle.icont_top.proofs.Topmost.{image_torn, is_torn, ran_done, writes_image, writes_part, wrote_done}
+use Rattle.icont_top.proofs.CallOutcomes.{image_torn, is_torn, ran_done, writes_image, writes_part, wrote_done}
 use Rattle.icont_top.proofs.InputLeft.{run_lost}
 use Rattle.icont_top.proofs.top.image_answer.Goals as goal
 
@@ -51,9 +51,9 @@ returns-in-Some-clause-leaves g c = record {
     };
     others = c.ran_answer.ensures.causes;
   };
-  input = if_some (g.I.Source.left c.args.input.now) _ (λ left d.
+  input = if_some_intro (g.I.Source.left c.args.input.now) _ (λ left d.
       run_lost c.runs_leave.ensures.on_stacks c.broken_off.ensures.reading c.broken_off.ensures.begun (run_seen c.in-Some.asked) left
-      (at_some _ (g.I.Source.left c.args.input.now) left d c.ran_answer.ensures.ran));
+      (if_some_elim _ (g.I.Source.left c.args.input.now) left d c.ran_answer.ensures.ran));
   refused = λ none. absurd (none c.ran_answer.ensures.others);
   unread = λ none. absurd (none c.ran_answer.ensures.others);
 }
@@ -70,7 +70,7 @@ returns-in-Err-clause-leaves g c = leaves_both refl refl (record {
   file_fault = record {
     later = c.in-Err.ensures.cause.later;
     rose = λ e. c.in-Err.ensures.cause.rose (ap (λ f. Err f) (c.torn_answer.ensures.failed.0 e));
-    stayed = λ n. c.in-Err.ensures.cause.stayed (λ e. n (c.torn_answer.ensures.failed.1 (same_Err _ _ e)));
+    stayed = λ n. c.in-Err.ensures.cause.stayed (λ e. n (c.torn_answer.ensures.failed.1 (err_injective _ _ e)));
   };
   absence = record {
     later = omega (arith, c.in-Err.ensures.absences);

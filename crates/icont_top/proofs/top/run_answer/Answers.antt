@@ -1,34 +1,34 @@
 use Rattle.std.proofs.Common.{ap, refl}
 use Rattle.icn_value.specs.Limited.{Bounds, limits_of}
 use Rattle.icn_defs.specs.Running.{launch_of}
-use Rattle.icn_code.specs.Seen.{tables_of}
-use Rattle.icn_run_answer.proofs.Counts.{broken_counts, ran_counts}
+use Rattle.icn_code.specs.CodeTables.{tables_of}
+use Rattle.icn_run_answer.proofs.CountCauses.{broken_counts, ran_counts}
 use Rattle.icn_run_answer.proofs.Reports.{fault_reports, ran_reports}
 use Rattle.icont_words.specs.Asking.{run_seen}
 use Rattle.icont_top.proofs.RunsUnder.{off_puts, run_broken, run_ended}
-use Rattle.icn_answer.proofs.ToldContent.{if_some}
+use Rattle.icn_answer.proofs.ToldContent.{if_some_intro}
 use Rattle.icont_top.proofs.top.run_answer.Goals as goal
 
 pub returns-in-Ok-clause-ran : goal.returns-in-Ok-clause-ran
 returns-in-Ok-clause-ran g c =
-    if_some (g.I.Source.left c.args.input.now) _ (λ left d.
+    if_some_intro (g.I.Source.left c.args.input.now) _ (λ left d.
     run_ended (tables_of c.args.code.now.code) (run_seen c.args.asked) left _ c.in-Ok.ending
     (ap (λ (bounds : Bounds). record bounds { turns = c.args.asked.turns }) c.standard-standard.ensures) (c.in-Ok.ensures.ends left d))
 
 pub returns-in-Err-clause-ran : goal.returns-in-Err-clause-ran
 returns-in-Err-clause-ran g c =
-    if_some (g.I.Source.left c.args.input.now) _ (λ left d.
+    if_some_intro (g.I.Source.left c.args.input.now) _ (λ left d.
     rw c.answer_of-answer.ensures (run_broken (tables_of c.args.code.now.code) (run_seen c.args.asked) left _ c.in-Err.fault _ _ _
     (ap (λ (bounds : Bounds). record bounds { turns = c.args.asked.turns }) c.standard-standard.ensures) c.in-Err.ensures.first_fault
     (c.in-Err.ensures.breaks left d) (rw c.answer_of-answer.ensures at c.own_line.ensures.puts) refl))
 
 pub returns-in-Ok-clause-reported : goal.returns-in-Ok-clause-reported
-returns-in-Ok-clause-reported g c = ran_reports c.in-Ok.ending (if_some (g.I.Source.left c.args.input.now) _ (λ left d. c.in-Ok.ensures.reported left d))
+returns-in-Ok-clause-reported g c = ran_reports c.in-Ok.ending (if_some_intro (g.I.Source.left c.args.input.now) _ (λ left d. c.in-Ok.ensures.reported left d))
 
 pub returns-in-Err-clause-reported : goal.returns-in-Err-clause-reported
 returns-in-Err-clause-reported g c =
     rw c.answer_of-answer.ensures (fault_reports _ _ _ c.in-Err.fault c.in-Err.ensures.first_fault
-    (if_some (g.I.Source.left c.args.input.now) _ (λ left d. off_puts (tables_of c.args.code.now.code)
+    (if_some_intro (g.I.Source.left c.args.input.now) _ (λ left d. off_puts (tables_of c.args.code.now.code)
     (launch_of (run_seen c.args.asked).arguments (record (limits_of c.standard-standard.result) { turns = c.args.asked.turns }) left)
     c.in-Err.fault _ _ (c.in-Err.ensures.breaks left d)))
     (rw c.answer_of-answer.ensures at c.own_line.ensures.puts))

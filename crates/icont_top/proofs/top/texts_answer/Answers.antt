@@ -1,12 +1,12 @@
 use Rattle.std.proofs.Common.{ap, arith, Err}
 use Rattle.icn_answer.specs.declared.answer.Answer.TheVariants.{Wrote}
-use Rattle.icn_run_answer.proofs.Counts.{none_counts, own_counts}
+use Rattle.icn_run_answer.proofs.CountCauses.{none_counts, own_counts}
 use Rattle.icn_answer.proofs.NoFaults.{wrote_no_fault}
 use Rattle.icn_run_answer.proofs.Reports.{own_reports}
-use Rattle.icont_units.proofs.Matching.{same_Err}
+use Rattle.icont_units.proofs.EqualResults.{err_injective}
 use Rattle.icont_top.specs.Writing.{texts_seen}
 use Rattle.icont_top.proofs.AnswersGiven.{torn_no_absence, torn_no_read, torn_no_write}
-use Rattle.icont_top.proofs.Topmost.{is_torn, units_done, units_torn}
+use Rattle.icont_top.proofs.CallOutcomes.{is_torn, units_done, units_torn}
 use Rattle.icont_top.proofs.top.texts_answer.Goals as goal
 
 pub returns-in-Ok-clause-done : goal.returns-in-Ok-clause-done
@@ -34,7 +34,7 @@ returns-in-Err-clause-causes g c left input out = record {
   file_fault = record {
     later = c.in-Err.ensures.cause.later;
     rose = λ e. c.in-Err.ensures.cause.rose (ap (λ f. Err f) (c.torn_answer.ensures.failed.0 e));
-    stayed = λ n. c.in-Err.ensures.cause.stayed (λ e. n (c.torn_answer.ensures.failed.1 (same_Err _ _ e)));
+    stayed = λ n. c.in-Err.ensures.cause.stayed (λ e. n (c.torn_answer.ensures.failed.1 (err_injective _ _ e)));
   };
   absence = record {
     later = omega (arith, c.in-Err.ensures.absences);

@@ -1,29 +1,29 @@
 use Rattle.std.proofs.Common.{◌∙◌, ap}
 use Rattle.icn_answer.specs.declared.answer.Answer.TheVariants.{FileFault}
 use Rattle.icn_answer.proofs.FaultCounts.{err_counts}
-use Rattle.icn_run_answer.proofs.Counts.{after_read, refused_ends, absence_of}
+use Rattle.icn_run_answer.proofs.CountCauses.{after_read, refused_ends, absence_of}
 use Rattle.icn_run_answer.proofs.Reports.{reports_of}
-use Rattle.icn_answer.proofs.ToldContent.{at_some, if_some}
+use Rattle.icn_answer.proofs.ToldContent.{if_some_elim, if_some_intro}
 use Rattle.icn_text.specs.WordTexts.{texts}
 use Rattle.icont_top.specs.Writing.{texts_seen}
 use Rattle.icont_top.proofs.AnswersGiven.{command_refuses, loading_no_image, loading_no_read, loading_no_run, loading_no_write, no_command}
-use Rattle.icont_top.proofs.Topmost.{held_as, refused_done, units_asked}
+use Rattle.icont_top.proofs.CallOutcomes.{held_as, refused_done, units_asked}
 use Rattle.icont_top.proofs.top.translate_answer.Goals as goal
 
 pub returns-in-Ok-clause-done : goal.returns-in-Ok-clause-done
 returns-in-Ok-clause-done g c words left input out asks =
-    if_some (g.F.Files.held c.args.files.now) _ (λ held e.
-    let made = at_some _ (g.F.Files.held c.args.files.now) held e c.in-Ok.ensures.translated in
+    if_some_intro (g.F.Files.held c.args.files.now) _ (λ held e.
+    let made = if_some_elim _ (g.F.Files.held c.args.files.now) held e c.in-Ok.ensures.translated in
     held_as _ _ c.in-Ok.ensures.reads.files (c.texts_answer.ensures.done words held made.0 left input out
     (record { names = texts c.args.names.now; asks = asks; come = made.1.0 }) (ap texts_seen c.deref.ensures.value ∙ made.1.1.0) made.1.1.1
     (c.in-Ok.ensures.reads.files ∙ e)))
 
 pub returns-in-Err-clause-done : goal.returns-in-Err-clause-done
 returns-in-Err-clause-done g c words left input out asks =
-    if_some (g.F.Files.held c.args.files.now) _ (λ held e.
+    if_some_intro (g.F.Files.held c.args.files.now) _ (λ held e.
     refused_done c.in-Err.answer c.refuse.result _ _ left input out _ _ (loading_no_image c.in-Err.answer c.in-Err.ensures.others)
     (loading_no_write c.in-Err.answer c.in-Err.ensures.others) (loading_no_read c.in-Err.answer c.in-Err.ensures.others)
-    (units_asked (texts c.args.names.now) c.in-Err.answer asks (at_some _ (g.F.Files.held c.args.files.now) held e c.in-Err.ensures.translated))
+    (units_asked (texts c.args.names.now) c.in-Err.answer asks (if_some_elim _ (g.F.Files.held c.args.files.now) held e c.in-Err.ensures.translated))
     c.in-Err.ensures.reads.files c.refuse.ensures.line)
 
 pub returns-in-Err-clause-reported : goal.returns-in-Err-clause-reported

@@ -1,6 +1,6 @@
 use Rattle.std.proofs.Common.{◌≡◌, ◌++◌, drop}
 use Rattle.icn_link.specs.Units.{units_seen}
-use Rattle.icont_units.specs.Fetching.{files_seen}
+use Rattle.icont_units.specs.FetchedFiles.{files_seen}
 use Rattle.icont_top.specs.Writing.{bases, texts_seen, units_written}
 use Rattle.icont_top.proofs.writing.ucode_texts.Given as goal
 

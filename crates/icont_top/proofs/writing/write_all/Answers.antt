@@ -1,11 +1,12 @@
 use Rattle.std.proofs.Common.{◌∙◌}
-use Rattle.icn_host.proofs.SinkSteps.{at_err}
+use Rattle.icn_host.proofs.SinkSteps.{on_err_always}
 use Rattle.icont_top.proofs.WrittenTexts.{text_more, text_part}
 use Rattle.icont_top.proofs.writing.write_all.Goals as goal
 
 pub returns-in_err-write-clause-part : goal.returns-in_err-write-clause-part
 returns-in_err-write-clause-part g c =
-    at_err _ (text_part c.in-Some.text.now c.in-Some.others.now c.loop-text.rest.now c.deref.result.now c.deref-in-Some.result.now c.loop-text.invariant.some
+    on_err_always
+    _ (text_part c.in-Some.text.now c.in-Some.others.now c.loop-text.rest.now c.deref.result.now c.deref-in-Some.result.now c.loop-text.invariant.some
     c.in-Some.ensures.cases.0 c.deref.ensures c.deref-in-Some.ensures.value c.in_err-write.ensures.err)
 
 pub loop-text-preserved : goal.loop-text-preserved

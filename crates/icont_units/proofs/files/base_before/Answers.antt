@@ -1,4 +1,4 @@
-use Rattle.icont_units.proofs.Naming.{before_end}
+use Rattle.icont_units.proofs.NamedFiles.{before_end}
 use Rattle.icont_units.proofs.files.base_before.Goals as goal
 
 pub returns : goal.returns

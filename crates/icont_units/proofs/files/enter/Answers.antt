@@ -1,8 +1,8 @@
 use Rattle.std.proofs.Common.{◌++◌, ap, ◌∙◌}
 use Rattle.icn_text.specs.WordTexts.{texts}
 use Rattle.icont_units.specs.Files.{file_named}
-use Rattle.icont_units.specs.Fetching.{files_seen, new_files}
-use Rattle.icont_units.proofs.Naming.{known_file, new_file, was_known, was_new}
+use Rattle.icont_units.specs.FetchedFiles.{files_seen, new_files}
+use Rattle.icont_units.proofs.NamedFiles.{known_file, new_file, was_known, was_new}
 use Rattle.icont_units.proofs.files.enter.Goals as goal
 
 pub returns-in_ok-push : goal.returns-in_ok-push

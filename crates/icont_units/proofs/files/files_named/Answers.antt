@@ -1,8 +1,8 @@
 use Rattle.std.proofs.Common.{drop}
 use Rattle.icn_text.specs.WordTexts.{texts}
 use Rattle.std.proofs.lemmas.List.{drop_all}
-use Rattle.icont_units.specs.Fetching.{files_seen}
-use Rattle.icont_units.proofs.Naming.{all_named}
+use Rattle.icont_units.specs.FetchedFiles.{files_seen}
+use Rattle.icont_units.proofs.NamedFiles.{all_named}
 use Rattle.icont_units.proofs.files.files_named.Goals as goal
 
 pub returns : goal.returns

@@ -1,7 +1,7 @@
 use Rattle.std.proofs.Common.{◌≡◌, [], ◌++◌, drop, map}
 use Rattle.icn_text.specs.WordTexts.{texts}
 use Rattle.icont_units.specs.Files.{file_named}
-use Rattle.icont_units.specs.Fetching.{files_seen, new_files}
+use Rattle.icont_units.specs.FetchedFiles.{files_seen, new_files}
 use Rattle.icont_units.proofs.files.files_named.Given as goal
 
 abbrev pub invariant-loop-name : goal.invariant-loop-name

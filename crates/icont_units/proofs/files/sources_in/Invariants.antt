@@ -1,6 +1,6 @@
 use Rattle.std.proofs.Common.{◌≡◌, ◌++◌, drop}
 use Rattle.icont_units.specs.Files.{sources_in}
-use Rattle.icont_units.specs.Fetching.{files_seen}
+use Rattle.icont_units.specs.FetchedFiles.{files_seen}
 use Rattle.icont_units.proofs.files.sources_in.Given as goal
 
 abbrev pub invariant-loop-file : goal.invariant-loop-file

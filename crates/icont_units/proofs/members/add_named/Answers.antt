@@ -1,14 +1,14 @@
 use Rattle.icn_link.specs.Units.{unit_seen}
 use Rattle.icont_units.proofs.NamedMembers.{ucode_pushed, ucode_sound}
-use Rattle.icn_answer.proofs.ToldContent.{at_some, if_some}
+use Rattle.icn_answer.proofs.ToldContent.{if_some_elim, if_some_intro}
 use Rattle.icont_units.proofs.members.add_named.Goals as goal
 
 pub returns-clause-read : goal.returns-clause-read
 returns-clause-read g c =
-    if_some (g.F.Files.held c.args.files.now) _ (λ held e before stands.
+    if_some_intro (g.F.Files.held c.args.files.now) _ (λ held e before stands.
     ucode_pushed held c.args.base.now (unit_seen c.in_ok-unit.unit) c.args.members.now c.push_ucode.new.members
     before c.push_ucode.result
-    (at_some _ (g.F.Files.held c.args.files.now) held e c.in_ok-unit.ensures.comes) stands
+    (if_some_elim _ (g.F.Files.held c.args.files.now) held e c.in_ok-unit.ensures.comes) stands
     c.push_ucode.ensures.added c.push_ucode.ensures.others)
 
 pub returns-clause-sound : goal.returns-clause-sound

@@ -1,12 +1,12 @@
 use Rattle.std.proofs.Common.{[], ◌+◌, ◌≤◌, ◌<◌, length, ap, arith, refl, subst, sym, ◌∙◌}
-use Rattle.icn_link.specs.Gathering.{with_texts}
+use Rattle.icn_link.specs.FirstMentions.{with_texts}
 use Rattle.icn_link.specs.LinkFaults.{unit_names}
 use Rattle.icn_link.specs.Units.{units_seen}
-use Rattle.icont_units.specs.Loading.{Grows, texts_in}
+use Rattle.icont_units.specs.Loading.{MembersGrow, texts_in}
 use Rattle.icont_units.specs.Units.{IsAbsent}
 use Rattle.icont_units.proofs.KnownBases.{knows_units}
 use Rattle.icont_units.proofs.LinkedMembers.{are_sought, gathered_all, gathered_more, gathered_none, gathered_passed, gathered_refused, grown_more, grows_none, held_end, held_small}
-use Rattle.icn_answer.proofs.ToldContent.{at_some, if_some}
+use Rattle.icn_answer.proofs.ToldContent.{if_some_elim, if_some_intro}
 use Rattle.icont_units.proofs.members_linked.gather.Goals as goal
 
 pub loop-place-init : goal.loop-place-init
@@ -19,7 +19,7 @@ loop-place-init g c =
             (units_seen c.args.members.now.units.items) (texts_in c.in-Ok.known.keys) first,
       );
       grows =
-          subst (λ known. Grows (g.F.Files.absences c.args.files.now) (g.F.Files.absences c.args.files.now)
+          subst (λ known. MembersGrow (g.F.Files.absences c.args.files.now) (g.F.Files.absences c.args.files.now)
           c.args.members.now c.args.members.now
           (with_texts [] (unit_names (units_seen c.args.members.now.units.items))) known []) (sym first)
           (grows_none (g.F.Files.absences c.args.files.now) c.args.members.now
@@ -30,9 +30,9 @@ loop-place-init g c =
 
 pub returns-in_err-gather_unit-clause-gathered : goal.returns-in_err-gather_unit-clause-gathered
 returns-in_err-gather_unit-clause-gathered g c =
-    if_some (g.F.Files.held c.args.files.now) _ (λ held e before s.
+    if_some_intro (g.F.Files.held c.args.files.now) _ (λ held e before s.
     let so = c.loop-place.invariant.gathered held e in
-    let sought = at_some _ (g.F.Files.held c.loop-place.files) held (c.loop-place.invariant.same ∙ e)
+    let sought = if_some_elim _ (g.F.Files.held c.loop-place.files) held (c.loop-place.invariant.same ∙ e)
     c.in_err-gather_unit.ensures.sought in
     let small : c.loop-place.place < length c.loop-place.members.units.items = omega
     (arith, c.loop-place-test.true, c.len.ensures, c.loop-place.members.units.ok.0) in
@@ -49,7 +49,7 @@ loop-place-preserved g c =
     record {
       gathered = λ held e.
           let so = c.loop-place.invariant.gathered held e in
-          let sought = at_some _ (g.F.Files.held c.loop-place.files) held (c.loop-place.invariant.same ∙ e)
+          let sought = if_some_elim _ (g.F.Files.held c.loop-place.files) held (c.loop-place.invariant.same ∙ e)
           c.in_ok-gather_unit.ensures.sought in
           let next = sought so.1 in (
             gathered_more held c.args.members.now c.loop-place.members c.gather_unit.new.members c.loop-place.place
@@ -70,7 +70,7 @@ loop-place-preserved g c =
 
 pub returns-clause-gathered : goal.returns-clause-gathered
 returns-clause-gathered g c =
-    if_some (g.F.Files.held c.args.files.now) _ (λ held e before s.
+    if_some_intro (g.F.Files.held c.args.files.now) _ (λ held e before s.
     let so = c.loop-place.invariant.gathered held e in
     let end : length c.loop-place.members.units.items ≤ c.loop-place.place = omega
     (arith, c.loop-place-test.false, c.len.ensures, c.loop-place.members.units.ok.0) in

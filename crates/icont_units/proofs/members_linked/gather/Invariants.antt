@@ -1,10 +1,10 @@
 use Rattle.std.proofs.Common.{◌≡◌, ◌-◌, ◌^◌, Some, [], take}
 use Rattle.std.specs.List.{flat_map}
 use Rattle.icn_host.specs.FileMaps.{FileMap}
-use Rattle.icn_link.specs.Gathering.{with_texts}
+use Rattle.icn_link.specs.FirstMentions.{with_texts}
 use Rattle.icn_link.specs.LinkFaults.{unit_names}
 use Rattle.icn_link.specs.Units.{units_seen}
-use Rattle.icont_units.specs.Loading.{Grows, Knows, texts_in}
+use Rattle.icont_units.specs.Loading.{MembersGrow, Knows, texts_in}
 use Rattle.icont_units.specs.Units.{IsAbsent, links_of}
 use Rattle.icont_units.proofs.LinkedMembers.{GatheredSo}
 use Rattle.icont_units.proofs.members_linked.gather.Given as goal
@@ -14,7 +14,7 @@ invariant-loop-place g l = record {
   gathered : (held : FileMap) → g.F.Files.held l.fn.files ≡ Some held
       → GatheredSo held l.fn.members l.members l.place
       × Knows (IsAbsent held) (units_seen l.members.units.items) (texts_in l.known.keys);
-  grows : Grows (g.F.Files.absences l.fn.files) (g.F.Files.absences l.files) l.fn.members l.members
+  grows : MembersGrow (g.F.Files.absences l.fn.files) (g.F.Files.absences l.files) l.fn.members l.members
       (with_texts [] (unit_names (units_seen l.fn.members.units.items)))
       (texts_in l.known.keys) (flat_map links_of (take l.place (units_seen l.members.units.items)));
   same : g.F.Files.held l.files ≡ g.F.Files.held l.fn.files;

@@ -1,15 +1,15 @@
 use Rattle.std.proofs.Common.{◌⊎◌, [], ◌∷◌, ◌∙◌, subst}
 use Rattle.icn_answer.specs.Answers.{IsFault}
-use Rattle.icont_units.specs.Loading.{Adds, Grows, Refuses, texts_in}
+use Rattle.icont_units.specs.Loading.{Adds, MembersGrow, RefusesBases, texts_in}
 use Rattle.icont_units.proofs.LinkedMembers.{adds_next, grows_next, refused_at, sought_passed}
-use Rattle.icn_answer.proofs.ToldContent.{at_some, if_some}
+use Rattle.icn_answer.proofs.ToldContent.{if_some_elim, if_some_intro}
 use Rattle.icont_units.proofs.members_linked.gather_bases.Goals as goal
 
 pub returns-in_err-gather_base-clause-sought : goal.returns-in_err-gather_base-clause-sought
 returns-in_err-gather_base-clause-sought g c =
-    if_some (g.F.Files.held c.args.files.now) _ (λ held e knows.
+    if_some_intro (g.F.Files.held c.args.files.now) _ (λ held e knows.
     let so = c.loop-base.invariant.sought held e knows in
-    let sought = at_some _ (g.F.Files.held c.loop-base.files) held (c.loop-base.invariant.same ∙ e)
+    let sought = if_some_elim _ (g.F.Files.held c.loop-base.files) held (c.loop-base.invariant.same ∙ e)
     c.in_err-gather_base.ensures.sought in
     sought_passed held c.args.members.now c.gather_base.new.members (texts_in c.args.bases.now)
     (texts_in c.gather_base.new.known.keys) c.in_err-gather_base.field-0.0 c.from_residual.result
@@ -17,14 +17,14 @@ returns-in_err-gather_base-clause-sought g c =
     (refused_at held c.args.members.now c.loop-base.members c.args.bases.now c.loop-base.base-index
     c.base-item.result c.in_err-gather_base.field-0.0 c.loop-base-test.true c.base-item.is so.0
     (subst (λ base. IsFault c.in_err-gather_base.field-0.0
-    ⊎ Refuses held c.loop-base.members (base ∷ []) c.in_err-gather_base.field-0.0) c.deref.ensures.value
+    ⊎ RefusesBases held c.loop-base.members (base ∷ []) c.in_err-gather_base.field-0.0) c.deref.ensures.value
     (sought so.1))))
 
 pub loop-base-preserved : goal.loop-base-preserved
 loop-base-preserved g c = record {
   sought = λ held e knows.
       let so = c.loop-base.invariant.sought held e knows in
-      let sought = at_some _ (g.F.Files.held c.loop-base.files) held (c.loop-base.invariant.same ∙ e)
+      let sought = if_some_elim _ (g.F.Files.held c.loop-base.files) held (c.loop-base.invariant.same ∙ e)
       c.in_ok-gather_base.ensures.sought in
       let next = sought so.1 in (
         adds_next held c.args.members.now c.loop-base.members c.gather_base.new.members c.args.bases.now
@@ -39,7 +39,7 @@ loop-base-preserved g c = record {
       (texts_in c.args.known.now.keys) (texts_in c.loop-base.known.keys) (texts_in c.gather_base.new.known.keys)
       c.args.bases.now c.loop-base.base-index c.base-item.result c.loop-base-test.true c.base-item.is
       c.loop-base.invariant.grows
-      (subst (λ base. Grows (g.F.Files.absences c.loop-base.files) (g.F.Files.absences c.gather_base.new.files)
+      (subst (λ base. MembersGrow (g.F.Files.absences c.loop-base.files) (g.F.Files.absences c.gather_base.new.files)
       c.loop-base.members c.gather_base.new.members (texts_in c.loop-base.known.keys)
       (texts_in c.gather_base.new.known.keys) (base ∷ [])) c.deref.ensures.value c.in_ok-gather_base.ensures.grows);
   same = c.in_ok-gather_base.ensures.reads.files ∙ c.loop-base.invariant.same;

@@ -1,6 +1,6 @@
 use Rattle.std.proofs.Common.{Err}
 use Rattle.icont_units.specs.Translating.{TokensGive}
-use Rattle.icont_units.proofs.Staging.{refused_rules}
+use Rattle.icont_units.proofs.StageAnswers.{refused_rules}
 use Rattle.icont_units.proofs.source.checked_tokens.Goals as goal
 
 pub returns-in-Err-Broken-clause-others : goal.returns-in-Err-Broken-clause-others

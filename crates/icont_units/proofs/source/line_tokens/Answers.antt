@@ -1,11 +1,11 @@
-use Rattle.icn_tree.proofs.Scanning.{rule_of_scan}
-use Rattle.icn_lex.proofs.Lines.{fault_of, found_of}
-use Rattle.icont_units.proofs.Sourcing.{not_absent, are_scanned}
+use Rattle.icn_tree.proofs.KeptByScans.{rule_of_scan}
+use Rattle.icn_lex.proofs.ScannedLines.{fault_of, found_tokens}
+use Rattle.icont_units.proofs.NamedSources.{not_absent, are_scanned}
 use Rattle.icont_units.proofs.source.line_tokens.Goals as goal
 
 pub returns-in-Ok-clause-scanned : goal.returns-in-Ok-clause-scanned
 returns-in-Ok-clause-scanned c =
-    are_scanned c.args.lines.lines.items c.in-Ok.tokens.items c.args.lines.within (found_of c.args.lines.lines.items c.in-Ok.tokens c.in-Ok.ensures.exact)
+    are_scanned c.args.lines.lines.items c.in-Ok.tokens.items c.args.lines.within (found_tokens c.args.lines.lines.items c.in-Ok.tokens c.in-Ok.ensures.exact)
 
 pub returns-in-Err-Broken-clause-absence : goal.returns-in-Err-Broken-clause-absence
 returns-in-Err-Broken-clause-absence c =

@@ -1,8 +1,8 @@
 use Rattle.std.proofs.Common.{ap, Err}
 use Rattle.icn_prep.specs.declared.fault.PrepFault.TheVariants as Prep
 use Rattle.icn_answer.specs.declared.answer.Answer.TheVariants.{FileFault}
-use Rattle.icont_units.proofs.Matching.{same_Err}
-use Rattle.icont_units.proofs.Sourcing.{absence_from, file_fault_from}
+use Rattle.icont_units.proofs.EqualResults.{err_injective}
+use Rattle.icont_units.proofs.NamedSources.{absence_from, file_fault_from}
 use Rattle.icont_units.proofs.source.source_tokens.Goals as goal
 
 pub returns-in-Err-clause-reads : goal.returns-in-Err-clause-reads
@@ -12,9 +12,9 @@ returns-in-Err-clause-reads g c = record {
     later = c.in-Err.ensures.file_fault.later;
     rose = λ e. c.in-Err.ensures.file_fault.rose
         (ap (λ f. Err f)
-        (file_fault_from c.args.name.now c.in-Err.fault c.fault_answer.result c.fault_answer.ensures.given (same_Err c.fault_answer.result FileFault e)));
+        (file_fault_from c.args.name.now c.in-Err.fault c.fault_answer.result c.fault_answer.ensures.given (err_injective c.fault_answer.result FileFault e)));
     stayed = λ n. c.in-Err.ensures.file_fault.stayed
-        (λ e. n (ap (λ a. Err a) (c.fault_answer.ensures.file_fault (same_Err c.in-Err.fault Prep.FileFault e))));
+        (λ e. n (ap (λ a. Err a) (c.fault_answer.ensures.file_fault (err_injective c.in-Err.fault Prep.FileFault e))));
   };
   absence = record {
     later = c.in-Err.ensures.absence.later;

@@ -1,6 +1,6 @@
 use Rattle.icn_ucode.specs.UnitReading.{UnitOutcome, Faulty, Whole, unit_read}
 use Rattle.icn_link.specs.Units.{unit_seen}
-use Rattle.icont_units.proofs.Judging.{fault_is, first_long, found, read_fault, second_long, unit_is}
+use Rattle.icont_units.proofs.JudgedTexts.{fault_is, first_long, found, read_fault, second_long, unit_is}
 use Rattle.icont_units.proofs.ucode.unit_read.Goals as goal
 
 pub returns-then-is_too_long-clause-judged : goal.returns-then-is_too_long-clause-judged

@@ -1,7 +1,7 @@
 use Rattle.std.proofs.Common.{◌∙◌, ◌<◌, ◌^◌, ◌≤◌, arith, length, refl, rules}
 use Rattle.clap.specs.Lexer.{usize_max}
 use Rattle.clap.specs.Words.{app_of, kind_of}
-use Rattle.icont_words.proofs.Holding.{matched, unmatched}
+use Rattle.icont_words.proofs.ClapAgrees.{matched, unmatched}
 use Rattle.icont_words.proofs.command.matches.Goals as goal
 
 pub returns-in-Ok : goal.returns-in-Ok

@@ -2,7 +2,7 @@ use Rattle.std.proofs.Common.{[], ◌∙◌, ap, codes, refl, unwrap_or}
 use Rattle.clap.specs.Words.{found_of, one_text}
 use Rattle.clap.proofs.WalkLemmas.{first_value-rows, one_text-rows}
 use Rattle.icont_words.specs.Words.{has_units, names_said}
-use Rattle.icont_words.proofs.Outcomes.{flag_is, found_names, order_as}
+use Rattle.icont_words.proofs.WordOutcomes.{flag_is, found_names, order_as}
 use Rattle.icont_words.proofs.order.order_of.Goals as goal
 
 pub returns : goal.returns

@@ -1,4 +1,4 @@
-use Rattle.iconx_top.proofs.Judging.{loaded, no_absence, no_file_fault, of_loading}
+use Rattle.iconx_top.proofs.JudgedImages.{loaded, no_absence, no_file_fault, of_loading}
 use Rattle.iconx_top.proofs.load.load.Goals as goal
 
 pub returns-in-Ok-clause-loaded : goal.returns-in-Ok-clause-loaded

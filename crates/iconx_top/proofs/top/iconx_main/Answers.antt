@@ -2,17 +2,17 @@ use Rattle.std.proofs.Common.{[], refl, sym, inr}
 use Rattle.icn_answer.specs.declared.answer.Answer.TheVariants.{Command}
 use Rattle.iconx_top.specs.Job.{wrong_words}
 use Rattle.iconx_top.specs.Answered.{wrong_words as by_words}
-use Rattle.iconx_top.proofs.Answering.{answer_put}
-use Rattle.iconx_top.proofs.Refusals.{command_ends, command_no_read, command_no_write, command_unrun, refused}
-use Rattle.icn_run_answer.proofs.Counts.{faultless_of}
+use Rattle.iconx_top.proofs.AskedAnswers.{answer_put}
+use Rattle.iconx_top.proofs.CallOutcomes.{command_ends, command_no_read, command_no_write, command_unrun, refused}
+use Rattle.icn_run_answer.proofs.CountCauses.{faultless_of}
 use Rattle.icn_run_answer.proofs.Reports.{line_of_reports, reports_of}
-use Rattle.icn_answer.proofs.ToldContent.{if_some}
+use Rattle.icn_answer.proofs.ToldContent.{if_some_intro}
 use Rattle.iconx_top.proofs.ReportLines.{asked_reports}
 use Rattle.iconx_top.proofs.top.iconx_main.Goals as goal
 
 pub returns-in-Err-clause-outcome : goal.returns-in-Err-clause-outcome
 returns-in-Err-clause-outcome g c =
-    if_some (g.F.Files.held c.args.files.now) _ (λ held e. if_some (g.I.Source.left c.args.input.now) _ (λ left d.
+    if_some_intro (g.F.Files.held c.args.files.now) _ (λ held e. if_some_intro (g.I.Source.left c.args.input.now) _ (λ left d.
     refused [] (Command c.in-Err.kind) c.refuse.result _ _ _ _ _ _ _ (inr (wrong_words c.in-Err.kind (sym c.in-Err.ensures)))
     (command_no_write c.in-Err.kind) (command_no_read c.in-Err.kind) refl e d c.refuse.ensures.line))
 
@@ -30,7 +30,7 @@ returns-in-Err-clause-fault_line g c = asked_reports _ _ c.in-Err.ensures (repor
 
 pub returns-in-Err-clause-answered : goal.returns-in-Err-clause-answered
 returns-in-Err-clause-answered g c =
-    if_some (g.F.Files.held c.args.files.now)
+    if_some_intro (g.F.Files.held c.args.files.now)
     _ (λ held e. answer_put (Command c.in-Err.kind) c.refuse.result (by_words c.in-Err.kind (sym c.in-Err.ensures)) c.refuse.ensures.line)
 
 pub returns-in-Err-clause-causes : goal.returns-in-Err-clause-causes
@@ -44,7 +44,7 @@ pub returns-in-Ok-clause-faultless : goal.returns-in-Ok-clause-faultless
 returns-in-Ok-clause-faultless g c = faultless_of c.image_answer.result c.image_answer.ensures.leaves.causes
 
 pub returns-in-Err-clause-input : goal.returns-in-Err-clause-input
-returns-in-Err-clause-input g c = if_some (g.I.Source.left c.args.input.now) _ (λ left d. (0, d))
+returns-in-Err-clause-input g c = if_some_intro (g.I.Source.left c.args.input.now) _ (λ left d. (0, d))
 
 pub returns-in-Ok-clause-causes : goal.returns-in-Ok-clause-causes
 returns-in-Ok-clause-causes g c = c.image_answer.ensures.leaves.causes

@@ -1,33 +1,33 @@
 use Rattle.std.proofs.Common.{map, refl}
 use Rattle.std.specs.Prelude.{string_bytes}
 use Rattle.icn_value.specs.Limited.{limits_of}
-use Rattle.iconx_top.proofs.Answering.{answer_put, load_answered, run_answered}
-use Rattle.iconx_top.proofs.Refusals.{asked_load, held_as, load_no_read, load_no_write, refused}
+use Rattle.iconx_top.proofs.AskedAnswers.{answer_put, load_answered, run_answered}
+use Rattle.iconx_top.proofs.CallOutcomes.{asked_load, held_as, load_no_read, load_no_write, refused}
 use Rattle.icn_answer.specs.declared.answer.Answer.TheVariants.{FileFault}
 use Rattle.icn_answer.proofs.FaultCounts.{err_counts}
-use Rattle.icn_run_answer.proofs.Counts.{refused_ends, absence_of, run_no_absence, run_no_file}
-use Rattle.icn_run_answer.proofs.Leaving.{leaves_both}
+use Rattle.icn_run_answer.proofs.CountCauses.{refused_ends, absence_of, run_no_absence, run_no_file}
+use Rattle.icn_run_answer.proofs.OutsideLeft.{leaves_both}
 use Rattle.icn_run_answer.proofs.Reports.{reports_of}
-use Rattle.icn_answer.proofs.ToldContent.{at_some, if_some}
+use Rattle.icn_answer.proofs.ToldContent.{if_some_elim, if_some_intro}
 use Rattle.iconx_top.proofs.ReportLines.{load_unrun}
 use Rattle.iconx_top.proofs.top.image_answer.Goals as goal
 
 pub returns-in-Err-clause-outcome : goal.returns-in-Err-clause-outcome
 returns-in-Err-clause-outcome g c words asks =
-    if_some (g.F.Files.held c.args.files.now) _ (λ held e. if_some (g.I.Source.left c.args.input.now) _ (λ left d.
+    if_some_intro (g.F.Files.held c.args.files.now) _ (λ held e. if_some_intro (g.I.Source.left c.args.input.now) _ (λ left d.
     refused c.args.run.image.now c.in-Err.answer c.refuse.result _ _ _ _ _ _ _
     (asked_load (limits_of c.args.run.limits) c.args.run.image.now (map string_bytes c.args.run.arguments.now) c.in-Err.answer asks
-    (at_some _ (g.F.Files.held c.args.files.now) held e c.in-Err.ensures.loaded))
+    (if_some_elim _ (g.F.Files.held c.args.files.now) held e c.in-Err.ensures.loaded))
     (load_no_write c.in-Err.answer c.in-Err.ensures.others) (load_no_read c.in-Err.answer c.in-Err.ensures.others)
     c.in-Err.ensures.reads.files e d c.refuse.ensures.line))
 
 pub returns-in-Ok-clause-outcome : goal.returns-in-Ok-clause-outcome
 returns-in-Ok-clause-outcome g c words asks =
-    if_some (g.F.Files.held c.args.files.now) _ (λ held e. if_some (g.I.Source.left c.args.input.now) _ (λ left d.
+    if_some_intro (g.F.Files.held c.args.files.now) _ (λ held e. if_some_intro (g.I.Source.left c.args.input.now) _ (λ left d.
     held_as _ _ c.in-Ok.ensures.reads.files
-    (at_some _ (g.I.Source.left c.args.input.now) left d
+    (if_some_elim _ (g.I.Source.left c.args.input.now) left d
     (c.run_answer.ensures.outcome words held (g.F.Files.held c.args.files.now) asks
-    (at_some _ (g.F.Files.held c.args.files.now) held e c.in-Ok.ensures.loaded) e))))
+    (if_some_elim _ (g.F.Files.held c.args.files.now) held e c.in-Ok.ensures.loaded) e))))
 
 pub returns-in-Err-clause-reported : goal.returns-in-Err-clause-reported
 returns-in-Err-clause-reported g c = reports_of (load_unrun c.in-Err.answer c.in-Err.ensures.others) c.refuse.ensures.line
@@ -37,15 +37,15 @@ returns-in-Ok-clause-reported g c = c.run_answer.ensures.reported c.args.run.ima
 
 pub returns-in-Err-clause-answered : goal.returns-in-Err-clause-answered
 returns-in-Err-clause-answered g c words asks =
-    if_some (g.F.Files.held c.args.files.now) _ (λ held e. answer_put c.in-Err.answer c.refuse.result
+    if_some_intro (g.F.Files.held c.args.files.now) _ (λ held e. answer_put c.in-Err.answer c.refuse.result
     (load_answered (limits_of c.args.run.limits) c.args.run.image.now (map string_bytes c.args.run.arguments.now) c.in-Err.answer asks
-    (at_some _ (g.F.Files.held c.args.files.now) held e c.in-Err.ensures.loaded)) c.refuse.ensures.line)
+    (if_some_elim _ (g.F.Files.held c.args.files.now) held e c.in-Err.ensures.loaded)) c.refuse.ensures.line)
 
 pub returns-in-Ok-clause-answered : goal.returns-in-Ok-clause-answered
 returns-in-Ok-clause-answered g c words asks =
-    if_some (g.F.Files.held c.args.files.now) _ (λ held e. run_answered (limits_of c.args.run.limits) c.args.run.image.now
+    if_some_intro (g.F.Files.held c.args.files.now) _ (λ held e. run_answered (limits_of c.args.run.limits) c.args.run.image.now
     (map string_bytes c.args.run.arguments.now) c.in-Ok.verified c.run_answer.result asks
-    (at_some _ (g.F.Files.held c.args.files.now) held e c.in-Ok.ensures.loaded) c.run_answer.ensures.others)
+    (if_some_elim _ (g.F.Files.held c.args.files.now) held e c.in-Ok.ensures.loaded) c.run_answer.ensures.others)
 
 pub returns-in-Ok-clause-leaves : goal.returns-in-Ok-clause-leaves
 returns-in-Ok-clause-leaves g c = record {

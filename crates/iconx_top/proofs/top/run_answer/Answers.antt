@@ -1,36 +1,37 @@
 use Rattle.std.proofs.Common.{refl}
 use Rattle.icn_value.specs.Store.{outside_of}
-use Rattle.icn_code.specs.Seen.{tables_of}
+use Rattle.icn_code.specs.CodeTables.{tables_of}
 use Rattle.icn_machine.specs.Starting.{launch_with}
-use Rattle.icn_run_answer.proofs.Counts.{broken_counts, ran_counts}
+use Rattle.icn_run_answer.proofs.CountCauses.{broken_counts, ran_counts}
 use Rattle.icn_run_answer.proofs.InputLeft.{broken_lost, ended_lost}
 use Rattle.icn_run_answer.proofs.Reports.{fault_reports, ran_reports}
-use Rattle.icn_answer.proofs.ToldContent.{if_some}
-use Rattle.iconx_top.proofs.Refusals.{broke_outcome, off_puts, ran_outcome, run_asked}
+use Rattle.icn_answer.proofs.ToldContent.{if_some_intro}
+use Rattle.iconx_top.proofs.CallOutcomes.{broke_outcome, off_puts, ran_outcome, run_asked}
 use Rattle.iconx_top.proofs.top.run_answer.Goals as goal
 
 pub returns-in-Ok-clause-outcome : goal.returns-in-Ok-clause-outcome
 returns-in-Ok-clause-outcome g c words held told asks loaded e =
-    if_some (g.I.Source.left c.args.input.now) _ (λ left d.
+    if_some_intro (g.I.Source.left c.args.input.now) _ (λ left d.
     let launch = launch_with c.args.asked.arguments.now c.args.asked.limits (outside_of left) in
     ran_outcome (tables_of c.args.code.now.code) launch c.in-Ok.ending told e
     (run_asked left launch c.args.asked.image.now c.args.code.now asks refl loaded) (c.in-Ok.ensures.ends left d))
 
 pub returns-in-Err-clause-outcome : goal.returns-in-Err-clause-outcome
 returns-in-Err-clause-outcome g c words held told asks loaded e =
-    if_some (g.I.Source.left c.args.input.now) _ (λ left d.
+    if_some_intro (g.I.Source.left c.args.input.now) _ (λ left d.
     let launch = launch_with c.args.asked.arguments.now c.args.asked.limits (outside_of left) in
     rw c.answer_of-answer.ensures (broke_outcome _ _ (tables_of c.args.code.now.code) launch c.in-Err.fault told
     (run_asked left launch c.args.asked.image.now c.args.code.now asks refl loaded)
     c.in-Err.ensures.first_fault (c.in-Err.ensures.breaks left d) (rw c.answer_of-answer.ensures at c.own_line.ensures.puts)))
 
 pub returns-in-Ok-clause-reported : goal.returns-in-Ok-clause-reported
-returns-in-Ok-clause-reported g c name = ran_reports c.in-Ok.ending (if_some (g.I.Source.left c.args.input.now) _ (λ left d. c.in-Ok.ensures.reported left d))
+returns-in-Ok-clause-reported g c name =
+    ran_reports c.in-Ok.ending (if_some_intro (g.I.Source.left c.args.input.now) _ (λ left d. c.in-Ok.ensures.reported left d))
 
 pub returns-in-Err-clause-reported : goal.returns-in-Err-clause-reported
 returns-in-Err-clause-reported g c name =
     rw c.answer_of-answer.ensures (fault_reports _ _ _ c.in-Err.fault c.in-Err.ensures.first_fault
-    (if_some (g.I.Source.left c.args.input.now) _ (λ left d.
+    (if_some_intro (g.I.Source.left c.args.input.now) _ (λ left d.
     off_puts (tables_of c.args.code.now.code) (launch_with c.args.asked.arguments.now c.args.asked.limits (outside_of left)) c.in-Err.fault _ _
     (c.in-Err.ensures.breaks left d)))
     (rw c.answer_of-answer.ensures at c.own_line.ensures.puts))
@@ -44,7 +45,7 @@ returns-in-Err-clause-causes g c =
 
 pub returns-in-Ok-clause-input : goal.returns-in-Ok-clause-input
 returns-in-Ok-clause-input g c =
-    if_some (g.I.Source.left c.args.input.now) _ (λ left d.
+    if_some_intro (g.I.Source.left c.args.input.now) _ (λ left d.
     let ends = c.in-Ok.ensures.ends left d in
     ended_lost c.runs_leave.ensures.on_stacks (tables_of c.args.code.now.code)
     (launch_with c.args.asked.arguments.now c.args.asked.limits (outside_of left)) left ends.0 (c.broken_off.ensures.begun left) ends.1.1.0
@@ -52,7 +53,7 @@ returns-in-Ok-clause-input g c =
 
 pub returns-in-Err-clause-input : goal.returns-in-Err-clause-input
 returns-in-Err-clause-input g c =
-    if_some (g.I.Source.left c.args.input.now) _ (λ left d.
+    if_some_intro (g.I.Source.left c.args.input.now) _ (λ left d.
     let off = c.in-Err.ensures.breaks left d in
     broken_lost c.runs_leave.ensures.on_stacks c.broken_off.ensures.reading (tables_of c.args.code.now.code)
     (launch_with c.args.asked.arguments.now c.args.asked.limits (outside_of left)) c.in-Err.fault left off.0 _ _ (c.broken_off.ensures.begun left) off.1.0

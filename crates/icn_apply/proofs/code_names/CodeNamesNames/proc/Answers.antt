@@ -2,7 +2,7 @@ use Rattle.std.proofs.Common.{◌≡◌, length, map, [], arith}
 use Rattle.std.proofs.lemmas.List.{length-map}
 use Rattle.icn_text.specs.Funcs.{func_name}
 use Rattle.icn_defs.specs.Images.{functions}
-use Rattle.icn_code.specs.Seen.{tables_of}
+use Rattle.icn_code.specs.CodeTables.{tables_of}
 use Rattle.icn_apply.specs.CodeNaming.{names_of}
 use Rattle.icn_apply.proofs.NameLists.{behind_two}
 use Rattle.icn_apply.proofs.code_names.CodeNamesNames.proc.Goals as goal

@@ -1,11 +1,11 @@
 use Rattle.std.proofs.Common.{◌≡◌, ◌<◌, false, Option, Some, IfSome, length, sym, subst, arith}
 use Rattle.std.proofs.lemmas.List.{length-map}
-use Rattle.icn_coexp.specs.Transfers.{SeenStacks, Table, status_of, exhausted_of, enter_other, KeepsOthers}
-use Rattle.icn_coexp.specs.Keeping.{table_seen, coexp_seen, running_seen, status_seen}
+use Rattle.icn_coexp.specs.Transfers.{SeenStacks, CoexpTable, status_of, exhausted_of, enter_other, KeepsOthers}
+use Rattle.icn_coexp.specs.KeptEntries.{table_seen, coexp_seen, running_seen, status_seen}
 use Rattle.icn_coexp.specs.declared.entries.Status.{Status}
-use Rattle.icn_coexp.specs.declared.entries.Running.TheVariants.{On}
-use Rattle.icn_coexp.proofs.Others.{enter_keeps}
-use Rattle.icn_coexp.proofs.Moves.{turned, can_give, kept_on, enter_on, status_other}
+use Rattle.icn_coexp.specs.declared.entries.RunningStack.TheVariants.{On}
+use Rattle.icn_coexp.proofs.OthersKept.{enter_keeps}
+use Rattle.icn_coexp.proofs.TransferredEntries.{turned, can_give, kept_on, enter_on, status_other}
 use Rattle.icn_coexp.proofs.table.Stacks.activate.Goals as goal
 
 pub give_to-stack-requires-clause-can : goal.give_to-stack-requires-clause-can
@@ -38,7 +38,7 @@ returns g c =
     let l : c.args.id < length c.wait.new.entries.items = omega (arith, o, c.wait.ensures.length, s.entries.ok, c.wait.new.entries.ok) in
     let t = turned g.row.K.Denot s.entries.items c.wait.new.entries.items c.set_activator.new.entries.items s.active c.args.id s.running c.self.invariant
     (rw (← c.self.view_is) at c.requires.room) c.wait.ensures.is c.set_activator.ensures.is c.if-id-self.false l in
-    let after : Table = table_seen c.give_to-stack.new.entries.items c.args.id (On c.give_to-stack.result) in
+    let after : CoexpTable = table_seen c.give_to-stack.new.entries.items c.args.id (On c.give_to-stack.result) in
     let moved = enter_on g.row.K.Denot s.entries.items c.wait.new.entries.items c.set_activator.new.entries.items _ s.active c.args.id s.running c.args.v
     _ c.wait.ensures.is c.set_activator.ensures.is t.fits t.live c.give_to-stack.ensures.stack c.give_to-stack.ensures.is in
     record {

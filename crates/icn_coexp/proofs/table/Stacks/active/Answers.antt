@@ -1,9 +1,9 @@
 use Rattle.std.proofs.Common.{ℕ, ◌<◌, length, refl, sym, subst}
 use Rattle.std.proofs.lemmas.List.{length-map}
-use Rattle.icn_coexp.specs.Keeping.{coexp_seen, table_seen}
+use Rattle.icn_coexp.specs.KeptEntries.{coexp_seen, table_seen}
 use Rattle.icn_coexp.specs.Transfers.{source}
-use Rattle.icn_coexp.proofs.Moves.{source_live}
-use Rattle.icn_coexp.proofs.Others.{one_is, main_begun, main_goes_on}
+use Rattle.icn_coexp.proofs.TransferredEntries.{source_live}
+use Rattle.icn_coexp.proofs.OthersKept.{one_is, main_begun, main_goes_on}
 use Rattle.icn_coexp.proofs.table.Stacks.active.Goals as goal
 
 pub returns-clause-one : goal.returns-clause-one

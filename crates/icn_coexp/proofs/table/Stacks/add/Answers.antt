@@ -1,7 +1,7 @@
 use Rattle.std.proofs.Common.{List, refl, ap, ◌∙◌}
 use Rattle.icn_value.specs.declared.val.Val.{Val}
 use Rattle.icn_frames.specs.Stacks as flat
-use Rattle.icn_coexp.proofs.Additions.{kept_more}
+use Rattle.icn_coexp.proofs.AddedEntries.{kept_more}
 use Rattle.icn_coexp.proofs.table.Stacks.add.Goals as goal
 
 pub invariant_of-self-2 : goal.invariant_of-self-2

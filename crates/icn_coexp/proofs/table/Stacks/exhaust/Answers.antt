@@ -1,9 +1,9 @@
 use Rattle.std.proofs.Common.{◌≡◌, Some, ◌<◌, length, arith, subst}
-use Rattle.icn_coexp.specs.Transfers.{SeenStacks, Table, source, exhaust, KeepsOthers}
-use Rattle.icn_coexp.specs.Keeping.{table_seen}
-use Rattle.icn_coexp.specs.declared.entries.Running.TheVariants.{On, HopDue}
-use Rattle.icn_coexp.proofs.Others.{exhaust_keeps}
-use Rattle.icn_coexp.proofs.Moves.{source_begun, source_live, begun_live, end_begun, end_fits, can_fail, kept_on, kept_hop, exhaust_on, exhaust_hop}
+use Rattle.icn_coexp.specs.Transfers.{SeenStacks, CoexpTable, source, exhaust, KeepsOthers}
+use Rattle.icn_coexp.specs.KeptEntries.{table_seen}
+use Rattle.icn_coexp.specs.declared.entries.RunningStack.TheVariants.{On, Hopping}
+use Rattle.icn_coexp.proofs.OthersKept.{exhaust_keeps}
+use Rattle.icn_coexp.proofs.TransferredEntries.{source_begun, source_live, begun_live, end_begun, end_fits, can_fail, kept_on, kept_hop, exhaust_on, exhaust_hop}
 use Rattle.icn_coexp.proofs.table.Stacks.exhaust.Goals as goal
 
 pub is_exhausted-requires : goal.is_exhausted-requires
@@ -30,7 +30,7 @@ returns-then-is_exhausted-clause-table g c =
     let p = rw (← c.self.view_is) at c.source-to.ensures in
     let b = end_begun g.row.K.Denot s.entries.items e s.active c.source-to.result s.running c.self.invariant c.replace_status.ensures.is
     (source_begun g.row.K.Denot s.entries.items s.active _ s.running c.self.invariant p) in
-    subst (λ (w : SeenStacks). exhaust w.table ≡ Some (table_seen e c.source-to.result HopDue)) c.self.view_is
+    subst (λ (w : SeenStacks). exhaust w.table ≡ Some (table_seen e c.source-to.result Hopping)) c.self.view_is
     (exhaust_hop g.row.K.Denot s.entries.items e s.active _ s.running _ p c.replace_status.ensures.is
     (begun_live g.row.K.Denot e _ b) c.is_exhausted.ensures c.if-is_exhausted.true)
 
@@ -41,7 +41,7 @@ returns-then-is_exhausted-clause-others g c =
     let p = rw (← c.self.view_is) at c.source-to.ensures in
     let b = end_begun g.row.K.Denot s.entries.items e s.active c.source-to.result s.running c.self.invariant c.replace_status.ensures.is
     (source_begun g.row.K.Denot s.entries.items s.active _ s.running c.self.invariant p) in
-    let after : Table = table_seen e c.source-to.result HopDue in
+    let after : CoexpTable = table_seen e c.source-to.result Hopping in
     subst (λ (w : SeenStacks). KeepsOthers w.table.active (source w.table) w.table.coexps after.coexps) c.self.view_is
     (exhaust_keeps (table_seen s.entries.items s.active s.running) after
     (exhaust_hop g.row.K.Denot s.entries.items e s.active _ s.running _ p c.replace_status.ensures.is
@@ -93,7 +93,7 @@ returns-clause-others g c =
     let p = rw (← c.self.view_is) at c.source-to.ensures in
     let b = end_begun g.row.K.Denot s.entries.items e s.active c.source-to.result s.running c.self.invariant c.replace_status.ensures.is
     (source_begun g.row.K.Denot s.entries.items s.active _ s.running c.self.invariant p) in
-    let after : Table = table_seen c.fail_to-stack.new.entries.items c.source-to.result (On c.fail_to-stack.result) in
+    let after : CoexpTable = table_seen c.fail_to-stack.new.entries.items c.source-to.result (On c.fail_to-stack.result) in
     subst (λ (w : SeenStacks). KeepsOthers w.table.active (source w.table) w.table.coexps after.coexps) c.self.view_is
     (exhaust_keeps (table_seen s.entries.items s.active s.running) after
     (exhaust_on g.row.K.Denot s.entries.items e _ s.active _ s.running _ p c.replace_status.ensures.is

@@ -1,10 +1,10 @@
 use Rattle.std.proofs.Common.{◌≡◌, Some, ◌<◌, length, arith, sym, subst}
-use Rattle.icn_coexp.specs.Transfers.{SeenStacks, Table, source, give, KeepsOthers}
-use Rattle.icn_coexp.specs.Keeping.{table_seen, AreInOrder}
-use Rattle.icn_coexp.specs.declared.entries.Running.{Running}
-use Rattle.icn_coexp.specs.declared.entries.Running.TheVariants.{On}
-use Rattle.icn_coexp.proofs.Others.{give_keeps}
-use Rattle.icn_coexp.proofs.Moves.{source_begun, source_live, begun_live, left_begun, left_fits, can_give, kept_on, kept_hop, give_on, give_hop}
+use Rattle.icn_coexp.specs.Transfers.{SeenStacks, CoexpTable, source, give, KeepsOthers}
+use Rattle.icn_coexp.specs.KeptEntries.{table_seen, AreInOrder}
+use Rattle.icn_coexp.specs.declared.entries.RunningStack.{RunningStack}
+use Rattle.icn_coexp.specs.declared.entries.RunningStack.TheVariants.{On}
+use Rattle.icn_coexp.proofs.OthersKept.{give_keeps}
+use Rattle.icn_coexp.proofs.TransferredEntries.{source_begun, source_live, begun_live, left_begun, left_fits, can_give, kept_on, kept_hop, give_on, give_hop}
 use Rattle.icn_coexp.proofs.table.Stacks.give.Goals as goal
 
 pub is_exhausted-requires : goal.is_exhausted-requires
@@ -20,7 +20,7 @@ invariant_of-self g c =
     let e = c.wait.new.entries.items in
     let b = left_begun g.row.K.Denot s.entries.items e s.active c.source-to.result s.running c.self.invariant c.wait.ensures.is
     (source_begun g.row.K.Denot s.entries.items s.active _ s.running c.self.invariant (rw (← c.self.view_is) at c.source-to.ensures)) in
-    subst (λ (w : Running g.row.K.Denot). AreInOrder e c.source-to.result w) (sym c.wait.ensures.running)
+    subst (λ (w : RunningStack g.row.K.Denot). AreInOrder e c.source-to.result w) (sym c.wait.ensures.running)
     (kept_hop g.row.K.Denot e c.source-to.result
     _ (left_fits g.row.K.Denot s.entries.items e s.active s.running c.self.invariant (rw (← c.self.view_is) at c.requires.room) c.wait.ensures.is)
     (begun_live g.row.K.Denot e _ b) c.is_exhausted.ensures c.if-is_exhausted.true)
@@ -43,7 +43,7 @@ returns-then-is_exhausted-clause-others g c =
     let p = rw (← c.self.view_is) at c.source-to.ensures in
     let b = left_begun g.row.K.Denot s.entries.items e s.active c.source-to.result s.running c.self.invariant c.wait.ensures.is
     (source_begun g.row.K.Denot s.entries.items s.active _ s.running c.self.invariant p) in
-    let after : Table = table_seen e c.source-to.result c.wait.new.running in
+    let after : CoexpTable = table_seen e c.source-to.result c.wait.new.running in
     subst (λ (w : SeenStacks). KeepsOthers w.table.active (source w.table) w.table.coexps after.coexps) c.self.view_is
     (give_keeps c.args.v (table_seen s.entries.items s.active s.running) after
     (give_hop g.row.K.Denot s.entries.items e s.active _ s.running _ c.args.v _ p c.wait.ensures.is
@@ -95,7 +95,7 @@ returns-clause-others g c =
     let p = rw (← c.self.view_is) at c.source-to.ensures in
     let b = left_begun g.row.K.Denot s.entries.items e s.active c.source-to.result s.running c.self.invariant c.wait.ensures.is
     (source_begun g.row.K.Denot s.entries.items s.active _ s.running c.self.invariant p) in
-    let after : Table = table_seen c.give_to-stack.new.entries.items c.source-to.result (On c.give_to-stack.result) in
+    let after : CoexpTable = table_seen c.give_to-stack.new.entries.items c.source-to.result (On c.give_to-stack.result) in
     subst (λ (w : SeenStacks). KeepsOthers w.table.active (source w.table) w.table.coexps after.coexps) c.self.view_is
     (give_keeps c.args.v (table_seen s.entries.items s.active s.running) after
     (give_on g.row.K.Denot s.entries.items e _ s.active _ s.running c.args.v _ p c.wait.ensures.is

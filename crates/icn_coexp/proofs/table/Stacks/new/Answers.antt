@@ -1,5 +1,5 @@
 use Rattle.std.proofs.Common.{refl}
-use Rattle.icn_coexp.proofs.Moves.{kept_first}
+use Rattle.icn_coexp.proofs.TransferredEntries.{kept_first}
 use Rattle.icn_coexp.proofs.table.Stacks.new.Goals as goal
 
 pub invariant_of-result : goal.invariant_of-result

@@ -1,4 +1,4 @@
-use Rattle.icn_frames.proofs.Fits.{sound_pop}
+use Rattle.icn_frames.proofs.SoundStacks.{sound_pop}
 use Rattle.icn_frames.proofs.calls.Frames.pop.Goals as goal
 
 pub invariant_of-self : goal.invariant_of-self

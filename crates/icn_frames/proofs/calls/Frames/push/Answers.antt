@@ -1,4 +1,4 @@
-use Rattle.icn_frames.proofs.Fits.{sound_push}
+use Rattle.icn_frames.proofs.SoundStacks.{sound_push}
 use Rattle.icn_frames.proofs.calls.Frames.push.Goals as goal
 
 pub invariant_of-self-2 : goal.invariant_of-self-2

@@ -1,7 +1,7 @@
 use Rattle.std.proofs.Common.{◌<◌, ℕ, subst, map}
 use Rattle.icn_frames.specs.Heights.{cell_at}
-use Rattle.icn_frames.specs.Shapes.{shape, count_of}
-use Rattle.icn_frames.proofs.CellFacts.{sound_set_shape, count_at}
+use Rattle.icn_frames.specs.StackInvariant.{shape, count_of}
+use Rattle.icn_frames.proofs.CellFacts.{sound_set_shape, local_count_at}
 use Rattle.icn_frames.specs.Stacks.{FlatStack}
 use Rattle.icn_frames.proofs.Locals.{set_local_is}
 use Rattle.icn_frames.proofs.LocalsSet.{locals_set}
@@ -12,7 +12,7 @@ invariant_of-self g c =
     let s = g.K.Stack.cells c.self.inside.cells in
     let r = c.self.inside.registers in
     let n = rw (← c.self.view_is) at c.requires in
-    let k : c.args.index < count_of (cell_at r.base (map shape s)) = subst (λ (w : ℕ). c.args.index < w) (count_at s r.base) n in
+    let k : c.args.index < count_of (cell_at r.base (map shape s)) = subst (λ (w : ℕ). c.args.index < w) (local_count_at s r.base) n in
     sound_set_shape s _ r _ _ c.self.invariant (c.self.invariant.stands.leads.base.locals c.args.index k) c.set.ensures.cells
 
 pub returns-clause-flat : goal.returns-clause-flat
@@ -26,6 +26,6 @@ returns-clause-locals g c =
     let s = g.K.Stack.cells c.self.inside.cells in
     let r = c.self.inside.registers in
     let n = rw (← c.self.view_is) at c.requires in
-    let k : c.args.index < count_of (cell_at r.base (map shape s)) = subst (λ (w : ℕ). c.args.index < w) (count_at s r.base) n in
+    let k : c.args.index < count_of (cell_at r.base (map shape s)) = subst (λ (w : ℕ). c.args.index < w) (local_count_at s r.base) n in
     let after = sound_set_shape s _ r _ _ c.self.invariant (c.self.invariant.stands.leads.base.locals c.args.index k) c.set.ensures.cells in
     rw (← c.self.view_is) (locals_set m c.args.index c.args.v _ c.self.invariant after n c.set.ensures.cells)

@@ -1,6 +1,6 @@
 use Rattle.std.proofs.Common.{◌≡◌, length, Option, ℕ, ap, ◌∙◌, arith}
 use Rattle.icn_frames.specs.Stacks.{FlatStack, older_scan, scan_by}
-use Rattle.icn_frames.proofs.Hung.{sound_hung, sound_all, scan_here, suspend_is}
+use Rattle.icn_frames.proofs.SuspensionFrames.{sound_hung, sound_all, scan_here, suspend_is}
 use Rattle.icn_frames.proofs.calls.Frames.suspend_here.Goals as goal
 
 pub invariant_of-self-2 : goal.invariant_of-self-2

@@ -1,10 +1,10 @@
 use Rattle.std.proofs.Common.{◌-◌, ◌≤◌, length, refl, ap, arith}
 use Rattle.icn_frames.specs.Heights.{cut}
 use Rattle.icn_frames.specs.Stacks.{FlatStack}
-use Rattle.icn_frames.specs.Shapes.{Sound, outer_of}
+use Rattle.icn_frames.specs.StackInvariant.{Sound, outer_of}
 use Rattle.icn_frames.specs.declared.layout.Why.TheVariants.{Alt}
-use Rattle.icn_frames.proofs.CellFacts.{within, sound_cut}
-use Rattle.icn_frames.proofs.Hung.{leads_lower, order_lower, sound_hung, scan_lower, marked_kind, suspend_mark_is}
+use Rattle.icn_frames.proofs.CellFacts.{within_cells, sound_cut}
+use Rattle.icn_frames.proofs.SuspensionFrames.{leads_lower, order_lower, sound_hung, scan_lower, marked_kind, suspend_mark_is}
 use Rattle.icn_frames.proofs.calls.Frames.suspend_mark.Goals as goal
 
 pub saved_by-saved-requires : goal.saved_by-saved-requires
@@ -15,7 +15,7 @@ bottom_of-from-requires g c =
     let s = g.K.Stack.cells c.self.inside.cells in
     let r = c.self.inside.registers in
     let k = c.self.invariant.stands.leads.mark in
-    let n : r.mark ≤ length s = within _ _ k.to in
+    let n : r.mark ≤ length s = within_cells _ _ k.to in
     let o = c.saved_by-saved.result in
     let u : Sound (cut (r.mark - 1) s) o = sound_cut s _ r _ _ _ c.self.invariant k.from n c.get.ensures (ap outer_of c.saved_by-saved.ensures) refl in
     (leads_lower s (r.mark - 1) o u.stands.leads).base
@@ -25,7 +25,7 @@ hang-requires-clause-order g c =
     let s = g.K.Stack.cells c.self.inside.cells in
     let r = c.self.inside.registers in
     let k = c.self.invariant.stands.leads.mark in
-    let n : r.mark ≤ length s = within _ _ k.to in
+    let n : r.mark ≤ length s = within_cells _ _ k.to in
     let o = c.saved_by-saved.result in
     let u : Sound (cut (r.mark - 1) s) o = sound_cut s _ r _ _ _ c.self.invariant k.from n c.get.ensures (ap outer_of c.saved_by-saved.ensures) refl in
     order_lower s (r.mark - 1) _ o u (omega arith) c.bottom_of-from.ensures
@@ -35,7 +35,7 @@ invariant_of-self-2 g c =
     let s = g.K.Stack.cells c.self.inside.cells in
     let r = c.self.inside.registers in
     let k = c.self.invariant.stands.leads.mark in
-    let n : r.mark ≤ length s = within _ _ k.to in
+    let n : r.mark ≤ length s = within_cells _ _ k.to in
     let o = c.saved_by-saved.result in
     let u : Sound (cut (r.mark - 1) s) o = sound_cut s _ r _ _ _ c.self.invariant k.from n c.get.ensures (ap outer_of c.saved_by-saved.ensures) refl in
     sound_hung Alt s _ r o c.self.inside.address _ _ (r.mark - 1) c.args.given o.scan c.self.invariant u (omega arith)
@@ -46,7 +46,7 @@ returns-clause-ok g c =
     let s = g.K.Stack.cells c.self.inside.cells in
     let r = c.self.inside.registers in
     let k = c.self.invariant.stands.leads.mark in
-    let n : r.mark ≤ length s = within _ _ k.to in
+    let n : r.mark ≤ length s = within_cells _ _ k.to in
     let o = c.saved_by-saved.result in
     let u : Sound (cut (r.mark - 1) s) o = sound_cut s _ r _ _ _ c.self.invariant k.from n c.get.ensures (ap outer_of c.saved_by-saved.ensures) refl in
     let m : FlatStack = record { cells = g.K.Stack.cells c.self.inside.cells; registers = c.self.inside.registers; address = c.self.inside.address } in

@@ -1,9 +1,9 @@
 use Rattle.std.proofs.Common.{◌≡◌, sym, ap, subst}
 use Rattle.icn_frames.specs.Stacks.{FlatStack, oldest, pair_at}
-use Rattle.icn_frames.specs.Shapes.{outer_of, SeenStack}
-use Rattle.icn_frames.proofs.CellFacts.{within, sound_cut}
-use Rattle.icn_frames.proofs.Hung.{marked_kind}
-use Rattle.icn_frames.proofs.Scans.{unmark_is}
+use Rattle.icn_frames.specs.StackInvariant.{outer_of, SeenStack}
+use Rattle.icn_frames.proofs.CellFacts.{within_cells, sound_cut}
+use Rattle.icn_frames.proofs.SuspensionFrames.{marked_kind}
+use Rattle.icn_frames.proofs.OpenScans.{unmark_is}
 use Rattle.icn_frames.proofs.calls.Frames.unmark.Goals as goal
 
 pub saved_by-saved-requires : goal.saved_by-saved-requires
@@ -12,7 +12,7 @@ saved_by-saved-requires g c = marked_kind _ c.self.inside.registers _ c.self.inv
 pub invariant_of-self : goal.invariant_of-self
 invariant_of-self g c =
     let k = c.self.invariant.stands.leads.mark in
-    sound_cut _ _ _ _ _ _ c.self.invariant k.from (within _ _ k.to) c.get.ensures (ap outer_of c.saved_by-saved.ensures) c.cut.ensures.cells
+    sound_cut _ _ _ _ _ _ c.self.invariant k.from (within_cells _ _ k.to) c.get.ensures (ap outer_of c.saved_by-saved.ensures) c.cut.ensures.cells
 
 pub returns-clause-flat : goal.returns-clause-flat
 returns-clause-flat g c =

@@ -4,9 +4,9 @@ use Rattle.icn_value.specs.Store.{set_at}
 use Rattle.icn_value.specs.Changes.{charged_unless, having_member}
 use Rattle.icn_heap.specs.Extents.{value_in}
 use Rattle.icn_heap.specs.Heaps.{extent_of, heap_of, parts_of}
-use Rattle.icn_heap.proofs.Limiting.{limits_paid}
+use Rattle.icn_heap.proofs.PaidChanges.{limits_paid}
 use Rattle.icn_heap.proofs.OtherChanges.{member_adds, member_there}
-use Rattle.icn_heap.proofs.Stepping.{with_sets, sound_as, steps_as}
+use Rattle.icn_heap.proofs.ChangedParts.{with_sets, sound_as, steps_as}
 use Rattle.icn_heap.proofs.heap.Heap.add.Goals as goal
 
 pub returns-then-has_member-clause-step : goal.returns-then-has_member-clause-step

@@ -2,7 +2,7 @@ use Rattle.std.proofs.Common.{arith}
 use Rattle.icn_value.specs.Changes.{having_coexp}
 use Rattle.icn_heap.specs.Heaps.{extent_of, heap_of, parts_of}
 use Rattle.icn_heap.proofs.OtherChanges.{coexp_joins}
-use Rattle.icn_heap.proofs.Stepping.{with_coexps, sound_as, keeps_as, steps_as}
+use Rattle.icn_heap.proofs.ChangedParts.{with_coexps, sound_as, keeps_as, steps_as}
 use Rattle.icn_heap.proofs.heap.Heap.charge_coexp.Goals as goal
 
 pub invariant_of-self-2 : goal.invariant_of-self-2

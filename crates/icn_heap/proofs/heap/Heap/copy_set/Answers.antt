@@ -1,10 +1,10 @@
 use Rattle.std.proofs.Common.{◌∙◌, ap, sym, ◌+◌, arith}
 use Rattle.icn_value.specs.Store.{set_at}
 use Rattle.icn_value.specs.Changes.{charged_cells}
-use Rattle.icn_heap.specs.Making.{having_members}
+use Rattle.icn_heap.specs.MadeStructures.{having_members}
 use Rattle.icn_heap.specs.Heaps.{extent_of, heap_of, parts_of}
 use Rattle.icn_heap.proofs.OtherChanges.{set_joins}
-use Rattle.icn_heap.proofs.Stepping.{with_sets, sound_as, keeps_as, steps_as}
+use Rattle.icn_heap.proofs.ChangedParts.{with_sets, sound_as, keeps_as, steps_as}
 use Rattle.icn_heap.proofs.heap.Heap.copy_set.Goals as goal
 
 pub invariant_of-self-2 : goal.invariant_of-self-2

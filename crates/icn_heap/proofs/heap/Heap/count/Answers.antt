@@ -1,6 +1,6 @@
 use Rattle.icn_heap.specs.Heaps.{extent_of, heap_of, parts_of}
 use Rattle.icn_heap.proofs.OtherChanges.{coexp_counts}
-use Rattle.icn_heap.proofs.Stepping.{with_coexps, sound_as}
+use Rattle.icn_heap.proofs.ChangedParts.{with_coexps, sound_as}
 use Rattle.icn_heap.proofs.heap.Heap.count.Goals as goal
 
 pub invariant_of-self : goal.invariant_of-self

@@ -1,10 +1,10 @@
 use Rattle.std.proofs.Common.{◌≡◌, ◌∙◌, ap, [], map, fold}
 use Rattle.icn_value.specs.Store.{Table, table_at}
 use Rattle.icn_heap.specs.Extents.{value_in, values_in}
-use Rattle.icn_heap.specs.Parts.{pair_in}
-use Rattle.icn_heap.specs.Making.{with_stored}
+use Rattle.icn_heap.specs.HeapParts.{pair_in}
+use Rattle.icn_heap.specs.MadeStructures.{with_stored}
 use Rattle.icn_heap.specs.Heaps.{extent_of, heap_of}
-use Rattle.icn_heap.proofs.Folding.{fold_pairs}
+use Rattle.icn_heap.proofs.JoinedValues.{fold_pairs}
 use Rattle.icn_heap.proofs.heap.Heap.entries_like.Goals as goal
 
 pub returns-clause-table : goal.returns-clause-table

@@ -1,7 +1,7 @@
 use Rattle.std.proofs.Common.{refl}
 use Rattle.icn_heap.specs.Heaps.{extent_of, heap_of, parts_of}
 use Rattle.icn_heap.proofs.OtherChanges.{texts_join}
-use Rattle.icn_heap.proofs.Stepping.{sound_as, keeps_as}
+use Rattle.icn_heap.proofs.ChangedParts.{sound_as, keeps_as}
 use Rattle.icn_heap.proofs.TextChanges.{text_has, texts_same}
 use Rattle.icn_heap.proofs.heap.Heap.hold.Goals as goal
 

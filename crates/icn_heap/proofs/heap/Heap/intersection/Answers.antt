@@ -4,9 +4,9 @@ use Rattle.icn_value.specs.Sameness.{with_member}
 use Rattle.icn_value.specs.Changes.{Refuses}
 use Rattle.icn_value.specs.Store.{set_at}
 use Rattle.icn_heap.specs.Extents.{value_in}
-use Rattle.icn_heap.specs.Making.{made_set_of, stands}
+use Rattle.icn_heap.specs.MadeStructures.{made_set_of, stands}
 use Rattle.icn_heap.specs.Heaps.{extent_of, heap_of}
-use Rattle.icn_heap.proofs.Folding.{fold_some}
+use Rattle.icn_heap.proofs.JoinedValues.{fold_some}
 use Rattle.icn_heap.proofs.heap.Heap.intersection.Goals as goal
 
 pub returns-clause-step : goal.returns-clause-step

@@ -1,8 +1,8 @@
 use Rattle.std.proofs.Common.{refl}
 use Rattle.icn_heap.specs.Heaps.{extent_of, heap_of, parts_of}
-use Rattle.icn_heap.proofs.Charging.{limits_ok}
+use Rattle.icn_heap.proofs.HeapCharges.{limits_ok}
 use Rattle.icn_heap.proofs.OtherChanges.{texts_join}
-use Rattle.icn_heap.proofs.Stepping.{sound_as, keeps_as}
+use Rattle.icn_heap.proofs.ChangedParts.{sound_as, keeps_as}
 use Rattle.icn_heap.proofs.TextChanges.{texts_charged, texts_same, text_refused, text_limits, joined_len, joined_is}
 use Rattle.icn_heap.proofs.heap.Heap.join.Goals as goal
 

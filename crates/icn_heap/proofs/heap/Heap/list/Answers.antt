@@ -1,5 +1,5 @@
 use Rattle.std.proofs.Common.{◌∙◌, ap, sym}
-use Rattle.icn_heap.specs.Parts.{list_in}
+use Rattle.icn_heap.specs.HeapParts.{list_in}
 use Rattle.icn_heap.specs.Heaps.{extent_of, heap_of, parts_of}
 use Rattle.icn_heap.proofs.ListChanges.{list_view}
 use Rattle.icn_heap.proofs.heap.Heap.list.Goals as goal

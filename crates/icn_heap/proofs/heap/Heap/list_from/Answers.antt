@@ -4,7 +4,7 @@ use Rattle.icn_value.specs.Changes.{having_list}
 use Rattle.icn_heap.specs.Extents.{value_in}
 use Rattle.icn_heap.specs.Heaps.{extent_of, heap_of, parts_of}
 use Rattle.icn_heap.proofs.ListChanges.{list_joins}
-use Rattle.icn_heap.proofs.Stepping.{with_lists, sound_as, keeps_as, steps_as}
+use Rattle.icn_heap.proofs.ChangedParts.{with_lists, sound_as, keeps_as, steps_as}
 use Rattle.icn_heap.proofs.heap.Heap.list_from.Goals as goal
 
 pub invariant_of-self-2 : goal.invariant_of-self-2

@@ -4,7 +4,7 @@ use Rattle.icn_value.specs.Changes.{having_record}
 use Rattle.icn_heap.specs.Extents.{value_in}
 use Rattle.icn_heap.specs.Heaps.{extent_of, heap_of, parts_of}
 use Rattle.icn_heap.proofs.OtherChanges.{record_joins}
-use Rattle.icn_heap.proofs.Stepping.{with_records, sound_as, keeps_as, steps_as}
+use Rattle.icn_heap.proofs.ChangedParts.{with_records, sound_as, keeps_as, steps_as}
 use Rattle.icn_heap.proofs.heap.Heap.make_rec.Goals as goal
 
 pub invariant_of-self-2 : goal.invariant_of-self-2

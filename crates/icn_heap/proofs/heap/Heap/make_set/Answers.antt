@@ -2,10 +2,10 @@ use Rattle.std.proofs.Common.{refl, arith}
 use Rattle.icn_value.specs.Changes.{having_set}
 use Rattle.icn_heap.specs.Heaps.{extent_of, heap_of, parts_of}
 use Rattle.icn_heap.proofs.OtherChanges.{set_joins}
-use Rattle.icn_heap.proofs.Stepping.{with_sets, sound_as, keeps_as, steps_as}
+use Rattle.icn_heap.proofs.ChangedParts.{with_sets, sound_as, keeps_as, steps_as}
 use Rattle.std.proofs.Common.{[]}
 use Rattle.std.proofs.lemmas.List.Elements.{All-nil}
-use Rattle.icn_heap.specs.Parts.{IsSoundMember}
+use Rattle.icn_heap.specs.HeapParts.{IsSoundMember}
 use Rattle.icn_heap.proofs.heap.Heap.make_set.Goals as goal
 
 pub invariant_of-self-2 : goal.invariant_of-self-2

@@ -3,9 +3,9 @@ use Rattle.icn_value.specs.Changes.{having_table}
 use Rattle.icn_heap.specs.Extents.{value_in}
 use Rattle.icn_heap.specs.Heaps.{extent_of, heap_of, parts_of}
 use Rattle.icn_heap.proofs.OtherChanges.{table_joins}
-use Rattle.icn_heap.proofs.Stepping.{with_tables, sound_as, keeps_as, steps_as}
+use Rattle.icn_heap.proofs.ChangedParts.{with_tables, sound_as, keeps_as, steps_as}
 use Rattle.std.proofs.lemmas.List.Elements.{All-nil}
-use Rattle.icn_heap.specs.Parts.{IsSoundPair}
+use Rattle.icn_heap.specs.HeapParts.{IsSoundPair}
 use Rattle.icn_heap.proofs.heap.Heap.make_table.Goals as goal
 
 pub invariant_of-self-2 : goal.invariant_of-self-2

@@ -4,7 +4,7 @@ use Rattle.icn_value.specs.declared.val.Val.TheVariants.{Null as NullVal}
 use Rattle.icn_value.specs.Sameness.{with_member}
 use Rattle.icn_heap.specs.Extents.{value_in}
 use Rattle.icn_heap.specs.Heaps.{extent_of}
-use Rattle.icn_heap.proofs.Making.{joins, joins_soundly, fold_more}
+use Rattle.icn_heap.proofs.JoinedPairs.{joins, joins_soundly, fold_more}
 use Rattle.icn_heap.proofs.heap.Heap.members_from.Goals as goal
 
 pub loop-val-preserved : goal.loop-val-preserved

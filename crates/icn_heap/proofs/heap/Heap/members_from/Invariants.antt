@@ -3,7 +3,7 @@ use Rattle.std.specs.List.{All}
 use Rattle.icn_value.specs.Sameness.{with_member}
 use Rattle.icn_heap.specs.Extents.{value_in}
 use Rattle.icn_heap.specs.Heaps.{extent_of}
-use Rattle.icn_heap.specs.Parts.{set_in, IsSoundMember}
+use Rattle.icn_heap.specs.HeapParts.{set_in, IsSoundMember}
 use Rattle.icn_heap.proofs.heap.Heap.members_from.Given as goal
 
 abbrev pub invariant-loop-val : goal.invariant-loop-val

@@ -3,9 +3,9 @@ use Rattle.icn_value.specs.Values.{Value}
 use Rattle.icn_value.specs.Sameness.{with_member}
 use Rattle.icn_value.specs.Store.{set_at}
 use Rattle.icn_heap.specs.Extents.{value_in}
-use Rattle.icn_heap.specs.Parts.{set_in}
+use Rattle.icn_heap.specs.HeapParts.{set_in}
 use Rattle.icn_heap.specs.Heaps.{extent_of, heap_of}
-use Rattle.icn_heap.proofs.Folding.{fold_all}
+use Rattle.icn_heap.proofs.JoinedValues.{fold_all}
 use Rattle.icn_heap.proofs.heap.Heap.members_like.Goals as goal
 
 pub returns-clause-members : goal.returns-clause-members

@@ -6,9 +6,9 @@ use Rattle.icn_value.specs.declared.val.Val.TheVariants.{Null as NullVal}
 use Rattle.icn_value.specs.Values.{Value}
 use Rattle.icn_value.specs.Store.{set_at}
 use Rattle.icn_heap.specs.Extents.{IsLive, value_in}
-use Rattle.icn_heap.specs.Making.{stands}
+use Rattle.icn_heap.specs.MadeStructures.{stands}
 use Rattle.icn_heap.specs.Heaps.{extent_of, heap_of}
-use Rattle.icn_heap.proofs.Making.{filters_more, passes, fails}
+use Rattle.icn_heap.proofs.JoinedPairs.{filters_more, passes, fails}
 use Rattle.icn_heap.proofs.heap.Heap.members_standing.Goals as goal
 use Rattle.icn_heap.proofs.heap.Heap.members_standing.Goals.{then-branch-inside+in_ok-push, else-branch-inside}
 

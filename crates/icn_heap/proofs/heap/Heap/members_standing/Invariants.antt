@@ -3,7 +3,7 @@ use Rattle.std.specs.List.{All}
 use Rattle.icn_value.specs.Store.{set_at}
 use Rattle.icn_heap.specs.Extents.{IsLive, value_in}
 use Rattle.icn_heap.specs.Heaps.{extent_of, heap_of}
-use Rattle.icn_heap.specs.Making.{stands}
+use Rattle.icn_heap.specs.MadeStructures.{stands}
 use Rattle.icn_heap.proofs.heap.Heap.members_standing.Given as goal
 
 abbrev pub invariant-loop-member : goal.invariant-loop-member

@@ -4,7 +4,7 @@ use Rattle.std.specs.Option.{option_map}
 use Rattle.icn_value.specs.Store.{table_at}
 use Rattle.icn_heap.specs.Extents.{AreLive, values_in}
 use Rattle.icn_heap.specs.Heaps.{extent_of, heap_of}
-use Rattle.icn_heap.proofs.Gathering.{gathers, none_there}
+use Rattle.icn_heap.proofs.TakenElements.{gathers, none_there}
 use Rattle.icn_heap.proofs.heap.Heap.pairs.Goals as goal
 use Rattle.icn_heap.proofs.heap.Heap.pairs.Goals.{in-Some+in_ok-push, in_default}
 

@@ -2,9 +2,9 @@ use Rattle.std.proofs.Common.{◌∙◌, ap, sym, [], get_or}
 use Rattle.icn_value.specs.declared.val.Val.{Val}
 use Rattle.icn_value.specs.declared.val.Val.TheVariants.{Null as NullVal}
 use Rattle.icn_heap.specs.Extents.{values_in}
-use Rattle.icn_heap.specs.Making.{with_stored}
+use Rattle.icn_heap.specs.MadeStructures.{with_stored}
 use Rattle.icn_heap.specs.Heaps.{extent_of}
-use Rattle.icn_heap.proofs.Making.{fold_more, stores_more}
+use Rattle.icn_heap.proofs.JoinedPairs.{fold_more, stores_more}
 use Rattle.icn_heap.proofs.heap.Heap.pairs_from.Goals as goal
 
 pub loop-key-preserved : goal.loop-key-preserved

@@ -3,7 +3,7 @@ use Rattle.std.specs.Option.{option_map}
 use Rattle.icn_heap.specs.Extents.{value_in}
 use Rattle.icn_heap.specs.Heaps.{extent_of, heap_of, parts_of}
 use Rattle.icn_heap.proofs.ListChanges.{list_pulls, last_live, last_is, item_kept, item_stays}
-use Rattle.icn_heap.proofs.Stepping.{with_lists, sound_as, keeps_as, stands_as}
+use Rattle.icn_heap.proofs.ChangedParts.{with_lists, sound_as, keeps_as, stands_as}
 use Rattle.icn_heap.proofs.heap.Heap.pull.Goals as goal
 
 pub invariant_of-self : goal.invariant_of-self

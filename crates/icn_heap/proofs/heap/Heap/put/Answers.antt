@@ -3,7 +3,7 @@ use Rattle.icn_value.specs.Store.{list_at, with_list}
 use Rattle.icn_heap.specs.Extents.{value_in}
 use Rattle.icn_heap.specs.Heaps.{extent_of, heap_of, parts_of}
 use Rattle.icn_heap.proofs.ListChanges.{list_puts}
-use Rattle.icn_heap.proofs.Stepping.{with_lists, sound_as, steps_as}
+use Rattle.icn_heap.proofs.ChangedParts.{with_lists, sound_as, steps_as}
 use Rattle.icn_heap.proofs.heap.Heap.put.Goals as goal
 
 pub invariant_of-self-2 : goal.invariant_of-self-2

@@ -1,7 +1,7 @@
 use Rattle.std.proofs.Common.{◌∙◌}
 use Rattle.icn_heap.specs.Heaps.{extent_of, heap_of, parts_of}
 use Rattle.icn_heap.proofs.OtherChanges.{looked_found, pair_leaves}
-use Rattle.icn_heap.proofs.Stepping.{with_tables, sound_as, stands_as}
+use Rattle.icn_heap.proofs.ChangedParts.{with_tables, sound_as, stands_as}
 use Rattle.icn_heap.proofs.heap.Heap.remove_pair.Goals as goal
 
 pub invariant_of-self : goal.invariant_of-self

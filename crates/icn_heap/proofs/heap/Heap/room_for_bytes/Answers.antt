@@ -1,7 +1,7 @@
 use Rattle.std.proofs.Common.{◌≡◌, ◌-◌, refl, arith}
 use Rattle.icn_strings.specs.Regions.{limit_of, sum_of}
 use Rattle.icn_heap.specs.Heaps.{heap_of}
-use Rattle.icn_heap.proofs.Charging.{strings_fit, strings_full_is}
+use Rattle.icn_heap.proofs.HeapCharges.{strings_fit, strings_full_is}
 use Rattle.icn_heap.proofs.heap.Heap.room_for_bytes.Goals as goal
 
 pub returns-clause-answer : goal.returns-clause-answer

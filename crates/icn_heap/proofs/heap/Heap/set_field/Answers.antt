@@ -1,6 +1,6 @@
 use Rattle.icn_heap.specs.Heaps.{extent_of, heap_of, parts_of}
 use Rattle.icn_heap.proofs.OtherChanges.{field_count, field_changes}
-use Rattle.icn_heap.proofs.Stepping.{with_records, sound_as, stands_as}
+use Rattle.icn_heap.proofs.ChangedParts.{with_records, sound_as, stands_as}
 use Rattle.icn_heap.proofs.heap.Heap.set_field.Goals as goal
 
 pub field_set_at-requires-clause-field : goal.field_set_at-requires-clause-field

@@ -2,7 +2,7 @@ use Rattle.std.proofs.Common.{rules, FitsSigned, w64}
 use Rattle.std.proofs.lemmas.Int.{to_z-of_z}
 use Rattle.icn_heap.specs.Heaps.{extent_of, heap_of, parts_of}
 use Rattle.icn_heap.proofs.ListChanges.{list_sets, numbered_is}
-use Rattle.icn_heap.proofs.Stepping.{with_lists, sound_as, stands_as}
+use Rattle.icn_heap.proofs.ChangedParts.{with_lists, sound_as, stands_as}
 use Rattle.icn_heap.proofs.heap.Heap.set_item.Goals as goal
 
 pub invariant_of-self : goal.invariant_of-self

@@ -2,9 +2,9 @@ use Rattle.std.proofs.Common.{◌≡◌, ◌∙◌, ap, sym, is_some}
 use Rattle.icn_value.specs.Changes.{charged_unless, value_at_key, with_pair}
 use Rattle.icn_heap.specs.Extents.{value_in}
 use Rattle.icn_heap.specs.Heaps.{extent_of, heap_of, parts_of}
-use Rattle.icn_heap.proofs.Limiting.{limits_paid}
+use Rattle.icn_heap.proofs.PaidChanges.{limits_paid}
 use Rattle.icn_heap.proofs.OtherChanges.{pair_stores}
-use Rattle.icn_heap.proofs.Stepping.{with_tables, sound_as, steps_as}
+use Rattle.icn_heap.proofs.ChangedParts.{with_tables, sound_as, steps_as}
 use Rattle.icn_heap.proofs.heap.Heap.store.Goals as goal
 
 pub invariant_of-self-2 : goal.invariant_of-self-2

@@ -5,9 +5,9 @@ use Rattle.icn_value.specs.Sameness.{with_member}
 use Rattle.icn_value.specs.Changes.{Refuses}
 use Rattle.icn_value.specs.Store.{set_at}
 use Rattle.icn_heap.specs.Extents.{value_in}
-use Rattle.icn_heap.specs.Making.{made_set_of}
+use Rattle.icn_heap.specs.MadeStructures.{made_set_of}
 use Rattle.icn_heap.specs.Heaps.{extent_of, heap_of}
-use Rattle.icn_heap.proofs.Folding.{fold_both}
+use Rattle.icn_heap.proofs.JoinedValues.{fold_both}
 use Rattle.icn_heap.proofs.heap.Heap.union.Goals as goal
 
 pub returns-clause-step : goal.returns-clause-step

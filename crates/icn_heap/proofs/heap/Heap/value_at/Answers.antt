@@ -1,7 +1,7 @@
 use Rattle.std.proofs.Common.{◌∙◌, ap}
 use Rattle.std.specs.Option.{option_map}
 use Rattle.icn_heap.specs.Extents.{value_in}
-use Rattle.icn_heap.specs.Parts.{entry_value}
+use Rattle.icn_heap.specs.HeapParts.{entry_value}
 use Rattle.icn_heap.specs.Heaps.{extent_of, heap_of, parts_of}
 use Rattle.icn_heap.proofs.OtherChanges.{looked_is, looked_live}
 use Rattle.icn_heap.proofs.heap.Heap.value_at.Goals as goal

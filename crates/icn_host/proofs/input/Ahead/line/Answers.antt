@@ -1,6 +1,6 @@
 use Rattle.std.proofs.Common.{refl}
 use Rattle.std.specs.List.{slice_range}
-use Rattle.icn_host.proofs.SinkSteps.{at_err}
+use Rattle.icn_host.proofs.SinkSteps.{on_err_always}
 use Rattle.icn_host.proofs.LineSteps.{line_start, line_part, line_on, line_plain, line_whole}
 use Rattle.icn_host.proofs.input.Ahead.line.Goals as goal
 
@@ -8,14 +8,14 @@ pub loop-rest-init : goal.loop-rest-init
 loop-rest-init g c = line_start _ _ _
 
 pub returns-in_err-fill-clause-err : goal.returns-in_err-fill-clause-err
-returns-in_err-fill-clause-err g c = at_err c.from_residual.result (line_part _ _ _ c.loop-rest.invariant c.fill.ensures.same refl)
+returns-in_err-fill-clause-err g c = on_err_always c.from_residual.result (line_part _ _ _ c.loop-rest.invariant c.fill.ensures.same refl)
 
 pub returns-then-count-room-clause-err : goal.returns-then-count-room-clause-err
 returns-then-count-room-clause-err g c = line_part _ _ _ c.loop-rest.invariant c.fill.ensures.same refl
 
 pub returns-in_err-extend_from_slice-clause-err : goal.returns-in_err-extend_from_slice-clause-err
 returns-in_err-extend_from_slice-clause-err g c =
-    at_err c.from_residual-in_err-extend_from_slice.result
+    on_err_always c.from_residual-in_err-extend_from_slice.result
     (line_part _ _ _ c.loop-rest.invariant c.fill.ensures.same c.in_err-extend_from_slice.ensures.items)
 
 pub returns-then-count-rest-clause-ok : goal.returns-then-count-rest-clause-ok

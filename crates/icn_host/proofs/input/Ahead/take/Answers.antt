@@ -1,14 +1,14 @@
-use Rattle.icn_host.proofs.SinkSteps.{at_err}
+use Rattle.icn_host.proofs.SinkSteps.{on_err_always}
 use Rattle.icn_host.proofs.ReaderSteps.{taken_part, take_on, take_all_left}
 use Rattle.std.proofs.Common.{refl}
 use Rattle.icn_host.proofs.input.Ahead.take.Goals as goal
 
 pub returns-in_err-fill-clause-err : goal.returns-in_err-fill-clause-err
-returns-in_err-fill-clause-err g c = at_err c.from_residual.result (taken_part _ _ c.loop-room.invariant c.fill.ensures.same refl)
+returns-in_err-fill-clause-err g c = on_err_always c.from_residual.result (taken_part _ _ c.loop-room.invariant c.fill.ensures.same refl)
 
 pub returns-in_err-count-clause-err : goal.returns-in_err-count-clause-err
 returns-in_err-count-clause-err g c =
-    at_err c.from_residual-in_err-count.result (taken_part _ _ c.loop-room.invariant c.fill.ensures.same c.in_err-count.ensures.err)
+    on_err_always c.from_residual-in_err-count.result (taken_part _ _ c.loop-room.invariant c.fill.ensures.same c.in_err-count.ensures.err)
 
 pub returns-then-count-eq0-clause-ok : goal.returns-then-count-eq0-clause-ok
 returns-then-count-eq0-clause-ok g c =

@@ -1,7 +1,7 @@
 use Rattle.std.proofs.Common.{◌∙◌, ap}
-use Rattle.icn_prep.specs.Texts.{with_text}
+use Rattle.icn_prep.specs.DefinedNames.{with_text}
 use Rattle.icn_prep.specs.TextViews.{texts_in}
-use Rattle.icn_prep.proofs.Mapping.{defines, added, missing}
+use Rattle.icn_prep.proofs.MapChanges.{defines, added, missing}
 use Rattle.icn_prep.proofs.texts.Texts.define.Goals as goal
 
 pub returns : goal.returns

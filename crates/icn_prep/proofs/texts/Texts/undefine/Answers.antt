@@ -1,8 +1,8 @@
 use Rattle.std.proofs.Common.{◌∙◌, ap}
 use Rattle.std.specs.Option.{option_map}
-use Rattle.icn_prep.specs.Texts.{undefined_by}
+use Rattle.icn_prep.specs.DefinedNames.{undefined_by}
 use Rattle.icn_prep.specs.TextViews.{texts_of}
-use Rattle.icn_prep.proofs.Mapping.{undefines}
+use Rattle.icn_prep.proofs.MapChanges.{undefines}
 use Rattle.icn_prep.proofs.texts.Texts.undefine.Goals as goal
 
 pub returns : goal.returns

@@ -2,11 +2,11 @@ use Rattle.std.proofs.Common.{◌≡◌, ◌+◌, ◌<◌, rules, sym, ◌∙◌
 use Rattle.icn_tree.proofs.TreeRows.{row_trees, row_clauses}
 use Rattle.icn_tree.specs.declared.tree.Expr.{the_lemmas}
 use Rattle.icn_tree.specs.TreeOf.{all_of, all_clauses_of, tree_of}
-use Rattle.icn_translate.specs.Numbers.{all_numbers, clause_numbers, numbers}
+use Rattle.icn_translate.specs.NumbersTaken.{all_numbers, clause_numbers, numbers}
 use Rattle.icn_translate.specs.Room.{default_numbers, guarded_numbers, numbers_given}
 use Rattle.icn_translate.specs.Views.{draft_of, open_of}
-use Rattle.icn_translate.proofs.Lists.{all_arguments, all_counted, all_creations, compound_step, no_arguments, no_count, no_creations}
-use Rattle.icn_translate.proofs.Numbering.{both_kinds, no_more, on_ok, row_left}
+use Rattle.icn_translate.proofs.ExpressionLists.{all_arguments, all_counted, all_creations, compound_step, no_arguments, no_count, no_creations}
+use Rattle.icn_translate.proofs.RowNumbers.{both_kinds, no_more, on_ok, row_left}
 use Rattle.icn_translate.proofs.builder.Builder.+translate.Goals as goal
 
 pub put_expr-returns-in-Parentheses-clause-draft : goal.put_expr-returns-in-Parentheses-clause-draft
@@ -26,7 +26,7 @@ put_arguments-returns-then-is_no_element-clause-draft n c =
     no_arguments (open_of c.args.within) (all_of c.args.exprs.now) (draft_of c.args.self.now) (sym c.is_no_element.ensures ∙ c.if-is_no_element.true)
 
 pub put_arguments-returns-clause-count : goal.put_arguments-returns-clause-count
-put_arguments-returns-clause-count n c = c.counted-count.ensures ∙ all_counted c.args.exprs.now (sym c.is_no_element.ensures ∙ c.if-is_no_element.false)
+put_arguments-returns-clause-count n c = c.count_operand-count.ensures ∙ all_counted c.args.exprs.now (sym c.is_no_element.ensures ∙ c.if-is_no_element.false)
 
 pub put_arguments-returns-clause-draft : goal.put_arguments-returns-clause-draft
 put_arguments-returns-clause-draft n c = c.in_ok-put_operands.ensures.draft
@@ -40,17 +40,17 @@ put_creations-returns-then-is_no_element-clause-draft n c =
     no_creations (all_of c.args.exprs.now) (draft_of c.args.self.now) (sym c.is_no_element.ensures ∙ c.if-is_no_element.true)
 
 pub put_creations-returns-clause-count : goal.put_creations-returns-clause-count
-put_creations-returns-clause-count n c = c.counted-count.ensures ∙ all_counted c.args.exprs.now (sym c.is_no_element.ensures ∙ c.if-is_no_element.false)
+put_creations-returns-clause-count n c = c.count_operand-count.ensures ∙ all_counted c.args.exprs.now (sym c.is_no_element.ensures ∙ c.if-is_no_element.false)
 
 pub put_creations-returns-clause-draft : goal.put_creations-returns-clause-draft
 put_creations-returns-clause-draft n c = c.in_ok-put_other_creations.ensures.draft
     ∙ all_creations (all_of c.args.exprs.now) (draft_of c.args.self.now) (sym c.is_no_element.ensures ∙ c.if-is_no_element.false)
 
-pub put_arguments-counted-count-requires : goal.put_arguments-counted-count-requires
-put_arguments-counted-count-requires n c = omega (arith, no_more c.args.exprs.now, c.requires)
+pub put_arguments-count_operand-count-requires : goal.put_arguments-count_operand-count-requires
+put_arguments-count_operand-count-requires n c = omega (arith, no_more c.args.exprs.now, c.requires)
 
-pub put_creations-counted-count-requires : goal.put_creations-counted-count-requires
-put_creations-counted-count-requires n c = omega (arith, no_more c.args.exprs.now, c.requires)
+pub put_creations-count_operand-count-requires : goal.put_creations-count_operand-count-requires
+put_creations-count_operand-count-requires n c = omega (arith, no_more c.args.exprs.now, c.requires)
 
 pub put_compound-loop-place-preserved : goal.put_compound-loop-place-preserved
 put_compound-loop-place-preserved n c =
@@ -179,15 +179,18 @@ put_expr-returns-in-CoCall-clause-given n c =
 pub put_expr-put_case-requires : goal.put_expr-put_case-requires
 put_expr-put_case-requires n c =
     let all : numbers (tree_of c.args.expr.now)
-    ≡ 1 + numbers (tree_of c.deref-in-Case.result.now) + clause_numbers (all_clauses_of c.deref-in-Case-2.result.now) = search (rules, row_clauses, the_lemmas) in
-    let room : numbers_given (draft_of c.args.self.now) + (1 + numbers (tree_of c.deref-in-Case.result.now) + clause_numbers (all_clauses_of c.deref-in-Case-2.result.now))
+    ≡ 1 + numbers (tree_of c.deref-in-Case.result.now)
+    + clause_numbers (all_clauses_of c.deref-in-Case-2.result.now) = search (rules, row_clauses, the_lemmas) in
+    let room : numbers_given (draft_of c.args.self.now)
+    + (1 + numbers (tree_of c.deref-in-Case.result.now) + clause_numbers (all_clauses_of c.deref-in-Case-2.result.now))
     < 4294967296 = omega (arith, all, c.requires) in
     search (rules, row_clauses, the_lemmas)
 
 pub put_expr-returns-in-Case-clause-given : goal.put_expr-returns-in-Case-clause-given
 put_expr-returns-in-Case-clause-given n c =
     let all : numbers (tree_of c.args.expr.now)
-    ≡ 1 + numbers (tree_of c.deref-in-Case.result.now) + clause_numbers (all_clauses_of c.deref-in-Case-2.result.now) = search (rules, row_clauses, the_lemmas) in
+    ≡ 1 + numbers (tree_of c.deref-in-Case.result.now)
+    + clause_numbers (all_clauses_of c.deref-in-Case-2.result.now) = search (rules, row_clauses, the_lemmas) in
     on_ok c.put_case.result _ _ c.put_case.ensures.given (λ h. omega (arith, all, h))
 
 pub put_expr-put_subscripts-requires : goal.put_expr-put_subscripts-requires
@@ -226,7 +229,8 @@ pub put_if_else-put_expr-requires-2 : goal.put_if_else-put_expr-requires-2
 put_if_else-put_expr-requires-2 n c = omega (arith, c.in_ok-label.ensures.given, c.in_ok-put_expr.ensures.given, c.in_ok-put.ensures.given, c.requires)
 
 pub put_if_else-put_alternative-requires : goal.put_if_else-put_alternative-requires
-put_if_else-put_alternative-requires n c = omega (arith, c.in_ok-label.ensures.given, c.in_ok-put_expr.ensures.given, c.in_ok-put.ensures.given, c.in_ok-put_expr-2.ensures.given, c.requires)
+put_if_else-put_alternative-requires n c =
+    omega (arith, c.in_ok-label.ensures.given, c.in_ok-put_expr.ensures.given, c.in_ok-put.ensures.given, c.in_ok-put_expr-2.ensures.given, c.requires)
 
 pub put_infix-put_expr-requires-in-Both : goal.put_infix-put_expr-requires-in-Both
 put_infix-put_expr-requires-in-Both n c = omega (arith, c.in_ok-put_expr-in-Both.ensures.given, c.in_ok-put-in-Both.ensures.given, c.requires)
@@ -235,10 +239,12 @@ pub put_infix-put_expr-requires-in-Scanning-2 : goal.put_infix-put_expr-requires
 put_infix-put_expr-requires-in-Scanning-2 n c = omega (arith, c.in_ok-put_expr-in-Scanning.ensures.given, c.in_ok-put-in-Scanning.ensures.given, c.requires)
 
 pub put_infix-put_alternative-requires : goal.put_infix-put_alternative-requires
-put_infix-put_alternative-requires n c = omega (arith, c.in_ok-label-in-Either.ensures.given, c.in_ok-put_expr-in-Either.ensures.given, c.in_ok-put-in-Either.ensures.given, c.requires)
+put_infix-put_alternative-requires n c =
+    omega (arith, c.in_ok-label-in-Either.ensures.given, c.in_ok-put_expr-in-Either.ensures.given, c.in_ok-put-in-Either.ensures.given, c.requires)
 
 pub put_infix-put_expr-requires-in-Limiting : goal.put_infix-put_expr-requires-in-Limiting
 put_infix-put_expr-requires-in-Limiting n c = omega (arith, c.requires)
 
 pub put_augmented-put_expr-requires-in-Scanning : goal.put_augmented-put_expr-requires-in-Scanning
-put_augmented-put_expr-requires-in-Scanning n c = omega (arith, c.in_ok-put_expr-in-Scanning.ensures.given, c.in_ok-put_two-in-Scanning.ensures.given, c.requires)
+put_augmented-put_expr-requires-in-Scanning n c =
+    omega (arith, c.in_ok-put_expr-in-Scanning.ensures.given, c.in_ok-put_two-in-Scanning.ensures.given, c.requires)

@@ -4,7 +4,7 @@ use Rattle.icn_tree.proofs.tree.Expr.TheLaws.{the_size}
 use Rattle.icn_tree.proofs.tree.Clause.TheLaws.{the_size as clause_size}
 use Rattle.icn_tree.specs.TreeOf.{all_clauses_of, all_of}
 use Rattle.icn_translate.specs.Translation.{compound, conjuncts, default_part, guarded_part, operands, other_creations, subscripts}
-use Rattle.icn_translate.specs.Numbers.{all_numbers}
+use Rattle.icn_translate.specs.NumbersTaken.{all_numbers}
 use Rattle.icn_translate.specs.Room.{default_numbers, guarded_numbers, numbers_given}
 use Rattle.icn_translate.specs.Views.{draft_of, open_of}
 use Rattle.icn_translate.proofs.builder.Builder.+translate.Given as goal

@@ -1,5 +1,5 @@
 use Rattle.std.proofs.Common.{◌∙◌}
-use Rattle.icn_vars.proofs.Starting.{first_is, new_is}
+use Rattle.icn_vars.proofs.StartWorlds.{first_is, new_is}
 use Rattle.icn_vars.proofs.world.World.new.Goals as goal
 
 pub returns-clause-first : goal.returns-clause-first

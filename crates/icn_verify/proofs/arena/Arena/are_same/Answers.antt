@@ -1,8 +1,8 @@
 use Rattle.std.proofs.Common.{◌≡◌, ◌<◌, nat_eq, length, sym, ap, subst, ◌∙◌}
 use Rattle.icn_verify.specs.Passing.{same_levels}
 use Rattle.icn_verify.specs.Stacks.{stack_at, stacks_of}
-use Rattle.icn_verify.proofs.Stacking.{same_numbers}
-use Rattle.icn_verify.proofs.Entering.{flat_tested}
+use Rattle.icn_verify.proofs.KeptStacks.{same_numbers}
+use Rattle.icn_verify.proofs.EntryTests.{flat_tested}
 use Rattle.icn_verify.proofs.arena.Arena.are_same.Goals as goal
 
 pub returns : goal.returns

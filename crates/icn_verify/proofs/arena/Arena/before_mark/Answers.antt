@@ -2,7 +2,7 @@ use Rattle.std.proofs.Common.{◌≡◌, ◌-◌, ◌<◌, ◌≤◌, length, No
 use Rattle.std.specs.Option.{option_map}
 use Rattle.icn_verify.specs.Shapes.{shape_outside}
 use Rattle.icn_verify.specs.Stacks.{stack_at, stacks_of, shape_in}
-use Rattle.icn_verify.proofs.Stacking.{no_mark, mark_kept, mark_held}
+use Rattle.icn_verify.proofs.KeptStacks.{no_mark, mark_kept, mark_held}
 use Rattle.icn_verify.proofs.arena.Arena.before_mark.Goals as goal
 
 pub returns-in_err-index-clause-shape : goal.returns-in_err-index-clause-shape

@@ -1,6 +1,6 @@
 use Rattle.std.proofs.Common.{◌≡◌, ◌<◌, ◌≤◌, ◌+◌, ◌∷◌, length, sym, ap, subst, ◌∙◌, arith}
-use Rattle.icn_verify.specs.Stacks.{stack_at, stacks_of, Grows}
-use Rattle.icn_verify.proofs.Stacking.{once_entered, grows_entered, kept_stack, entry_stack, entry_held, more_entered}
+use Rattle.icn_verify.specs.Stacks.{stack_at, stacks_of, StacksGrow}
+use Rattle.icn_verify.proofs.KeptStacks.{once_entered, grows_entered, kept_stack, entry_stack, entry_held, more_entered}
 use Rattle.icn_verify.proofs.arena.Arena.nest.Goals as goal
 
 pub invariant_of-self-2 : goal.invariant_of-self-2
@@ -10,7 +10,8 @@ invariant_of-self-2 c =
 
 pub returns-clause-grows : goal.returns-clause-grows
 returns-clause-grows c =
-    subst (λ s. Grows s (stacks_of c.entered.new.entries.keys)) c.self.view_is (grows_entered c.self.inside.entries.keys _ _ c.in_ok-index.ensures.entered)
+    subst (λ s. StacksGrow s (stacks_of c.enter_level.new.entries.keys)) c.self.view_is
+    (grows_entered c.self.inside.entries.keys _ _ c.in_ok-index.ensures.entered)
 
 pub returns-clause-held : goal.returns-clause-held
 returns-clause-held c = rw c.number_of.ensures (entry_held _ _ _ c.in_ok-index.ensures.index)
@@ -25,13 +26,13 @@ returns-clause-stack c =
 
 pub returns-clause-more : goal.returns-clause-more
 returns-clause-more c =
-    subst (λ s. length (stacks_of c.entered.new.entries.keys) ≤ length s + 1) c.self.view_is
+    subst (λ s. length (stacks_of c.enter_level.new.entries.keys) ≤ length s + 1) c.self.view_is
     (more_entered c.self.inside.entries.keys _ _ c.in_ok-index.ensures.entered)
 
 pub number_of-requires : goal.number_of-requires
 number_of-requires c =
     let long : length (stacks_of c.self.inside.entries.keys) ≡ length c.args.self.now = ap length c.self.view_is in
-    let more : length (stacks_of c.entered.new.entries.keys)
+    let more : length (stacks_of c.enter_level.new.entries.keys)
     ≤ length (stacks_of c.self.inside.entries.keys) + 1 = more_entered c.self.inside.entries.keys _ _ c.in_ok-index.ensures.entered in
-    let held : c.in_ok-index.index + 1 < length (stacks_of c.entered.new.entries.keys) = entry_held _ _ _ c.in_ok-index.ensures.index in
+    let held : c.in_ok-index.index + 1 < length (stacks_of c.enter_level.new.entries.keys) = entry_held _ _ _ c.in_ok-index.ensures.index in
     omega (arith, c.requires.room)

@@ -1,6 +1,6 @@
 use Rattle.std.proofs.Common.{◌<◌, length, sym, ap, subst, ◌∙◌, arith}
 use Rattle.icn_verify.specs.Stacks.{stack_at}
-use Rattle.icn_verify.proofs.Stacking.{first_stack, length-stacks_of}
+use Rattle.icn_verify.proofs.KeptStacks.{first_stack, length-stacks_of}
 use Rattle.icn_verify.proofs.arena.Arena.start.Goals as goal
 
 pub returns-clause-shape : goal.returns-clause-shape

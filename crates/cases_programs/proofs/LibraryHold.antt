@@ -1,0 +1,11 @@
+-- Each case of the table holds, by computing.
+use Rattle.std.proofs.Common.{refl}
+use Rattle.std.specs.Fmt.{digits}
+use Rattle.std.specs.List.{AllByRecursion}
+use Rattle.cases_programs.specs.Cases.{Holds}
+use Rattle.cases_programs.specs.Library.{library}
+
+pub library_hold : AllByRecursion Holds library
+unfolding digits
+library_hold =
+    (refl, (refl, (refl, (refl, (refl, (refl, (refl, (refl, (refl, tt)))))))))

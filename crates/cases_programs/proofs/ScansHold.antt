@@ -1,0 +1,40 @@
+-- Each case of the table holds, by computing.
+use Rattle.std.proofs.Common.{refl}
+use Rattle.std.specs.Fmt.{digits}
+use Rattle.std.specs.List.{AllByRecursion}
+use Rattle.cases_programs.specs.Cases.{Holds}
+use Rattle.cases_programs.specs.Scans.{scans}
+
+pub scans_hold : AllByRecursion Holds scans
+unfolding digits
+scans_hold = (
+  refl,
+  (
+    refl,
+    (
+      refl,
+      (
+        refl,
+        (
+          refl,
+          (
+            refl,
+            (
+              refl,
+              (
+                refl,
+                (
+                  refl,
+                  (
+                    refl,
+                    (refl, (refl, tt)),
+                  ),
+                ),
+              ),
+            ),
+          ),
+        ),
+      ),
+    ),
+  ),
+)

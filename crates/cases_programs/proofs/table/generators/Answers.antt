@@ -1,0 +1,5 @@
+use Rattle.cases_programs.proofs.GeneratorsHold.{generators_hold}
+use Rattle.cases_programs.proofs.table.generators.Goals as goal
+
+pub returns : goal.returns
+returns c = generators_hold

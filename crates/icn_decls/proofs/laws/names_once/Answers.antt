@@ -1,8 +1,0 @@
-use Rattle.icn_decls.proofs.Repeating.{names_told, names_differ}
-use Rattle.icn_decls.proofs.laws.names_once.Goals as goal
-
-pub returns-clause-kept : goal.returns-clause-kept
-returns-clause-kept c = names_told
-
-pub returns-clause-broken : goal.returns-clause-broken
-returns-clause-broken c = names_differ

@@ -1,0 +1,66 @@
+-- What a heap stands for, by the parts that it holds.
+use Rattle.std.proofs.Common.{◌≡◌, ◌∙◌, sym, ap, subst, ℕ, List, Ok, Result}
+use Rattle.icn_structs.specs.Numbered.{NumberedList}
+use Rattle.icn_value.specs.declared.full.Full.{Full}
+use Rattle.icn_value.specs.declared.val.Val.{Val}
+use Rattle.icn_value.specs.Store.{Heap}
+use Rattle.icn_value.specs.Changes.{and_then}
+use Rattle.icn_heap.specs.declared.entries.Entries.{Entries}
+use Rattle.icn_heap.specs.declared.heap.Heap.{Heap as HeldHeap}
+use Rattle.icn_heap.specs.declared.key.Key.{Key}
+use Rattle.icn_heap.specs.Extents.{KeepsValues}
+use Rattle.icn_heap.specs.Records.{HeldRecord}
+use Rattle.icn_heap.specs.HeapParts.{Parts, parts, extent_in, heap_over, IsSoundHeap}
+use Rattle.icn_heap.proofs.GrowingHeaps.{Becomes}
+
+-- parts that differ in one list, and perhaps in the cells
+
+module _ (heap : HeldHeap) (sum : ℕ) where
+  -- parts that have equal lists and agree in all else are equal
+  pub with_lists : {a b : List (NumberedList Val)} → a ≡ b
+      → parts heap.strings a heap.sets.items heap.tables.items heap.records.items heap.coexps.items sum heap.limits
+      ≡ parts heap.strings b heap.sets.items heap.tables.items heap.records.items heap.coexps.items sum heap.limits
+  with_lists same = ap (λ x. parts heap.strings x heap.sets.items heap.tables.items heap.records.items heap.coexps.items sum heap.limits) same
+
+  -- the same of sets
+  pub with_sets : {a b : List (List (Key × Val))} → a ≡ b
+      → parts heap.strings heap.lists.items a heap.tables.items heap.records.items heap.coexps.items sum heap.limits
+      ≡ parts heap.strings heap.lists.items b heap.tables.items heap.records.items heap.coexps.items sum heap.limits
+  with_sets same = ap (λ x. parts heap.strings heap.lists.items x heap.tables.items heap.records.items heap.coexps.items sum heap.limits) same
+
+  -- the same of tables
+  pub with_tables : {a b : List Entries} → a ≡ b
+      → parts heap.strings heap.lists.items heap.sets.items a heap.records.items heap.coexps.items sum heap.limits
+      ≡ parts heap.strings heap.lists.items heap.sets.items b heap.records.items heap.coexps.items sum heap.limits
+  with_tables same = ap (λ x. parts heap.strings heap.lists.items heap.sets.items x heap.records.items heap.coexps.items sum heap.limits) same
+
+  pub with_records : {a b : List HeldRecord} → a ≡ b
+      → parts heap.strings heap.lists.items heap.sets.items heap.tables.items a heap.coexps.items sum heap.limits
+      ≡ parts heap.strings heap.lists.items heap.sets.items heap.tables.items b heap.coexps.items sum heap.limits
+  with_records same = ap (λ x. parts heap.strings heap.lists.items heap.sets.items heap.tables.items x heap.coexps.items sum heap.limits) same
+
+  pub with_coexps : {a b : List ℕ} → a ≡ b
+      → parts heap.strings heap.lists.items heap.sets.items heap.tables.items heap.records.items a sum heap.limits
+      ≡ parts heap.strings heap.lists.items heap.sets.items heap.tables.items heap.records.items b sum heap.limits
+  with_coexps same = ap (λ x. parts heap.strings heap.lists.items heap.sets.items heap.tables.items heap.records.items x sum heap.limits) same
+
+-- What becomes of the parts holds of a heap that has them
+
+-- the parts after a change are sound
+pub sound_as : {old new now : Parts} {heap : Heap} → now ≡ new → Becomes old new heap → IsSoundHeap now
+sound_as same done = subst IsSoundHeap (sym same) done.sound
+
+-- a change keeps what the values before it stand for
+pub keeps_as : {old new now : Parts} {heap : Heap} → now ≡ new → Becomes old new heap → KeepsValues (extent_in old) (extent_in now)
+keeps_as {old} same done = subst (λ parts. KeepsValues (extent_in old) (extent_in parts)) (sym same) done.keeps
+
+-- the parts after a change stand for the heap that it leaves
+pub stands_as : {old new now : Parts} {heap : Heap} → now ≡ new → Becomes old new heap → heap_over (extent_in now) now ≡ heap
+stands_as same done = ap (λ parts. heap_over (extent_in parts) parts) same ∙ done.stands
+
+-- a change that is charged, and is made of the heap that paid for it
+pub steps_as : {old new now : Parts} {paid : Heap} (charge : Result Heap Full) (change : Heap → Heap) → charge ≡ Ok paid → now ≡ new
+    → Becomes old new (change paid)
+    → and_then charge (λ heap. let r : Result Heap Full = Ok (change heap) in r) ≡ Ok (heap_over (extent_in now) now)
+steps_as {old} {new} {now} {paid} charge change is same done =
+    ap (λ c. and_then c (λ heap. let r : Result Heap Full = Ok (change heap) in r)) is ∙ ap Ok (sym (stands_as same done))

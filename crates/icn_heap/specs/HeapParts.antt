@@ -1,0 +1,210 @@
+-- The parts of a heap as it holds them, what they stand for, and what holds of them.
+use Rattle.std.specs.Prelude.{◌≡◌, ℕ, ◌+◌, ◌<◌, ◌≤◌, ◌^◌, pos, ◌+ℤ◌, ◌≤ℤ◌, true, List, [], map, length, is_some, if◌then◌else◌}
+use Rattle.std.specs.List.{All}
+use Rattle.std.proofs.Props.{props}
+use Rattle.icn_strings.specs.declared.region.Region.{Region}
+use Rattle.icn_strings.specs.Regions.{sum_of, limit_of}
+use Rattle.icn_structs.specs.Numbered.{NumberedList, number_after}
+use Rattle.icn_structs.specs.PairLists.{value_of, with_value_of, without}
+use Rattle.icn_value.specs.declared.limits.Limits.{Limits}
+use Rattle.icn_value.specs.declared.val.Val.{Val}
+use Rattle.icn_value.specs.declared.val.Val.TheVariants.{Null}
+use Rattle.icn_value.specs.Limited.{limits_of}
+use Rattle.icn_value.specs.Values.{Value}
+use Rattle.icn_value.specs.Store.{Heap, Table, Record}
+use Rattle.icn_value.specs.Sameness.{same}
+use Rattle.icn_heap.specs.Extents.{Extent, IsLive, IsLive-prop, value_in}
+use Rattle.icn_heap.specs.Keys.{key_value, IsKey, IsKey-prop}
+use Rattle.icn_heap.specs.KeyTests.{key_eq}
+use Rattle.icn_heap.specs.declared.key.Key.{Key}
+use Rattle.icn_heap.specs.declared.entries.Entry.{Entry}
+use Rattle.icn_heap.specs.declared.entries.Entries.{Entries}
+use Rattle.icn_heap.specs.Records.{HeldRecord}
+
+-- the parts: the region of strings, the structures of each type, the counts of results, and what cells are charged
+pub record Parts : Type 0 where
+  pub strings : Region
+  pub lists : List (NumberedList Val)
+  pub sets : List (List (Key × Val))
+  pub tables : List Entries
+  pub records : List HeldRecord
+  pub coexps : List ℕ
+  pub cells : ℕ
+  pub limits : Limits
+
+-- the parts of a heap, by name
+abbrev pub parts : Region → List (NumberedList Val) → List (List (Key × Val)) → List Entries → List HeldRecord
+    → List ℕ → ℕ → Limits → Parts
+parts strings lists sets tables records coexps cells limits = record {
+  strings = strings;
+  lists = lists;
+  sets = sets;
+  tables = tables;
+  records = records;
+  coexps = coexps;
+  cells = cells;
+  limits = limits;
+}
+
+-- Each structure as values that hold their bytes
+
+-- the list that a held list stands for
+abbrev pub list_in : Extent → NumberedList Val → NumberedList Value
+list_in all list = record { items = map (value_in all) list.items; number = list.number }
+
+abbrev pub member_in : Key × Val → Value
+member_in member = key_value member.0
+
+abbrev pub set_in : List (Key × Val) → List Value
+set_in members = map member_in members
+
+abbrev pub pair_in : Extent → Key × Entry → Value × Value
+pair_in all pair = (key_value pair.0, value_in all pair.1.value)
+
+abbrev pub table_in : Extent → Entries → Table
+table_in all table = record { default = value_in all table.default; pairs = map (pair_in all) table.pairs }
+
+abbrev pub record_in : Extent → HeldRecord → Record
+record_in all held = record { kind = held.kind; fields = map (value_in all) held.values }
+
+-- the parts as a heap of the definitions, by an extent
+abbrev pub heap_over : Extent → Parts → Heap
+heap_over all parts = record {
+  lists = map (list_in all) parts.lists;
+  sets = map set_in parts.sets;
+  tables = map (table_in all) parts.tables;
+  records = map (record_in all) parts.records;
+  coexps = parts.coexps;
+  strings = sum_of parts.strings;
+  cells = parts.cells;
+  bounds = limits_of parts.limits;
+}
+
+abbrev pub extent_in : Parts → Extent
+extent_in parts = record {
+  strings = parts.strings;
+  lists = length parts.lists;
+  sets = length parts.sets;
+  tables = length parts.tables;
+  records = length parts.records;
+  coexps = length parts.coexps;
+}
+
+-- Structures for numbers that none has
+
+-- an empty list, as it is held
+abbrev pub no_vals : NumberedList Val
+no_vals = record { items = []; number = pos 1 }
+
+-- an empty table with null as its default, as it is held
+abbrev pub no_entries : Entries
+no_entries = record { default = Null; pairs = [] }
+
+-- What is found at a place
+
+-- the value of a member, without the key that finds it
+abbrev pub member_val : Key × Val → Val
+member_val member = member.1
+
+-- the entry of a pair, without the key that finds it
+abbrev pub entry_of : Key × Entry → Entry
+entry_of pair = pair.1
+
+-- the value of a table's entry
+abbrev pub entry_value : Entry → Val
+entry_value entry = entry.value
+
+-- the key and the value of a table's entry
+abbrev pub entry_vals : Entry → Val × Val
+entry_vals entry = (entry.key, entry.value)
+
+-- members with one more under its key, unless that key is there
+abbrev pub with_entry : List (Key × Val) → Key → Val → List (Key × Val)
+with_entry members key val =
+    if is_some (value_of key_eq members key) then members else with_value_of key_eq members key val
+
+-- a table with a pair under a key, and without the pair of a key
+
+-- the table with this entry under this key
+abbrev pub table_with : Entries → Key → Entry → Entries
+table_with table key entry = record table { pairs = with_value_of key_eq table.pairs key entry }
+
+-- the table without the entry of this key
+abbrev pub table_without : Entries → Key → Entries
+table_without table key = record table { pairs = without key_eq table.pairs key }
+
+-- What holds of each structure
+
+-- the items are of the heap, and no more numbers were used up than cells were charged
+pub record IsSoundList (all : Extent) (cells : ℕ) (list : NumberedList Val) : Type 0 where
+  pub live : All (IsLive all) list.items
+  pub low : pos 1 ≤ℤ (list.number +ℤ pos cells)
+  pub high : number_after list ≤ℤ pos (cells + 1)
+
+-- the member is of the heap, and its key is the one that it is kept under
+pub record IsSoundMember (all : Extent) (member : Key × Val) : Type 0 where
+  pub live : IsLive all member.1
+  pub formed : IsKey member.0
+  pub alike : same (key_value member.0) (value_in all member.1) ≡ true
+
+-- the values of a pair are of the heap, and its key is the one that it is kept under
+pub record IsSoundPair (all : Extent) (pair : Key × Entry) : Type 0 where
+  pub key : IsLive all pair.1.key
+  pub value : IsLive all pair.1.value
+  pub formed : IsKey pair.0
+  pub alike : same (key_value pair.0) (value_in all pair.1.key) ≡ true
+
+pub record IsSoundTable (all : Extent) (table : Entries) : Type 0 where
+  pub default : IsLive all table.default
+  pub pairs : All (IsSoundPair all) table.pairs
+
+-- the fields are of the heap, and there are so few that each place is a number of 16 bits
+pub record IsSoundRecord (all : Extent) (held : HeldRecord) : Type 0 where
+  pub live : All (IsLive all) held.values
+  pub few : length held.values ≤ 2 ^ 16
+
+-- the structures are sound, by an extent
+pub record AreSound (all : Extent) (parts : Parts) : Type 0 where
+  pub lists : All (IsSoundList all parts.cells) parts.lists
+  pub sets : All (All (IsSoundMember all)) parts.sets
+  pub tables : All (IsSoundTable all) parts.tables
+  pub records : All (IsSoundRecord all) parts.records
+  pub coexps : All (λ count. count < 2 ^ 63) parts.coexps
+
+-- the sums are within the limits, and there are no more structures than cells, `&main` aside, which is there
+pub record IsCharged (parts : Parts) : Type 0 where
+  pub limit : limit_of parts.strings ≡ parts.limits.strings
+  pub within : parts.cells ≤ parts.limits.cells
+  pub counted : length parts.lists + length parts.sets + length parts.tables + length parts.records
+      + length parts.coexps ≤ parts.cells + 1
+  pub main : 0 < length parts.coexps
+
+-- what each heap keeps
+pub record IsSoundHeap (parts : Parts) : Type 0 where
+  pub structures : AreSound (extent_in parts) parts
+  pub charged : IsCharged parts
+
+IsSoundList-prop : (all : Extent) (cells : ℕ) (list : NumberedList Val) → IsProp (IsSoundList all cells list)
+IsSoundList-prop all cells list = hlevel (IsLive-prop, props)
+
+IsSoundMember-prop : (all : Extent) (member : Key × Val) → IsProp (IsSoundMember all member)
+IsSoundMember-prop all member = hlevel (IsLive-prop, IsKey-prop, props)
+
+IsSoundPair-prop : (all : Extent) (pair : Key × Entry) → IsProp (IsSoundPair all pair)
+IsSoundPair-prop all pair = hlevel (IsLive-prop, IsKey-prop, props)
+
+IsSoundTable-prop : (all : Extent) (table : Entries) → IsProp (IsSoundTable all table)
+IsSoundTable-prop all table = hlevel (IsLive-prop, IsSoundPair-prop)
+
+IsSoundRecord-prop : (all : Extent) (held : HeldRecord) → IsProp (IsSoundRecord all held)
+IsSoundRecord-prop all held = hlevel (IsLive-prop, props)
+
+AreSound-prop : (all : Extent) (parts : Parts) → IsProp (AreSound all parts)
+AreSound-prop all parts =
+    hlevel (IsSoundList-prop, IsSoundMember-prop, IsSoundTable-prop, IsSoundRecord-prop, props)
+
+IsCharged-prop : (parts : Parts) → IsProp (IsCharged parts)
+IsCharged-prop parts = hlevel props
+
+pub IsSound-prop : (parts : Parts) → IsProp (IsSoundHeap parts)
+IsSound-prop parts = hlevel (AreSound-prop, IsCharged-prop)

@@ -1,0 +1,117 @@
+-- How the pieces of a line go to the outputs: what is to be put on one file waits until another one is selected.
+use Rattle.std.specs.Prelude.{◌≡◌, ℕ, Bool, List, [], map, unwrap_or, if◌then◌else◌}
+use Rattle.icn_host.specs.Sinks.{SinkState, Gains, GainsPart}
+use Rattle.icn_host.specs.declared.fault.Fault.{Fault}
+use Rattle.icn_host.specs.declared.fault.Fault.TheVariants.{Failed, NoMemory}
+use Rattle.icn_value.specs.Values.{Value, File, Input, Output, Errout}
+use Rattle.icn_value.specs.Store.{Outside}
+use Rattle.icn_defs.specs.InputOutput.{WriteArgument, Puts, Selects, piece_of, put_on, put_pieces}
+use Rattle.icn_streams.specs.Handed.{KeepsFaultCounts, FailsOnce, WantsOnce, PutsAdded as PutsText, PutsPart}
+
+-- an argument as a piece, where it is one, and all of them
+abbrev pub piece_in : Value → WriteArgument
+piece_in value = unwrap_or (piece_of value) (Puts [])
+
+-- all arguments as pieces of a line
+abbrev pub pieces_in : List Value → List WriteArgument
+pieces_in values = map piece_in values
+
+-- what a text puts on the output, and on the error output, where it is put on a file
+abbrev pub output_part : File → List ℕ → List ℕ
+output_part Input text = []
+output_part Output text = text
+output_part Errout text = []
+
+abbrev pub errors_part : File → List ℕ → List ℕ
+errors_part Input text = []
+errors_part Output text = []
+errors_part Errout text = text
+
+-- both outputs
+pub record Outputs : Type 0 where
+  pub output : SinkState
+  pub errors : SinkState
+
+-- both outputs
+abbrev pub outputs : SinkState → SinkState → Outputs
+outputs output errors = record { output = output; errors = errors }
+
+-- neither has failed or wanted memory
+pub record KeepsBoth (before after : Outputs) : Type 0 where
+  pub output : KeepsFaultCounts before.output after.output
+  pub errors : KeepsFaultCounts before.errors after.errors
+
+-- why a put was broken off: one of the outputs failed, once; or one of them wanted memory, once; or there was none for
+-- what is to be put
+pub data BrokenBy (before after : Outputs) : Fault → Type 0 where
+  output_failed : FailsOnce before.output after.output → KeepsFaultCounts before.errors after.errors
+      → BrokenBy before after Failed
+  errors_failed : KeepsFaultCounts before.output after.output → FailsOnce before.errors after.errors
+      → BrokenBy before after Failed
+  output_wanted : WantsOnce before.output after.output → KeepsFaultCounts before.errors after.errors
+      → BrokenBy before after NoMemory
+  errors_wanted : KeepsFaultCounts before.output after.output → WantsOnce before.errors after.errors
+      → BrokenBy before after NoMemory
+  uncounted : KeepsBoth before after → BrokenBy before after NoMemory
+
+-- a text was put on a file
+pub record PutsOn (file : File) (text : List ℕ) (before after : Outputs) : Type 0 where
+  pub output : Gains before.output.held after.output.held (output_part file text)
+  pub errors : Gains before.errors.held after.errors.held (errors_part file text)
+  pub counts : KeepsBoth before after
+
+-- some first part of a text was put on a file
+pub record PutsPartOn (file : File) (text : List ℕ) (before after : Outputs) (fault : Fault) : Type 0 where
+  pub output : GainsPart before.output.held after.output.held (output_part file text)
+  pub errors : GainsPart before.errors.held after.errors.held (errors_part file text)
+  pub cause : BrokenBy before after fault
+
+-- where the next text goes, what waits to be put there, and the outputs so far
+pub record WaitingText : Type 0 where
+  pub file : File
+  pub text : List ℕ
+  pub outputs : Outputs
+
+abbrev pub waiting_text : File → List ℕ → Outputs → WaitingText
+waiting_text file text outputs = record { file = file; text = text; outputs = outputs }
+
+-- The outputs have gained what leads from one outside to another.
+pub record GainsOutputs (before after : Outputs) (was now : Outside) : Type 0 where
+  pub output : PutsText before.output after.output was.output now.output
+  pub errors : PutsText before.errors after.errors was.errors now.errors
+
+-- They have gained some first part of it.
+pub record GainedPart (before after : Outputs) (was now : Outside) : Type 0 where
+  pub output : PutsPart before.output after.output was.output now.output
+  pub errors : PutsPart before.errors after.errors was.errors now.errors
+
+-- From an outside on, with what waits at the file put on it, something was done to the outside: it is as if what waits
+-- now were put on what the outputs have gained.
+pub record HasEffect (before after : WaitingText) (done : Outside → Outside) : Type 0 where
+  pub reached : Outside → Outside
+  pub gained : (was : Outside) → GainsOutputs before.outputs after.outputs was (reached was)
+  pub same : (was : Outside)
+      → put_on after.file after.text (reached was) ≡ done (put_on before.file before.text was)
+  pub counts : KeepsBoth before.outputs after.outputs
+
+-- As this was to be done it was broken off.
+pub record StopsEffect (before : WaitingText) (after : Outputs) (done : Outside → Outside)
+    (fault : Fault) : Type 0 where
+  pub gained : (was : Outside)
+      → GainedPart before.outputs after was (done (put_on before.file before.text was))
+  pub cause : BrokenBy before.outputs after fault
+
+-- the file that is selected behind a piece
+abbrev pub file_after : File → WriteArgument → File
+file_after file (Puts text) = file
+file_after file (Selects other) = other
+
+-- what a piece puts on its file: its text; or a newline, where lines end and it is not the first
+abbrev pub text_of_piece : List ℕ → Bool → WriteArgument → List ℕ
+text_of_piece newline is_first (Puts text) = text
+text_of_piece newline is_first (Selects other) = if is_first then [] else newline
+
+-- all pieces are put, and then the end of the line
+abbrev pub line_put : List ℕ → Bool → List WriteArgument → File → Outside → Outside
+line_put newline is_first parts file outside =
+    let end = put_pieces newline is_first parts file outside in put_on end.0 newline end.1

@@ -1,0 +1,173 @@
+-- The rules of linking, looked at one after the other.
+use Rattle.std.proofs.Common.{◌≡◌, List, [], ◌∷◌, length, Option, None, true, Result, OnOk, IfErr, IfOk, sym, ap, subst, ◌∙◌}
+use Rattle.std.specs.List.{list_all, sum_by}
+use Rattle.std.specs.Option.{option_or}
+use Rattle.icn_code.specs.declared.code.Code.{Code}
+use Rattle.icn_code.specs.Codes.{Tables}
+use Rattle.icn_code.specs.CodeTables.{tables_of}
+use Rattle.icn_image.specs.Spelling.{image_of}
+use Rattle.icn_unit.specs.PlainUnits.{PlainProc, PlainDecl, UnitRead}
+use Rattle.icn_link.specs.JoinableUnits.{is_joinable_decl, is_joinable_proc}
+use Rattle.icn_link.specs.declared.fault.LinkFault.{LinkFault}
+use Rattle.icn_link.specs.Joined.{joined_code, joined_of}
+use Rattle.icn_link.specs.LinkFaults.{IsFault, first_fault, local_counts, missing, over, record_sizes, repeated_name, size_of, static_counts, table_sizes, too_large, too_large_of}
+use Rattle.icn_link.specs.Mentions.{AllMentions, globals, all_mentions, mentioned_by, operands_in}
+use Rattle.icn_link.specs.Units.{all_decls, all_procs}
+use Rattle.icn_link.specs.Views.{Joinable}
+use Rattle.icn_link.proofs.RuleByRule.{both_kept, first_fault_is, later_fault, later_fault_is, later_kept, list_fault, list_kept}
+
+-- Declarations and procedures that are too large
+
+module _ (M : AllMentions) (D : List PlainDecl) (P : List PlainProc) (is : M ≡ all_mentions D P) where
+  abbrev instrs : Option LinkFault
+  instrs = over 16777216 (sum_by size_of P ∷ [])
+
+  abbrev tables : Option LinkFault
+  tables = over 65535 (table_sizes (all_mentions D P) D P)
+
+  abbrev operands : Option LinkFault
+  operands = over 65535 (mentioned_by operands_in P)
+
+  abbrev records : Option LinkFault
+  records = over 65535 (record_sizes D)
+
+  abbrev locals : Option LinkFault
+  locals = over 65535 (local_counts (globals D P) P)
+
+  abbrev statics : Option LinkFault
+  statics = over 65535 (static_counts (globals D P) P)
+
+  abbrev image : Option LinkFault
+  image = over 1073741824 (length (image_of (joined_of D P)) ∷ [])
+
+  -- the same by the tables that are gathered
+  abbrev tables_found : Option LinkFault
+  tables_found = over 65535 (table_sizes M D P)
+
+  abbrev locals_found : Option LinkFault
+  locals_found = over 65535 (local_counts M.globals P)
+
+  abbrev statics_found : Option LinkFault
+  statics_found = over 65535 (static_counts M.globals P)
+
+  tables_same : tables_found ≡ tables
+  tables_same = ap (λ (N : AllMentions). over 65535 (table_sizes N D P)) is
+
+  locals_same : locals_found ≡ locals
+  locals_same = ap (λ (N : AllMentions). over 65535 (local_counts N.globals P)) is
+
+  statics_same : statics_found ≡ statics
+  statics_same = ap (λ (N : AllMentions). over 65535 (static_counts N.globals P)) is
+
+  -- what stands behind each rule
+  abbrev behind_statics : Option LinkFault
+  behind_statics = image
+
+  abbrev behind_locals : Option LinkFault
+  behind_locals = option_or statics behind_statics
+
+  abbrev behind_records : Option LinkFault
+  behind_records = option_or locals behind_locals
+
+  abbrev behind_operands : Option LinkFault
+  behind_operands = option_or records behind_records
+
+  abbrev behind_tables : Option LinkFault
+  behind_tables = option_or operands behind_operands
+
+  abbrev behind_instrs : Option LinkFault
+  behind_instrs = option_or tables behind_tables
+
+  pub instrs_exit : (fault : LinkFault) → IsFault instrs fault → IsFault (too_large_of D P) fault
+  instrs_exit fault h = first_fault_is instrs behind_instrs fault h
+
+  pub tables_exit : (fault : LinkFault) → instrs ≡ None → IsFault tables_found fault → IsFault (too_large_of D P) fault
+  tables_exit fault a h =
+      later_fault_is instrs behind_instrs fault a (first_fault_is tables behind_tables fault (subst (λ x. IsFault x fault) tables_same h))
+
+  pub operands_exit : (fault : LinkFault) → instrs ≡ None → tables_found ≡ None → IsFault operands fault → IsFault (too_large_of D P) fault
+  operands_exit fault a b h =
+      later_fault_is instrs behind_instrs fault a (later_fault_is tables behind_tables fault (sym tables_same ∙ b)
+      (first_fault_is operands behind_operands fault h))
+
+  pub records_exit : (fault : LinkFault) → instrs ≡ None → tables_found ≡ None → operands ≡ None → IsFault records fault
+      → IsFault (too_large_of D P) fault
+  records_exit fault a b c h =
+      later_fault_is instrs behind_instrs fault a (later_fault_is tables behind_tables fault (sym tables_same ∙ b)
+      (later_fault_is operands behind_operands fault c (first_fault_is records behind_records fault h)))
+
+  pub locals_exit : (fault : LinkFault) → instrs ≡ None → tables_found ≡ None → operands ≡ None → records ≡ None → IsFault locals_found fault
+      → IsFault (too_large_of D P) fault
+  locals_exit fault a b c d h =
+      later_fault_is instrs behind_instrs fault a (later_fault_is tables behind_tables fault (sym tables_same ∙ b)
+      (later_fault_is operands behind_operands fault c (later_fault_is records behind_records fault d
+      (first_fault_is locals behind_locals fault (subst (λ x. IsFault x fault) locals_same h)))))
+
+  pub statics_exit : (fault : LinkFault) → instrs ≡ None → tables_found ≡ None → operands ≡ None → records ≡ None → locals_found ≡ None
+      → IsFault statics_found fault → IsFault (too_large_of D P) fault
+  statics_exit fault a b c d e h =
+      later_fault_is instrs behind_instrs fault a (later_fault_is tables behind_tables fault (sym tables_same ∙ b)
+      (later_fault_is operands behind_operands fault c (later_fault_is records behind_records fault d
+      (later_fault_is locals behind_locals fault (sym locals_same ∙ e)
+      (first_fault_is statics behind_statics fault (subst (λ x. IsFault x fault) statics_same h))))))
+
+  -- the code that is made, where no rule before was broken
+  pub image_exit : (T : Tables) (fault : LinkFault) → T ≡ joined_of D P → instrs ≡ None → tables_found ≡ None → operands ≡ None → records ≡ None
+      → locals_found ≡ None → statics_found ≡ None → IsFault (over 1073741824 (length (image_of T) ∷ [])) fault → IsFault (too_large_of D P) fault
+  image_exit T fault t a b c d e f h =
+      later_fault_is instrs behind_instrs fault a (later_fault_is tables behind_tables fault (sym tables_same ∙ b)
+      (later_fault_is operands behind_operands fault c (later_fault_is records behind_records fault d
+      (later_fault_is locals behind_locals fault (sym locals_same ∙ e) (later_fault_is statics behind_statics fault (sym statics_same ∙ f)
+      (subst (λ U. IsFault (over 1073741824 (length (image_of U) ∷ [])) fault) t h))))))
+
+  pub sizes_kept : (T : Tables) → T ≡ joined_of D P → instrs ≡ None → tables_found ≡ None → operands ≡ None → records ≡ None
+      → locals_found ≡ None → statics_found ≡ None → over 1073741824 (length (image_of T) ∷ []) ≡ None → too_large_of D P ≡ None
+  sizes_kept T t a b c d e f h =
+      both_kept instrs behind_instrs a (both_kept tables behind_tables (sym tables_same ∙ b) (both_kept operands behind_operands c
+      (both_kept records behind_records d (both_kept locals behind_locals (sym locals_same ∙ e) (both_kept statics behind_statics (sym statics_same ∙ f)
+      (ap (λ (U : Tables). over 1073741824 (length (image_of U) ∷ [])) (sym t) ∙ h))))))
+
+  pub are_joinable : list_all is_joinable_decl D ≡ true → list_all is_joinable_proc P ≡ true → instrs ≡ None → tables_found ≡ None → operands ≡ None
+      → records ≡ None → locals_found ≡ None → statics_found ≡ None → Joinable D P
+  are_joinable k l a b c d e f = record {
+    joinable_decls = k;
+    joinable_procs = l;
+    instrs = a;
+    tables = sym tables_same ∙ b;
+    operands = c;
+    records = d;
+    locals = sym locals_same ∙ e;
+    statics = sym statics_same ∙ f;
+  }
+
+-- Units, behind the rules of names
+
+sizes_same : (units : List UnitRead) (D : List PlainDecl) (P : List PlainProc) → D ≡ all_decls units → P ≡ all_procs units → too_large_of D P ≡ too_large units
+sizes_same units D P d p = ap (λ (E : List PlainDecl). too_large_of E P) d ∙ ap (too_large_of (all_decls units)) p
+
+pub units_kept : {A : Type 0} (result : Result A LinkFault) (units : List UnitRead) (D : List PlainDecl) (P : List PlainProc) → D ≡ all_decls units
+    → P ≡ all_procs units → missing units ≡ None → repeated_name units ≡ None → OnOk result (too_large_of D P ≡ None) → OnOk result (first_fault units ≡ None)
+units_kept result units D P d p m r h =
+    later_kept result (missing units) (option_or (repeated_name units) (too_large units)) m
+    (later_kept result (repeated_name units) (too_large units) r (list_kept result (too_large_of D P) (too_large units) (sizes_same units D P d p) h))
+
+pub units_fault : {A : Type 0} (result : Result A LinkFault) (units : List UnitRead) (D : List PlainDecl) (P : List PlainProc) → D ≡ all_decls units
+    → P ≡ all_procs units → missing units ≡ None → repeated_name units ≡ None → IfErr result (IsFault (too_large_of D P))
+    → IfErr result (IsFault (first_fault units))
+units_fault result units D P d p m r h =
+    later_fault result (missing units) (option_or (repeated_name units) (too_large units)) m
+    (later_fault result (repeated_name units) (too_large units) r (list_fault result (too_large_of D P) (too_large units) (sizes_same units D P d p) h))
+
+pub units_joined : (result : Result Code LinkFault) (units : List UnitRead) (D : List PlainDecl) (P : List PlainProc) → D ≡ all_decls units
+    → P ≡ all_procs units
+    → IfOk result (λ code. tables_of code ≡ joined_of D P) → IfOk result (λ code. tables_of code ≡ joined_code units)
+units_joined result units D P d p h =
+    subst (λ (T : Tables). IfOk result (λ code. tables_of code ≡ T)) (ap (λ (E : List PlainDecl). joined_of E P) d ∙ ap (joined_of (all_decls units)) p) h
+
+pub missing_exit : (units : List UnitRead) (fault : LinkFault) → IsFault (missing units) fault → IsFault (first_fault units) fault
+missing_exit units fault h = first_fault_is (missing units) (option_or (repeated_name units) (too_large units)) fault h
+
+pub repeated_exit : (units : List UnitRead) (fault : LinkFault) → missing units ≡ None → IsFault (repeated_name units) fault → IsFault (first_fault units) fault
+repeated_exit units fault m h =
+    later_fault_is (missing units) (option_or (repeated_name units) (too_large units)) fault m
+    (first_fault_is (repeated_name units) (too_large units) fault h)

@@ -1,4 +1,0 @@
-mod Entries
-mod RowValues
-pub mod RowsNamed
-pub mod RowSizes

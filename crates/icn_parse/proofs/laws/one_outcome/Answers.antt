@@ -1,8 +1,0 @@
-use Rattle.icn_parse.proofs.Answering.{one_outcome, some_outcome}
-use Rattle.icn_parse.proofs.laws.one_outcome.Goals as goal
-
-pub returns-clause-most : goal.returns-clause-most
-returns-clause-most c = one_outcome
-
-pub returns-clause-least : goal.returns-clause-least
-returns-clause-least c = some_outcome

@@ -1,0 +1,224 @@
+-- Which counts rose, by the answer.
+use Rattle.std.proofs.Common.{◌≡◌, ◌⊎◌, inl, inr, ℕ, ◌≤◌, List, Option, Ok, Err, refl, ap, subst, arith}
+use Rattle.icn_host.specs.Counts.{CountsOnce, HasCause, Rose, one_more}
+use Rattle.icn_host.specs.Sinks.{SinkState}
+use Rattle.icn_host.specs.Puts.{RunsShort}
+use Rattle.icn_streams.specs.Handed.{CallStreams, call_streams, KeepsAllCounts, KeepsFaultCounts, WantsMemory, uncounted, errors_want}
+use Rattle.icn_machine.specs.Stepping.{OutputFails, output_fails, errors_fail}
+use Rattle.icn_defs.specs.declared.ending.Ending.{Ending}
+use Rattle.icn_running.specs.declared.fault.RunFault.{RunFault}
+use Rattle.icn_running.specs.declared.fault.RunFault.TheVariants as Runs
+use Rattle.icn_running.specs.Runs.{EndsAtFirst as RunEnds}
+use Rattle.icn_answer.specs.declared.answer.Answer.{Answer}
+use Rattle.icn_answer.specs.declared.answer.Answer.TheVariants.{Wrote, Ran, Refused, Command, Missing, BadUcode, BadImage, FileFault, ReadFault, WriteFault, NoMemory}
+use Rattle.icn_answer.specs.Answers.{IsAbsence, IsFault}
+use Rattle.icn_run_answer.specs.CountCauses.{EndsAtFirst, IsFirstFaultOf, OutsideState, RunEndsAtFirst, outside}
+use Rattle.icn_run_answer.specs.FaultAnswers.{IsOfRun, of_run}
+use Rattle.icn_answer.specs.Refusing.{PutsOwn, PutsItsLine, put, own, write_fault, want}
+use Rattle.icn_answer.proofs.NoFaults.{no_fault}
+
+-- an answer that is no fault puts no line of its own
+none_own : (answer : Answer) (sink : SinkState) → (IsFault answer → ⊥) → PutsOwn answer sink sink
+none_own FileFault sink n = absurd (n refl)
+none_own ReadFault sink n = absurd (n refl)
+none_own NoMemory sink n = absurd (n refl)
+none_own WriteFault sink n = refl
+none_own Wrote sink n = refl
+none_own (Ran ending) sink n = refl
+none_own (Refused file line rule) sink n = refl
+none_own (Command kind) sink n = refl
+none_own (Missing other) sink n = refl
+none_own (BadUcode other rule) sink n = refl
+none_own (BadImage rule) sink n = refl
+
+-- Where no count rose
+
+same_counts : (sink : SinkState) → KeepsFaultCounts sink sink
+same_counts sink = record { faults = refl; wants = refl }
+
+-- the error output alone was put on, and its counts stayed
+errors_kept : (left left' : Option (List ℕ)) (input : ℕ) (out before after : SinkState) → KeepsFaultCounts before after
+    → KeepsAllCounts (call_streams left input out before) (call_streams left' input out after)
+errors_kept left left' input out before after kept = record { faults = refl; output = same_counts out; errors = kept }
+
+-- an answer that is no fault, with all counts as they were
+none_first : (before after : CallStreams) (answer : Answer) → (IsFault answer → ⊥) → KeepsAllCounts before after → IsFirstFaultOf answer before after
+none_first before after Wrote n kept = kept
+none_first before after (Ran ending) n kept = kept
+none_first before after (Refused file line rule) n kept = kept
+none_first before after (Command kind) n kept = kept
+none_first before after (Missing other) n kept = kept
+none_first before after (BadUcode other rule) n kept = kept
+none_first before after (BadImage rule) n kept = kept
+none_first before after FileFault n kept = absurd (n refl)
+none_first before after ReadFault n kept = absurd (n refl)
+none_first before after WriteFault n kept = absurd (n refl)
+none_first before after NoMemory n kept = absurd (n refl)
+
+-- the same of an answer that is no failure of the input and of no output
+still_first : (before after : CallStreams) (answer : Answer) → (answer ≡ WriteFault → ⊥) → (answer ≡ ReadFault → ⊥) → KeepsAllCounts before after
+    → IsFirstFaultOf answer before after
+still_first before after Wrote w r kept = kept
+still_first before after (Ran ending) w r kept = kept
+still_first before after (Refused file line rule) w r kept = kept
+still_first before after (Command kind) w r kept = kept
+still_first before after (Missing other) w r kept = kept
+still_first before after (BadUcode other rule) w r kept = kept
+still_first before after (BadImage rule) w r kept = kept
+still_first before after FileFault w r kept = kept
+still_first before after ReadFault w r kept = absurd (r refl)
+still_first before after WriteFault w r kept = absurd (w refl)
+still_first before after NoMemory w r kept = uncounted kept
+
+-- Lines of answers that no program ran for
+
+-- want of memory in the put of a line
+want_first : {before between : SinkState} {line : List ℕ} (left left' : Option (List ℕ)) (input : ℕ) (out : SinkState)
+    → (between ≡ before) ⊎ RunsShort before between line
+    → WantsMemory (call_streams left input out before) (call_streams left' input out between)
+want_first {before} left left' input out (inl same) =
+    uncounted (errors_kept left left' input out before _
+    (record { faults = ap (λ (sink : SinkState). sink.faults) same; wants = ap (λ (sink : SinkState). sink.wants) same }))
+want_first left left' input out (inr short) = errors_want refl (same_counts out) (record { faults = short.faults; wants = short.wants })
+
+-- what a given fault says of the answer that was refused
+given_file : {usage name : List ℕ} {before after : SinkState} (answer given : Answer) → PutsItsLine usage name answer before after given → given ≡ FileFault
+    → answer ≡ FileFault
+given_file answer _ (put n whole) e = e
+given_file answer _ (own f puts) e = e
+given_file answer _ (write_fault n stops) e = cc
+given_file answer _ (want n between leads puts) e = cc
+
+kept_file : {usage name : List ℕ} {before after : SinkState} (answer given : Answer) → PutsItsLine usage name answer before after given → answer ≡ FileFault
+    → given ≡ FileFault
+kept_file answer _ (put n whole) e = e
+kept_file answer _ (own f puts) e = e
+kept_file answer _ (write_fault n stops) e = absurd (n (rw e refl))
+kept_file answer _ (want n between leads puts) e = absurd (n (rw e refl))
+
+-- an answer that no program ran for
+refused_counts : {usage name : List ℕ} {before after : SinkState} (left left' : Option (List ℕ)) (input : ℕ) (out : SinkState) (answer given : Answer)
+    → (answer ≡ WriteFault → ⊥)
+    → (answer ≡ ReadFault → ⊥) → PutsItsLine usage name answer before after given
+    → RunEndsAtFirst given (call_streams left input out before) (call_streams left' input out after)
+refused_counts {before = before} {after} left left' input out answer _ w r (put n whole) = record {
+  between = after;
+  first = none_first _ _ answer n (errors_kept left left' input out before after (record { faults = whole.faults; wants = whole.wants }));
+  own_line = none_own answer after n;
+}
+refused_counts {before = before} left left' input out answer _ w r (own f puts) =
+    record { between = before; first = still_first _ _ answer w r (errors_kept left left' input out before before (same_counts before)); own_line = puts }
+refused_counts {after = after} left left' input out answer _ w r (write_fault n stops) =
+    record { between = after; first = errors_fail refl (same_counts out) (record { faults = stops.faults; wants = stops.wants }); own_line = refl }
+refused_counts left left' input out answer _ w r (want n between leads puts) =
+    record { between = between; first = want_first left left' input out leads; own_line = puts }
+
+pub refused_ends : {usage name : List ℕ} {absent given_absent : Type 0} {files files' absences absences' input : ℕ} {left left' : Option (List ℕ)}
+    {out before after : SinkState} (answer given : Answer)
+    → (answer ≡ WriteFault → ⊥) → (answer ≡ ReadFault → ⊥) → CountsOnce files files' (answer ≡ FileFault) → HasCause absences absences' absent
+    → (given_absent → absent) → PutsItsLine usage name answer before after given
+    → EndsAtFirst given given_absent (outside files absences (call_streams left input out before))
+    (outside files' absences' (call_streams left' input out after))
+refused_ends {input = input} {left} {left'} {out} answer given w r file cause absences refuses = record {
+  file_fault = record {
+    later = file.later;
+    rose = λ e. file.rose (given_file answer given refuses e);
+    stayed = λ n. file.stayed (λ e. n (kept_file answer given refuses e));
+  };
+  absence = record { later = cause.later; rose = λ a. cause.rose (absences a) };
+  others = refused_counts left left' input out answer given w r refuses;
+}
+
+-- a file that was not there, in what is given in place of an answer
+pub absence_of : {usage name : List ℕ} {before after : SinkState} (answer given : Answer) → PutsItsLine usage name answer before after given → IsAbsence given
+    → IsAbsence answer
+absence_of answer _ (put n whole) is = is
+absence_of answer _ (own f puts) is = is
+absence_of answer _ (write_fault n stops) is = absurd is
+absence_of answer _ (want n between leads puts) is = absurd is
+
+-- Answers of runs
+
+pub run_no_file : (answer : Answer) → IsOfRun answer → answer ≡ FileFault → ⊥
+run_no_file answer is e = rw e at is
+
+pub run_no_absence : (answer : Answer) → IsOfRun answer → IsAbsence answer → ⊥
+run_no_absence (Ran ending) is a = a
+run_no_absence ReadFault is a = a
+run_no_absence WriteFault is a = a
+run_no_absence NoMemory is a = a
+run_no_absence _ is a = is
+
+-- Calls of several parts
+
+-- files that were read before
+pub after_read : {absent : Type 0} {faults faults' absences absences' : ℕ} {streams : CallStreams} {after : OutsideState} (answer : Answer) → faults' ≡ faults
+    → absences ≤ absences'
+    → EndsAtFirst answer absent (outside faults' absences' streams) after → EndsAtFirst answer absent (outside faults absences streams) after
+after_read {after = after} answer f a ends = record {
+  file_fault = subst (λ n. CountsOnce n after.faults (answer ≡ FileFault)) f ends.file_fault;
+  absence = record { later = omega (arith, a, ends.absence.later); rose = λ is. omega (arith, a, ends.absence.rose is) };
+  others = ends.others;
+}
+
+-- no fault is answered, and nothing was put
+pub none_counts : {streams : CallStreams} (answer : Answer) → (IsFault answer → ⊥) → RunEndsAtFirst answer streams streams
+none_counts {streams = streams} answer n = record {
+  between = streams.errors;
+  first = none_first streams streams answer n (record { faults = refl; output = same_counts streams.output; errors = same_counts streams.errors });
+  own_line = none_own answer streams.errors n;
+}
+
+-- an own line alone
+pub own_counts : {left left' : Option (List ℕ)} {input : ℕ} {out before after : SinkState} (answer : Answer) → (answer ≡ WriteFault → ⊥)
+    → (answer ≡ ReadFault → ⊥) → PutsOwn answer before after
+    → RunEndsAtFirst answer (call_streams left input out before) (call_streams left' input out after)
+own_counts {left = left} {left'} {input} {out} {before} answer w r puts =
+    record { between = before; first = still_first _ _ answer w r (errors_kept left left' input out before before (same_counts before)); own_line = puts }
+
+-- a run that ended
+pub ran_counts : {before after : CallStreams} (ending : Ending) → RunEnds {A = Ending} (Ok ending) before after → RunEndsAtFirst (Ran ending) before after
+ran_counts {after = after} ending kept = record { between = after.errors; first = kept; own_line = refl }
+
+-- which counts rose where a run was broken off
+pub broken_first : (before after : CallStreams) (fault : RunFault) → RunEnds {A = Ending} (Err fault) before after → IsFirstFaultOf (of_run fault) before after
+broken_first before after Runs.ReadFault fails = fails
+broken_first before after Runs.WriteFault fails = fails
+broken_first before after Runs.NoMemory wants = wants
+
+-- a run that was broken off, with the fault's own line behind
+pub broken_counts : {before : CallStreams} {left : Option (List ℕ)} {input : ℕ} {out : SinkState} (between after : SinkState) (fault : RunFault) → RunEnds {A =
+    Ending} (Err fault) before (call_streams left input out between)
+    → PutsOwn (of_run fault) between after → RunEndsAtFirst (of_run fault) before (call_streams left input out after)
+broken_counts {before = before} between after fault ends puts = record { between = between; first = broken_first before _ fault ends; own_line = puts }
+
+-- Where no count of faults rose
+
+rose_of : (before now : ℕ) → now ≡ one_more before → Rose before now
+rose_of before now e = omega arith
+
+none_wrote : {before after : CallStreams} → OutputFails before after → (Rose before.output.faults after.output.faults → ⊥)
+    → (Rose before.errors.faults after.errors.faults → ⊥) → ⊥
+none_wrote (output_fails input out err) o e = o (rose_of _ _ out.faults)
+none_wrote (errors_fail input out err) o e = e (rose_of _ _ err.faults)
+
+none_wrote_behind : {before after : CallStreams} → RunEndsAtFirst WriteFault before after → (Rose before.output.faults after.output.faults → ⊥)
+    → (Rose before.errors.faults after.errors.faults → ⊥) → ⊥
+none_wrote_behind {before = before} ends o e = none_wrote ends.first o (subst (λ (sink : SinkState). Rose before.errors.faults sink.faults → ⊥) ends.own_line e)
+
+-- where no count of faults rose, no fault is answered but want of memory
+pub faultless_of : {absent : Type 0} {before after : OutsideState} (answer : Answer) → EndsAtFirst answer absent before after
+    → (Rose before.faults after.faults → ⊥)
+    → (Rose before.streams.faults after.streams.faults → ⊥) → (Rose before.streams.output.faults after.streams.output.faults → ⊥)
+    → (Rose before.streams.errors.faults after.streams.errors.faults → ⊥) → IsFault answer → answer ≡ NoMemory
+faultless_of FileFault ends f i o e is = absurd (f (rose_of _ _ (ends.file_fault.rose refl)))
+faultless_of ReadFault ends f i o e is = absurd (i (rose_of _ _ ends.others.first.faults))
+faultless_of WriteFault ends f i o e is = absurd (none_wrote_behind ends.others o e)
+faultless_of NoMemory ends f i o e is = refl
+faultless_of Wrote ends f i o e is = absurd (no_fault Wrote refl is)
+faultless_of (Ran ending) ends f i o e is = absurd (no_fault (Ran ending) refl is)
+faultless_of (Refused file line rule) ends f i o e is = absurd (no_fault (Refused file line rule) refl is)
+faultless_of (Command kind) ends f i o e is = absurd (no_fault (Command kind) refl is)
+faultless_of (Missing other) ends f i o e is = absurd (no_fault (Missing other) refl is)
+faultless_of (BadUcode other rule) ends f i o e is = absurd (no_fault (BadUcode other rule) refl is)
+faultless_of (BadImage rule) ends f i o e is = absurd (no_fault (BadImage rule) refl is)

@@ -1,0 +1,111 @@
+-- No count of 64 bits falls.
+use Rattle.std.proofs.Common.{◌≡◌, ◌≤◌, ◌<◌, ◌^◌, ℕ, List, arith}
+use Rattle.icn_host.specs.Counts.{one_more}
+use Rattle.icn_host.specs.Sinks.{SinkState}
+use Rattle.icn_host.specs.Puts.{Puts, all, part, broken, wanted}
+use Rattle.icn_streams.specs.Handed.{CallStreams, KeepsAllCounts, KeepsFaultCounts, FailsOnce, WantsOnce, WantsMemory, uncounted, output_wants, errors_want}
+use Rattle.icn_machine.specs.Stepping.{InputFails, OutputFails, output_fails, errors_fail}
+use Rattle.icn_answer.specs.declared.answer.Answer.{Answer}
+use Rattle.icn_answer.specs.declared.answer.Answer.TheVariants.{Wrote, Ran, Refused, Command, Missing, BadUcode, BadImage, FileFault, ReadFault, WriteFault, NoMemory}
+use Rattle.icn_run_answer.specs.CountCauses.{IsFirstFaultOf, RunEndsAtFirst}
+use Rattle.icn_run_answer.specs.CountsRise.{HasBits, HaveBits, NoneFalls, SinkRises}
+use Rattle.icn_answer.specs.Lines.{fault_line}
+use Rattle.icn_answer.specs.Refusing.{PutsOwn}
+use Rattle.icn_run_answer.specs.ToldObjects.{with_errors}
+use Rattle.icn_run_answer.proofs.Reports.{puts_own}
+
+stays : (n m : ℕ) → m ≡ n → n ≤ m
+stays n m e = omega (arith, e)
+
+rises : (n m : ℕ) → n < 2 ^ 64 → m ≡ one_more n → n ≤ m
+rises n m few e = omega (arith, few, e)
+
+in_bits : (n m : ℕ) → m ≡ one_more n → m < 2 ^ 64
+in_bits n m e = omega (arith, e)
+
+same_bits : (n m : ℕ) → n < 2 ^ 64 → m ≡ n → m < 2 ^ 64
+same_bits n m few e = omega (arith, few, e)
+
+-- a sink's counts do not fall, and have 64 bits again
+record Goes (before after : SinkState) : Type 0 where
+  rise : SinkRises before after
+  bits : HasBits after
+
+keeps : (before after : SinkState) → HasBits before → KeepsFaultCounts before after → Goes before after
+keeps before after few same = record {
+  rise = record { faults = stays _ _ same.faults; wants = stays _ _ same.wants };
+  bits = record { faults = same_bits _ _ few.faults same.faults; wants = same_bits _ _ few.wants same.wants };
+}
+
+fails : (before after : SinkState) → HasBits before → FailsOnce before after → Goes before after
+fails before after few once = record {
+  rise = record { faults = rises _ _ few.faults once.faults; wants = stays _ _ once.wants };
+  bits = record { faults = in_bits before.faults _ once.faults; wants = same_bits _ _ few.wants once.wants };
+}
+
+wants : (before after : SinkState) → HasBits before → WantsOnce before after → Goes before after
+wants before after few once = record {
+  rise = record { faults = stays _ _ once.faults; wants = rises _ _ few.wants once.wants };
+  bits = record { faults = same_bits _ _ few.faults once.faults; wants = in_bits before.wants _ once.wants };
+}
+
+-- a line put, as far as the sink took it
+put_rises : (before after : SinkState) (line : List ℕ) → HasBits before → Puts before after line → SinkRises before after
+put_rises before after line few (all whole) = (keeps before after few (record { faults = whole.faults; wants = whole.wants })).rise
+put_rises before after line few (part (broken off)) = (fails before after few (record { faults = off.faults; wants = off.wants })).rise
+put_rises before after line few (part (wanted short)) = (wants before after few (record { faults = short.faults; wants = short.wants })).rise
+
+-- all that a call was handed, up to the fault's own line
+record AllGo (before after : CallStreams) : Type 0 where
+  faults : before.faults ≤ after.faults
+  output : Goes before.output after.output
+  errors : Goes before.errors after.errors
+
+all_keep : (before after : CallStreams) → HaveBits before → KeepsAllCounts before after → AllGo before after
+all_keep before after few same =
+    record { faults = stays _ _ same.faults; output = keeps _ _ few.output same.output; errors = keeps _ _ few.errors same.errors }
+
+input_goes : (before after : CallStreams) → HaveBits before → InputFails before after → AllGo before after
+input_goes before after few once =
+    record { faults = rises _ _ few.faults once.faults; output = keeps _ _ few.output once.output; errors = keeps _ _ few.errors once.errors }
+
+output_goes : (before after : CallStreams) → HaveBits before → OutputFails before after → AllGo before after
+output_goes before after few (output_fails input out err) =
+    record { faults = stays _ _ input; output = fails _ _ few.output out; errors = keeps _ _ few.errors err }
+output_goes before after few (errors_fail input out err) =
+    record { faults = stays _ _ input; output = keeps _ _ few.output out; errors = fails _ _ few.errors err }
+
+memory_goes : (before after : CallStreams) → HaveBits before → WantsMemory before after → AllGo before after
+memory_goes before after few (uncounted same) = all_keep before after few same
+memory_goes before after few (output_wants input out err) =
+    record { faults = stays _ _ input; output = wants _ _ few.output out; errors = keeps _ _ few.errors err }
+memory_goes before after few (errors_want input out err) =
+    record { faults = stays _ _ input; output = keeps _ _ few.output out; errors = wants _ _ few.errors err }
+
+first_goes : (before after : CallStreams) (answer : Answer) → HaveBits before → IsFirstFaultOf answer before after → AllGo before after
+first_goes before after Wrote few first = all_keep before after few first
+first_goes before after (Ran ending) few first = all_keep before after few first
+first_goes before after (Refused file line rule) few first = all_keep before after few first
+first_goes before after (Command kind) few first = all_keep before after few first
+first_goes before after (Missing name) few first = all_keep before after few first
+first_goes before after (BadUcode name rule) few first = all_keep before after few first
+first_goes before after (BadImage rule) few first = all_keep before after few first
+first_goes before after FileFault few first = all_keep before after few first
+first_goes before after ReadFault few first = input_goes before after few first
+first_goes before after WriteFault few first = output_goes before after few first
+first_goes before after NoMemory few first = memory_goes before after few first
+
+both_rise : (before between after : SinkState) → SinkRises before between → SinkRises between after → SinkRises before after
+both_rise before between after one two = record { faults = omega (arith, one.faults, two.faults); wants = omega (arith, one.wants, two.wants) }
+
+own_rises : (before after : SinkState) (answer : Answer) → HasBits before → PutsOwn answer before after → SinkRises before after
+own_rises before after answer few puts = put_rises before after (fault_line answer) few (puts_own before after answer puts)
+
+pub none_falls : (answer : Answer) (before after : CallStreams) → HaveBits before → RunEndsAtFirst answer before after → NoneFalls before after
+none_falls answer before after few ends =
+    let goes = first_goes before (with_errors ends.between after) answer few ends.first in
+    record {
+      faults = goes.faults;
+      output = goes.output.rise;
+      errors = both_rise before.errors ends.between after.errors goes.errors.rise (own_rises ends.between after.errors answer goes.errors.bits ends.own_line);
+    }

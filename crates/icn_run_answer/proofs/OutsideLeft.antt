@@ -1,0 +1,35 @@
+-- What a call leaves of the outside, of what its parts leave.
+use Rattle.std.proofs.Common.{◌≡◌, ◌≤◌, ◌∙◌, ℕ, List, Option, IfSome}
+use Rattle.icn_streams.specs.Handed.{CallStreams}
+use Rattle.icn_answer.specs.declared.answer.Answer.{Answer}
+use Rattle.icn_answer.specs.Answers.{IsAbsence}
+use Rattle.icn_run_answer.specs.CountCauses.{EndsAtFirst, OutsideState, outside}
+use Rattle.icn_run_answer.specs.InputLeft.{LosesSome}
+use Rattle.icn_run_answer.specs.OutsideLeft.{LeavesOutside}
+use Rattle.icn_run_answer.proofs.CountCauses.{after_read}
+use Rattle.icn_answer.proofs.ToldContent.{if_some_intro}
+
+-- nothing was read of the input
+loses_none : (before after : Option (List ℕ)) → after ≡ before → IfSome before (λ left. LosesSome left after)
+loses_none before after same = if_some_intro before _ (λ left told. (0, same ∙ told))
+
+-- a call that left the input and the output alone
+pub leaves_both : {answer : Answer} {before after : OutsideState} → after.streams.left ≡ before.streams.left
+    → after.streams.output.held ≡ before.streams.output.held → EndsAtFirst answer (IsAbsence answer) before after → LeavesOutside answer before after
+leaves_both {before = before} {after} left output ends = record {
+  causes = ends;
+  input = loses_none before.streams.left after.streams.left left;
+  refused = λ none. output;
+  unread = λ none. left;
+}
+
+-- files that were read before
+pub leaves_after : {faults faults' absences absences' : ℕ} {streams : CallStreams} {after : OutsideState} (answer : Answer) → faults' ≡ faults
+    → absences ≤ absences' → LeavesOutside answer (outside faults' absences' streams) after
+    → LeavesOutside answer (outside faults absences streams) after
+leaves_after answer same later leaves = record {
+  causes = after_read answer same later leaves.causes;
+  input = leaves.input;
+  refused = leaves.refused;
+  unread = leaves.unread;
+}

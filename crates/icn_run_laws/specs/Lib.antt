@@ -1,9 +1,0 @@
-pub mod Rendered
-pub mod Laws
-pub mod SameStates
-pub mod SecondLaw
-pub mod Measure
-pub mod StackWeights
-pub mod ChainWeights
-pub mod OthersStay
-pub mod StackLaws

@@ -1,5 +1,0 @@
-use Rattle.icn_run_named.proofs.StepsNamed.{steps_named}
-use Rattle.icn_run_named.proofs.steps_keep_names.Goals as goal
-
-pub returns : goal.returns
-returns c = record { kept = steps_named c.names_stay.ensures.kept }

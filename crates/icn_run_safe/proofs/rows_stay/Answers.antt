@@ -1,5 +1,0 @@
-use Rattle.icn_run_safe.proofs.RowsWithin.{rows_stay_within}
-use Rattle.icn_run_safe.proofs.rows_stay.Goals as goal
-
-pub returns : goal.returns
-returns c = record { within = rows_stay_within }

@@ -1,8 +1,0 @@
-pub mod Within
-pub mod Shaped
-pub mod NoStuck
-pub mod Ended
-pub mod Facts
-pub mod LeastWeights
-pub mod StepMeasure
-pub mod CaseMarks

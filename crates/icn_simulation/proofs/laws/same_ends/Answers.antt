@@ -1,8 +1,0 @@
-use Rattle.icn_simulation.proofs.Files.{same_ends, same_flat}
-use Rattle.icn_simulation.proofs.laws.same_ends.Goals as goal
-
-pub returns-clause-on_marks : goal.returns-clause-on_marks
-returns-clause-on_marks c = λ files tables launch seen h. let s = same_ends files tables h in (s.to launch seen, s.from launch seen)
-
-pub returns-clause-on_stacks : goal.returns-clause-on_stacks
-returns-clause-on_stacks c = λ files tables launch seen h. let s = same_flat files tables h in (s.to launch seen, s.from launch seen)

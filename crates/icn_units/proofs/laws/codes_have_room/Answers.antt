@@ -1,5 +1,0 @@
-use Rattle.icn_units.proofs.RoomOfFiles.{checked_room}
-use Rattle.icn_units.proofs.laws.codes_have_room.Goals as goal
-
-pub returns : goal.returns
-returns c file spelled = checked_room file spelled

@@ -1,5 +1,0 @@
-use Rattle.icn_verify.proofs.Entering.{entered_by}
-use Rattle.icn_verify.proofs.arena.entered.Goals as goal
-
-pub returns-clause-entered : goal.returns-clause-entered
-returns-clause-entered c = entered_by c.args.entries.now.keys c.args.entry _ c.in_ok-index.ensures.keys

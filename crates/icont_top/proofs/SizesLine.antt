@@ -1,0 +1,207 @@
+-- The line of the sizes of the program of a number, behind its run.
+use Rattle.std.proofs.Common.{◌≡◌, inl, inr, ℕ, true, false, List, [], ◌++◌, take, Option, None, Some, IfSome, Err, refl, sym, ap, ◌∙◌, subst, append-nil}
+use Rattle.icn_host.specs.Counts.{one_more}
+use Rattle.icn_host.specs.declared.fault.Fault.{Fault}
+use Rattle.icn_host.specs.declared.fault.Fault.TheVariants as Faults
+use Rattle.icn_host.proofs.SinkSteps.{gains_nothing, gains_then}
+use Rattle.icn_host.specs.Puts.{LeadsBy}
+use Rattle.icn_host.specs.Sinks.{Gains, SinkState}
+use Rattle.icn_code.specs.Codes.{Tables}
+use Rattle.icn_defs.specs.Running.{Launch, Observation, Done, Exit, Errored, AtBound, Ending as SeenEnding}
+use Rattle.icn_defs.specs.declared.ending.Ending.{Ending}
+use Rattle.icn_defs.specs.declared.ending.Ending.TheVariants as Endings
+use Rattle.law_simulation.specs.FirstLaw.{RunsFlat}
+use Rattle.icn_streams.specs.Handed.{CallStreams, KeepsAllCounts, KeepsFaultCounts, call_streams, uncounted, output_wants}
+use Rattle.icn_machine.specs.Stepping.{output_fails}
+use Rattle.icn_running.specs.declared.fault.RunFault.{RunFault}
+use Rattle.icn_running.specs.declared.fault.RunFault.TheVariants as Runs
+use Rattle.icn_running.specs.Reported.{ending_seen}
+use Rattle.icn_running.specs.Runs.{EndsAtFirst as RunEnds}
+use Rattle.icn_answer.specs.declared.answer.Answer.{Answer}
+use Rattle.icn_answer.specs.declared.answer.Answer.TheVariants.{Wrote, Ran, Refused, Command, Missing, BadUcode, BadImage, FileFault, ReadFault, WriteFault, NoMemory}
+use Rattle.icn_run_answer.specs.CountCauses.{RunEndsAtFirst}
+use Rattle.icn_answer.specs.Endings.{ending_held}
+use Rattle.icn_run_answer.specs.FaultAnswers.{of_run}
+use Rattle.icn_run_answer.specs.Reporting.{PutsSome, Reports}
+use Rattle.icn_run_answer.proofs.Reports.{fault_reports, puts_own}
+use Rattle.icont_units.specs.Generated.{sizes_line}
+use Rattle.icont_top.specs.Job.{sizes_behind}
+use Rattle.icont_top.specs.Outcomes.{StopsPut}
+use Rattle.icont_top.specs.Running.{HasRun, IsRanOrBroken, PutsSizes, broken, has_ended, is_done, put_answer, ran, sizes_broken, sizes_put, was_broken, was_broken_behind}
+use Rattle.icont_top.specs.Usage.{usage}
+
+-- What was observed of a run
+
+-- the ending that is answered is the one that is observed
+held_seen : (ending : Ending) (seen : SeenEnding) → seen ≡ ending_seen ending → ending_held seen ≡ ending
+held_seen Endings.Done seen e = ap ending_held e
+held_seen (Endings.Exit status) seen e = ap ending_held e
+held_seen (Endings.Errored number) seen e = ap ending_held e
+held_seen Endings.AtBound seen e = ap ending_held e
+
+answered_seen : (answer : Answer) (ending : Ending) (seen : SeenEnding) → answer ≡ Ran ending → seen ≡ ending_seen ending → answer ≡ Ran (ending_held seen)
+answered_seen answer ending seen same e = same ∙ ap (λ held. Ran held) (sym (held_seen ending seen e))
+
+gains_alone : {before after : Option (List ℕ)} (text more : List ℕ) → more ≡ [] → Gains before after text → Gains before after (text ++ more)
+gains_alone {before} {after} text more none gains = subst (Gains before after) (sym (ap (λ m. text ++ m) none ∙ append-nil text)) gains
+
+-- a program that has no number
+pub ran_alone : {tables : Tables} {launch : Launch} {answer : Answer} {before after : CallStreams} → IsRanOrBroken tables launch answer before after
+    → HasRun tables launch None answer before after
+ran_alone {answer = answer} (ran ending same to) =
+    has_ended to.0 to.1.1.0 (answered_seen answer ending to.0.ending same to.1.0) to.1.1.1.left
+    (gains_alone to.0.outside.output [] refl to.1.1.1.output) to.1.1.1.errors
+ran_alone (broken wrong between same first off puts) = was_broken wrong between same first off puts
+
+none_behind : (n : ℕ) (seen : SeenEnding) → is_done (Ran (ending_held seen)) ≡ false → sizes_behind n seen ≡ []
+none_behind n Done e = absurd (let wrong : true ≡ false = e in cc)
+none_behind n (Exit status) e = refl
+none_behind n (Errored error) e = refl
+none_behind n AtBound e = refl
+
+-- the program of a number that was not done
+pub ran_undone : {tables : Tables} {launch : Launch} {answer : Answer} {before after : CallStreams} (n : ℕ) → is_done answer ≡ false
+    → IsRanOrBroken tables launch answer before after → HasRun tables launch (Some n) answer before after
+ran_undone {answer = answer} n undone (ran ending same to) =
+    let seen = answered_seen answer ending to.0.ending same to.1.0 in
+    has_ended to.0 to.1.1.0 seen to.1.1.1.left
+    (gains_alone to.0.outside.output (sizes_behind n to.0.ending) (none_behind n to.0.ending (sym (ap is_done seen) ∙ undone)) to.1.1.1.output)
+    to.1.1.1.errors
+ran_undone n undone (broken wrong between same first off puts) = was_broken wrong between same first off puts
+
+-- The program of a number that was done
+
+done_of : (answer : Answer) → is_done answer ≡ true → answer ≡ Ran Endings.Done
+done_of (Ran Endings.Done) e = refl
+done_of (Ran (Endings.Exit status)) e = absurd (let wrong : false ≡ true = e in cc)
+done_of (Ran (Endings.Errored number)) e = absurd (let wrong : false ≡ true = e in cc)
+done_of (Ran Endings.AtBound) e = absurd (let wrong : false ≡ true = e in cc)
+done_of Wrote e = absurd (let wrong : false ≡ true = e in cc)
+done_of (Refused file line rule) e = absurd (let wrong : false ≡ true = e in cc)
+done_of (Command kind) e = absurd (let wrong : false ≡ true = e in cc)
+done_of (Missing name) e = absurd (let wrong : false ≡ true = e in cc)
+done_of (BadUcode name rule) e = absurd (let wrong : false ≡ true = e in cc)
+done_of (BadImage rule) e = absurd (let wrong : false ≡ true = e in cc)
+done_of FileFault e = absurd (let wrong : false ≡ true = e in cc)
+done_of ReadFault e = absurd (let wrong : false ≡ true = e in cc)
+done_of WriteFault e = absurd (let wrong : false ≡ true = e in cc)
+done_of NoMemory e = absurd (let wrong : false ≡ true = e in cc)
+
+-- what was observed of a run that was done
+record HasDone (tables : Tables) (launch : Launch) (before after : CallStreams) : Type 0 where
+  pub seen : Observation
+  pub flat : RunsFlat tables launch seen
+  pub done : seen.ending ≡ Done
+  pub left : after.left ≡ Some seen.outside.left
+  pub output : Gains before.output.held after.output.held seen.outside.output
+  pub errors : Gains before.errors.held after.errors.held seen.outside.errors
+
+seen_done : (ending : Ending) → is_done (Ran ending) ≡ true → ending_seen ending ≡ Done
+seen_done Endings.Done e = refl
+seen_done (Endings.Exit status) e = absurd (let wrong : false ≡ true = e in cc)
+seen_done (Endings.Errored number) e = absurd (let wrong : false ≡ true = e in cc)
+seen_done Endings.AtBound e = absurd (let wrong : false ≡ true = e in cc)
+
+undone : (fault : RunFault) → is_done (of_run fault) ≡ false
+undone Runs.ReadFault = refl
+undone Runs.WriteFault = refl
+undone Runs.NoMemory = refl
+
+has_done : {tables : Tables} {launch : Launch} {answer : Answer} {before after : CallStreams} → is_done answer ≡ true
+    → IsRanOrBroken tables launch answer before after → HasDone tables launch before after
+has_done e (ran ending same to) = record {
+  seen = to.0;
+  flat = to.1.1.0;
+  done = to.1.0 ∙ seen_done ending (sym (ap is_done same) ∙ e);
+  left = to.1.1.1.left;
+  output = to.1.1.1.output;
+  errors = to.1.1.1.errors;
+}
+has_done e (broken wrong between same first off puts) = absurd (let wrong : true ≡ false = sym e ∙ (ap is_done same ∙ undone wrong) in cc)
+
+-- no count rose in the run
+counts_kept : {before after : CallStreams} (answer : Answer) → is_done answer ≡ true → RunEndsAtFirst answer before after → KeepsAllCounts before after
+counts_kept {before} {after} answer e ends =
+    let there : RunEndsAtFirst (Ran Endings.Done) before after = rw (done_of answer e) at ends in
+    record {
+      faults = there.first.faults;
+      output = there.first.output;
+      errors = subst (λ (sink : SinkState). KeepsFaultCounts before.errors sink) (sym there.own_line) there.first.errors;
+    }
+
+abbrev run_fault : Fault → RunFault
+run_fault Faults.Failed = Runs.WriteFault
+run_fault Faults.NoMemory = Runs.NoMemory
+
+as_run : (fault : Fault) → put_answer fault ≡ of_run (run_fault fault)
+as_run Faults.Failed = refl
+as_run Faults.NoMemory = refl
+
+stops_put : (fault : Fault) → StopsPut (run_fault fault)
+stops_put Faults.Failed = tt
+stops_put Faults.NoMemory = tt
+
+-- the count of the output rose, if any did
+ends_behind : (left : Option (List ℕ)) (input : ℕ) (before : CallStreams) (out out' err : SinkState) (fault : Fault) (line : List ℕ)
+    → KeepsAllCounts before (call_streams left input out err) → LeadsBy fault out out' line
+    → RunEnds {A = Ending} (Err (run_fault fault)) before (call_streams left input out' err)
+ends_behind left input before out out' err Faults.Failed line kept stops =
+    output_fails kept.faults
+    (record { faults = stops.faults ∙ ap one_more kept.output.faults; wants = stops.wants ∙ kept.output.wants }) kept.errors
+ends_behind left input before out out' err Faults.NoMemory line kept (inl same) =
+    uncounted (record {
+      faults = kept.faults;
+      output = subst (λ (sink : SinkState). KeepsFaultCounts before.output sink) (sym same) kept.output;
+      errors = kept.errors;
+    })
+ends_behind left input before out out' err Faults.NoMemory line kept (inr short) =
+    output_wants kept.faults
+    (record { faults = short.faults ∙ kept.output.faults; wants = short.wants ∙ ap one_more kept.output.wants }) kept.errors
+
+-- some first part of a line that was put
+record FirstPart (out out' : SinkState) (line : List ℕ) : Type 0 where
+  pub count : ℕ
+  pub gains : Gains out.held out'.held (take count line)
+
+part_put : {out out' : SinkState} (fault : Fault) (line : List ℕ) → LeadsBy fault out out' line → FirstPart out out' line
+part_put Faults.Failed line stops = record { count = stops.part.count; gains = record { appends = stops.part.appends } }
+part_put {out} {out'} Faults.NoMemory line (inl same) =
+    record { count = 0; gains = subst (λ (sink : SinkState). Gains out.held sink.held []) (sym same) (gains_nothing out.held) }
+part_put Faults.NoMemory line (inr short) = record { count = short.part.count; gains = record { appends = short.part.appends } }
+
+pub sizes_run : {tables : Tables} {launch : Launch} {left : Option (List ℕ)} {input : ℕ} {before : CallStreams} {out out' err err' : SinkState}
+    (n : ℕ) (answer given : Answer) → is_done answer ≡ true → IsRanOrBroken tables launch answer before (call_streams left input out err)
+    → RunEndsAtFirst answer before (call_streams left input out err) → PutsSizes n given out out' err err'
+    → HasRun tables launch (Some n) given before (call_streams left input out' err')
+sizes_run {before = before} {out' = out'} n answer given e run ends (sizes_put same put kept) =
+    let was = has_done e run in
+    has_ended was.seen was.flat (same ∙ ap (λ ending. Ran (ending_held ending)) (sym was.done)) was.left
+    (subst (λ (behind : List ℕ). Gains before.output.held out'.held (was.seen.outside.output ++ behind)) (sym (ap (sizes_behind n) was.done))
+    (gains_then was.output put.gains))
+    (subst (λ (sink : SinkState). Gains before.errors.held sink.held was.seen.outside.errors) (sym kept) was.errors)
+sizes_run {left = left} {input} {before} {out} {out'} {err} n answer given e run ends (sizes_broken fault same leads own) =
+    let was = has_done e run in
+    let part = part_put fault (sizes_line n) leads in
+    was_broken_behind n (run_fault fault) err was.seen refl (stops_put fault) (same ∙ as_run fault)
+    (ends_behind left input before out out' err fault (sizes_line n) (counts_kept answer e ends) leads) was.flat
+    (record { done = was.done; input = was.left; count = part.count; output = gains_then was.output part.gains; errors = was.errors })
+    (puts_own _ _ given own)
+
+-- what the run put on the error output
+put_some : {tables : Tables} {launch : Launch} {before after : CallStreams} → HasDone tables launch before after → PutsSome before.errors after.errors
+put_some was = record { own = was.seen.outside.errors; gains = was.errors }
+
+pub some_put : {tables : Tables} {launch : Launch} {before after : CallStreams} (answer : Answer) → is_done answer ≡ true
+    → IsRanOrBroken tables launch answer before after → PutsSome before.errors after.errors
+some_put answer e run = put_some (has_done e run)
+
+pub sizes_reports : {told left : Option (List ℕ)} {input : ℕ} {before : CallStreams} {out out' err err' : SinkState} (n : ℕ) (answer given : Answer)
+    → is_done answer ≡ true → RunEndsAtFirst answer before (call_streams left input out err) → Reports usage [] told before.errors err answer
+    → IfSome told (λ _. PutsSome before.errors err) → PutsSizes n given out out' err err' → Reports usage [] told before.errors err' given
+sizes_reports {told} {before = before} {err = err} n answer given e ends reports some (sizes_put same put kept) =
+    let there : Reports usage [] told before.errors err given = subst (Reports usage [] told before.errors err) (done_of answer e ∙ sym same) reports in
+    subst (λ (sink : SinkState). Reports usage [] told before.errors sink given) (sym kept) there
+sizes_reports {left = left} {input} {before} {out} {out'} {err} {err'} n answer given e ends reports some (sizes_broken fault same leads own) =
+    let run = same ∙ as_run fault in
+    rw run (fault_reports before (call_streams left input out' err) err' (run_fault fault)
+    (ends_behind left input before out out' err fault (sizes_line n) (counts_kept answer e ends) leads) some (rw run at own))

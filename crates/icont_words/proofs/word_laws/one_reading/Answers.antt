@@ -1,0 +1,8 @@
+use Rattle.icont_words.proofs.WordOutcomes.{one_reading, some_reading}
+use Rattle.icont_words.proofs.word_laws.one_reading.Goals as goal
+
+pub returns-clause-some : goal.returns-clause-some
+returns-clause-some c = some_reading
+
+pub returns-clause-one : goal.returns-clause-one
+returns-clause-one c = one_reading

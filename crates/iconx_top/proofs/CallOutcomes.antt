@@ -1,0 +1,165 @@
+-- What the words and the files ask for, and what became of it.
+use Rattle.std.proofs.Common.{◌≡◌, ◌⊎◌, inl, inr, ℕ, List, [], Option, Some, Ok, Err, refl, sym, ap, ◌∙◌, subst}
+use Rattle.icn_host.specs.FileMaps.{FileMap}
+use Rattle.icn_host.proofs.SinkSteps.{gains_nothing}
+use Rattle.icn_host.specs.Sinks.{SinkState}
+use Rattle.icn_host.specs.declared.fault.Fault.TheVariants.{NoMemory as Wants}
+use Rattle.icn_host.proofs.ToldPuts.{puts_nothing}
+use Rattle.icn_host.specs.Puts.{all, LeadsBy}
+use Rattle.icn_value.specs.Limited.{Bounds}
+use Rattle.icn_value.specs.Store.{outside_of}
+use Rattle.icn_defs.specs.Running.{Launch}
+use Rattle.icn_streams.specs.Handed.{CallStreams, call_streams}
+use Rattle.icn_code.specs.Codes.{Tables}
+use Rattle.icn_code.specs.CodeTables.{tables_of}
+use Rattle.icn_defs.specs.declared.ending.Ending.{Ending}
+use Rattle.icn_verify.specs.declared.verified.Verified.{Verified}
+use Rattle.icn_running.specs.declared.fault.RunFault.{RunFault}
+use Rattle.icn_running.specs.Reported.{ending_seen}
+use Rattle.icn_running.specs.Runs.{EndsAtFirst as RunEnds, IsBrokenOff, RunsTo}
+use Rattle.icn_answer.specs.declared.answer.Answer.{Answer}
+use Rattle.icn_answer.specs.declared.answer.Answer.TheVariants.{Wrote, Ran, Refused, Command, Missing, BadUcode, BadImage, FileFault, ReadFault, WriteFault, NoMemory}
+use Rattle.icn_answer.specs.Answers.{IsFault, IsAbsence}
+use Rattle.icn_run_answer.specs.CountCauses.{EndsAtFirst, outside}
+use Rattle.icn_answer.specs.Endings.{ending_held}
+use Rattle.icn_run_answer.specs.FaultAnswers.{of_run}
+use Rattle.icn_answer.specs.Lines.{line_of}
+use Rattle.icn_answer.specs.Refusing.{PutsOwn, PutsItsLine, own, put, want, write_fault}
+use Rattle.icn_run_answer.specs.Reporting.{PutsSome}
+use Rattle.icn_run_answer.specs.ToldObjects.{CallObjects, call_objects}
+use Rattle.icn_answer.proofs.FaultCounts.{no_cause, unmoved}
+use Rattle.icn_run_answer.proofs.CountCauses.{absence_of, broken_first, refused_ends}
+use Rattle.icn_run_answer.proofs.Endings.{held_seen}
+use Rattle.icn_answer.proofs.NoFaults.{no_fault}
+use Rattle.icn_run_answer.proofs.Reports.{broken_puts, is_run_fault, puts_own}
+use Rattle.iconx_top.specs.Job.{IsJob, IsRun, Job, bad, missing, observation, ran, refusal}
+use Rattle.iconx_top.specs.Loading.{IsLoaded, IsOfLoading}
+use Rattle.iconx_top.specs.Outcomes.{IsIdleFault, AnswersCommand, broke, done, fault, idle}
+use Rattle.iconx_top.specs.Usage.{usage}
+use Rattle.iconx_top.specs.Words.{Asks, words_reading}
+
+-- an answer is the job's refusal, or a fault
+abbrev pub Asked : List (List ℕ) → FileMap → List ℕ → List ℕ → Answer → Type 0
+Asked words files left name answer = IsFault answer ⊎ IsJob words files left (refusal files left name answer)
+
+-- a fault that is none of the input or an output was answered before a line was put
+idle_of : (IsJobOf : Job → Type 0) (answer : Answer) (before : SinkState) → IsFault answer → (answer ≡ WriteFault → ⊥) → (answer ≡ ReadFault → ⊥)
+    → IsIdleFault IsJobOf answer before before
+idle_of IsJobOf Wrote before f no_write no_read = absurd (no_fault Wrote refl f)
+idle_of IsJobOf (Ran ending) before f no_write no_read = absurd (no_fault (Ran ending) refl f)
+idle_of IsJobOf (Refused file line rule) before f no_write no_read = absurd (no_fault (Refused file line rule) refl f)
+idle_of IsJobOf (Command kind) before f no_write no_read = absurd (no_fault (Command kind) refl f)
+idle_of IsJobOf (Missing name) before f no_write no_read = absurd (no_fault (Missing name) refl f)
+idle_of IsJobOf (BadUcode name rule) before f no_write no_read = absurd (no_fault (BadUcode name rule) refl f)
+idle_of IsJobOf (BadImage rule) before f no_write no_read = absurd (no_fault (BadImage rule) refl f)
+idle_of IsJobOf FileFault before f no_write no_read = refl
+idle_of IsJobOf ReadFault before f no_write no_read = absurd (no_read refl)
+idle_of IsJobOf WriteFault before f no_write no_read = absurd (no_write refl)
+idle_of IsJobOf NoMemory before f no_write no_read = inl refl
+
+-- memory was wanting as a refusal's line was put
+idle_short : {words : List (List ℕ)} {files : FileMap} {left : List ℕ} (name : List ℕ) (answer : Answer) (before between : SinkState)
+    → IsJob words files left (refusal files left name answer) → LeadsBy Wants before between (line_of usage name answer)
+    → IsIdleFault (IsJob words files left) NoMemory before between
+idle_short name answer before between is (inl same) = inl same
+idle_short {files = files} {left} name answer before between is (inr short) = inr (refusal files left name answer, is, short)
+
+-- nothing was done but to put a line
+pub refused : {words : List (List ℕ)} {files : FileMap} {left : List ℕ} (name : List ℕ) (answer given : Answer)
+    (held held' : Option FileMap) (left' : Option (List ℕ)) (input : ℕ) (out before after : SinkState)
+    → Asked words files left name answer → (answer ≡ WriteFault → ⊥) → (answer ≡ ReadFault → ⊥) → held' ≡ held → held ≡ Some files
+    → left' ≡ Some left → PutsItsLine usage name answer before after given
+    → AnswersCommand words files left given (call_objects held (call_streams left' input out before)) (call_objects held' (call_streams left' input out after))
+refused name answer given held held' left' input out before after (inl f) no_write no_read same e d (put n h) = absurd (n f)
+refused {files = files} {left} name answer given held held' left' input out before after (inr is) no_write no_read same e d (put n h) =
+    done (refusal files left name answer) is (record { answered = refl; files = same ∙ e; left = d; output = gains_nothing out.held; errors = h.gains })
+refused {words} {files} {left} name answer given held held' left' input out before after asks no_write no_read same e d (own f puts) =
+    fault f same (idle before refl refl (idle_of (IsJob words files left) answer before f no_write no_read) (puts_own _ _ answer puts))
+refused name answer given held held' left' input out before after (inl f) no_write no_read same e d (write_fault n stops) = absurd (n f)
+refused {files = files} {left} name answer given held held' left' input out before after (inr is) no_write no_read same e d (write_fault n stops) =
+    fault refl same (idle after refl refl (refusal files left name answer, is, stops) (all (puts_nothing after)))
+refused name answer given held held' left' input out before after (inl f) no_write no_read same e d (want n between leads puts) = absurd (n f)
+refused name answer given held held' left' input out before after (inr is) no_write no_read same e d (want n between leads puts) =
+    fault refl same (idle between refl refl (idle_short name answer before between is leads) puts)
+
+-- what was loaded
+
+pub asked_load : {words : List (List ℕ)} {files : FileMap} {left : List ℕ} (bounds : Bounds) (name : List ℕ) (arguments : List (List ℕ)) (answer : Answer)
+    → words_reading words ≡ Asks bounds name arguments
+    → IsLoaded (files name) name (Err answer) → Asked words files left name answer
+asked_load {words} {files} {left} bounds name arguments (Missing other) e is =
+    let job : IsJob words files left (refusal files left name (Missing name)) = missing bounds name arguments e is.1 in
+    inr (subst (λ n. IsJob words files left (refusal files left name (Missing n))) (sym is.0) job)
+asked_load bounds name arguments (BadImage rule) e is = inr (bad bounds name is.0 arguments rule e is.1.0 is.1.1)
+asked_load bounds name arguments FileFault e is = inl refl
+asked_load bounds name arguments NoMemory e is = inl refl
+asked_load bounds name arguments _ e is = absurd is
+
+-- the run of what was loaded, over this input
+pub run_asked : {words : List (List ℕ)} {files : FileMap} (left : List ℕ) (launch : Launch) (name : List ℕ) (verified : Verified)
+    → words_reading words ≡ Asks launch.bounds name launch.words
+    → launch.outside ≡ outside_of left → IsLoaded (files name) name (Ok verified) → IsRun words files left (tables_of verified.code) launch
+run_asked left launch name verified e input is = record { name = name; bytes = is.0; asks = e; there = is.1.0; judged = is.1.1; input = input }
+
+pub ran_outcome : {words : List (List ℕ)} {files : FileMap} {left : List ℕ} {before after : CallStreams} (tables : Tables) (launch : Launch) (ending : Ending)
+    (held : Option FileMap) → held ≡ Some files → IsRun words files left tables launch → RunsTo tables launch (ending_seen ending) before after
+    → AnswersCommand words files left (Ran ending) (call_objects held before) (call_objects held after)
+ran_outcome {files = files} tables launch ending held e is (seen, (ended, (runs, ends))) =
+    done (observation files seen) (ran tables launch seen is runs)
+    (record {
+      answered = ap (λ x. Ran x) (sym (held_seen ending) ∙ ap ending_held (sym ended));
+      files = e;
+      left = ends.left;
+      output = ends.output;
+      errors = ends.errors;
+    })
+
+pub broke_outcome : {words : List (List ℕ)} {files : FileMap} {left : List ℕ} {before : CallStreams} {left' : Option (List ℕ)} {input : ℕ}
+    {out : SinkState} (between after : SinkState) (tables : Tables) (launch : Launch) (stopped : RunFault) (held : Option FileMap)
+    → IsRun words files left tables launch → RunEnds {A = Ending} (Err stopped) before (call_streams left' input out between)
+    → IsBrokenOff tables launch stopped before (call_streams left' input out between) → PutsOwn (of_run stopped) between after
+    → AnswersCommand words files left (of_run stopped) (call_objects held before) (call_objects held (call_streams left' input out after))
+broke_outcome {before = before} between after tables launch stopped held is first broken puts =
+    fault (is_run_fault stopped) refl
+    (broke stopped between tables launch refl is (broken_first before _ stopped first) broken (puts_own _ _ (of_run stopped) puts))
+
+-- what a run put that was broken off
+pub off_puts : (tables : Tables) (launch : Launch) (stopped : RunFault) (before after : CallStreams) → IsBrokenOff tables launch stopped before after
+    → PutsSome before.errors after.errors
+off_puts tables launch stopped before after (seen, (runs, leaves)) = broken_puts stopped launch.outside.left seen before after leaves
+
+-- the files that are told behind a call
+pub held_as : {words : List (List ℕ)} {files : FileMap} {left : List ℕ} {answer : Answer} {before : CallObjects} {after : CallStreams}
+    (held held' : Option FileMap) → held' ≡ held
+    → AnswersCommand words files left answer before (call_objects held after) → AnswersCommand words files left answer before (call_objects held' after)
+held_as held held' e outcome = rw e outcome
+
+-- which answers a loading can give
+
+pub load_no_write : (answer : Answer) → IsOfLoading answer → answer ≡ WriteFault → ⊥
+load_no_write answer is e = rw e at is
+
+pub load_no_read : (answer : Answer) → IsOfLoading answer → answer ≡ ReadFault → ⊥
+load_no_read answer is e = rw e at is
+
+-- faulty words
+
+pub command_no_write : (kind : ℕ) → Command kind ≡ WriteFault → ⊥
+command_no_write kind e = cc
+
+pub command_no_read : (kind : ℕ) → Command kind ≡ ReadFault → ⊥
+command_no_read kind e = cc
+
+command_no_file : (kind : ℕ) → Command kind ≡ FileFault → ⊥
+command_no_file kind e = cc
+
+pub command_ends : {files absences input : ℕ} {left : Option (List ℕ)} {out before after : SinkState} (kind : ℕ) (given : Answer)
+    → PutsItsLine usage [] (Command kind) before after given
+    → EndsAtFirst given (IsAbsence given) (outside files absences (call_streams left input out before))
+    (outside files absences (call_streams left input out after))
+command_ends kind given refuses =
+    refused_ends (Command kind) given (command_no_write kind) (command_no_read kind) (unmoved (command_no_file kind))
+    (no_cause (λ (a : IsAbsence (Command kind)). a)) (absence_of (Command kind) given refuses) refuses
+
+pub command_unrun : (kind : ℕ) (ending : Ending) → Command kind ≡ Ran ending → ⊥
+command_unrun kind ending e = cc

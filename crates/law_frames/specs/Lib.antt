@@ -1,0 +1,2 @@
+pub mod ReadStacks
+pub mod Agreement

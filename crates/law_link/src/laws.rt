@@ -1,0 +1,55 @@
+// What is linked from the units of files.
+ghost use Rattle.std.specs.Prelude.{◌≡◌, ◌↔◌, ℕ, All, List, [], ◌∷◌, length, true};
+ghost use Rattle.icn_tree.specs.Trees.{Declaration};
+ghost use Rattle.icn_translate.specs.FileUnits.{translated_unit};
+ghost use Rattle.icn_unit.specs.UnitRules.{is_byte_text};
+ghost use Rattle.icn_units.specs.Written.{file_fits};
+ghost use Rattle.icn_defs.specs.Running.{Launch, Observation};
+ghost use Rattle.icn_link.specs.Joined.{joined_code};
+ghost use Rattle.icn_link.specs.JoinableUnits.{is_joinable};
+ghost use Rattle.law_simulation.specs.Faultless.{IsFaultless};
+ghost use Rattle.law_simulation.specs.JoinedFiles.{IsJoined};
+ghost use Rattle.law_simulation.specs.FirstLaw.{FilesMean, RunsLinked, RunsFlat};
+ghost use Rattle.law_link.specs.TranslatedUnits.{translated_units};
+
+use law_simulation::same_ends;
+
+/// The linked code of files that break no rule, from their translated units in the same order, is the code of which the first law
+/// speaks. Nothing is asked of the names but that there are as many as files, and nothing of what the linker refuses: a name that two
+/// files declare is resolved alike on both sides.
+pub fn translations_join()
+    ensures { (names : List (List ℕ)) (files : List (List Declaration)) → length names ≡ length files
+        → All IsFaultless files
+        → IsJoined files (joined_code (translated_units names files)) }
+{}
+
+/// So files that break no rule mean, with some words, limits and input, what the linked code of their units comes to: how it ends,
+/// with its report, what is put on both outputs, the input that is left, and the readings that were made. On linked marks, and on
+/// the flat stacks that a machine has.
+pub fn translations_run()
+    ensures on_marks { (names : List (List ℕ)) (files : List (List Declaration)) (launch : Launch)
+        (seen : Observation)
+        → length names ≡ length files → All IsFaultless files
+        → FilesMean files launch seen ↔ RunsLinked (joined_code (translated_units names files)) launch seen }
+    ensures on_stacks { (names : List (List ℕ)) (files : List (List Declaration)) (launch : Launch)
+        (seen : Observation)
+        → length names ≡ length files → All IsFaultless files
+        → FilesMean files launch seen ↔ RunsFlat (joined_code (translated_units names files)) launch seen }
+{
+    translations_join();
+    same_ends();
+}
+
+/// The linked code of a file that breaks no rule, from its translated unit, is the code of which the first law speaks.
+pub fn translated_units_join()
+    ensures { (name : List ℕ) (file : List Declaration) → IsFaultless file
+        → IsJoined (file ∷ []) (joined_code (translated_unit name file ∷ [])) }
+{}
+
+/// The translated unit of a file that breaks no rule can be joined, where the texts of the file are bytes. Nothing is asked of how many
+/// labels it has.
+pub fn translations_are_joinable()
+    ensures { (name : List ℕ) (file : List Declaration) → IsFaultless file
+        → file_fits is_byte_text file ≡ true
+        → is_joinable (translated_unit name file) ≡ true }
+{}

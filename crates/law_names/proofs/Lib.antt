@@ -1,0 +1,4 @@
+mod EachOfList
+mod RowValues
+pub mod RowsNamed
+pub mod RowSizes

@@ -1,0 +1,3 @@
+pub mod NamedSettings
+pub mod RowsNamed
+pub mod RowSizes

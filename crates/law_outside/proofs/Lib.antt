@@ -1,0 +1,5 @@
+pub mod LastingFacts
+pub mod OutsideRows
+pub mod Evaluations
+pub mod CodeRuns
+pub mod GrowingOutside

@@ -1,0 +1,42 @@
+-- What a row leaves of the outside, and that the outside only grows.
+use Rattle.std.specs.Prelude.{◌≡◌, ⊤, ℕ, List, ◌++◌, drop}
+use Rattle.icn_value.specs.Store.{Outside, Reading}
+use Rattle.icn_defs.specs.Rows.{Outcome, Fails, Gives, Suspends, Error, Ends}
+use Rattle.icn_run.specs.Stacks.{Frames}
+use Rattle.icn_run.specs.Step.{State, running, failing, hopping, over, stuck}
+
+-- whatever a row comes to, this is so of its outside
+abbrev pub LeavesOutside : (Outside → Type 0) → Outcome → Type 0
+LeavesOutside Is (Fails seen) = Is seen.outside
+LeavesOutside Is (Gives item seen) = Is seen.outside
+LeavesOutside Is (Suspends item residual seen) = Is seen.outside
+LeavesOutside Is (Error number value seen) = Is seen.outside
+LeavesOutside Is (Ends status seen) = Is seen.outside
+
+-- The outside that was has become the one that is now: what was put stays in front of what was put since, the readings that were made stay, behind
+-- those made since (the newest is the first), and what is left of the input is a rest of what was left.
+pub record ExtendsOutside (was now : Outside) : Type 0 where
+  pub output_text : List ℕ
+  pub output : now.output ≡ was.output ++ output_text
+  pub errors_text : List ℕ
+  pub errors : now.errors ≡ was.errors ++ errors_text
+  pub later : List Reading
+  pub readings : now.readings ≡ later ++ was.readings
+  pub taken : ℕ
+  pub left : now.left ≡ drop taken was.left
+
+-- this is so of the outside of a state; of one that lacks something, nothing is said
+abbrev pub HasOutside : (Outside → Type 0) → State Frames Frames → Type 0
+HasOutside Is (running m st) = Is st.outside
+HasOutside Is (failing m st) = Is st.outside
+HasOutside Is (hopping m st) = Is st.outside
+HasOutside Is (over ending outside) = Is outside
+HasOutside Is stuck = ⊤
+
+-- the outside of the first of these states has become that of the second
+abbrev pub StateExtends : State Frames Frames → State Frames Frames → Type 0
+StateExtends (running m st) now = HasOutside (ExtendsOutside st.outside) now
+StateExtends (failing m st) now = HasOutside (ExtendsOutside st.outside) now
+StateExtends (hopping m st) now = HasOutside (ExtendsOutside st.outside) now
+StateExtends (over ending outside) now = HasOutside (ExtendsOutside outside) now
+StateExtends stuck now = ⊤

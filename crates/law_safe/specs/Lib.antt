@@ -1,0 +1,8 @@
+pub mod Within
+pub mod Shaped
+pub mod NoStuck
+pub mod Ended
+pub mod StateFacts
+pub mod LeastWeights
+pub mod StepMeasure
+pub mod CaseMarks

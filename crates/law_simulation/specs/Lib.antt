@@ -1,0 +1,12 @@
+pub mod Linkage
+pub mod StandingCode
+pub mod Relation
+pub mod Ground
+pub mod FirstLaw
+pub mod Translatable
+pub mod Translated
+pub mod Translation
+pub mod Mentions
+pub mod JoinedFiles
+pub mod Faultless
+pub mod Begins

@@ -1,0 +1,495 @@
+-- The translation of a tree to instructions, whose labels are places. What stands in front of an
+-- instruction is counted by sizes.
+use Rattle.std.specs.Prelude.{ℕ, suc, ◌+◌, ◌-◌, ℤ, pos, Bool, true, false, List, [], ◌∷◌, ◌++◌, replicate, codes, if◌then◌else◌}
+use Rattle.std.specs.Str.{bytes_eq}
+use Rattle.icn_text.specs.declared.keyword.Keyword.{Keyword as KeywordNamed}
+use Rattle.icn_text.specs.declared.op.Op.{Op}
+use Rattle.icn_text.specs.declared.op.Op.TheVariants as Ops
+use Rattle.icn_tree.specs.declared.token.Operator.{Operator}
+use Rattle.icn_tree.specs.declared.token.Operator.TheVariants as Operators
+use Rattle.icn_tree.specs.declared.tree.Literal.{Literal}
+use Rattle.icn_tree.specs.declared.tree.Literal.TheVariants as Literals
+use Rattle.icn_tree.specs.declared.tree.Infix.TheVariants.{Plain, Augmented}
+use Rattle.icn_tree.specs.declared.tree.SectionKind.{SectionKind}
+use Rattle.icn_tree.specs.declared.tree.SectionKind.TheVariants.{Between, Forward, Backward}
+use Rattle.icn_tree.specs.declared.tree.LoopKind.TheVariants.{While, Until, Every}
+use Rattle.icn_tree.specs.Trees.{Initial, NoInitial, Initially, Tree, MaybeTree, Trees, Clause, Clauses, Empty, Constant, Identifier, Keyword, Parentheses, Listing, Compound, Call, CoCall, Subscript, Section, Field, Prefix, Not, Binary, To, If, Case, Loop, Repeat, Create, Next, Fail, Break, Return, Suspend, Absent, Present, NoTrees, More, Default, Guarded, NoClauses, MoreClauses}
+use Rattle.icn_code.specs.declared.instr.Instr.{Instr}
+use Rattle.icn_code.specs.declared.instr.Instr.TheVariants as I
+
+-- what the names and the literals of a procedure stand for
+pub record SymbolTable : Type 0 where
+  pub integer : ℤ → ℕ
+  pub string : List ℕ → ℕ
+  pub set : List ℕ → ℕ
+  pub variable : List ℕ → Instr
+  pub keyword : List ℕ → KeywordNamed
+  pub field : List ℕ → ℕ
+
+-- of an open loop: the marks opened in it and still open, and how many of these stay open at its next pass
+pub record Depth : Type 0 where
+  pub opened : ℕ
+  pub staying : ℕ
+
+-- of an open loop: the places that `break` and `next` go to
+pub record LoopExits : Type 0 where
+  pub last : ℕ
+  pub next : ℕ
+
+abbrev pub loop_of : (opened staying : ℕ) → Depth
+loop_of opened staying = record { opened = opened; staying = staying }
+
+-- under one more mark
+abbrev pub deeper : List Depth → List Depth
+deeper [] = []
+deeper (d ∷ D) = loop_of (suc d.opened) d.staying ∷ D
+
+abbrev pub opened_in : List Depth → ℕ
+opened_in [] = 0
+opened_in (d ∷ D) = d.opened
+
+abbrev pub dropped_by_next : List Depth → ℕ
+dropped_by_next [] = 0
+dropped_by_next (d ∷ D) = d.opened - d.staying
+
+abbrev pub around : {A : Type 0} → List A → List A
+around [] = []
+around (x ∷ xs) = xs
+
+abbrev pub last_way : List LoopExits → ℕ
+last_way [] = 0
+last_way (w ∷ W) = w.last
+
+abbrev pub next_way : List LoopExits → ℕ
+next_way [] = 0
+next_way (w ∷ W) = w.next
+
+abbrev pub is_empty : Tree → Bool
+is_empty Empty = true
+is_empty tree = false
+
+abbrev pub is_nothing : Trees → Bool
+is_nothing NoTrees = true
+is_nothing trees = false
+
+abbrev pub count_of : Trees → ℕ
+count_of NoTrees = 0
+count_of (More e es) = suc (count_of es)
+
+-- the elements of a list: none, where it is one empty expression
+abbrev pub is_no_element : Trees → Bool
+is_no_element (More Empty NoTrees) = true
+is_no_element trees = false
+
+abbrev pub elements : Trees → ℕ
+elements trees = if is_no_element trees then 0 else count_of trees
+
+-- what a binary operator is: `&`, `?`, `|`, `\`, or operands with an instruction behind them
+pub data BinaryForm : Type 0 where
+  Both : BinaryForm
+  Scanning : BinaryForm
+  Either : BinaryForm
+  Limiting : BinaryForm
+  Applying : Instr → BinaryForm
+
+abbrev pub form_of : Operator → BinaryForm
+form_of Operators.Ampersand = Both
+form_of Operators.Question = Scanning
+form_of Operators.Bar = Either
+form_of Operators.Backslash = Limiting
+form_of Operators.At = Applying I.Coact
+form_of Operators.Bang = Applying I.Appl
+form_of Operators.Star = Applying (I.Op Ops.Multiply)
+form_of Operators.StarStar = Applying (I.Op Ops.Intersection)
+form_of Operators.Plus = Applying (I.Op Ops.Add)
+form_of Operators.PlusPlus = Applying (I.Op Ops.Union)
+form_of Operators.Minus = Applying (I.Op Ops.Subtract)
+form_of Operators.MinusMinus = Applying (I.Op Ops.Difference)
+form_of Operators.Slash = Applying (I.Op Ops.Divide)
+form_of Operators.Percent = Applying (I.Op Ops.Remainder)
+form_of Operators.Caret = Applying (I.Op Ops.Power)
+form_of Operators.BarBar = Applying (I.Op Ops.Concatenate)
+form_of Operators.BarBarBar = Applying (I.Op Ops.ConcatenateLists)
+form_of Operators.Equal = Applying (I.Op Ops.Equal)
+form_of Operators.NotEqual = Applying (I.Op Ops.NotEqual)
+form_of Operators.EqualEqual = Applying (I.Op Ops.LexicallyEqual)
+form_of Operators.NotEqualEqual = Applying (I.Op Ops.LexicallyNotEqual)
+form_of Operators.EqualEqualEqual = Applying (I.Op Ops.Equivalent)
+form_of Operators.NotEqualEqualEqual = Applying (I.Op Ops.NotEquivalent)
+form_of Operators.Less = Applying (I.Op Ops.Less)
+form_of Operators.LessEqual = Applying (I.Op Ops.LessOrEqual)
+form_of Operators.Greater = Applying (I.Op Ops.Greater)
+form_of Operators.GreaterEqual = Applying (I.Op Ops.GreaterOrEqual)
+form_of Operators.LessLess = Applying (I.Op Ops.LexicallyLess)
+form_of Operators.LessLessEqual = Applying (I.Op Ops.LexicallyLessOrEqual)
+form_of Operators.GreaterGreater = Applying (I.Op Ops.LexicallyGreater)
+form_of Operators.GreaterGreaterEqual = Applying (I.Op Ops.LexicallyGreaterOrEqual)
+form_of Operators.Assign = Applying (I.Op Ops.Assign)
+form_of Operators.Swap = Applying (I.Op Ops.Swap)
+form_of Operators.ReversibleAssign = Applying (I.Op Ops.ReversibleAssign)
+form_of Operators.ReversibleSwap = Applying (I.Op Ops.ReversibleSwap)
+-- the others never stand between two operands
+form_of Operators.Dot = Both
+form_of Operators.Tilde = Both
+
+-- what a prefix operator is: `@`, `|`, or an operation
+pub data PrefixForm : Type 0 where
+  Activating : PrefixForm
+  Repeating : PrefixForm
+  Operating : Op → PrefixForm
+
+abbrev pub prefix_of : Operator → PrefixForm
+prefix_of Operators.At = Activating
+prefix_of Operators.Bar = Repeating
+prefix_of Operators.Bang = Operating Ops.Elements
+prefix_of Operators.Star = Operating Ops.Size
+prefix_of Operators.Plus = Operating Ops.Number
+prefix_of Operators.Minus = Operating Ops.Negate
+prefix_of Operators.Slash = Operating Ops.IsNull
+prefix_of Operators.Backslash = Operating Ops.IsNotNull
+prefix_of Operators.Caret = Operating Ops.Refresh
+prefix_of Operators.Dot = Operating Ops.Dereference
+prefix_of Operators.Question = Operating Ops.Random
+prefix_of Operators.Tilde = Operating Ops.Complement
+prefix_of Operators.Equal = Operating Ops.TabMatch
+-- the others never stand before one operand
+prefix_of Operators.Ampersand = Operating Ops.TabMatch
+prefix_of Operators.StarStar = Operating Ops.TabMatch
+prefix_of Operators.PlusPlus = Operating Ops.TabMatch
+prefix_of Operators.MinusMinus = Operating Ops.TabMatch
+prefix_of Operators.Percent = Operating Ops.TabMatch
+prefix_of Operators.BarBar = Operating Ops.TabMatch
+prefix_of Operators.BarBarBar = Operating Ops.TabMatch
+prefix_of Operators.NotEqual = Operating Ops.TabMatch
+prefix_of Operators.EqualEqual = Operating Ops.TabMatch
+prefix_of Operators.NotEqualEqual = Operating Ops.TabMatch
+prefix_of Operators.EqualEqualEqual = Operating Ops.TabMatch
+prefix_of Operators.NotEqualEqualEqual = Operating Ops.TabMatch
+prefix_of Operators.Less = Operating Ops.TabMatch
+prefix_of Operators.LessEqual = Operating Ops.TabMatch
+prefix_of Operators.Greater = Operating Ops.TabMatch
+prefix_of Operators.GreaterEqual = Operating Ops.TabMatch
+prefix_of Operators.LessLess = Operating Ops.TabMatch
+prefix_of Operators.LessLessEqual = Operating Ops.TabMatch
+prefix_of Operators.GreaterGreater = Operating Ops.TabMatch
+prefix_of Operators.GreaterGreaterEqual = Operating Ops.TabMatch
+prefix_of Operators.Assign = Operating Ops.TabMatch
+prefix_of Operators.Swap = Operating Ops.TabMatch
+prefix_of Operators.ReversibleAssign = Operating Ops.TabMatch
+prefix_of Operators.ReversibleSwap = Operating Ops.TabMatch
+
+abbrev pub section_op : SectionKind → Op
+section_op Between = Ops.Section
+section_op Forward = Ops.SectionPlus
+section_op Backward = Ops.SectionMinus
+
+-- Sizes
+
+abbrev mutual
+  pub size : List Depth → Tree → ℕ
+  size D Empty = 1
+  size D (Constant place value) = 1
+  size D (Identifier name) = 1
+  size D (Keyword place name) = 1
+  size D (Parentheses place es) = conjunction_size D es
+  size D (Listing place es) = elements_size D es + 1
+  size D (Compound place es) = compound_size D es
+  size D (Call place callee es) = size D callee + elements_size D es + 1
+  size D (CoCall place callee es) = size D callee + bodies_size D es + 2
+  size D (Subscript place e es) = size D e + subscripts_size D es
+  size D (Section place kind e i j) = size D e + size D i + size D j + 1
+  size D (Field place e name) = size D e + 1
+  size D (Prefix place operator e) =
+      elim (prefix_of operator) as (λ x. ℕ)
+      [ Activating ↦ size D e + 2 | Repeating ↦ size (deeper D) e + 3 | Operating op ↦ size D e + 1 ]
+  size D (Not place e) = size (deeper D) e + 4
+  size D (Binary place (Plain operator) a b) =
+      elim (form_of operator) as (λ x. ℕ) [
+        | Both ↦ size D a + size D b + 1
+        | Scanning ↦ size D a + size D b + 2
+        | Either ↦
+            size (deeper D) a + size D b + 3
+        | Limiting ↦ size D b + size (deeper D) a + 2
+        | Applying i ↦
+            size D a + size D b + 1
+      ]
+  size D (Binary place (Augmented operator) a b) =
+      elim (form_of operator) as (λ x. ℕ) [
+        | Both ↦ size D a + size D b + 1
+        | Scanning ↦ size D a + size D b + 4
+        | Either ↦ 0
+        | Limiting ↦
+            0
+        | Applying i ↦ size D a + size D b + 3
+      ]
+  size D (To place a b by) = size D a + size D b + by_size D by + 1
+  size D (If place c a b) = if_size (size (deeper D) c + size D a) D b
+  size D (Case place e clauses) = size (deeper D) e + clauses_size D clauses + default_size D clauses + 3
+  size D (Loop place While c b) = size (loop_of 1 0 ∷ D) c + body_size (loop_of 1 0 ∷ D) b + 3
+  size D (Loop place Until c b) = size (loop_of 1 0 ∷ D) c + body_size (loop_of 1 0 ∷ D) b + 4
+  size D (Loop place Every c b) = size (loop_of 1 1 ∷ D) c + body_size (loop_of 2 1 ∷ D) b + 3
+  size D (Repeat place b) = size (loop_of 1 0 ∷ D) b + 3
+  size D (Create place e) = size [] e + 5
+  size D (Next place) = dropped_by_next D + 1
+  size D (Fail place) = 1
+  size D (Break place e) = opened_in D + size (around D) e + 1
+  size D (Return place e) = size (deeper D) e + 3
+  size D (Suspend place e b) = size (deeper D) e + body_size (deeper (deeper D)) b + 4
+
+  -- operands, one behind the other
+  pub sizes : List Depth → Trees → ℕ
+  sizes D NoTrees = 0
+  sizes D (More e es) = size D e + sizes D es
+
+  pub elements_size : List Depth → Trees → ℕ
+  elements_size D NoTrees = 0
+  elements_size D (More e es) = if is_no_element (More e es) then 0 else size D e + sizes D es
+
+  -- expressions with `pop` between them
+  pub conjunction_size : List Depth → Trees → ℕ
+  conjunction_size D NoTrees = 0
+  conjunction_size D (More e es) = if is_nothing es then size D e else size D e + 1 + conjunction_size D es
+
+  -- each expression but the last is bounded, or has no code where it is empty
+  pub compound_size : List Depth → Trees → ℕ
+  compound_size D NoTrees = 0
+  compound_size D (More e es) = if is_nothing es then size D
+      e else ((if is_empty e then 0 else size (deeper D) e + 2) + compound_size D es)
+
+  -- a co-expression of each element
+  pub bodies_size : List Depth → Trees → ℕ
+  bodies_size D NoTrees = 0
+  bodies_size D (More e es) = if is_no_element (More e es) then 0 else size [] e + 5 + creates_size D es
+
+  pub creates_size : List Depth → Trees → ℕ
+  creates_size D NoTrees = 0
+  creates_size D (More e es) = size [] e + 5 + creates_size D es
+
+  pub subscripts_size : List Depth → Trees → ℕ
+  subscripts_size D NoTrees = 0
+  subscripts_size D (More e es) = size D e + 1 + subscripts_size D es
+
+  pub by_size : List Depth → MaybeTree → ℕ
+  by_size D Absent = 1
+  by_size D (Present e) = size D e
+
+  -- the control expression and the first branch, and the other
+  pub if_size : ℕ → List Depth → MaybeTree → ℕ
+  if_size n D Absent = n + 2
+  if_size n D (Present b) = n + size D b + 3
+
+  -- a body that is bounded
+  pub body_size : List Depth → MaybeTree → ℕ
+  body_size D Absent = 0
+  body_size D (Present b) = size D b + 2
+
+  -- the clauses but the default
+  pub clauses_size : List Depth → Clauses → ℕ
+  clauses_size D NoClauses = 0
+  clauses_size D (MoreClauses clause clauses) = clause_size D clause + clauses_size D clauses
+
+  pub clause_size : List Depth → Clause → ℕ
+  clause_size D (Default place e) = 0
+  clause_size D (Guarded place s b) = size (deeper D) s + size D b + 6
+
+  -- the default, or `efail`
+  pub default_size : List Depth → Clauses → ℕ
+  default_size D NoClauses = 1
+  default_size D (MoreClauses clause clauses) = is_default_size D clause (default_size D clauses)
+
+  pub is_default_size : List Depth → Clause → ℕ → ℕ
+  is_default_size D (Default place e) n = size D e
+  is_default_size D (Guarded place s b) n = n
+
+-- Code
+
+abbrev pub ways : (last next : ℕ) → LoopExits
+ways last next = record { last = last; next = next }
+
+abbrev pub literal_code : SymbolTable → Literal → Instr
+literal_code N (Literals.Integer n) = I.Int (N.integer n)
+literal_code N (Literals.Text bytes) = I.Str (N.string bytes)
+literal_code N (Literals.Cset bytes) = I.Cset (N.set bytes)
+
+abbrev pub keyword_code : SymbolTable → List ℕ → Instr
+keyword_code N text = if bytes_eq text (codes "fail") then I.Efail else I.Keywd (N.keyword text)
+
+-- a co-expression with a body of some size
+abbrev pub create_code : ℕ → ℕ → List Instr → List Instr
+create_code p n body = I.Create (p + n + 5) ∷ I.Mark (p + n + 4) ∷ body ++ (I.Coret ∷ I.Efail ∷ I.Cofail ∷ [])
+
+abbrev mutual
+  -- the code of a tree that begins at a place, in loops with these depths and ways
+  pub code : SymbolTable → List Depth → List LoopExits → ℕ → Tree → List Instr
+  code N D W p Empty = I.Pnull ∷ []
+  code N D W p (Constant place value) = literal_code N value ∷ []
+  code N D W p (Identifier name) = N.variable name.text ∷ []
+  code N D W p (Keyword place name) = keyword_code N name.text ∷ []
+  code N D W p (Parentheses place es) = conjunction N D W p es
+  code N D W p (Listing place es) = elements_code N D W p es ++ I.Llist (elements es) ∷ []
+  code N D W p (Compound place es) = compound N D W p es
+  code N D W p (Call place callee es) = code N D W p callee
+      ++ (elements_code N D W (p + size D callee) es ++ I.Invoke (elements es) ∷ [])
+  code N D W p (CoCall place callee es) = code N D W p callee
+      ++ (bodies_code N (p + size D callee) es ++ (I.Llist (elements es) ∷ I.Invoke 1 ∷ []))
+  code N D W p (Subscript place e es) = code N D W p e ++ subscripts N D W (p + size D e) es
+  code N D W p (Section place kind e i j) = code N D W p e
+      ++ (code N D W (p + size D e) i
+      ++ (code N D W (p + size D e + size D i) j ++ I.Op (section_op kind) ∷ []))
+  code N D W p (Field place e name) = code N D W p e ++ I.Field (N.field name.text) ∷ []
+  code N D W p (Prefix place operator e) =
+      elim (prefix_of operator) as (λ x. List Instr) [
+        | Activating ↦ I.Pnull ∷ code N D W (p + 1) e ++ I.Coact ∷ []
+        | Repeating ↦ I.Mark0
+            ∷ code N (deeper D) W (p + 1) e ++ (I.Chfail p ∷ I.Esusp ∷ [])
+        | Operating op ↦ code N D W p e
+            ++ I.Op op ∷ []
+      ]
+  code N D W p (Not place e) = let n = size (deeper D) e in I.Mark (p + n + 3)
+      ∷ code N (deeper D) W (p + 1) e ++ (I.Unmark ∷ I.Efail ∷ I.Pnull ∷ [])
+  code N D W p (Binary place (Plain operator) a b) = elim (form_of operator) as (λ x. List Instr) [
+    | Both ↦ code N D W p a ++ I.Pop ∷ code N D W (p + size D a + 1) b
+    | Scanning ↦ code N D W p a ++ I.Bscan ∷ code N D W (p + size D a + 1) b ++ I.Escan ∷ []
+    | Either ↦ (let m = size (deeper D) a in let n = size D b in I.Mark (p + m + 3)
+        ∷ code N (deeper D) W (p + 1) a ++ (I.Esusp ∷ I.Goto (p + m + 3 + n) ∷ code N D W (p + m + 3) b))
+    | Limiting ↦ code N D W p b ++ I.Limit ∷ code N (deeper D) W (p + size D b + 1) a ++ I.Lsusp ∷ []
+    | Applying i ↦ code N D W p a ++ (code N D W (p + size D a) b ++ i ∷ [])
+  ]
+  code N D W p (Binary place (Augmented operator) a b) = elim (form_of operator) as (λ x. List Instr) [
+    | Both ↦ code N D W p a ++ (code N D W (p + size D a) b ++ I.Op Ops.Assign ∷ [])
+    | Scanning ↦ code N D W p a ++ (I.Dup ∷ I.Bscan ∷ code N D W (p + size D a + 2) b
+        ++ (I.Escan ∷ I.Op Ops.Assign ∷ []))
+    | Either ↦ []
+    | Limiting ↦ []
+    | Applying i ↦ code N D W p a ++ (I.Dup ∷ code N D W (p + size D a + 1) b ++ (i ∷ I.Op Ops.Assign ∷ []))
+  ]
+  code N D W p (To place a b by) = code N D W p a
+      ++ (code N D W (p + size D a) b ++ (by_code N D W (p + size D a + size D b) by ++ I.Op Ops.ToBy ∷ []))
+  code N D W p (If place c a b) =
+      if_code (code N (deeper D) W (p + 1) c) (code N D W (p + size (deeper D) c + 2) a)
+      (size (deeper D) c + size D a) N D W p b
+  code N D W p (Case place e clauses) =
+      let n = size (deeper D) e in let last = p + n + clauses_size D clauses + default_size D clauses + 3 in
+      I.Mark0 ∷ code N (deeper D) W (p + 1) e
+      ++ (I.Eret ∷ clauses_code N D W (p + n + 2) last clauses
+      ++ (I.Pop ∷ default_code N D W (p + n + 3 + clauses_size D clauses) clauses))
+  code N D W p (Loop place While c b) =
+      let m = size (loop_of 1 0 ∷ D) c in let n = body_size (loop_of 1 0 ∷ D) b in let w =
+      ways (p + m + n + 3) (p + m + n + 2) in
+      I.Mark0 ∷ code N (loop_of 1 0 ∷ D) (w ∷ W) (p + 1) c
+      ++ (I.Unmark ∷ body_code N (loop_of 1 0 ∷ D) (w ∷ W) (p + m + 2) b ++ I.Loop p ∷ [])
+  code N D W p (Loop place Until c b) =
+      let m = size (loop_of 1 0 ∷ D) c in let n = body_size (loop_of 1 0 ∷ D) b in let w =
+      ways (p + m + n + 4) (p + m + n + 3) in
+      I.Mark (p + m + 3) ∷ code N (loop_of 1 0 ∷ D) (w ∷ W) (p + 1) c
+      ++ (I.Unmark ∷ I.Efail ∷ body_code N (loop_of 1 0 ∷ D) (w ∷ W) (p + m + 3) b ++ I.Loop p ∷ [])
+  code N D W p (Loop place Every c b) =
+      let m = size (loop_of 1 1 ∷ D) c in let n = body_size (loop_of 2 1 ∷ D) b in let w =
+      ways (p + m + n + 3) (p + m + n + 2) in
+      I.Mark0 ∷ code N (loop_of 1 1 ∷ D) (w ∷ W) (p + 1) c
+      ++ (I.Pop ∷ body_code N (loop_of 2 1 ∷ D) (w ∷ W) (p + m + 2) b ++ I.Efail ∷ [])
+  code N D W p (Repeat place b) =
+      let n = size (loop_of 1 0 ∷ D) b in let w = ways (p + n + 3) (p + n + 2) in
+      I.Mark (p + n + 2) ∷ code N (loop_of 1 0 ∷ D) (w ∷ W) (p + 1) b ++ (I.Unmark ∷ I.Loop p ∷ [])
+  code N D W p (Create place e) = create_code p (size [] e) (code N [] [] (p + 2) e)
+  code N D W p (Next place) = replicate (dropped_by_next D) I.Unmark ++ I.Goto (next_way W) ∷ []
+  code N D W p (Fail place) = I.Pfail ∷ []
+  code N D W p (Break place e) = replicate (opened_in D) I.Unmark
+      ++ (code N (around D) (around W) (p + opened_in D) e ++ I.Goto (last_way W) ∷ [])
+  code N D W p (Return place e) = I.Mark (p + size (deeper D) e + 2) ∷ code N (deeper D) W (p + 1) e
+      ++ (I.Pret ∷ I.Pfail ∷ [])
+  code N D W p (Suspend place e b) =
+      I.Mark0 ∷ code N (deeper D) W (p + 1) e
+      ++ (I.Psusp ∷ I.Pop ∷ body_code N (deeper (deeper D)) W (p + size (deeper D) e + 3) b ++ I.Efail
+      ∷ [])
+
+  pub operands : SymbolTable → List Depth → List LoopExits → ℕ → Trees → List Instr
+  operands N D W p NoTrees = []
+  operands N D W p (More e es) = code N D W p e ++ operands N D W (p + size D e) es
+
+  pub elements_code : SymbolTable → List Depth → List LoopExits → ℕ → Trees → List Instr
+  elements_code N D W p NoTrees = []
+  elements_code N D W p (More e es) = if is_no_element (More e es) then [] else code N D W p e
+      ++ operands N D W (p + size D e) es
+
+  pub conjunction : SymbolTable → List Depth → List LoopExits → ℕ → Trees → List Instr
+  conjunction N D W p NoTrees = []
+  conjunction N D W p (More e es) = if is_nothing es then code N D W p e else code N D W p e ++ I.Pop
+      ∷ conjunction N D W (p + size D e + 1) es
+
+  pub compound : SymbolTable → List Depth → List LoopExits → ℕ → Trees → List Instr
+  compound N D W p NoTrees = []
+  compound N D W p (More e es) = if is_nothing es then code N D W p
+      e else (if is_empty e then compound N D W p es
+      else I.Mark (p + size (deeper D) e + 2) ∷ code N (deeper D) W (p + 1) e ++ I.Unmark
+      ∷ compound N D W (p + size (deeper D) e + 2) es)
+
+  -- a co-expression of each element; its body stands in no loop
+  pub bodies_code : SymbolTable → ℕ → Trees → List Instr
+  bodies_code N p NoTrees = []
+  bodies_code N p (More e es) = if is_no_element (More e es) then [] else create_code p (size [] e)
+      (code N [] [] (p + 2) e) ++ creates N (p + size [] e + 5) es
+
+  pub creates : SymbolTable → ℕ → Trees → List Instr
+  creates N p NoTrees = []
+  creates N p (More e es) =
+      create_code p (size [] e) (code N [] [] (p + 2) e) ++ creates N (p + size [] e + 5) es
+
+  pub subscripts : SymbolTable → List Depth → List LoopExits → ℕ → Trees → List Instr
+  subscripts N D W p NoTrees = []
+  subscripts N D W p (More e es) = code N D W p e ++ I.Op Ops.Subscript
+      ∷ subscripts N D W (p + size D e + 1) es
+
+  pub by_code : SymbolTable → List Depth → List LoopExits → ℕ → MaybeTree → List Instr
+  by_code N D W p Absent = I.Int (N.integer (pos 1)) ∷ []
+  by_code N D W p (Present e) = code N D W p e
+
+  -- the codes of the control expression and of the first branch, and their size
+  pub if_code : List Instr → List Instr → ℕ → SymbolTable → List Depth → List LoopExits → ℕ → MaybeTree
+      → List Instr
+  if_code c a n N D W p Absent = I.Mark0 ∷ c ++ I.Unmark ∷ a
+  if_code c a n N D W p (Present b) = I.Mark (p + n + 3) ∷ c
+      ++ (I.Unmark ∷ a ++ I.Goto (p + n + 3 + size D b) ∷ code N D W (p + n + 3) b)
+
+  -- a body that is bounded; where it fails the code goes on behind it
+  pub body_code : SymbolTable → List Depth → List LoopExits → ℕ → MaybeTree → List Instr
+  body_code N D W p Absent = []
+  body_code N D W p (Present b) = I.Mark (p + size D b + 2) ∷ code N D W (p + 1) b ++ I.Unmark ∷ []
+
+  pub clauses_code : SymbolTable → List Depth → List LoopExits → ℕ → ℕ → Clauses → List Instr
+  clauses_code N D W p last NoClauses = []
+  clauses_code N D W p last (MoreClauses clause clauses) = clause_code N D W p last clause
+      ++ clauses_code N D W (p + clause_size D clause) last clauses
+
+  pub clause_code : SymbolTable → List Depth → List LoopExits → ℕ → ℕ → Clause → List Instr
+  clause_code N D W p last (Default place e) = []
+  clause_code N D W p last (Guarded place s b) = let n = size (deeper D) s in
+      I.Mark (p + n + size D b + 6) ∷ I.Ccase ∷ code N (deeper D) W (p + 2) s
+      ++ (I.Op Ops.Equivalent ∷ I.Unmark ∷ I.Pop ∷ code N D W (p + n + 5) b ++ I.Goto last ∷ [])
+
+  pub default_code : SymbolTable → List Depth → List LoopExits → ℕ → Clauses → List Instr
+  default_code N D W p NoClauses = I.Efail ∷ []
+  default_code N D W p (MoreClauses clause clauses) = is_default N D W p clause (default_code N D W p clauses)
+
+  pub is_default : SymbolTable → List Depth → List LoopExits → ℕ → Clause → List Instr → List Instr
+  is_default N D W p (Default place e) later = code N D W p e
+  is_default N D W p (Guarded place s b) later = later
+
+-- a bounded expression of a body; an empty one has no code
+abbrev pub bounded_code : SymbolTable → ℕ → Tree → List Instr
+bounded_code N p e =
+    if is_empty e then [] else I.Mark (p + size [] e + 2) ∷ code N [] [] (p + 1) e ++ I.Unmark
+    ∷ []
+
+abbrev pub bounded_size : Tree → ℕ
+bounded_size e = if is_empty e then 0 else size [] e + 2
+
+abbrev pub body : SymbolTable → ℕ → Trees → List Instr
+body N p NoTrees = I.Pfail ∷ []
+body N p (More e es) = bounded_code N p e ++ body N (p + bounded_size e) es
+
+-- the code of a procedure
+abbrev pub procedure : SymbolTable → Initial → Trees → List Instr
+procedure N NoInitial es = body N 0 es
+procedure N (Initially place e) es = I.Init (size [] e + 3) ∷ I.Mark (size [] e + 3) ∷ code N [] [] 2 e
+    ++ I.Unmark ∷ body N (size [] e + 3) es

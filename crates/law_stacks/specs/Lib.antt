@@ -1,0 +1,9 @@
+pub mod Rendered
+pub mod AgreeingMachines
+pub mod SameStates
+pub mod SecondLaw
+pub mod Measure
+pub mod StackWeights
+pub mod ChainWeights
+pub mod OthersStay
+pub mod StackLaws

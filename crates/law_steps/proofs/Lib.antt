@@ -1,0 +1,7 @@
+pub mod CallsNamed
+mod StepsNamed
+mod StepsSized
+mod NamedStarts
+pub mod RowCounts
+mod RowVariables
+mod VariablesKept

@@ -1,0 +1,14 @@
+pub mod UnmarkLengths
+pub mod ErasedNotes
+pub mod PieceLengths
+pub mod ShapeLemmas
+pub mod VerifiedTrees
+pub mod VerifiedProcedures
+pub mod VerifierAgrees
+pub mod SoundProcedures
+pub mod LoopNesting
+pub mod NestedTrees
+pub mod BackwardLabels
+pub mod OperatorsFit
+pub mod TreesFit
+pub mod VerifiedFiles

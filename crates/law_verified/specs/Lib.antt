@@ -1,0 +1,5 @@
+pub mod Noted
+pub mod Verified
+pub mod FittingTrees
+pub mod TranslationLaws
+pub mod VerifierShapes

@@ -1,5 +1,0 @@
-use Rattle.link_laws.proofs.JoinedCode.{units_join}
-use Rattle.link_laws.proofs.laws.translations_join.Goals as goal
-
-pub returns : goal.returns
-returns c names files same faultless = units_join names files same faultless

@@ -1,8 +1,0 @@
-use Rattle.icn_value.proofs.SameValues.{same_equiv, same_is}
-use Rattle.row_laws.proofs.values.equivalence_is_equality.Goals as goal
-
-pub returns-clause-equivalence : goal.returns-clause-equivalence
-returns-clause-equivalence c = same_equiv
-
-pub returns-clause-equality : goal.returns-clause-equality
-returns-clause-equality c = same_is

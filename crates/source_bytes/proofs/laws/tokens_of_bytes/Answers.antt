@@ -1,5 +1,0 @@
-use Rattle.source_bytes.proofs.ScannedTokens.{tokens_are_bytes}
-use Rattle.source_bytes.proofs.laws.tokens_of_bytes.Goals as goal
-
-pub returns : goal.returns
-returns c = tokens_are_bytes
