@@ -6,7 +6,8 @@
     tools/file_lists.py --check [CRATE ..]    tells each README whose list is another, and fails if one is
 
 Without names it takes every crate; --write passes over a crate that has no README, and --check tells it.
-A file has a line if a comment stands at its head. Of proofs/ only the files at the top are told.
+A file has a line if a comment stands at its head. Of proofs/ only the files at the top are told. Behind the table stand
+the names of the edits in must-fail/, if there are any.
 """
 
 import argparse
@@ -53,7 +54,7 @@ def sentence_of(comment):
 
 
 def file_list(crate):
-    """The lines of a crate's table."""
+    """The lines of a crate's list."""
     rows = []
     for place, pattern in PLACES:
         folder = crate / place
@@ -61,7 +62,16 @@ def file_list(crate):
             comment = head_comment(path)
             if comment:
                 rows.append(f"| `{path.relative_to(crate)}` | {sentence_of(comment)} |")
-    return ["| File | What stands in it |", "|---|---|"] + rows if rows else []
+    table = ["| File | What stands in it |", "|---|---|"] + rows if rows else []
+    return table + edits(crate)
+
+
+def edits(crate):
+    """The sentence on the wrong bodies that the gate tries."""
+    names = sorted(path.stem for path in crate.glob("must-fail/*.edit"))
+    if not names:
+        return []
+    return ["", "The gate tries these wrong bodies (`must-fail/`): " + ", ".join(f"`{name}`" for name in names) + "."]
 
 
 def with_list(text, rows):
