@@ -1,4 +1,4 @@
-"""Checks the Markdown files: relative links and their headings, names of crates in backticks, and the length of pages.
+"""Checks the Markdown files: relative links and their headings, names of crates and of files of crates in backticks, and the length of pages.
 
 python3 tools/links.py [--words]
 With --words each page is printed with its length. Exits with 1 where something is wrong."""
@@ -12,6 +12,7 @@ ROOT = os.path.dirname(os.path.dirname(os.path.abspath(__file__)))
 MOST_WORDS = 2200
 LINK = re.compile(r"\[[^\]]*\]\(([^)\s]+)\)")
 CRATE = re.compile(r"`((?:icn|icont|iconx|law|test|cases)(?:_[a-z0-9]+)+)`")
+FILE = re.compile(r"`(?:([a-z_]+)/)?((?:[A-Za-z_]+/)*[A-Za-z_]+\.(?:antt|rt))`")
 SKIPPED = {"out", "target", "wip", "node_modules"}
 
 
@@ -85,8 +86,17 @@ def link_fault(page, target):
     return None
 
 
+def file_fault(names, crate, path):
+    """What is wrong with the name of a file of definitions or code, which may stand behind that of its crate."""
+    if crate and os.path.isdir(os.path.join(ROOT, "crates", crate)):
+        return None if os.path.exists(os.path.join(ROOT, "crates", crate, path)) else f"no file `{crate}/{path}`"
+    name = os.path.splitext(os.path.basename(path))[0]
+    return None if name in names else f"no file `{path}`"
+
+
 def faults():
-    known = crates_of_the_map() | sources()
+    files = sources()
+    known = crates_of_the_map() | files
     for page in pages():
         lines = lines_of(page)
         for number, line in prose(lines):
@@ -97,6 +107,10 @@ def faults():
             for name in CRATE.findall(line):
                 if name not in known:
                     yield f"{page}:{number}: no crate `{name}`"
+            for crate, path in FILE.findall(line):
+                fault = file_fault(files, crate, path)
+                if fault:
+                    yield f"{page}:{number}: {fault}"
         words = length(lines)
         if page.startswith("docs/") and words > MOST_WORDS:
             yield f"{page}: {words} words, more than {MOST_WORDS}"
