@@ -20,6 +20,7 @@ bin/%: crates.txt examples/hello.icn $(SOURCES)
 test:
 	@for example in examples/*.icn; do cmp $$example crates/test_program/data/$${example##*/} || exit 1; done
 	python3 tools/type_names.py
+	python3 tools/places.py --check
 	.ci/run
 
 install: all
