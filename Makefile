@@ -1,8 +1,12 @@
 PROGRAMS = icont iconx
 PREFIX = /usr/local
+DESTDIR =
 SOURCES = $(shell find crates -type f -not -path '*/out/*' -not -path '*/data/*')
 
-.PHONY: all test install run clean
+# Where the programs and their pages go. The shell takes no ~ in quotes for a home.
+ROOM = $(DESTDIR)$(if $(filter ~/%,$(firstword $(PREFIX))),$(patsubst ~/%,$(HOME)/%,$(PREFIX)),$(PREFIX))
+
+.PHONY: all test install uninstall run clean
 
 all: $(PROGRAMS:%=bin/%)
 
@@ -10,11 +14,8 @@ all: $(PROGRAMS:%=bin/%)
 FIRST_icont = ../../examples/hello.icn -x
 FIRST_iconx = data/hi
 
-bin/%: crates.txt examples/hello.icn $(SOURCES)
-	@mkdir -p bin
-	@echo "proving and building $* (the first time takes a long time; bin/$*.log)"
-	@cd crates/$* && rt run -- $(FIRST_$*) > ../../bin/$*.log 2>&1 || { tail -20 ../../bin/$*.log; exit 1; }
-	@cp crates/$*/out/$* $@
+bin/%: crates.txt examples/hello.icn tools/build.py $(SOURCES)
+	@python3 tools/build.py $* $@ $(FIRST_$*)
 
 # The rows run their own copies of the examples, since a crate reads no file outside its folder.
 test:
@@ -24,9 +25,12 @@ test:
 	.ci/run
 
 install: all
-	install -d $(PREFIX)/bin $(PREFIX)/share/man/man1
-	install $(PROGRAMS:%=bin/%) $(PREFIX)/bin
-	install -m 644 $(PROGRAMS:%=man/%.1) $(PREFIX)/share/man/man1
+	install -d "$(ROOM)/bin" "$(ROOM)/share/man/man1"
+	install $(PROGRAMS:%=bin/%) "$(ROOM)/bin"
+	install -m 644 $(PROGRAMS:%=man/%.1) "$(ROOM)/share/man/man1"
+
+uninstall:
+	rm -f $(foreach program,$(PROGRAMS),"$(ROOM)/bin/$(program)" "$(ROOM)/share/man/man1/$(program).1")
 
 run: all
 	@bin/icont $(FILE) -x
