@@ -23,8 +23,8 @@ LIMITS = ["-s", "8000000000", "-b", "400000000"]
 
 # of each program the small size, the size that is timed, and the file of its input
 SIZES = {
-    "accounts": (300, 60000, None),
-    "anagram": (500, 50000, None),
+    "accounts": (300, 100000, None),
+    "anagram": (500, 80000, None),
     "calc": (2, 2000, "calc.in"),
     "codec": (30, 12000, None),
     "concord": (2, 500, "prose.in"),
@@ -32,17 +32,17 @@ SIZES = {
     "csv": (200, 60000, None),
     "derive": (3, 7, "derive.in"),
     "diff": (40, 900, None),
-    "events": (200, 35000, None),
-    "format": (3, 700, "prose.in"),
-    "huffman": (2, 90, "prose.in"),
+    "events": (200, 50000, None),
+    "format": (3, 1000, "prose.in"),
+    "huffman": (2, 120, "prose.in"),
     "knight": (8, 200, None),
-    "life": (60, 2500, None),
+    "life": (60, 4000, None),
     "markov": (150, 300000, "prose.in"),
     "segment": (30, 8000, "prose.in"),
-    "sudoku": (3, 300, None),
+    "sudoku": (3, 400, None),
     "tokenize": (2, 1500, "tokenize.in"),
     "wildcard": (300, 10000, None),
-    "xref": (2, 600, "xref.in"),
+    "xref": (2, 900, "xref.in"),
 }
 
 
