@@ -30,7 +30,7 @@ SIZES = {
     "concord": (2, 500, "prose.in"),
     "coqueens": (6, 9, None),
     "csv": (200, 60000, None),
-    "derive": (3, 7, "derive.in"),
+    "derive": (3, 6, "derive.in"),
     "diff": (40, 900, None),
     "events": (200, 50000, None),
     "format": (3, 1000, "prose.in"),
