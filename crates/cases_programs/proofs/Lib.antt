@@ -4,6 +4,7 @@ pub mod LoopsHold
 pub mod ScansHold
 pub mod CoexpressionsHold
 pub mod ErrorsHold
+pub mod FailuresHold
 pub mod LibraryHold
 pub mod BoundedHold
 pub mod ReadingsHold

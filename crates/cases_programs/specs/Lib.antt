@@ -7,6 +7,7 @@ pub mod Loops
 pub mod Scans
 pub mod Coexpressions
 pub mod Errors
+pub mod Failures
 pub mod Library
 pub mod Bounded
 pub mod Readings

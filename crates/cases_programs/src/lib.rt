@@ -4,5 +4,6 @@
 mod table;
 
 pub use table::{
-    bounded, coexpressions, errors, generators, joinings, library, loops, plain, readings, scans,
+    bounded, coexpressions, errors, failures, generators, joinings, library, loops, plain,
+    readings, scans,
 };

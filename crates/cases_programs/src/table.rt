@@ -4,6 +4,7 @@ ghost use Rattle.cases_programs.specs.Cases.{Holds};
 ghost use Rattle.cases_programs.specs.Bounded.{bounded_cases};
 ghost use Rattle.cases_programs.specs.Coexpressions.{coexpressions};
 ghost use Rattle.cases_programs.specs.Errors.{errors};
+ghost use Rattle.cases_programs.specs.Failures.{failures};
 ghost use Rattle.cases_programs.specs.Generators.{generators};
 ghost use Rattle.cases_programs.specs.Joinings.{HasItsCode, joinings};
 ghost use Rattle.cases_programs.specs.Library.{library};
@@ -40,6 +41,11 @@ pub fn coexpressions()
 /// Each error of a form, and of the limits.
 pub fn errors()
     ensures { AllByRecursion Holds errors }
+{}
+
+/// Errors that become failure.
+pub fn failures()
+    ensures { AllByRecursion Holds failures }
 {}
 
 /// Reading, structures and functions in programs.

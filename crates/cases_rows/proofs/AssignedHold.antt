@@ -91,7 +91,25 @@ variables_hold = (
                                                                                   record { saw = refl; facts = refl },
                                                                                   (
                                                                                     record { saw = refl; facts = refl },
-                                                                                    tt,
+                                                                                    (
+                                                                                      record { saw = refl; facts = refl },
+                                                                                      (
+                                                                                        record { saw = refl; facts = refl },
+                                                                                        (
+                                                                                          record { saw = refl; facts = refl },
+                                                                                          (
+                                                                                            record { saw = refl; facts = refl },
+                                                                                            (
+                                                                                              record { saw = refl; facts = refl },
+                                                                                              (
+                                                                                                record { saw = refl; facts = refl },
+                                                                                                tt,
+                                                                                              ),
+                                                                                            ),
+                                                                                          ),
+                                                                                        ),
+                                                                                      ),
+                                                                                    ),
                                                                                   ),
                                                                                 ),
                                                                               ),

@@ -153,7 +153,19 @@ words_hold = (
                                   record { is = refl },
                                   (
                                     record { is = refl },
-                                    tt,
+                                    (
+                                      record { is = refl },
+                                      (
+                                        record { is = refl },
+                                        (
+                                          record { is = refl },
+                                          (
+                                            record { is = refl },
+                                            tt,
+                                          ),
+                                        ),
+                                      ),
+                                    ),
                                   ),
                                 ),
                               ),

@@ -1,10 +1,10 @@
 -- Variables: what is assigned, exchanged and taken back. Local 0 is "hello", local 1 is 7, local 2 is null.
-use Rattle.std.specs.Prelude.{ℕ, pos, List, [], ◌∷◌, codes, None}
+use Rattle.std.specs.Prelude.{ℕ, pos, negsuc, List, [], ◌∷◌, codes, None, Some}
 use Rattle.icn_text.specs.declared.op.Op.TheVariants as O
 use Rattle.icn_text.specs.declared.func.Func.TheVariants as F
-use Rattle.icn_value.specs.Values.{Value, Null, Integer, Text, AList, Global, Static, Element, Field, Key, Keyword, Subject, Position, Random, Whole, Part, Root, Item, Var}
-use Rattle.icn_value.specs.Store.{Setting, having_heap, having_random, having_position, having_subject, having_globals, having_statics, with_list, with_table, with_record}
-use Rattle.cases_rows.specs.Cases.{RowCase, case, case_between, plain, op, fn, int, below, str, list, local, local_part, holding, gives, fails, stops, stops_alone, Gave, Suspended, Failed, Stopped, costs}
+use Rattle.icn_value.specs.Values.{Value, Null, Integer, Text, AList, Global, Static, Element, Field, Key, Keyword, Subject, Position, Random, ErrorCount, Whole, Part, Root, Item, Val, Var}
+use Rattle.icn_value.specs.Store.{Setting, having_heap, having_random, having_error, having_kept, having_position, having_subject, having_globals, having_statics, with_list, with_table, with_record}
+use Rattle.cases_rows.specs.Cases.{RowCase, case, case_from, case_between, plain, op, fn, int, below, str, list, local, local_part, holding, gives, fails, stops, stops_alone, Gave, Suspended, Failed, Stopped, costs}
 
 abbrev num : ℕ → Value
 num n = Integer (pos n)
@@ -17,6 +17,13 @@ subject = whole (Keyword Subject)
 
 abbrev position : Item
 position = whole (Keyword Position)
+
+abbrev error_count : Item
+error_count = whole (Keyword ErrorCount)
+
+-- the plain setting where error 101 over the text "x" is kept
+abbrev keeping : Setting
+keeping = having_kept (Some (record { number = 101; value = Some (Text (codes "x")) })) plain
 
 -- local 0 holds this text, and the others what they held
 abbrev text_local : List ℕ → Setting → Setting
@@ -68,6 +75,14 @@ variables =
     case (op O.Assign (position ∷ str (codes "x") ∷ [])) (stops 101 (str (codes "x"))) ∷
     case (op O.Assign (whole (Keyword Random) ∷ below 0 ∷ []))
     (Gave (whole (Keyword Random)) (having_random 2147483647 plain) ∷ []) ∷
+    case (op O.Assign (error_count ∷ str (codes " 5 ") ∷ []))
+    (Gave error_count (having_error (pos 5) plain) ∷ []) ∷
+    case (op O.Assign (error_count ∷ below 0 ∷ [])) (Gave error_count (having_error (negsuc 0) plain) ∷ []) ∷
+    case (op O.Assign (error_count ∷ str (codes "x") ∷ [])) (stops 101 (str (codes "x"))) ∷
+    case (op O.Dereference (error_count ∷ [])) (gives (int 0)) ∷
+    -- `errorclear()` forgets an error that is kept, and is null where none is
+    case (fn F.ErrorClear []) (gives (Val Null)) ∷
+    case_from keeping (fn F.ErrorClear []) (gives (Val Null)) ∷
     -- parts: the whole text is built, and the part covers what it got
     case (op O.Assign (local_part 0 2 3 ∷ str [] ∷ []))
     (Gave (local_part 0 2 0) (costs 2 0 (text_local (codes "ho") plain)) ∷ []) ∷

@@ -79,6 +79,8 @@ plain = record {
     random = 0;
     globals = Null ∷ [];
     statics = Null ∷ [];
+    error = pos 0;
+    kept = None;
   };
   locals = Text (codes "hello") ∷ Integer (pos 7) ∷ Null ∷ [];
   outside = record { left = codes "one\n\nlast"; output = []; errors = []; readings = [] };

@@ -3,9 +3,9 @@ use Rattle.std.specs.Prelude.{◌≡◌, ℕ, pos, List, [], ◌∷◌, codes, O
 use Rattle.std.specs.List.{range_with_len}
 use Rattle.icn_text.specs.declared.keyword.Keyword.{Keyword as AnyKeyword}
 use Rattle.icn_text.specs.declared.keyword.Keyword.TheVariants as K
-use Rattle.icn_value.specs.Values.{Value, Null, Integer, Text, Chars, AList, ACoexp, Std, Input, Output, Errout, Subject, Position, Random, Keyword, Whole, Item, Val, Var}
+use Rattle.icn_value.specs.Values.{Value, Null, Integer, Text, Chars, AList, ACoexp, Std, Input, Output, Errout, Subject, Position, Random, ErrorCount, Keyword, Whole, Item, Val, Var}
 use Rattle.icn_defs.specs.Errors.{error_report}
-use Rattle.icn_defs.specs.Keywords.{keyword_item}
+use Rattle.icn_defs.specs.Keywords.{Standing, keyword_item}
 use Rattle.cases_rows.specs.Cases.{names, heap}
 
 -- an error by its number and perhaps a value, and its report
@@ -68,14 +68,23 @@ reports =
     alone 306 (codes "Run-time error 306\ninadequate space in string region\n") ∷
     alone 307 (codes "Run-time error 307\ninadequate space in block region\n") ∷ []
 
--- a keyword, and what it gives at level 4 of co-expression 2, which co-expression 1 activated
+abbrev pub standing : Standing
+standing = record {
+  level = 4;
+  current = 2;
+  source = 1;
+  kept = Some (record { number = 103; value = Some (AList 0) });
+}
+
+-- a keyword, and what it gives at level 4 of co-expression 2, which co-expression 1 activated, where error 103 over
+-- list 0 is kept
 pub record KeywordCase : Type 0 where
   pub keyword : AnyKeyword
   pub item : Option Item
 
 -- the keyword gives this item
 pub record IsGiven (word : KeywordCase) : Type 0 where
-  pub is : keyword_item (record { level = 4; current = 2; source = 1 }) word.keyword ≡ word.item
+  pub is : keyword_item standing word.keyword ≡ word.item
 
 abbrev value : AnyKeyword → Value → KeywordCase
 value keyword held = record { keyword = keyword; item = Some (Val held) }
@@ -100,4 +109,8 @@ words =
     record { keyword = K.Random; item = Some (Var (Whole (Keyword Random))) } ∷
     value K.Source (ACoexp 1) ∷
     record { keyword = K.Subject; item = Some (Var (Whole (Keyword Subject))) } ∷
-    value K.Ucase (Chars (codes "ABCDEFGHIJKLMNOPQRSTUVWXYZ")) ∷ []
+    value K.Ucase (Chars (codes "ABCDEFGHIJKLMNOPQRSTUVWXYZ")) ∷
+    record { keyword = K.Error; item = Some (Var (Whole (Keyword ErrorCount))) } ∷
+    value K.ErrorNumber (Integer (pos 103)) ∷
+    value K.ErrorValue (AList 0) ∷
+    value K.ErrorText (Text (codes "string expected")) ∷ []

@@ -6,7 +6,7 @@ use Rattle.icn_value.specs.Store.{Names, outside_of}
 use Rattle.icn_heap.specs.Extents.{value_in}
 use Rattle.icn_heap.specs.Heaps.{extent_of}
 use Rattle.law_names.specs.RowsNamed.{OutcomeNamed}
-use Rattle.law_names.specs.NamedSettings.{OptionNamed, SettingNamed}
+use Rattle.law_names.specs.NamedSettings.{ErrorNamed, SettingNamed}
 use Rattle.icn_vars.specs.Outcomes.{outcome_in}
 use Rattle.icn_vars.specs.Worlds.{setting_of}
 use Rattle.icn_vars.specs.declared.outcome.Outcome.{Outcome}
@@ -19,7 +19,7 @@ abbrev pub AnswerNamed : Names → World → List Val → Result Outcome Halt �
 AnswerNamed names world locals (Ok outcome) =
     OutcomeNamed names (outcome_in (extent_of world.heap) outcome (setting_of (outside_of []) world locals))
 AnswerNamed names world locals (Err (Error number offending)) =
-    OptionNamed names (option_map (value_in (extent_of world.heap)) offending)
+    ErrorNamed names number (option_map (value_in (extent_of world.heap)) offending)
     × SettingNamed names (setting_of (outside_of []) world locals)
 AnswerNamed names world locals (Err (Ends status)) =
     SettingNamed names (setting_of (outside_of []) world locals)

@@ -3,9 +3,10 @@ ghost use Rattle.icn_apply.specs.FunctionGroups.{IsOfKind};
 
 use icn_text::Func;
 
-// The functions over files, those of scanning, those over integers, texts and csets, and those over structures.
+// The functions over files, those of scanning, those over integers, texts and csets, those over structures, and the one over the error that is kept.
 #[derive(Clone, Copy)]
 pub enum FunctionGroup {
+    Errors,
     Files,
     Scanning,
     Strings,
@@ -68,5 +69,6 @@ pub fn kind_of(func: Func) -> FunctionGroup
         Func::Upto => FunctionGroup::Scanning,
         Func::Write => FunctionGroup::Files,
         Func::Writes => FunctionGroup::Files,
+        Func::ErrorClear => FunctionGroup::Errors,
     }
 }

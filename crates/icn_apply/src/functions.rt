@@ -1,6 +1,7 @@
 // Functions, by what they are over.
 ghost use Rattle.std.specs.Prelude.{◌≡◌, [], map, true};
 ghost use Rattle.std.specs.List.{All};
+ghost use Rattle.icn_text.specs.declared.func.Func.TheVariants.{ErrorClear};
 ghost use Rattle.icn_value.specs.Store.{outside_of};
 ghost use Rattle.icn_defs.specs.Applying.{function_row};
 ghost use Rattle.icn_heap.specs.Extents.{IsLive};
@@ -16,6 +17,7 @@ ghost use Rattle.icn_structfn.specs.Functions.{is_of_structures};
 ghost use Rattle.icn_apply.specs.NamesAfter.{AnswerNamed};
 ghost use Rattle.icn_apply.specs.SizesAfter.{AnswerKeepsSizes};
 
+use crate::errors::errorclear_row;
 use crate::function_groups::{FunctionGroup, kind_of};
 use icn_args::values_of;
 use icn_convert::Names;
@@ -51,11 +53,34 @@ pub fn apply_function<L: Locals, N: Names, I: Source, O: Sink, E: Sink>(
     ensures sized { AnswerKeepsSizes w.old w.new result }
 {
     match kind_of(func) {
+        FunctionGroup::Errors => apply_errorclear(args, w, l, names),
         FunctionGroup::Files => icn_iofn::first(func, args, w, l, buffer, input, out, err),
         FunctionGroup::Scanning => apply_scanning(func, args, w, l, names),
         FunctionGroup::Strings => apply_to_strings(func, args, w, l, names),
         FunctionGroup::Structures => apply_to_structures(func, args, w, l, names),
     }
+}
+
+// Applies the function over the error that is kept to items.
+fn apply_errorclear<L: Locals, N: Names>(
+    args: &[Item],
+    w: &mut World,
+    l: &L,
+    _names: &N,
+) -> Result<Outcome, Halt>
+    requires locals { All (IsLive (extent_of w.old.heap)) (L.items l.now) }
+    requires args { All (IsLiveItem (reach_of w.old (L.items l.now))) args.now }
+    requires named { SettingNamed (N.known _names.now) (setting_of (outside_of []) w.old (L.items l.now)) }
+    requires args_named { All (ItemNamed (N.known _names.now))
+        (map (item_in (extent_of w.old.heap)) args.now) }
+    ensures applies { (handed : CallStreams)
+        → Applies (function_row (N.known _names.now) ErrorClear (map (item_in (extent_of w.old.heap)) args.now))
+        (call_state w.old (L.items l.now) handed) (call_state w.new (L.items l.now) handed) result }
+    ensures named { AnswerNamed (N.known _names.now) w.new (L.items l.now) result }
+    ensures sized { AnswerKeepsSizes w.old w.new result }
+{
+    let _vals = values_of(w, l, args)?;
+    errorclear_row(w, l)
 }
 
 // Applies a function of scanning to items.

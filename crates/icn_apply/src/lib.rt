@@ -4,6 +4,7 @@
 mod applied;
 mod applying;
 mod code_names;
+mod errors;
 mod function_groups;
 mod functions;
 mod names;

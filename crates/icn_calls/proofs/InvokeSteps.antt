@@ -1,6 +1,5 @@
 -- What calls of values come to, by what is called.
-use Rattle.std.proofs.Common.{◌≡◌, ℕ, List, map, Option, Some, None, Result, Ok, Err, MatchResult, refl, sym, ap, ◌∙◌, subst}
-use Rattle.std.specs.Prelude.{OnOk}
+use Rattle.std.proofs.Common.{◌≡◌, ℕ, List, map, Option, Some, None, Result, Err, MatchResult, refl, sym, ap, ◌∙◌, subst}
 use Rattle.std.specs.Option.{option_map}
 use Rattle.icn_text.specs.declared.func.Func.{Func}
 use Rattle.icn_value.specs.declared.val.Val.{Val}
@@ -19,10 +18,12 @@ use Rattle.icn_run.specs.Rows as rows
 use Rattle.icn_run.specs.Stacks.{Frames, flat}
 use Rattle.icn_run.specs.Step as code
 use Rattle.icn_run.specs.Step.{State, Store, callee_called, callee_of, choose_item, errs, failing, integer_called, invoke_value, pushed_or_fails, with_world}
+use Rattle.icn_control.specs.Soundness.{LeavesWorld}
 use Rattle.icn_control.specs.StackAndWorld.{FailsWith, HaltsWith, RunsWith, StandsWith}
 use Rattle.icn_control.specs.declared.machine.RunState.{RunState}
 use Rattle.icn_control.specs.StackViews.{stack_in}
 use Rattle.icn_control.specs.TakenOperands.{KeepsCounts, with_values_in}
+use Rattle.icn_control.proofs.Halts.{unless_handed}
 use Rattle.icn_control.proofs.StackAndWorldSteps.{same_world}
 use Rattle.icn_calls.specs.Calling.{function_callee, function_in}
 
@@ -43,14 +44,9 @@ called_by_number tables all val n callee items m st e f =
 
 pub nothing_called : (w : World) (tables : Tables) (val : Val) (n : ℕ) (items : List rows.Item) (m : Frames) (st : Store Frames) → val ≡ Vals.Proc n
     → callee_of tables n ≡ code.IsNothing → st.world ≡ world_of w
-    → invoke_value flat tables (value_in (extent_of w.heap) val) items m st ≡ errs 106 (Some (rows.Procedure n)) (with_world (world_of w) st)
+    → invoke_value flat tables (value_in (extent_of w.heap) val) items m st ≡ errs 106 (Some (rows.Procedure n)) m (with_world (world_of w) st)
 nothing_called w tables val n items m st e f same =
-    called_by_number tables (extent_of w.heap) val n code.IsNothing items m st e f ∙ ap (errs 106 (Some (rows.Procedure n))) (same_world w st same)
-
--- the world is the same, whatever came of it
-pub nothing_counted : (result : Result RunState Halt) (w : World) → OnOk result (KeepsCounts w w)
-nothing_counted (Ok stage) w = record { bounds = refl; coexps = refl }
-nothing_counted (Err halt) w = tt
+    called_by_number tables (extent_of w.heap) val n code.IsNothing items m st e f ∙ ap (errs 106 (Some (rows.Procedure n)) m) (same_world w st same)
 
 -- Other values
 
@@ -100,18 +96,27 @@ pub values_run : (w v : World) (m k n : FlatStack) (items : List Item) (vals : L
     → RunsWith (with_values_in w m items st (λ values. next values (stack_in (extent_of w.heap) m) st)) st v n
 values_run w v m k n items vals next e f h st same = values_then w m k items vals next e f st same ∙ h st same
 
-pub values_halt : (w v : World) (m k : FlatStack) (items : List Item) (vals : List Val) (halt : Halt)
+pub values_halt : (w v : World) (m k : FlatStack) (left : Frames) (items : List Item) (vals : List Val) (halt : Halt)
     (next : List Value → Frames → Store Frames → State Frames Frames)
     → k ≡ m
     → ((st : Store Frames) (f : List Value → State Frames Frames) → st.world ≡ world_of w
     → with_values_in w m items st f ≡ f (map (value_in (extent_of w.heap)) vals))
-    → ((st : Store Frames) → st.world ≡ world_of w → HaltsWith (next (map (value_in (extent_of w.heap)) vals) (stack_in (extent_of w.heap) k) st) st v halt)
+    → ((st : Store Frames) → st.world ≡ world_of w
+    → HaltsWith (next (map (value_in (extent_of w.heap)) vals) (stack_in (extent_of w.heap) k) st) st v left halt)
     → (st : Store Frames) → st.world ≡ world_of w
-    → HaltsWith (with_values_in w m items st (λ values. next values (stack_in (extent_of w.heap) m) st)) st v halt
-values_halt w v m k items vals halt next e f h st same =
-    subst (λ (s : State Frames Frames). HaltsWith s st v halt) (sym (values_then w m k items vals next e f st same)) (h st same)
+    → HaltsWith (with_values_in w m items st (λ values. next values (stack_in (extent_of w.heap) m) st)) st v left halt
+values_halt w v m k left items vals halt next e f h st same =
+    subst (λ (s : State Frames Frames). HaltsWith s st v left halt) (sym (values_then w m k items vals next e f st same)) (h st same)
 
 -- what an answer is of, once what is called is known
-pub stands_as : (result : Result RunState Halt) (v : World) (n : FlatStack) (st : Store Frames) (a b : State Frames Frames) → a ≡ b
-    → MatchResult result (StandsWith b st v n) (HaltsWith b st v) → MatchResult result (StandsWith a st v n) (HaltsWith a st v)
-stands_as result v n st a b e h = subst (λ (s : State Frames Frames). MatchResult result (StandsWith s st v n) (HaltsWith s st v)) (sym e) h
+pub stands_as : (result : Result RunState Halt) (v : World) (n : FlatStack) (left : Frames) (st : Store Frames) (a b : State Frames Frames) → a ≡ b
+    → MatchResult result (StandsWith b st v n) (HaltsWith b st v left) → MatchResult result (StandsWith a st v n) (HaltsWith a st v left)
+stands_as result v n left st a b e h = subst (λ (s : State Frames Frames). MatchResult result (StandsWith s st v n) (HaltsWith s st v left)) (sym e) h
+
+-- what a halt leaves of a world, where another call hands it on
+pub leaves_handed : {A B : Type 0} (w v : World) (halt : Halt) → LeavesWorld {A = A} w v (Err halt) → LeavesWorld {A = B} w v (Err halt)
+leaves_handed {A} {B} w v halt l = record {
+  kept = l.kept;
+  counts = unless_handed A B halt (KeepsCounts w v) l.counts;
+  halt = l.halt;
+}

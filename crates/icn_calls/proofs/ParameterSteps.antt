@@ -1,6 +1,7 @@
 -- Arguments that become parameters, and procedures that are entered with them.
-use Rattle.std.proofs.Common.{◌≡◌, ℕ, zero, suc, ◌+◌, ◌-◌, ◌≤◌, Bool, true, false, nat_le, List, [], ◌∷◌, ◌++◌, map, length, take, drop, replicate, Ok, Err, refl, sym, ap, ◌∙◌, subst, arith}
+use Rattle.std.proofs.Common.{◌≡◌, ℕ, zero, suc, ◌+◌, ◌-◌, ◌≤◌, Bool, true, false, nat_le, List, [], ◌∷◌, ◌++◌, map, length, take, drop, replicate, Result, Ok, Err, refl, sym, ap, ◌∙◌, subst, arith}
 use Rattle.std.specs.List.{All}
+use Rattle.std.specs.Prelude.{IsErrAnd}
 use Rattle.std.proofs.lemmas.List.{map-append}
 use Rattle.std.proofs.lemmas.List.Elements.{All-cons, All-head, All-nil, All-tail}
 use Rattle.icn_value.specs.declared.val.Val.{Val}
@@ -11,6 +12,7 @@ use Rattle.icn_heap.specs.Extents.{Extent, IsLive, KeepsValues, value_in}
 use Rattle.icn_heap.specs.Heaps.{extent_of, heap_of}
 use Rattle.icn_vars.specs.declared.world.World.{World}
 use Rattle.icn_vars.specs.declared.stop.Stop.{Stop}
+use Rattle.icn_vars.specs.declared.stop.Stop.TheVariants.{Error as StopError, NoMemory as StopNoMemory}
 use Rattle.icn_vars.specs.Stops.{halt_of}
 use Rattle.icn_vars.specs.Worlds.{world_of}
 use Rattle.icn_frames.specs.Stacks as held
@@ -24,7 +26,7 @@ use Rattle.icn_control.specs.StackViews.{reading_of}
 use Rattle.icn_run.specs.Step.{State, Store, call_procedure, called_if, enter_procedure, fill_nulls, list_made, running, with_world}
 use Rattle.icn_control.specs.StackAndWorld.{HaltsWith}
 use Rattle.icn_control.specs.StackViews.{stack_in}
-use Rattle.icn_control.specs.TakenOperands.{MakesValue}
+use Rattle.icn_control.specs.TakenOperands.{MakesValue, UnlessNoMemory}
 use Rattle.icn_control.proofs.GrowthSteps.{values_same}
 use Rattle.icn_control.proofs.StackAndWorldSteps.{same_world}
 use Rattle.icn_calls.specs.Calling.{values_for, with_parameters_in}
@@ -73,6 +75,23 @@ live_drop all zero xs a = a
 live_drop all (suc n) [] a = a
 live_drop all (suc n) (x ∷ xs) a = live_drop all n xs (All-tail (IsLive all) x xs a)
 
+-- Why there are none
+
+-- of want of memory nothing is said
+pub unless_lacking : {A : Type 0} (result : Result A Stop) (P : Type 0) → IsErrAnd result (λ s. s ≡ StopNoMemory) → UnlessNoMemory result P
+unless_lacking {A} (Err s) P e = subst (λ (x : Stop). UnlessNoMemory {A = A} (Err x) P) (sym e) tt
+unless_lacking (Ok a) P e = absurd e
+
+-- what holds of a stop unless memory was wanting holds where another call passes it on
+pub unless_passed_on : {A : Type 0} (B : Type 0) (result : Result A Stop) (stop : Stop) (P : Type 0) → IsErrAnd result (λ s. s ≡ stop)
+    → UnlessNoMemory {A = B} (Err stop) P → UnlessNoMemory result P
+unless_passed_on {A} B (Err s) stop P e p = subst (λ (x : Stop). UnlessNoMemory {A = A} (Err x) P) (sym e) (by_stop stop p)
+  where
+    by_stop : (x : Stop) → UnlessNoMemory {A = B} (Err x) P → UnlessNoMemory {A = A} (Err x) P
+    by_stop (StopError number offending) q = q
+    by_stop StopNoMemory q = tt
+unless_passed_on B (Ok a) stop P e p = absurd e
+
 -- Parameters
 
 pub plain : (w : World) (m : FlatStack) (count : ℕ) (vals parameters : List Val) → parameters ≡ values_for count vals
@@ -106,11 +125,11 @@ collects w v m count vals cut parameters list made_so c p k a st next same =
 pub collects_not : (w v : World) (m : FlatStack) (count : ℕ) (vals : List Val) (stop : Stop)
     → MakesValue (list_row (map (value_in (extent_of w.heap)) (drop (count - 1) vals))) w m v (Err stop)
     → (st : Store Frames) (next : List Value → Frames → Store Frames → State Frames Frames) → st.world ≡ world_of w
-    → HaltsWith (with_parameters_in true count w m vals st next) st v (halt_of stop)
+    → HaltsWith (with_parameters_in true count w m vals st next) st v (stack_in (extent_of v.heap) m) (halt_of stop)
 collects_not w v m count vals stop made_so st next same =
     let all : Extent = extent_of w.heap in
     let behind : Value → Frames → Store Frames → State Frames Frames = λ rest x s. next (fill_nulls (count - 1) (map (value_in all) vals) ++ rest ∷ []) x s in
-    subst (λ (x : State Frames Frames). HaltsWith x st v (halt_of stop))
+    subst (λ (x : State Frames Frames). HaltsWith x st v (stack_in (extent_of v.heap) m) (halt_of stop))
     (ap (λ (xs : List Value). list_made flat xs (stack_in all m) st behind) (map_drop all (count - 1) vals)) (made_so st behind same)
 
 pub plain_result : (b : Bool) (w : World) (m : FlatStack) (count : ℕ) (vals parameters : List Val) → b ≡ false → parameters ≡ values_for count vals
@@ -158,15 +177,18 @@ called_runs w v m k n number entry vals parameters b f e p st same =
     ∙ ap (λ (x : FlatStack). running (stack_in new (held.enter number locals 0 x)) (with_world (world_of v) st)) (sym e)
     ∙ ap (λ (x : FlatStack). running (stack_in new x) (with_world (world_of v) st)) (sym p)
 
-pub called_halts : (w v : World) (m : FlatStack) (number : ℕ) (entry : Proc) (vals : List Val) (stop : Stop)
+pub called_halts : (w v : World) (m k : FlatStack) (number : ℕ) (entry : Proc) (vals : List Val) (stop : Stop)
     → nat_le (suc (held.level m)) (heap_of w.heap).bounds.levels ≡ true
     → ((st : Store Frames) (next : List Value → Frames → Store Frames → State Frames Frames) → st.world ≡ world_of w
-    → HaltsWith (with_parameters_in entry.collects entry.parameters w m vals st next) st v (halt_of stop))
+    → HaltsWith (with_parameters_in entry.collects entry.parameters w m vals st next) st v (stack_in (extent_of v.heap) m) (halt_of stop)) → k ≡ m
     → (st : Store Frames) → st.world ≡ world_of w
-    → HaltsWith (call_procedure flat number entry (map (value_in (extent_of w.heap)) vals) (stack_in (extent_of w.heap) m) st) st v (halt_of stop)
-called_halts w v m number entry vals stop b f st same =
-    subst (λ (x : State Frames Frames). HaltsWith x st v (halt_of stop)) (sym (called_by w m number entry vals true b st same))
-    (f st (λ ps a s. enter_procedure flat number entry ps a s) same)
+    → HaltsWith (call_procedure flat number entry (map (value_in (extent_of w.heap)) vals) (stack_in (extent_of w.heap) m) st) st v
+    (stack_in (extent_of v.heap) k) (halt_of stop)
+called_halts w v m k number entry vals stop b f p st same =
+    let state : State Frames Frames = call_procedure flat number entry (map (value_in (extent_of w.heap)) vals) (stack_in (extent_of w.heap) m) st in
+    subst (λ (y : FlatStack). HaltsWith state st v (stack_in (extent_of v.heap) y) (halt_of stop)) (sym p)
+    (subst (λ (x : State Frames Frames). HaltsWith x st v (stack_in (extent_of v.heap) m) (halt_of stop)) (sym (called_by w m number entry vals true b st same))
+    (f st (λ ps a s. enter_procedure flat number entry ps a s) same))
 
 pub nulls_live : (all : Extent) (n : ℕ) → All (IsLive all) (replicate n Null)
 nulls_live all zero = All-nil (IsLive all)

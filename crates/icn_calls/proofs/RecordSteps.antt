@@ -1,5 +1,5 @@
 -- Records that are made of arguments, and fields of records.
-use Rattle.std.proofs.Common.{◌≡◌, ℕ, ◌<◌, ◌≤◌, List, [], ◌∷◌, map, length, slice_get, Option, Some, None, Result, Ok, Err, OnOk, refl, sym, ap, ◌∙◌, subst, arith}
+use Rattle.std.proofs.Common.{◌≡◌, ℕ, ◌<◌, ◌≤◌, List, [], ◌∷◌, map, length, slice_get, Option, Some, None, Result, Ok, Err, refl, sym, ap, ◌∙◌, subst, arith}
 use Rattle.std.specs.Prelude.{get_or, slice_index}
 use Rattle.std.specs.List.{position}
 use Rattle.std.specs.Option.{option_and_then, option_map, option_map_or}
@@ -18,6 +18,7 @@ use Rattle.icn_heap.specs.Extents.{Extent, IsLive, value_in}
 use Rattle.icn_heap.specs.declared.heap.Heap.{Heap as HeldHeap}
 use Rattle.icn_heap.specs.Heaps.{extent_of, heap_of}
 use Rattle.icn_vars.specs.declared.stop.Stop.{Stop}
+use Rattle.icn_vars.specs.declared.stop.Stop.TheVariants.{Error as StopError, NoMemory as StopNoMemory}
 use Rattle.icn_vars.specs.declared.world.World.{World}
 use Rattle.icn_vars.specs.Stops.{halt_of}
 use Rattle.icn_args.specs.RowWords.{IsFound}
@@ -37,8 +38,8 @@ use Rattle.icn_run.specs.Step.{State, Store, construct_record, errs, field_appli
 use Rattle.icn_control.specs.StackAndWorld.{FindsValue, HaltsWith, RunsWith}
 use Rattle.icn_control.proofs.StackAndWorldSteps.{same_world, value_goes, value_halts}
 use Rattle.icn_control.specs.StackViews.{stack_in}
-use Rattle.icn_control.specs.TakenOperands.{KeepsCounts, MakesValue, made_in}
-use Rattle.icn_control.proofs.GrowthSteps.{record_keeps}
+use Rattle.icn_control.specs.TakenOperands.{KeepsCounts, MakesValue, UnlessNoMemory, made_in}
+use Rattle.icn_control.proofs.GrowthSteps.{record_keeps, record_refuses}
 use Rattle.icn_calls.specs.Calling.{field_count, is_number, values_for}
 use Rattle.icn_calls.proofs.ParameterSteps.{map_values_for}
 
@@ -67,21 +68,27 @@ record_runs w v m k n kind at count entry vals fields val a c e made_so p q st s
     ∙ ap (λ (x : FlatStack). running (stack_in (extent_of v.heap) (held.push (HeldVal val) x)) (with_world (world_of v) st)) (sym p)
     ∙ ap (λ (x : FlatStack). running (stack_in (extent_of v.heap) x) (with_world (world_of v) st)) (sym q)
 
-pub record_halts : (w v : World) (m : FlatStack) (kind at count : ℕ) (entry : RecordType) (vals fields : List Val) (stop : Stop) → at ≡ kind
+pub record_halts : (w v : World) (m k : FlatStack) (kind at count : ℕ) (entry : RecordType) (vals fields : List Val) (stop : Stop) → at ≡ kind
     → count ≡ length entry.fields → fields ≡ values_for count vals
-    → MakesValue (record_row at (map (value_in (extent_of w.heap)) fields)) w m v (Err stop) → (st : Store Frames) → st.world ≡ world_of w
-    → HaltsWith (construct_record flat kind entry (map (value_in (extent_of w.heap)) vals) (stack_in (extent_of w.heap) m) st) st v (halt_of stop)
-record_halts w v m kind at count entry vals fields stop a c e made_so st same =
-    subst (λ (x : State Frames Frames). HaltsWith x st v (halt_of stop)) (sym (constructed_is w m kind at count entry vals fields a c e st))
-    (made_so st (λ value m st. push_item flat (rows.Val value) m st) same)
+    → MakesValue (record_row at (map (value_in (extent_of w.heap)) fields)) w m v (Err stop) → k ≡ m → (st : Store Frames) → st.world ≡ world_of w
+    → HaltsWith (construct_record flat kind entry (map (value_in (extent_of w.heap)) vals) (stack_in (extent_of w.heap) m) st) st v
+    (stack_in (extent_of v.heap) k) (halt_of stop)
+record_halts w v m k kind at count entry vals fields stop a c e made_so p st same =
+    let state : State Frames Frames = construct_record flat kind entry (map (value_in (extent_of w.heap)) vals) (stack_in (extent_of w.heap) m) st in
+    subst (λ (y : FlatStack). HaltsWith state st v (stack_in (extent_of v.heap) y) (halt_of stop)) (sym p)
+    (subst (λ (x : State Frames Frames). HaltsWith x st v (stack_in (extent_of v.heap) m) (halt_of stop))
+    (sym (constructed_is w m kind at count entry vals fields a c e st))
+    (made_so st (λ value m st. push_item flat (rows.Val value) m st) same))
 
 pub record_counted : (w v : World) (locals : List Val) (kind : ℕ) (fields : List Value) (result : Result Val Stop)
     → ((outside : Outside) → IsFound (extent_of v.heap) (new_record_of (record { kind = kind; fields = fields })) (setting_of outside w locals)
     (setting_of outside v locals) (value_in (extent_of v.heap)) result)
-    → OnOk result (KeepsCounts w v)
+    → UnlessNoMemory result (KeepsCounts w v)
 record_counted w v locals kind fields (Ok val) f =
     record_keeps w v (outside_of []) locals (rows.Val (value_in (extent_of v.heap) val)) kind fields (f (outside_of []) gives_value)
-record_counted w v locals kind fields (Err stop) f = tt
+record_counted w v locals kind fields (Err (StopError number offending)) f =
+    record_refuses w v (outside_of []) locals number (option_map (value_in (extent_of v.heap)) offending) kind fields (f (outside_of []) gives_value)
+record_counted w v locals kind fields (Err StopNoMemory) f = tt
 
 -- Fields
 
@@ -145,16 +152,19 @@ applied_is w tables field item m val st f =
     value_goes (extent_of w.heap) (item_in (extent_of w.heap) item) (stack_in (extent_of w.heap) m) st val
     (λ value. field_of flat tables field value (stack_in (extent_of w.heap) m) st) f
 
-pub field_unfound : (w : World) (tables : Tables) (field : ℕ) (item : Item) (m : FlatStack) (stop : Stop) (st : Store Frames) → st.world ≡ world_of w
-    → FindsValue (extent_of w.heap) (item_in (extent_of w.heap) item) (here flat (stack_in (extent_of w.heap) m) st) (Err stop)
-    → HaltsWith (field_applied flat tables field (item_in (extent_of w.heap) item ∷ []) (stack_in (extent_of w.heap) m) st) st w (halt_of stop)
-field_unfound w tables field item m stop st same f =
-    value_halts w (item_in (extent_of w.heap) item) (stack_in (extent_of w.heap) m) st stop
-    (λ value. field_of flat tables field value (stack_in (extent_of w.heap) m) st) same f
+pub field_unfound : (w : World) (tables : Tables) (field : ℕ) (item : Item) (m k : FlatStack) (stop : Stop) (st : Store Frames) → st.world ≡ world_of w
+    → FindsValue (extent_of w.heap) (item_in (extent_of w.heap) item) (here flat (stack_in (extent_of w.heap) m) st) (Err stop) → k ≡ m
+    → HaltsWith (field_applied flat tables field (item_in (extent_of w.heap) item ∷ []) (stack_in (extent_of w.heap) m) st) st w
+    (stack_in (extent_of w.heap) k) (halt_of stop)
+field_unfound w tables field item m k stop st same f p =
+    let all : Extent = extent_of w.heap in
+    let state : State Frames Frames = field_applied flat tables field (item_in all item ∷ []) (stack_in all m) st in
+    subst (λ (x : FlatStack). HaltsWith state st w (stack_in all x) (halt_of stop)) (sym p)
+    (value_halts w (item_in all item) (stack_in all m) st stop (λ value. field_of flat tables field value (stack_in all m) st) same f)
 
 -- a value that is no record has no fields
 no_record : (all : Extent) (tables : Tables) (field : ℕ) (val : Val) (m : Frames) (st : Store Frames) → ((id : ℕ) → val ≡ Vals.Rec id → ⊥)
-    → field_of flat tables field (value_in all val) m st ≡ errs 107 (Some (value_in all val)) st
+    → field_of flat tables field (value_in all val) m st ≡ errs 107 (Some (value_in all val)) m st
 no_record all tables field Vals.Null m st h = refl
 no_record all tables field (Vals.Integer n) m st h = refl
 no_record all tables field (Vals.Text span) m st h = refl
@@ -167,14 +177,16 @@ no_record all tables field (Vals.Set id) m st h = refl
 no_record all tables field (Vals.Table id) m st h = refl
 no_record all tables field (Vals.Coexp n) m st h = refl
 
-pub not_a_record : (w : World) (tables : Tables) (field : ℕ) (item : Item) (m : FlatStack) (val : Val) (st : Store Frames) → st.world ≡ world_of w
+pub not_a_record : (w : World) (tables : Tables) (field : ℕ) (item : Item) (m k : FlatStack) (val : Val) (st : Store Frames) → st.world ≡ world_of w
     → FindsValue (extent_of w.heap) (item_in (extent_of w.heap) item) (here flat (stack_in (extent_of w.heap) m) st) (Ok val)
-    → ((id : ℕ) → val ≡ Vals.Rec id → ⊥)
+    → ((id : ℕ) → val ≡ Vals.Rec id → ⊥) → k ≡ m
     → field_applied flat tables field (item_in (extent_of w.heap) item ∷ []) (stack_in (extent_of w.heap) m) st
-    ≡ errs 107 (Some (value_in (extent_of w.heap) val)) (with_world (world_of w) st)
-not_a_record w tables field item m val st same f h =
-    applied_is w tables field item m val st f ∙ no_record (extent_of w.heap) tables field val (stack_in (extent_of w.heap) m) st h
-    ∙ ap (errs 107 (Some (value_in (extent_of w.heap) val))) (same_world w st same)
+    ≡ errs 107 (Some (value_in (extent_of w.heap) val)) (stack_in (extent_of w.heap) k) (with_world (world_of w) st)
+not_a_record w tables field item m k val st same f h q =
+    let all : Extent = extent_of w.heap in
+    applied_is w tables field item m val st f ∙ no_record all tables field val (stack_in all m) st h
+    ∙ ap (errs 107 (Some (value_in all val)) (stack_in all m)) (same_world w st same)
+    ∙ ap (λ (x : FlatStack). errs 107 (Some (value_in all val)) (stack_in all x) (with_world (world_of w) st)) (sym q)
 
 -- the field of a record, by its place
 taken_is : (w : World) (tables : Tables) (field : ℕ) (item : Item) (m : FlatStack) (val : Val) (id kind : ℕ) (place : Option ℕ) (st : Store Frames)
@@ -191,17 +203,18 @@ taken_is w tables field item m val id kind place st same f v k p =
     ∙ ap (λ (n : ℕ). field_taken flat (field_index tables field n) id (stack_in all m) st) (sym k)
     ∙ ap (λ (o : Option ℕ). field_taken flat o id (stack_in all m) st) (sym p)
 
-pub no_such_field : (w : World) (tables : Tables) (field : ℕ) (item : Item) (m : FlatStack) (val : Val) (id kind : ℕ) (place : Option ℕ) (st : Store Frames)
+pub no_such_field : (w : World) (tables : Tables) (field : ℕ) (item : Item) (m l : FlatStack) (val : Val) (id kind : ℕ) (place : Option ℕ) (st : Store Frames)
     → st.world ≡ world_of w
     → FindsValue (extent_of w.heap) (item_in (extent_of w.heap) item) (here flat (stack_in (extent_of w.heap) m) st) (Ok val) → val ≡ Vals.Rec id
-    → kind ≡ (record_at (heap_of w.heap) id).kind → place ≡ field_index tables field kind → place ≡ None
+    → kind ≡ (record_at (heap_of w.heap) id).kind → place ≡ field_index tables field kind → place ≡ None → l ≡ m
     → field_applied flat tables field (item_in (extent_of w.heap) item ∷ []) (stack_in (extent_of w.heap) m) st
-    ≡ errs 207 (Some (rows.ARecord id)) (with_world (world_of w) st)
-no_such_field w tables field item m val id kind place st same f v k p e =
+    ≡ errs 207 (Some (rows.ARecord id)) (stack_in (extent_of w.heap) l) (with_world (world_of w) st)
+no_such_field w tables field item m l val id kind place st same f v k p e q =
     let all : Extent = extent_of w.heap in
     taken_is w tables field item m val id kind place st same f v k p
     ∙ ap (λ (o : Option ℕ). field_taken flat o id (stack_in all m) st) e
-    ∙ ap (errs 207 (Some (rows.ARecord id))) (same_world w st same)
+    ∙ ap (errs 207 (Some (rows.ARecord id)) (stack_in all m)) (same_world w st same)
+    ∙ ap (λ (x : FlatStack). errs 207 (Some (rows.ARecord id)) (stack_in all x) (with_world (world_of w) st)) (sym q)
 
 pub field_runs : (w : World) (tables : Tables) (field : ℕ) (item : Item) (m k n : FlatStack) (val : Val) (id kind at : ℕ) (place : Option ℕ) (st : Store Frames)
     → st.world ≡ world_of w

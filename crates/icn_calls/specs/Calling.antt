@@ -52,7 +52,8 @@ FindsParameters collects count w m vals v parameters result =
     → MatchResult result (λ _. with_parameters_in collects count w m vals st next
     ≡ next (map (value_in (extent_of v.heap)) parameters) (stack_in (extent_of v.heap) m)
     (with_world (world_of v) st))
-    (λ stop. HaltsWith (with_parameters_in collects count w m vals st next) st v (halt_of stop))
+    (λ stop. HaltsWith (with_parameters_in collects count w m vals st next) st v
+    (stack_in (extent_of v.heap) m) (halt_of stop))
 
 -- how many fields the records of a kind have
 abbrev pub field_count : Tables → ℕ → ℕ

@@ -1,5 +1,5 @@
 // Procedures that are called.
-ghost use Rattle.std.specs.Prelude.{◌≡◌, ◌+◌, ◌-◌, ◌<◌, ◌≤◌, ◌^◌, ◌++◌, ◌∷◌, [], Some, true, false, drop, length, map, replicate, slice_get, IfErr, OnOk, MatchResult};
+ghost use Rattle.std.specs.Prelude.{◌≡◌, ◌+◌, ◌-◌, ◌<◌, ◌^◌, ◌++◌, ◌∷◌, [], Some, true, drop, length, map, replicate, slice_get, IfErr, OnOk, MatchResult};
 ghost use Rattle.std.specs.List.{All};
 ghost use Rattle.icn_value.specs.Limited.{limits_of};
 ghost use Rattle.icn_value.specs.declared.val.Val.TheVariants.{Null};
@@ -16,8 +16,8 @@ ghost use Rattle.icn_calls.specs.Calling.{FindsParameters};
 ghost use Rattle.icn_control.specs.LiveStacks.{IsLiveStack};
 ghost use Rattle.icn_control.specs.StackAndWorld.{HaltsWith, RunsWith};
 ghost use Rattle.icn_control.specs.StackViews.{stack_in};
-ghost use Rattle.icn_control.specs.TakenOperands.{KeepsCounts};
-ghost use Rattle.icn_control.specs.Soundness.{LeavesWorld};
+ghost use Rattle.icn_control.specs.TakenOperands.{KeepsCounts, UnlessNoMemory};
+ghost use Rattle.icn_control.specs.Soundness.{LeavesWorld, UnlessEnded};
 
 use crate::arguments::{add_nulls, fit};
 use icn_code::Code;
@@ -63,7 +63,7 @@ fn collect<K: Stack<Cell> + Drop>(
     ensures count { OnOk result (length vals.new.items ≡ count) }
     ensures stops { IfErr result (IsLiveStop (extent_of world.new.heap)) }
     ensures kept { KeepsItems (reach_of world.old []) (reach_of world.new []) }
-    ensures counts { OnOk result (KeepsCounts world.old world.new) }
+    ensures counts { UnlessNoMemory result (KeepsCounts world.old world.new) }
     ensures step { FindsParameters true count world.old frames.old.flat vals.old.items world.new
         vals.new.items result }
 {
@@ -91,7 +91,7 @@ pub fn take_parameters<K: Stack<Cell> + Drop>(
     ensures count { OnOk result (length vals.new.items ≡ count) }
     ensures stops { IfErr result (IsLiveStop (extent_of world.new.heap)) }
     ensures kept { KeepsItems (reach_of world.old []) (reach_of world.new []) }
-    ensures counts { OnOk result (KeepsCounts world.old world.new) }
+    ensures counts { UnlessNoMemory result (KeepsCounts world.old world.new) }
     ensures step { FindsParameters collects count world.old frames.old.flat vals.old.items world.new
         vals.new.items result }
 {
@@ -140,9 +140,10 @@ pub fn call_procedure<K: Stack<Cell> + Drop>(
         RunsWith (call_procedure calls number entry (map (value_in (extent_of world.old.heap)) vals.old.items)
         (stack_in (extent_of world.old.heap) frames.old.flat) st) st world.new frames.new.flat)
         (HaltsWith (call_procedure calls number entry (map (value_in (extent_of world.old.heap))
-        vals.old.items) (stack_in (extent_of world.old.heap) frames.old.flat) st) st world.new) }
+        vals.old.items) (stack_in (extent_of world.old.heap) frames.old.flat) st) st world.new
+        (stack_in (extent_of world.new.heap) frames.new.flat)) }
     ensures live { IsLiveStack (tables_of code.now) (reach_of world.old []) frames.old.flat
-        → OnOk result (IsLiveStack (tables_of code.now) (reach_of world.new []) frames.new.flat) }
+        → UnlessEnded result (IsLiveStack (tables_of code.now) (reach_of world.new []) frames.new.flat) }
     ensures leaves { LeavesWorld world.old world.new result }
 {
     if frames.level() >= limits.levels {

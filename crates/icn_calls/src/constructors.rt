@@ -1,5 +1,5 @@
 // Records that are made of arguments.
-ghost use Rattle.std.specs.Prelude.{◌≡◌, ◌<◌, ◌≤◌, ◌^◌, [], Some, length, map, slice_get, IfErr, IfOk, OnOk, MatchResult};
+ghost use Rattle.std.specs.Prelude.{◌≡◌, ◌<◌, ◌≤◌, ◌^◌, [], Some, length, map, slice_get, IfErr, IfOk, MatchResult};
 ghost use Rattle.std.specs.List.{All};
 ghost use Rattle.icn_profile.specs.Numbers.{most_entries};
 ghost use Rattle.icn_defs.specs.StepRows.{record_row};
@@ -15,8 +15,8 @@ ghost use Rattle.icn_run.specs.Step.{Store, construct_record};
 ghost use Rattle.icn_control.specs.LiveStacks.{IsLiveStack};
 ghost use Rattle.icn_control.specs.StackAndWorld.{HaltsWith, RunsWith};
 ghost use Rattle.icn_control.specs.StackViews.{stack_in};
-ghost use Rattle.icn_control.specs.TakenOperands.{KeepsCounts, MakesValue};
-ghost use Rattle.icn_control.specs.Soundness.{LeavesWorld};
+ghost use Rattle.icn_control.specs.TakenOperands.{KeepsCounts, MakesValue, UnlessNoMemory};
+ghost use Rattle.icn_control.specs.Soundness.{LeavesWorld, UnlessEnded};
 
 use crate::arguments::fit;
 use icn_code::Code;
@@ -42,7 +42,7 @@ pub fn record_of<K: Stack<Cell> + Drop>(
     ensures live { IfOk result (IsLive (extent_of world.new.heap)) }
     ensures stops { IfErr result (IsLiveStop (extent_of world.new.heap)) }
     ensures kept { KeepsItems (reach_of world.old []) (reach_of world.new []) }
-    ensures counts { OnOk result (KeepsCounts world.old world.new) }
+    ensures counts { UnlessNoMemory result (KeepsCounts world.old world.new) }
     ensures made { MakesValue (record_row kind (map (value_in (extent_of world.old.heap)) fields.now))
         world.old frames.old.flat world.new result }
 {
@@ -88,9 +88,10 @@ pub fn construct<K: Stack<Cell> + Drop>(
         RunsWith (construct_record calls kind entry (map (value_in (extent_of world.old.heap)) vals.old.items)
         (stack_in (extent_of world.old.heap) frames.old.flat) st) st world.new frames.new.flat)
         (HaltsWith (construct_record calls kind entry (map (value_in (extent_of world.old.heap))
-        vals.old.items) (stack_in (extent_of world.old.heap) frames.old.flat) st) st world.new) }
+        vals.old.items) (stack_in (extent_of world.old.heap) frames.old.flat) st) st world.new
+        (stack_in (extent_of world.new.heap) frames.new.flat)) }
     ensures live { (tables : Tables) → IsLiveStack tables (reach_of world.old []) frames.old.flat
-        → OnOk result (IsLiveStack tables (reach_of world.new []) frames.new.flat) }
+        → UnlessEnded result (IsLiveStack tables (reach_of world.new []) frames.new.flat) }
     ensures leaves { LeavesWorld world.old world.new result }
 {
     let Ok(()) = fit(vals, field_count(code, kind)) else {

@@ -1,5 +1,5 @@
 // Calls of integers, which choose one of their arguments.
-ghost use Rattle.std.specs.Prelude.{◌≡◌, ◌<◌, ◌^◌, [], length, map, slice_get, IfErr, IfOk, IfSome, OnOk, MatchResult};
+ghost use Rattle.std.specs.Prelude.{◌≡◌, ◌<◌, ◌^◌, [], length, map, slice_get, IfErr, IfOk, IfSome, MatchResult};
 ghost use Rattle.std.specs.List.{All};
 ghost use Rattle.std.specs.Option.{option_map};
 ghost use Rattle.icn_defs.specs.Running.{number_of};
@@ -15,6 +15,7 @@ ghost use Rattle.icn_control.specs.LiveStacks.{IsLiveStack, with_locals};
 ghost use Rattle.icn_control.specs.StackAndWorld.{HaltsWith, StandsWith};
 ghost use Rattle.icn_control.specs.StackViews.{stack_in};
 ghost use Rattle.icn_calls.specs.Calling.{IsGoing};
+ghost use Rattle.icn_control.specs.Soundness.{UnlessEnded};
 
 use icn_control::RunState;
 use icn_convert::to_integer;
@@ -84,9 +85,10 @@ pub fn call_integer<K: Stack<Cell> + Drop>(
         items.now) (stack_in (extent_of world.now.heap) frames.old.flat) st) st world.now frames.new.flat)
         (HaltsWith (integer_called calls (value_in (extent_of world.now.heap) callee)
         (number_of (value_in (extent_of world.now.heap) callee)) (map (item_in (extent_of world.now.heap))
-        items.now) (stack_in (extent_of world.now.heap) frames.old.flat) st) st world.now) }
+        items.now) (stack_in (extent_of world.now.heap) frames.old.flat) st) st world.now
+        (stack_in (extent_of world.now.heap) frames.new.flat)) }
     ensures live { (tables : Tables) → IsLiveStack tables (reach_of world.now []) frames.old.flat
-        → OnOk result (IsLiveStack tables (reach_of world.now []) frames.new.flat) }
+        → UnlessEnded result (IsLiveStack tables (reach_of world.now []) frames.new.flat) }
     ensures halt { IfErr result (IsLiveHalt (reach_of world.now [])) }
     ensures going { IfOk result IsGoing }
 {

@@ -1,5 +1,5 @@
 // Calls of values.
-ghost use Rattle.std.specs.Prelude.{◌≡◌, ◌<◌, ◌^◌, [], None, Some, length, map, slice_get, IfOk, OnOk, MatchResult};
+ghost use Rattle.std.specs.Prelude.{◌≡◌, ◌<◌, ◌^◌, [], None, Some, length, map, slice_get, IfOk, MatchResult};
 ghost use Rattle.std.specs.List.{All};
 ghost use Rattle.icn_value.specs.Limited.{limits_of};
 ghost use Rattle.icn_frames.specs.Stacks as flat;
@@ -15,7 +15,7 @@ ghost use Rattle.icn_control.specs.StackAndWorld.{HaltsWith, StandsWith};
 ghost use Rattle.icn_control.specs.StackViews.{stack_in};
 ghost use Rattle.icn_control.specs.TakenOperands.{with_values_in};
 ghost use Rattle.icn_calls.specs.Calling.{IsGoing, function_in};
-ghost use Rattle.icn_control.specs.Soundness.{LeavesWorld};
+ghost use Rattle.icn_control.specs.Soundness.{LeavesWorld, UnlessEnded};
 
 use crate::callees::{Callee, callee_of};
 use crate::calling::call_procedure;
@@ -49,9 +49,10 @@ fn call_with<K: Stack<Cell> + Drop>(
         call_procedure calls number entry values (stack_in (extent_of world.old.heap) frames.old.flat) st))
         st world.new frames.new.flat)
         (HaltsWith (with_values_in world.old frames.old.flat items.now st (λ values. call_procedure calls
-        number entry values (stack_in (extent_of world.old.heap) frames.old.flat) st)) st world.new) }
+        number entry values (stack_in (extent_of world.old.heap) frames.old.flat) st)) st world.new
+        (stack_in (extent_of world.new.heap) frames.new.flat)) }
     ensures live { IsLiveStack (tables_of code.now) (reach_of world.old []) frames.old.flat
-        → OnOk result (IsLiveStack (tables_of code.now) (reach_of world.new []) frames.new.flat) }
+        → UnlessEnded result (IsLiveStack (tables_of code.now) (reach_of world.new []) frames.new.flat) }
     ensures leaves { LeavesWorld world.old world.new result }
     ensures going { IfOk result IsGoing }
 {
@@ -82,9 +83,10 @@ fn construct_with<K: Stack<Cell> + Drop>(
         construct_record calls kind entry values (stack_in (extent_of world.old.heap) frames.old.flat) st))
         st world.new frames.new.flat)
         (HaltsWith (with_values_in world.old frames.old.flat items.now st (λ values. construct_record calls
-        kind entry values (stack_in (extent_of world.old.heap) frames.old.flat) st)) st world.new) }
+        kind entry values (stack_in (extent_of world.old.heap) frames.old.flat) st)) st world.new
+        (stack_in (extent_of world.new.heap) frames.new.flat)) }
     ensures live { (tables : Tables) → IsLiveStack tables (reach_of world.old []) frames.old.flat
-        → OnOk result (IsLiveStack tables (reach_of world.new []) frames.new.flat) }
+        → UnlessEnded result (IsLiveStack tables (reach_of world.new []) frames.new.flat) }
     ensures leaves { LeavesWorld world.old world.new result }
     ensures going { IfOk result IsGoing }
 {
@@ -122,9 +124,10 @@ pub fn invoke<K: Stack<Cell> + Drop>(
         (stack_in (extent_of world.old.heap) frames.old.flat) st) st world.new frames.new.flat)
         (HaltsWith (invoke_value calls (tables_of code.now)
         (value_in (extent_of world.old.heap) callee) (map (item_in (extent_of world.old.heap)) items.now)
-        (stack_in (extent_of world.old.heap) frames.old.flat) st) st world.new) }
+        (stack_in (extent_of world.old.heap) frames.old.flat) st) st world.new
+        (stack_in (extent_of world.new.heap) frames.new.flat)) }
     ensures live { IsLiveStack (tables_of code.now) (reach_of world.old []) frames.old.flat
-        → OnOk result (IsLiveStack (tables_of code.now) (reach_of world.new []) frames.new.flat) }
+        → UnlessEnded result (IsLiveStack (tables_of code.now) (reach_of world.new []) frames.new.flat) }
     ensures leaves { LeavesWorld world.old world.new result }
     ensures going { IfOk result IsGoing }
 {

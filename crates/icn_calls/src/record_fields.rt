@@ -1,5 +1,5 @@
 // Fields of records, which are variables.
-ghost use Rattle.std.specs.Prelude.{◌≡◌, ◌∷◌, ◌<◌, ◌≤◌, [], Some, length, position, slice_get, IfErr, IfSome, OnOk, MatchResult};
+ghost use Rattle.std.specs.Prelude.{◌≡◌, ◌∷◌, ◌<◌, ◌≤◌, [], Some, length, position, slice_get, IfErr, IfSome, MatchResult};
 ghost use Rattle.icn_profile.specs.Numbers.{most_entries};
 ghost use Rattle.law_names.specs.RowSizes.{FitSizes};
 ghost use Rattle.icn_frames.specs.Stacks as flat;
@@ -14,6 +14,7 @@ ghost use Rattle.icn_control.specs.LiveStacks.{IsLiveStack, with_locals};
 ghost use Rattle.icn_control.specs.StackAndWorld.{HaltsWith, RunsWith};
 ghost use Rattle.icn_control.specs.StackViews.{stack_in};
 ghost use Rattle.icn_calls.specs.Calling.{field_count, is_number};
+ghost use Rattle.icn_control.specs.Soundness.{UnlessEnded};
 
 use crate::callees::record_count;
 use icn_code::Code;
@@ -82,9 +83,10 @@ pub fn push_field<K: Stack<Cell> + Drop>(
         (λ _. RunsWith (field_applied calls (tables_of code.now) field (item_in (extent_of world.now.heap)
         item ∷ []) (stack_in (extent_of world.now.heap) frames.old.flat) st) st world.now frames.new.flat)
         (HaltsWith (field_applied calls (tables_of code.now) field (item_in (extent_of world.now.heap) item
-        ∷ []) (stack_in (extent_of world.now.heap) frames.old.flat) st) st world.now) }
+        ∷ []) (stack_in (extent_of world.now.heap) frames.old.flat) st) st world.now
+        (stack_in (extent_of world.now.heap) frames.new.flat)) }
     ensures live { (tables : Tables) → IsLiveStack tables (reach_of world.now []) frames.old.flat
-        → OnOk result (IsLiveStack tables (reach_of world.now []) frames.new.flat) }
+        → UnlessEnded result (IsLiveStack tables (reach_of world.now []) frames.new.flat) }
     ensures halt { IfErr result (IsLiveHalt (reach_of world.now [])) }
 {
     let val = value_of(frames, world, item)?;

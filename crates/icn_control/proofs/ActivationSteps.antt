@@ -399,15 +399,15 @@ copy_runs t w v m id count number names outside turns begun table u e p l keeps 
     copy_on t m (Some c) = refl
 
 pub copy_errs : (t : Tables) (w v : World) (m : FlatStack) (id count number : ℕ) (offending : Option Val) (stop : Stop) (names : Names) (outside : Outside)
-    (turns : ℕ) (begun : List Bool) (table other : CoexpTable) → table.running ≡ Some m → 0 < id
+    (turns : ℕ) (begun : List Bool) (table other : CoexpTable) (stack : Frames) → table.running ≡ Some m → 0 < id
     → id < length table.coexps → KeepsItems (reach_of w []) (reach_of v []) → IsLiveStack t (reach_of w []) m → AllLive t (reach_of w []) table.coexps
     → count ≡ length (values_of id table)
     → HaltsRow (extent_of v.heap) (coexpression_row count) (setting_of outside w (held.locals m)) (setting_of outside v (held.locals m)) (halt_of stop)
     → stop ≡ StopError number offending
     → refresh flat (ACoexp id) (stack_in (extent_of w.heap) (running_of table.running))
     (store_in names outside (world_of w) turns begun (extent_of w.heap) table)
-    ≡ errs number (option_map (value_in (extent_of v.heap)) offending) (store_in names outside (world_of v) turns begun (extent_of v.heap) other)
-copy_errs t w v m id count number offending stop names outside turns begun table other e p l keeps live all c row s =
+    ≡ errs number (option_map (value_in (extent_of v.heap)) offending) stack (store_in names outside (world_of v) turns begun (extent_of v.heap) other)
+copy_errs t w v m id count number offending stop names outside turns begun table other stack e p l keeps live all c row s =
     let after : CoexpTable = with_copy table (slice_get table.coexps id) in
     let halts : HaltsRow (extent_of v.heap) (coexpression_row (length (values_of id table))) (setting_of outside w (held.locals m))
     (setting_of outside v (held.locals m)) (halt_of stop)
@@ -415,6 +415,6 @@ copy_errs t w v m id count number offending stop names outside turns begun table
     (halt_of stop)) c row in
     copy_goes t w v m id names outside turns begun table e p l keeps live all
     ∙ charged_errs t w v m (length (values_of id table)) number (option_map (value_in (extent_of v.heap)) offending) names outside turns begun table after other
-    (extent_of v.heap) keeps live
+    (extent_of v.heap) turns stack keeps live
     (row_error (extent_of v.heap) (coexpression_row (length (values_of id table))) (setting_of outside w (held.locals m))
     (setting_of outside v (held.locals m)) stop number offending halts s)

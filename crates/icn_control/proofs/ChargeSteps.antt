@@ -13,6 +13,7 @@ use Rattle.icn_defs.specs.Rows.{Row, Outcome, Gives, costs_cells}
 use Rattle.icn_heap.specs.declared.heap.Heap.{Heap as HeldHeap}
 use Rattle.icn_heap.specs.Extents.{Extent, IsLive, KeepsValues}
 use Rattle.icn_heap.specs.Heaps.{extent_of, heap_of}
+use Rattle.icn_vars.specs.declared.words.Words.{Words}
 use Rattle.icn_vars.specs.WorldFacts.{IsSoundWorld}
 use Rattle.icn_vars.specs.declared.stop.Stop.{Stop}
 use Rattle.icn_vars.specs.Outcomes.{HaltsRow}
@@ -85,28 +86,27 @@ abbrev rest : Row
 rest setting = let counts = setting.world.heap.coexps in
     Gives (ItemVal (ACoexp (length counts))) (having_heap (λ heap. record heap { coexps = counts ++ 0 ∷ [] }) setting)
 
-module _ (old new : HeldHeap) (pair : Pair) (random : ℕ) (globals statics : List Val) (keeps : KeepsValues (extent_of old) (extent_of new))
-    (sound : IsSoundWorld (extent_of old) pair random globals statics) where
+module _ (old new : HeldHeap) (pair : Pair) (words : Words) (globals statics : List Val) (keeps : KeepsValues (extent_of old) (extent_of new))
+    (sound : IsSoundWorld (extent_of old) pair words globals statics) where
   pub makes : (count : ℕ) → made_coexp (heap_of old) count ≡ Ok (heap_of new) → (outside : Outside) (locals : List Val) → All (IsLive (extent_of old)) locals
-      → coexpression_row count (setting_over outside old pair random globals statics locals)
-      ≡ Gives (ItemVal (ACoexp (length (heap_of old).coexps))) (setting_over outside new pair random globals statics locals)
+      → coexpression_row count (setting_over outside old pair words globals statics locals)
+      ≡ Gives (ItemVal (ACoexp (length (heap_of old).coexps))) (setting_over outside new pair words globals statics locals)
   makes count is outside locals live =
       let by = made_by (heap_of old) (heap_of new) count is in
-      let before : Setting = setting_over outside old pair random globals statics locals in
+      let before : Setting = setting_over outside old pair words globals statics locals in
       let F : Setting → Outcome = λ s. Gives (ItemVal (ACoexp (length by.0.coexps))) s in
       (cells_change (1 + count)).ok before by.0 by.1.paid_so rest
-      ∙ ap F (heap_changed outside old new pair random globals statics locals keeps (sym by.1.made_so) sound live)
-      ∙ ap (λ (cs : List ℕ). Gives (ItemVal (ACoexp (length cs))) (setting_over outside new pair random globals statics locals)) by.1.same
+      ∙ ap F (heap_changed outside old new pair words globals statics locals keeps (sym by.1.made_so) sound live)
+      ∙ ap (λ (cs : List ℕ). Gives (ItemVal (ACoexp (length cs))) (setting_over outside new pair words globals statics locals)) by.1.same
 
   pub refuses : (count : ℕ) → heap_of new ≡ heap_of old → (full : Full) → Refuses (made_coexp (heap_of old) count) full
       → (outside : Outside) (locals : List Val) → All (IsLive (extent_of old)) locals
-      → HaltsRow (extent_of new) (coexpression_row count) (setting_over outside old pair random globals statics locals)
-      (setting_over outside new pair random globals statics locals) (halt_of (stop_of full))
+      → HaltsRow (extent_of new) (coexpression_row count) (setting_over outside old pair words globals statics locals)
+      (setting_over outside new pair words globals statics locals) (halt_of (stop_of full))
   refuses count same full why outside locals live =
-      row_stops (extent_of new) (costs_cells (1 + count)) rest (setting_over outside old pair random globals statics locals)
-      (setting_over outside new pair random globals statics locals) full
-      (change_stops old new pair random globals statics locals keeps sound live (cells_change (1 + count)) same full
-      (first_refuses (heap_of old) count full why)
+      row_stops (extent_of new) (costs_cells (1 + count)) rest (setting_over outside old pair words globals statics locals)
+      (setting_over outside new pair words globals statics locals) full
+      (change_stops old new pair words globals statics locals keeps sound live (cells_change (1 + count)) same full (first_refuses (heap_of old) count full why)
       (extent_of new) outside)
 
 -- an answer that stops

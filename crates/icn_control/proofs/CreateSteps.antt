@@ -1,12 +1,15 @@
 -- A co-expression is made, as a step.
-use Rattle.std.proofs.Common.{◌≡◌, ℕ, suc, ◌+◌, Bool, true, nat_lt, List, [], ◌∷◌, ◌++◌, take, length, slice_get, Option, Some, None, refl, sym, ap, ◌∙◌, subst}
+use Rattle.std.proofs.Common.{◌≡◌, ℕ, suc, ◌+◌, Bool, true, false, nat_lt, List, [], ◌∷◌, ◌++◌, take, length, slice_get, Option, Some, None, refl, sym, ap, ◌∙◌, subst}
 use Rattle.std.specs.Option.{option_map}
+use Rattle.std.specs.Prelude.{nat_le, ⊤}
 use Rattle.icn_value.specs.declared.val.Val.{Val}
 use Rattle.icn_value.specs.declared.val.Val.TheVariants.{Coexp as HeldCoexp}
 use Rattle.icn_value.specs.declared.item.Item.TheVariants.{Val as HeldVal}
 use Rattle.icn_value.specs.Store.{Outside, Setting, Names, World as StoreWorld}
 use Rattle.icn_value.specs.Values.{Value}
-use Rattle.icn_defs.specs.Rows.{Outcome, Gives, Error}
+use Rattle.icn_defs.specs.Errors.{ends_run, is_fatal}
+use Rattle.icn_defs.specs.Rows.{Row, Outcome, Gives, Error, check}
+use Rattle.icn_defs.proofs.OnErrors.{fatal_ends, is_ended}
 use Rattle.icn_heap.specs.Extents.{Extent, value_in}
 use Rattle.icn_heap.specs.Heaps.{extent_of, heap_of}
 use Rattle.icn_heap.proofs.GrowingHeaps.{values_kept}
@@ -26,7 +29,7 @@ use Rattle.icn_code.specs.declared.instr.Instr.TheVariants as Instrs
 use Rattle.icn_code.specs.Codes.{Tables}
 use Rattle.icn_run.specs.Rows.{Val as ItemVal, ACoexp, coexpression_row}
 use Rattle.icn_run.specs.Stacks.{Frames, flat}
-use Rattle.icn_run.specs.Step.{State, Store, running, errs, instruction, turn_if, coexp_made, here, with_made, push_item}
+use Rattle.icn_run.specs.Step.{State, Store, running, ended_by, errs, instruction, turn_if, coexp_made, here, with_made, push_item}
 use Rattle.icn_control.specs.LiveStacks.{IsLiveStack}
 use Rattle.icn_control.specs.TransfersRead.{Beside, store_with}
 use Rattle.icn_control.specs.Machines.{store_in, running_of}
@@ -73,20 +76,38 @@ charged_runs t w v n count number names outside turns begun before after keeps l
     (set_locals_read (reading_of b) (held.locals n) n ∙ ap (stack_in b) same)
     ∙ ap (λ (a : ℕ). running (stack_in b (held.push (HeldVal (HeldCoexp number)) n)) (done a)) (sym active)
 
+-- the error of one that is not made ends the run, whatever `&error` is
+
+abbrev EndsIfError : Outcome → Type 0
+EndsIfError (Error number offending seen) = is_fatal number ≡ true
+EndsIfError outcome = ⊤
+
+ends_unless : (b : Bool) (next : Row) (at : Setting) → EndsIfError (next at) → EndsIfError (check b 307 None next at)
+ends_unless true next at h = h
+ends_unless false next at h = refl
+
+pub charge_ends : (count number : ℕ) (value : Option Value) (at seen : Setting) → coexpression_row count at ≡ Error number value seen → is_fatal number ≡ true
+charge_ends count number value at seen e =
+    subst EndsIfError e (ends_unless (nat_le (at.world.heap.cells + (1 + count)) at.world.heap.bounds.cells) _ at tt)
+
 -- what comes of one that is not
 pub charged_errs : (t : Tables) (w v : World) (n : FlatStack) (count number : ℕ) (value : Option Value) (names : Names) (outside : Outside) (turns : ℕ)
-    (begun : List Bool) (before after other : CoexpTable) (all : Extent)
+    (begun : List Bool) (before after other : CoexpTable) (all : Extent) (other_turns : ℕ) (stack : Frames)
     → KeepsItems (reach_of w []) (reach_of v []) → IsLiveStack t (reach_of w []) n
     → coexpression_row count (setting_of outside w (held.locals n)) ≡ Error number value (setting_of outside v (held.locals n))
     → charged_and_made (beside_in names outside w turns begun v) count before after (stack_in (extent_of v.heap) n)
-    ≡ errs number value (store_in names outside (world_of v) turns begun all other)
-charged_errs t w v n count number value names outside turns begun before after other all keeps live row =
+    ≡ errs number value stack (store_in names outside (world_of v) other_turns begun all other)
+charged_errs t w v n count number value names outside turns begun before after other all other_turns stack keeps live row =
     let b : Extent = extent_of v.heap in
     let beside : Beside = beside_in names outside w turns begun v in
     let st : Store Frames = store_with beside before in
     let next : Value → Frames → Store Frames → State Frames Frames = λ value n st. push_item flat (ItemVal value) n (with_coexps beside after st) in
+    let ends : ends_run number (world_of v).error ≡ true =
+    fatal_ends number (world_of v).error (charge_ends count number value (setting_of outside w (held.locals n)) (setting_of outside v (held.locals n)) row) in
     ap (λ (s : Setting). with_made flat (coexpression_row count s) (stack_in b n) st next) (charged_here t w v n st refl keeps live)
     ∙ ap (λ (o : Outcome). with_made flat o (stack_in b n) st next) row
+    ∙ is_ended number value (world_of v) _ _ ends
+    ∙ sym (is_ended number value (world_of v) (ended_by number value (store_in names outside (world_of v) other_turns begun all other)) _ ends)
 
 -- create, up to its charge
 pub create_goes : (t tables : Tables) (w v : World) (m : FlatStack) (label : ℕ) (names : Names) (outside : Outside) (turns : ℕ) (begun : List Bool)
@@ -182,15 +203,15 @@ create_runs t tables w v m label count number names outside turns more begun tab
     ∙ ap (λ (x : ℕ). F x u) (sym k)
 
 pub create_errs : (t tables : Tables) (w v : World) (m : FlatStack) (label count number : ℕ) (offending : Option Val) (stop : Stop) (names : Names)
-    (outside : Outside) (turns more : ℕ) (begun : List Bool) (table other : CoexpTable) → table.running ≡ Some m
+    (outside : Outside) (turns more : ℕ) (begun : List Bool) (table other : CoexpTable) (stack : Frames) → table.running ≡ Some m
     → nat_lt turns (heap_of w.heap).bounds.turns ≡ true → KeepsItems (reach_of w []) (reach_of v []) → IsLiveStack t (reach_of w []) m
     → AllLive t (reach_of w []) table.coexps → count ≡ length (held.locals m)
     → HaltsRow (extent_of v.heap) (coexpression_row count) (setting_of outside w (held.locals m)) (setting_of outside v (held.locals m)) (halt_of stop)
     → stop ≡ StopError number offending
     → instruction flat tables (Instrs.Create label) (stack_in (extent_of w.heap) (running_of table.running))
     (store_in names outside (world_of w) turns begun (extent_of w.heap) table)
-    ≡ errs number (option_map (value_in (extent_of v.heap)) offending) (store_in names outside (world_of v) more begun (extent_of v.heap) other)
-create_errs t tables w v m label count number offending stop names outside turns more begun table other e b keeps live all c row s =
+    ≡ errs number (option_map (value_in (extent_of v.heap)) offending) stack (store_in names outside (world_of v) more begun (extent_of v.heap) other)
+create_errs t tables w v m label count number offending stop names outside turns more begun table other stack e b keeps live all c row s =
     let after : CoexpTable = with_new (held.locals m) (held.proc m) m.address table in
     let halts : HaltsRow (extent_of v.heap) (coexpression_row (length (held.locals m))) (setting_of outside w (held.locals m))
     (setting_of outside v (held.locals m)) (halt_of stop)
@@ -198,7 +219,7 @@ create_errs t tables w v m label count number offending stop names outside turns
     (halt_of stop)) c row in
     create_goes t tables w v m label names outside turns begun table e b keeps live all
     ∙ charged_errs t w v (held.go label m) (length (held.locals m)) number (option_map (value_in (extent_of v.heap)) offending) names outside
-    (suc turns) begun table after other (extent_of v.heap) keeps (live_go t (reach_of w []) m label live)
+    (suc turns) begun table after other (extent_of v.heap) more stack keeps (live_go t (reach_of w []) m label live)
     (row_error (extent_of v.heap) (coexpression_row (length (held.locals m))) (setting_of outside w (held.locals m))
     (setting_of outside v (held.locals m)) stop number offending halts s)
 

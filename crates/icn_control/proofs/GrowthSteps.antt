@@ -21,11 +21,13 @@ use Rattle.icn_run.specs.Stacks.{Frames}
 use Rattle.icn_run.specs.Step as code
 use Rattle.icn_run.specs.Step.{Store, Status, Fresh, Active, Waiting, Exhausted, with_world}
 use Rattle.icn_control.specs.Machines.{status_in, coexp_in, store_in, IsLiveStatus, AreLiveStacks, IsLiveRunning}
-use Rattle.std.specs.Prelude.{Result, Ok, Err, OnOk}
+use Rattle.std.specs.Prelude.{Result, Ok, Err}
+use Rattle.std.specs.Option.{option_map}
 use Rattle.icn_vars.specs.declared.stop.Stop.{Stop}
+use Rattle.icn_vars.specs.declared.stop.Stop.TheVariants.{Error as StopError, NoMemory as StopNoMemory}
 use Rattle.icn_args.specs.RowWords.{IsFound}
 use Rattle.icn_value.specs.Store.{outside_of}
-use Rattle.icn_control.specs.TakenOperands.{KeepsCounts}
+use Rattle.icn_control.specs.TakenOperands.{KeepsCounts, UnlessNoMemory}
 use Rattle.icn_control.proofs.KeptItems.{stack_same, stack_stays}
 
 -- What co-expressions keep
@@ -96,37 +98,40 @@ record SameCounts (before after : Setting) : Type 0 where
   bounds : after.world.heap.bounds ≡ before.world.heap.bounds
   coexps : after.world.heap.coexps ≡ before.world.heap.coexps
 
--- where the row goes on
+-- where the row gives a value, and where it is an error
 abbrev GivesSame : Setting → Outcome → Type 0
 GivesSame before (Fails seen) = ⊤
 GivesSame before (Gives item seen) = SameCounts before seen
 GivesSame before (Suspends item rest seen) = ⊤
-GivesSame before (Error number offending seen) = ⊤
+GivesSame before (Error number offending seen) = SameCounts before seen
 GivesSame before (Ends status seen) = ⊤
 
-on_check : (b : Bool) (number : ℕ) (offending : Option Value) (next : Row) (before at : Setting) → GivesSame before (next at)
+on_check : (b : Bool) (number : ℕ) (offending : Option Value) (next : Row) (before at : Setting) → SameCounts before at → GivesSame before (next at)
     → GivesSame before (check b number offending next at)
-on_check true number offending next before at h = h
-on_check false number offending next before at h = tt
+on_check true number offending next before at k h = h
+on_check false number offending next before at k h = k
 
 list_counts : (values : List Value) (at : Setting) → GivesSame at (list_row values at)
 list_counts values at =
-    on_check (nat_le (at.world.heap.cells + (1 + length values)) at.world.heap.bounds.cells) 307 None _ at at (record { bounds = refl; coexps = refl })
+    on_check (nat_le (at.world.heap.cells + (1 + length values)) at.world.heap.bounds.cells) 307 None _ at at
+    (record { bounds = refl; coexps = refl }) (record { bounds = refl; coexps = refl })
 
 record_counts : (kind : ℕ) (fields : List Value) (at : Setting) → GivesSame at (record_row kind fields at)
 record_counts kind fields at =
-    on_check (nat_le (at.world.heap.cells + (1 + length fields)) at.world.heap.bounds.cells) 307 None _ at at (record { bounds = refl; coexps = refl })
+    on_check (nat_le (at.world.heap.cells + (1 + length fields)) at.world.heap.bounds.cells) 307 None _ at at
+    (record { bounds = refl; coexps = refl }) (record { bounds = refl; coexps = refl })
 
 made_counts : (o : Option (List ℕ)) (text : List ℕ) (at : Setting) → GivesSame at (costs_made o (gives_value (Text text)) at)
 made_counts None text at = record { bounds = refl; coexps = refl }
 made_counts (Some bytes) text at =
-    on_check (nat_le (at.world.heap.strings + length bytes) at.world.heap.bounds.strings) 306 None _ at at (record { bounds = refl; coexps = refl })
+    on_check (nat_le (at.world.heap.strings + length bytes) at.world.heap.bounds.strings) 306 None _ at at
+    (record { bounds = refl; coexps = refl }) (record { bounds = refl; coexps = refl })
 
 text_counts : (value : Value) (at : Setting) → GivesSame at (text_row value at)
 text_counts value at = by_text (text_of value)
   where
     by_text : (o : Option (List ℕ)) → GivesSame at (present o 103 (Some value) (λ text. costs_text value (gives_value (Text text))) at)
-    by_text None = tt
+    by_text None = record { bounds = refl; coexps = refl }
     by_text (Some text) = made_counts (text_made (form_of value)) text at
 
 counts_by : (w v : World) (outside : Outside) (locals : List Val) (item : Item) (outcome : Outcome) → GivesSame (setting_of outside w locals) outcome
@@ -134,6 +139,29 @@ counts_by : (w v : World) (outside : Outside) (locals : List Val) (item : Item) 
 counts_by w v outside locals item outcome h e =
     let same : SameCounts (setting_of outside w locals) (setting_of outside v locals) = subst (GivesSame (setting_of outside w locals)) e h in
     record { bounds = same.bounds; coexps = same.coexps }
+
+-- and where it is an error
+refused_by : (w v : World) (outside : Outside) (locals : List Val) (number : ℕ) (offending : Option Value) (outcome : Outcome)
+    → GivesSame (setting_of outside w locals) outcome → outcome ≡ Error number offending (setting_of outside v locals) → KeepsCounts w v
+refused_by w v outside locals number offending outcome h e =
+    let same : SameCounts (setting_of outside w locals) (setting_of outside v locals) = subst (GivesSame (setting_of outside w locals)) e h in
+    record { bounds = same.bounds; coexps = same.coexps }
+
+pub list_refuses : (w v : World) (outside : Outside) (locals : List Val) (number : ℕ) (offending : Option Value) (values : List Value)
+    → list_row values (setting_of outside w locals) ≡ Error number offending (setting_of outside v locals) → KeepsCounts w v
+list_refuses w v outside locals number offending values e =
+    refused_by w v outside locals number offending (list_row values (setting_of outside w locals)) (list_counts values (setting_of outside w locals)) e
+
+pub record_refuses : (w v : World) (outside : Outside) (locals : List Val) (number : ℕ) (offending : Option Value) (kind : ℕ) (fields : List Value)
+    → record_row kind fields (setting_of outside w locals) ≡ Error number offending (setting_of outside v locals) → KeepsCounts w v
+record_refuses w v outside locals number offending kind fields e =
+    refused_by w v outside locals number offending (record_row kind fields (setting_of outside w locals))
+    (record_counts kind fields (setting_of outside w locals)) e
+
+pub text_refuses : (w v : World) (outside : Outside) (locals : List Val) (number : ℕ) (offending : Option Value) (value : Value)
+    → text_row value (setting_of outside w locals) ≡ Error number offending (setting_of outside v locals) → KeepsCounts w v
+text_refuses w v outside locals number offending value e =
+    refused_by w v outside locals number offending (text_row value (setting_of outside w locals)) (text_counts value (setting_of outside w locals)) e
 
 pub list_keeps : (w v : World) (outside : Outside) (locals : List Val) (item : Item) (values : List Value)
     → list_row values (setting_of outside w locals) ≡ Gives item (setting_of outside v locals) → KeepsCounts w v
@@ -153,7 +181,9 @@ text_keeps w v outside locals item value e =
 pub list_counted : (w v : World) (locals : List Val) (values : List Value) (result : Result Val Stop)
     → ((outside : Outside)
     → IsFound (extent_of v.heap) (new_list_of values) (setting_of outside w locals) (setting_of outside v locals) (value_in (extent_of v.heap)) result)
-    → OnOk result (KeepsCounts w v)
+    → UnlessNoMemory result (KeepsCounts w v)
 list_counted w v locals values (Ok val) f =
     list_keeps w v (outside_of []) locals (ItemVal (value_in (extent_of v.heap) val)) values (f (outside_of []) gives_value)
-list_counted w v locals values (Err stop) f = tt
+list_counted w v locals values (Err (StopError number offending)) f =
+    list_refuses w v (outside_of []) locals number (option_map (value_in (extent_of v.heap)) offending) values (f (outside_of []) gives_value)
+list_counted w v locals values (Err StopNoMemory) f = tt

@@ -20,6 +20,7 @@ pub mod NamedFailing
 pub mod FailingMachineSteps
 pub mod LiteralSteps
 pub mod KeywordSets
+pub mod KeywordSteps
 pub mod TakenOperandSteps
 pub mod OpenedScans
 pub mod GrowthSteps

@@ -2,6 +2,7 @@
 use Rattle.std.proofs.Common.{◌≡◌, ℕ, suc, ◌≤◌, Bool, true, false, nat_lt, List, [], map, Option, Some, Result, Ok, Err, MatchResult, refl, sym, ap, ◌∙◌, subst, arith}
 use Rattle.std.specs.Prelude.{IsErrAnd}
 use Rattle.std.proofs.lemmas.Bool.Decides.{nat_tests}
+use Rattle.std.specs.Option.{option_map}
 use Rattle.icn_value.specs.declared.val.Val.{Val}
 use Rattle.icn_value.specs.declared.item.Item.{Item}
 use Rattle.icn_value.specs.declared.item.Item.TheVariants.{Val as HeldVal}
@@ -23,7 +24,7 @@ use Rattle.icn_code.specs.declared.instr.Instr.TheVariants as Instrs
 use Rattle.icn_code.specs.Codes.{Tables}
 use Rattle.icn_run.specs.Rows as rows
 use Rattle.icn_run.specs.Stacks.{Frames, flat}
-use Rattle.icn_run.specs.Step.{State, Store, running, at_bound, turn, turn_if, all_names, instruction, list_made, push_item, with_values, with_world}
+use Rattle.icn_run.specs.Step.{State, Store, running, at_bound, turn, turn_if, all_names, errs, instruction, list_made, push_item, with_values, with_world}
 use Rattle.icn_control.specs.LiveStacks.{with_locals, IsLiveStack}
 use Rattle.icn_control.specs.Machines.{store_in, running_of, HaltsAt, AreLiveStacks}
 use Rattle.icn_control.specs.declared.machine.Machine.{Machine}
@@ -53,20 +54,29 @@ turn_runs t tables names outside w v turns begun table n event b k l h =
     ap (λ (x : Bool). turn_if x st event) b ∙ h (store_in names outside (world_of w) (suc turns) begun (extent_of w.heap) table) refl
     ∙ ap (running (stack_in (extent_of v.heap) n)) (grown_store t names outside w v (suc turns) begun table (Some n) k l)
 
-pub turn_halts : {K : Type 0} (m : Machine K) (tables : Tables) (outside : Outside) (w : World) (turns : ℕ) (begun : List Bool) (table : CoexpTable)
+-- an instruction that halts after its turn was counted
+pub turn_halts : {K : Type 0} (m : Machine K) (t tables : Tables) (outside : Outside) (w : World) (turns : ℕ) (table : CoexpTable) (n : FlatStack)
     (event : Store Frames → State Frames Frames) (halt : Halt) → nat_lt turns (heap_of w.heap).bounds.turns ≡ true
-    → ((st : Store Frames) → st.world ≡ world_of w → HaltsWith (event st) st m.world halt)
-    → HaltsAt tables outside (turn tables (store_in (all_names tables) outside (world_of w) turns begun (extent_of w.heap) table) event) m halt
-turn_halts m tables outside w turns begun table event (Halts.Error number offending) b h =
-    ap (λ (x : Bool). turn_if x (store_in (all_names tables) outside (world_of w) turns begun (extent_of w.heap) table) event) b
-    ∙ h (store_in (all_names tables) outside (world_of w) (suc turns) begun (extent_of w.heap) table) refl
-turn_halts m tables outside w turns begun table event (Halts.Ends status) b h =
-    absurd (h (store_in (all_names tables) outside (world_of w) (suc turns) begun (extent_of w.heap) table) refl)
-turn_halts m tables outside w turns begun table event Halts.ReadFault b h =
-    absurd (h (store_in (all_names tables) outside (world_of w) (suc turns) begun (extent_of w.heap) table) refl)
-turn_halts m tables outside w turns begun table event Halts.WriteFault b h =
-    absurd (h (store_in (all_names tables) outside (world_of w) (suc turns) begun (extent_of w.heap) table) refl)
-turn_halts m tables outside w turns begun table event Halts.NoMemory b h = tt
+    → m.stacks.table ≡ record table { running = Some n } → m.turns ≡ suc turns
+    → KeepsItems (reach_of w []) (reach_of m.world []) → AreLiveStacks t (reach_of w []) table
+    → ((st : Store Frames) → st.world ≡ world_of w → HaltsWith (event st) st m.world (stack_in (extent_of m.world.heap) n) halt)
+    → HaltsAt tables outside (turn tables (store_in (all_names tables) outside (world_of w) turns m.begun.items (extent_of w.heap) table) event) m halt
+turn_halts m t tables outside w turns table n event (Halts.Error number offending) b e p k l h =
+    let all : Extent = extent_of m.world.heap in
+    let error : Frames → Store Frames → State Frames Frames = errs number (option_map (value_in all) offending) in
+    let at : ℕ → CoexpTable → Store Frames = λ i x. store_in (all_names tables) outside (world_of m.world) i m.begun.items all x in
+    ap (λ (x : Bool). turn_if x (store_in (all_names tables) outside (world_of w) turns m.begun.items (extent_of w.heap) table) event) b
+    ∙ h (store_in (all_names tables) outside (world_of w) (suc turns) m.begun.items (extent_of w.heap) table) refl
+    ∙ ap (error (stack_in all n)) (grown_store t (all_names tables) outside w m.world (suc turns) m.begun.items table (Some n) k l)
+    ∙ ap (λ (i : ℕ). error (stack_in all n) (at i (record table { running = Some n }))) (sym p)
+    ∙ ap (λ (x : CoexpTable). error (stack_in all (running_of x.running)) (at m.turns x)) (sym e)
+turn_halts m t tables outside w turns table n event (Halts.Ends status) b e p k l h =
+    absurd (h (store_in (all_names tables) outside (world_of w) (suc turns) m.begun.items (extent_of w.heap) table) refl)
+turn_halts m t tables outside w turns table n event Halts.ReadFault b e p k l h =
+    absurd (h (store_in (all_names tables) outside (world_of w) (suc turns) m.begun.items (extent_of w.heap) table) refl)
+turn_halts m t tables outside w turns table n event Halts.WriteFault b e p k l h =
+    absurd (h (store_in (all_names tables) outside (world_of w) (suc turns) m.begun.items (extent_of w.heap) table) refl)
+turn_halts m t tables outside w turns table n event Halts.NoMemory b e p k l h = tt
 
 -- at the bound of turns, a turn ends the run
 pub turn_bound : (tables : Tables) (st other : Store Frames) (event : Store Frames → State Frames Frames) → nat_lt st.turns st.world.heap.bounds.turns ≡ false
@@ -100,27 +110,34 @@ list_runs w v m k l n items vals val f p g q r st same =
     ∙ ap (λ (y : FlatStack). running (stack_in (extent_of v.heap) y) (with_world (world_of v) st)) (sym r)
 
 pub list_unfound : {A : Type 0} (result : Result A Halt) (w : World) (m n : FlatStack) (items : List Item) (stop : Stop)
-    → IsErrAnd result (λ h. h ≡ halt_of stop)
-    → ((st : Store Frames) (next : List Value → State Frames Frames) → st.world ≡ world_of w → HaltsWith (with_values_in w m items st next) st w (halt_of stop))
+    → IsErrAnd result (λ h. h ≡ halt_of stop) → n ≡ m
+    → ((st : Store Frames) (next : List Value → State Frames Frames) → st.world ≡ world_of w
+    → HaltsWith (with_values_in w m items st next) st w (stack_in (extent_of w.heap) m) (halt_of stop))
     → (st : Store Frames) → st.world ≡ world_of w
-    → MatchResult result (λ (x : A). RunsWith (push_list w m items st) st w n) (HaltsWith (push_list w m items st) st w)
-list_unfound {A} result w m n items stop err f st same =
-    match_halt result (halt_of stop) (λ (x : A). RunsWith (push_list w m items st) st w n) (HaltsWith (push_list w m items st) st w) err
-    (f st (λ values. list_made flat values (stack_in (extent_of w.heap) m) st (λ list a after. push_item flat (rows.Val list) a after)) same)
+    → MatchResult result (λ (x : A). RunsWith (push_list w m items st) st w n)
+    (HaltsWith (push_list w m items st) st w (stack_in (extent_of w.heap) n))
+list_unfound {A} result w m n items stop err p f st same =
+    match_halt result (halt_of stop) (λ (x : A). RunsWith (push_list w m items st) st w n)
+    (HaltsWith (push_list w m items st) st w (stack_in (extent_of w.heap) n)) err
+    (subst (λ (x : FlatStack). HaltsWith (push_list w m items st) st w (stack_in (extent_of w.heap) x) (halt_of stop)) (sym p)
+    (f st (λ values. list_made flat values (stack_in (extent_of w.heap) m) st (λ list a after. push_item flat (rows.Val list) a after)) same))
 
 pub list_unmade : {A : Type 0} (result : Result A Halt) (w v : World) (m k n : FlatStack) (items : List Item) (vals : List Val) (stop : Stop)
     → IsErrAnd result (λ h. h ≡ halt_of stop)
     → ((st : Store Frames) (next : List Value → State Frames Frames) → st.world ≡ world_of w
     → with_values_in w m items st next ≡ next (map (value_in (extent_of w.heap)) vals)) → k ≡ m
-    → MakesValue (list_row (map (value_in (extent_of w.heap)) vals)) w k v (Err stop) → (st : Store Frames) → st.world ≡ world_of w
-    → MatchResult result (λ (x : A). RunsWith (push_list w m items st) st v n) (HaltsWith (push_list w m items st) st v)
-list_unmade {A} result w v m k n items vals stop err f p g st same =
+    → MakesValue (list_row (map (value_in (extent_of w.heap)) vals)) w k v (Err stop) → n ≡ k → (st : Store Frames) → st.world ≡ world_of w
+    → MatchResult result (λ (x : A). RunsWith (push_list w m items st) st v n)
+    (HaltsWith (push_list w m items st) st v (stack_in (extent_of v.heap) n))
+list_unmade {A} result w v m k n items vals stop err f p g q st same =
     let pushes : Value → Frames → Store Frames → State Frames Frames = λ list a after. push_item flat (rows.Val list) a after in
     let here : MakesValue (list_row (map (value_in (extent_of w.heap)) vals)) w m v (Err stop) =
     subst (λ (x : FlatStack). MakesValue (list_row (map (value_in (extent_of w.heap)) vals)) w x v (Err stop)) p g in
-    match_halt result (halt_of stop) (λ (x : A). RunsWith (push_list w m items st) st v n) (HaltsWith (push_list w m items st) st v) err
-    (subst (λ (x : State Frames Frames). HaltsWith x st v (halt_of stop))
-    (sym (f st (λ values. list_made flat values (stack_in (extent_of w.heap) m) st pushes) same)) (here st pushes same))
+    match_halt result (halt_of stop) (λ (x : A). RunsWith (push_list w m items st) st v n)
+    (HaltsWith (push_list w m items st) st v (stack_in (extent_of v.heap) n)) err
+    (subst (λ (x : FlatStack). HaltsWith (push_list w m items st) st v (stack_in (extent_of v.heap) x) (halt_of stop)) (sym (q ∙ p))
+    (subst (λ (x : State Frames Frames). HaltsWith x st v (stack_in (extent_of v.heap) m) (halt_of stop))
+    (sym (f st (λ values. list_made flat values (stack_in (extent_of w.heap) m) st pushes) same)) (here st pushes same)))
 
 pub list_live : (t : Tables) (w v : World) (m n : FlatStack) (val : Val) → n ≡ held.push (HeldVal val) m → KeepsItems (reach_of w []) (reach_of v [])
     → IsLive (extent_of v.heap) val → IsLiveStack t (reach_of w []) m → IsLiveStack t (reach_of v []) n
@@ -143,12 +160,12 @@ llist_is all tables table m k items count st e p =
 
 -- the same on a stack and of operands that are the same
 
-pub listed_halts : (w v : World) (k f : FlatStack) (items xs : List Item) (halt : Halt) → k ≡ f → xs ≡ items
-    → ((st : Store Frames) → st.world ≡ world_of w → HaltsWith (push_list w f xs st) st v halt) → (st : Store Frames) → st.world ≡ world_of w
-    → HaltsWith (push_list w k items st) st v halt
-listed_halts w v k f items xs halt e d h =
-    subst (λ (x : FlatStack). (st : Store Frames) → st.world ≡ world_of w → HaltsWith (push_list w x items st) st v halt) (sym e)
-    (subst (λ (ys : List Item). (st : Store Frames) → st.world ≡ world_of w → HaltsWith (push_list w f ys st) st v halt) d h)
+pub listed_halts : (w v : World) (k f : FlatStack) (m : Frames) (items xs : List Item) (halt : Halt) → k ≡ f → xs ≡ items
+    → ((st : Store Frames) → st.world ≡ world_of w → HaltsWith (push_list w f xs st) st v m halt) → (st : Store Frames) → st.world ≡ world_of w
+    → HaltsWith (push_list w k items st) st v m halt
+listed_halts w v k f m items xs halt e d h =
+    subst (λ (x : FlatStack). (st : Store Frames) → st.world ≡ world_of w → HaltsWith (push_list w x items st) st v m halt) (sym e)
+    (subst (λ (ys : List Item). (st : Store Frames) → st.world ≡ world_of w → HaltsWith (push_list w f ys st) st v m halt) d h)
 
 pub listed_runs : (w v : World) (k f n : FlatStack) (items xs : List Item)
     → k ≡ f → xs ≡ items → ((st : Store Frames) → st.world ≡ world_of w → RunsWith (push_list w f xs st) st v n) → (st : Store Frames) → st.world ≡ world_of w

@@ -1,33 +1,26 @@
 -- Csets of the code, and keywords.
 use Rattle.std.proofs.Common.{◌≡◌, ℕ, ◌<◌, List, length, slice_get, Option, Some, None, IfSome, refl, sym, ap, ◌∙◌, subst}
 use Rattle.std.proofs.lemmas.Option.{same_Some, slice_get_within}
-use Rattle.std.specs.Option.{option_map}
-use Rattle.icn_text.specs.declared.keyword.Keyword.{Keyword}
 use Rattle.icn_value.specs.declared.cset.Cset.{Cset}
-use Rattle.icn_value.specs.declared.item.Item.{Item as HeldItem}
 use Rattle.icn_value.specs.declared.item.Item.TheVariants.{Val as HeldVal}
 use Rattle.icn_value.specs.declared.val.Val.TheVariants.{Chars as CharsVal}
 use Rattle.icn_value.specs.Members.{members_of}
-use Rattle.icn_defs.specs.Keywords.{Standing, keyword_item}
 use Rattle.icn_heap.specs.declared.heap.Heap.{Heap as HeldHeap}
 use Rattle.icn_heap.specs.Heaps.{extent_of, heap_of}
-use Rattle.icn_vars.specs.Worlds.{Reach, item_in}
+use Rattle.icn_vars.specs.Worlds.{Reach}
 use Rattle.icn_frames.specs.Stacks as held
 use Rattle.icn_frames.specs.Stacks.{FlatStack}
-use Rattle.law_frames.proofs.CallsRead.{level_read}
 use Rattle.icn_coexp.specs.Transfers as table
 use Rattle.icn_coexp.specs.Transfers.{Coexp, CoexpTable, OneIsActive}
 use Rattle.icn_code.specs.declared.instr.Instr.TheVariants as Instrs
 use Rattle.icn_code.specs.Codes.{Tables}
 use Rattle.icn_run.specs.Rows as rows
-use Rattle.icn_run.specs.Stacks.{Frames, flat}
+use Rattle.icn_run.specs.Stacks.{flat}
 use Rattle.icn_run.specs.Step as code
-use Rattle.icn_run.specs.Step.{State, Store, Active, running, failing, instruction, with_found, push_item, pushed_or_fails}
+use Rattle.icn_run.specs.Step.{Active, running, with_found, push_item}
 use Rattle.icn_control.specs.LiveStacks.{IsLiveStack}
-use Rattle.icn_control.specs.StackViews.{stack_in, reading_of, GoesOnIn}
-use Rattle.icn_control.specs.Machines.{running_of, AreLiveStacks, IsLiveRunning}
-use Rattle.icn_control.specs.TransfersRead.{Beside, store_with}
-use Rattle.icn_control.proofs.TransferSteps.{source_is}
+use Rattle.icn_control.specs.StackViews.{stack_in, GoesOnIn}
+use Rattle.icn_control.specs.Machines.{AreLiveStacks, IsLiveRunning}
 
 -- the members of a set, said twice
 members_same : (set : Cset) → members_of set ≡ code.members_of set
@@ -40,42 +33,6 @@ cset_runs m n tables k set s p all st =
     ap (λ (o : Option Cset). with_found o (λ x. push_item flat (rows.Val (rows.Chars (code.members_of x))) (stack_in all m) st)) s
     ∙ ap (λ (w : List ℕ). push_item flat (rows.Val (rows.Chars w)) (stack_in all m) st) (sym (members_same set))
     ∙ ap (λ (y : FlatStack). running (stack_in all y) st) (sym p)
-
--- what a keyword gives is pushed, or it fails
-keyword_goes : (beside : Beside) (t : CoexpTable) (m : FlatStack) (tables : Tables) (word : Keyword) (level current source : ℕ) (item : Option HeldItem)
-    → t.running ≡ Some m → level ≡ held.level m → current ≡ t.active
-    → source ≡ table.source t → option_map (item_in beside.all) item ≡ keyword_item (record { level = level; current = current; source = source }) word
-    → instruction flat tables (Instrs.Keywd word) (stack_in beside.all (running_of t.running)) (store_with beside t)
-    ≡ pushed_or_fails flat (option_map (item_in beside.all) item) (stack_in beside.all m) (store_with beside t)
-keyword_goes beside t m tables word level current source item r l a s i =
-    let st : Store Frames = store_with beside t in
-    let F : Standing → State Frames Frames = λ x. pushed_or_fails flat (keyword_item x word) (stack_in beside.all m) st in
-    ap (λ (o : Option FlatStack). instruction flat tables (Instrs.Keywd word) (stack_in beside.all (running_of o)) st) r
-    ∙ ap (λ (k : ℕ). F (record { level = k; current = t.active; source = code.activator_of t.active st })) (level_read (reading_of beside.all) m ∙ sym l)
-    ∙ ap (λ (k : ℕ). F (record { level = level; current = k; source = code.activator_of t.active st })) (sym a)
-    ∙ ap (λ (k : ℕ). F (record { level = level; current = current; source = k })) (source_is beside t ∙ sym s)
-    ∙ ap (λ (o : Option rows.Item). pushed_or_fails flat o (stack_in beside.all m) st) (sym i)
-
-pub keyword_fails : (beside : Beside) (t : CoexpTable) (m : FlatStack) (tables : Tables) (word : Keyword) (level current source : ℕ) (item : Option HeldItem)
-    → t.running ≡ Some m → level ≡ held.level m → current ≡ t.active
-    → source ≡ table.source t → option_map (item_in beside.all) item ≡ keyword_item (record { level = level; current = current; source = source }) word
-    → item ≡ None
-    → instruction flat tables (Instrs.Keywd word) (stack_in beside.all (running_of t.running)) (store_with beside t)
-    ≡ failing (stack_in beside.all m) (store_with beside (record t { running = Some m }))
-keyword_fails beside t m tables word level current source item r l a s i e =
-    keyword_goes beside t m tables word level current source item r l a s i
-    ∙ ap (λ (o : Option HeldItem). pushed_or_fails flat (option_map (item_in beside.all) o) (stack_in beside.all m) (store_with beside t)) e
-
-pub keyword_runs : (beside : Beside) (t : CoexpTable) (m n : FlatStack) (tables : Tables) (word : Keyword) (level current source : ℕ) (item : Option HeldItem)
-    (x : HeldItem) → t.running ≡ Some m → level ≡ held.level m → current ≡ t.active
-    → source ≡ table.source t → option_map (item_in beside.all) item ≡ keyword_item (record { level = level; current = current; source = source }) word
-    → item ≡ Some x → n ≡ held.push x m
-    → instruction flat tables (Instrs.Keywd word) (stack_in beside.all (running_of t.running)) (store_with beside t)
-    ≡ running (stack_in beside.all n) (store_with beside (record t { running = Some n }))
-keyword_runs beside t m n tables word level current source item x r l a s i e p =
-    keyword_goes beside t m tables word level current source item r l a s i
-    ∙ ap (λ (o : Option HeldItem). pushed_or_fails flat (option_map (item_in beside.all) o) (stack_in beside.all m) (store_with beside t)) e
-    ∙ ap (λ (y : FlatStack). running (stack_in beside.all y) (store_with beside t)) (sym p)
 
 -- What may be named
 

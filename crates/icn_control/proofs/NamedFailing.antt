@@ -94,7 +94,7 @@ none_falls all m n k due p h = subst (λ (x : FlatStack). FallsNamed all x k due
 pub pair_named : (names : Names) (w v : World) (pair : Pair) → world_of v ≡ world_with_pair pair (world_of w) → WorldNamed names (world_of w)
     → WorldNamed names (world_of v)
 pair_named names w v pair e k =
-    subst (λ (x : StoreWorld). WorldNamed names x) (sym e) (record { heap = k.heap; globals = k.globals; statics = k.statics })
+    subst (λ (x : StoreWorld). WorldNamed names x) (sym e) (record { heap = k.heap; globals = k.globals; statics = k.statics; kept = k.kept })
 
 -- Machines
 

@@ -41,10 +41,12 @@ use Rattle.icn_control.proofs.LiveCalls.{live_suspend}
 use Rattle.icn_control.proofs.StackAndWorldSteps.{match_halt, popped_value, popped_halts}
 use Rattle.icn_control.proofs.ReturnSteps.{present_pair}
 use Rattle.icn_control.proofs.TakenOperandSteps.{FindsItem, made_goes, made_halts, keeps_without_locals}
-use Rattle.icn_control.proofs.GrowthSteps.{text_keeps}
-use Rattle.icn_control.specs.TakenOperands.{KeepsCounts}
+use Rattle.icn_control.proofs.GrowthSteps.{text_keeps, text_refuses}
+use Rattle.icn_control.specs.TakenOperands.{KeepsCounts, UnlessNoMemory}
 use Rattle.icn_value.specs.Store.{outside_of}
-use Rattle.std.specs.Prelude.{[], IfOk, IfErr, OnOk}
+use Rattle.std.specs.Prelude.{[], IfOk, IfErr}
+use Rattle.std.specs.Option.{option_map}
+use Rattle.icn_vars.proofs.KeptItems.{keeps_items_refl}
 use Rattle.icn_value.specs.Values.{Val as ItemVal}
 
 -- The text of a value
@@ -64,25 +66,27 @@ text_made t w v m val span k l s f p e st next same =
     (f before (λ text. costs_text value (gives_value (Text text))) ∙ p st.outside (gives_value (Text (the_text value)))
     ∙ ap (λ (x : List ℕ). gives_value (Text x) (setting_of st.outside v (held.locals m))) (sym e))
 
-pub text_unfit : (w : World) (m : FlatStack) (val : Val) (stop : Stop) → ((setting : Setting) → IsFound (extent_of w.heap)
+pub text_unfit : (t : Tables) (w : World) (m : FlatStack) (val : Val) (stop : Stop) → IsLiveStack t (reach_of w []) m
+    → held.set_locals (held.locals m) m ≡ m → ((setting : Setting) → IsFound (extent_of w.heap)
     (string (value_in (extent_of w.heap) val)) setting setting (λ (done : Unit {0}). the_text (value_in (extent_of w.heap) val)) (Err stop))
     → MakesValue (text_row (value_in (extent_of w.heap) val)) w m w (Err stop)
-text_unfit w m val (StopError number offending) f st next same =
+text_unfit t w m val (StopError number offending) l s f st next same =
     let value : Value = value_in (extent_of w.heap) val in
-    made_halts w w m (text_row value) number offending st next same
+    made_halts t w w m (text_row value) number offending st next same (keeps_items_refl (reach_of w [])) l s
     (f (setting_of st.outside w (held.locals m)) (λ text. costs_text value (gives_value (Text text))))
-text_unfit w m val StopNoMemory f st next same = tt
+text_unfit t w m val StopNoMemory l s f st next same = tt
 
-pub text_dear : (w v : World) (m : FlatStack) (val : Val) (stop : Stop) → ((setting : Setting) → IsFound (extent_of w.heap)
+pub text_dear : (t : Tables) (w v : World) (m : FlatStack) (val : Val) (stop : Stop) → KeepsItems (reach_of w (held.locals m)) (reach_of v (held.locals m))
+    → IsLiveStack t (reach_of w []) m → held.set_locals (held.locals m) m ≡ m → ((setting : Setting) → IsFound (extent_of w.heap)
     (string (value_in (extent_of w.heap) val)) setting setting (λ (done : Unit {0}). the_text (value_in (extent_of w.heap) val)) (Ok tt))
     → ((outside : Outside) → IsPassed {B = Span} (extent_of v.heap) (costs_text (value_in (extent_of w.heap) val)) (setting_of outside w (held.locals m))
     (setting_of outside v (held.locals m)) (Err stop))
     → MakesValue (text_row (value_in (extent_of w.heap) val)) w m v (Err stop)
-text_dear w v m val (StopError number offending) f p st next same =
+text_dear t w v m val (StopError number offending) k l s f p st next same =
     let value : Value = value_in (extent_of w.heap) val in
-    made_halts w v m (text_row value) number offending st next same
+    made_halts t w v m (text_row value) number offending st next same (keeps_without_locals w v (held.locals m) k) l s
     (f (setting_of st.outside w (held.locals m)) (λ text. costs_text value (gives_value (Text text))) ∙ p st.outside (gives_value (Text (the_text value))))
-text_dear w v m val StopNoMemory f p st next same = tt
+text_dear t w v m val StopNoMemory k l s f p st next same = tt
 
 -- what the text of a value that has one comes to, and what it keeps
 
@@ -101,15 +105,19 @@ pub text_result : (t : Tables) (w v : World) (m : FlatStack) (val : Val) (result
     → MatchResult result (λ span. MakesValue (text_row (value_in (extent_of w.heap) val)) w m v (Ok (TextVal span)))
     (λ stop. MakesValue (text_row (value_in (extent_of w.heap) val)) w m v (Err stop))
 text_result t w v m val (Ok span) k l s f p e = text_made t w v m val span k l s f p e
-text_result t w v m val (Err stop) k l s f p e = text_dear w v m val stop f p
+text_result t w v m val (Err stop) k l s f p e = text_dear t w v m val stop k l s f p
 
 pub text_counted : (w v : World) (locals : List Val) (val : Val) (result : Result Span Stop) → HasOne w val → PaysFor w v locals val result
-    → OnOk result (KeepsCounts w v)
+    → UnlessNoMemory result (KeepsCounts w v)
 text_counted w v locals val (Ok span) f p =
     let value : Value = value_in (extent_of w.heap) val in
     text_keeps w v (outside_of []) locals (ItemVal (Text (the_text value))) value
     (f (setting_of (outside_of []) w locals) (λ text. costs_text value (gives_value (Text text))) ∙ p (outside_of []) (gives_value (Text (the_text value))))
-text_counted w v locals val (Err stop) f p = tt
+text_counted w v locals val (Err (StopError number offending)) f p =
+    let value : Value = value_in (extent_of w.heap) val in
+    text_refuses w v (outside_of []) locals number (option_map (value_in (extent_of v.heap)) offending) value
+    (f (setting_of (outside_of []) w locals) (λ text. costs_text value (gives_value (Text text))) ∙ p (outside_of []) (gives_value (Text (the_text value))))
+text_counted w v locals val (Err StopNoMemory) f p = tt
 
 -- an answer that stops
 pub match_stop : {A : Type 0} (result : Result A Stop) (stop : Stop) (P : A → Type 0) (Q : Stop → Type 0) → IsErrAnd result (λ s. s ≡ stop) → Q stop
@@ -161,22 +169,25 @@ bscan_runs w v u m k l n item val span e f made_so p o tables st same =
     ∙ o (with_world (world_of v) st) refl
 
 pub bscan_err : {A : Type 0} (result : Result A Halt) (w : World) (m k n : FlatStack) (item : Item) (stop : Stop) → IsErrAnd result (λ h. h ≡ halt_of stop)
-    → held.pop m ≡ Some (item, k) → FindsItem w k item (Err stop) → (tables : Tables) (st : Store Frames) → st.world ≡ world_of w
+    → held.pop m ≡ Some (item, k) → n ≡ k → FindsItem w k item (Err stop) → (tables : Tables) (st : Store Frames) → st.world ≡ world_of w
     → MatchResult result (λ (x : A). RunsWith (instruction_state (extent_of w.heap) tables Instrs.Bscan m st) st w n)
-    (HaltsWith (instruction_state (extent_of w.heap) tables Instrs.Bscan m st) st w)
-bscan_err {A} result w m k n item stop err e f tables st same =
+    (HaltsWith (instruction_state (extent_of w.heap) tables Instrs.Bscan m st) st w (stack_in (extent_of w.heap) n))
+bscan_err {A} result w m k n item stop err e p f tables st same =
     match_halt result (halt_of stop) (λ (x : A). RunsWith (instruction_state (extent_of w.heap) tables Instrs.Bscan m st) st w n)
-    (HaltsWith (instruction_state (extent_of w.heap) tables Instrs.Bscan m st) st w) err
-    (popped_halts w m k item stop e st same (f st same) (λ value a. with_made flat (text_row value (here flat a st)) a st (scan_opened flat)))
+    (HaltsWith (instruction_state (extent_of w.heap) tables Instrs.Bscan m st) st w (stack_in (extent_of w.heap) n)) err
+    (subst (λ (x : FlatStack). HaltsWith (instruction_state (extent_of w.heap) tables Instrs.Bscan m st) st w (stack_in (extent_of w.heap) x) (halt_of stop))
+    (sym p) (popped_halts w m k item stop e st same (f st same) (λ value a. with_made flat (text_row value (here flat a st)) a st (scan_opened flat))))
 
 pub bscan_unmade : {A : Type 0} (result : Result A Halt) (w v : World) (m k n : FlatStack) (item : Item) (val : Val) (stop : Stop)
     → IsErrAnd result (λ h. h ≡ halt_of stop) → held.pop m ≡ Some (item, k) → FindsItem w k item (Ok val)
-    → MakesValue (text_row (value_in (extent_of w.heap) val)) w k v (Err stop) → (tables : Tables) (st : Store Frames) → st.world ≡ world_of w
+    → MakesValue (text_row (value_in (extent_of w.heap) val)) w k v (Err stop) → n ≡ k → (tables : Tables) (st : Store Frames) → st.world ≡ world_of w
     → MatchResult result (λ (x : A). RunsWith (instruction_state (extent_of w.heap) tables Instrs.Bscan m st) st v n)
-    (HaltsWith (instruction_state (extent_of w.heap) tables Instrs.Bscan m st) st v)
-bscan_unmade {A} result w v m k n item val stop err e f made_so tables st same =
+    (HaltsWith (instruction_state (extent_of w.heap) tables Instrs.Bscan m st) st v (stack_in (extent_of v.heap) n))
+bscan_unmade {A} result w v m k n item val stop err e f made_so p tables st same =
     let go : instruction_state (extent_of w.heap) tables Instrs.Bscan m st ≡ made_in (text_row (value_in (extent_of w.heap) val)) w k st (scan_opened flat)
     = popped_value w m k item val e st (f st same) (λ value a. with_made flat (text_row value (here flat a st)) a st (scan_opened flat)) in
     match_halt result (halt_of stop) (λ (x : A). RunsWith (instruction_state (extent_of w.heap) tables Instrs.Bscan m st) st v n)
-    (HaltsWith (instruction_state (extent_of w.heap) tables Instrs.Bscan m st) st v) err
-    (subst (λ (x : State Frames Frames). HaltsWith x st v (halt_of stop)) (sym go) (made_so st (scan_opened flat) same))
+    (HaltsWith (instruction_state (extent_of w.heap) tables Instrs.Bscan m st) st v (stack_in (extent_of v.heap) n)) err
+    (subst (λ (x : FlatStack). HaltsWith (instruction_state (extent_of w.heap) tables Instrs.Bscan m st) st v (stack_in (extent_of v.heap) x) (halt_of stop))
+    (sym p)
+    (subst (λ (x : State Frames Frames). HaltsWith x st v (stack_in (extent_of v.heap) k) (halt_of stop)) (sym go) (made_so st (scan_opened flat) same)))

@@ -22,7 +22,7 @@ use Rattle.icn_run.specs.Stacks as code
 use Rattle.icn_run.specs.Stacks.{Frames, flat}
 use Rattle.icn_run.specs.Step.{State, Store, activation, errs, here, on_pair, refresh, with_found, with_popped, with_taken, with_value}
 use Rattle.icn_control.specs.LiveStacks.{with_locals, IsLiveStack}
-use Rattle.icn_control.specs.Operands.{TakesTop, TakesTwo, coexp_number, with_two}
+use Rattle.icn_control.specs.Operands.{TakesTop, TakesTwo, coexp_number, with_top, with_two}
 use Rattle.icn_control.specs.StackAndWorld.{FindsValue, HaltsWith}
 use Rattle.icn_control.specs.StackViews.{stack_in}
 use Rattle.icn_control.proofs.LiveCells.{owner_on}
@@ -43,7 +43,9 @@ pub top_taken : (w : World) (m k n : FlatStack) (item : Item) (result : Result V
     → TakesTop w m n result
 top_taken w m k n item (Ok val) e p h st next same =
     popped_value w m k item val e st (h st same) next ∙ ap (λ (x : FlatStack). next (value_in (extent_of w.heap) val) (stack_in (extent_of w.heap) x)) (sym p)
-top_taken w m k n item (Err stop) e p h st next same = popped_halts w m k item stop e st same (h st same) next
+top_taken w m k n item (Err stop) e p h st next same =
+    subst (λ (x : FlatStack). HaltsWith (with_top (stack_in (extent_of w.heap) m) st next) st w (stack_in (extent_of w.heap) x) (halt_of stop)) (sym p)
+    (popped_halts w m k item stop e st same (h st same) next)
 
 -- two of them, up to their values
 two_popped : (w : World) (m l k : FlatStack) (upper lower : Item) → held.pop m ≡ Some (upper, l) → held.pop l ≡ Some (lower, k)
@@ -68,24 +70,26 @@ two_found w m l k n upper lower first second e f p g h st next same =
     ∙ ap (λ (x : FlatStack). next (value_in all first) (value_in all second) (stack_in all x)) (sym p)
 
 pub first_stops : (w : World) (m l k n : FlatStack) (upper lower : Item) (stop : Stop) → held.pop m ≡ Some (upper, l) → held.pop l ≡ Some (lower, k)
-    → Finds w k lower (Err stop) → TakesTwo w m n (Err stop)
-first_stops w m l k n upper lower stop e f g st next same =
+    → n ≡ k → Finds w k lower (Err stop) → TakesTwo w m n (Err stop)
+first_stops w m l k n upper lower stop e f p g st next same =
     let all : Extent = extent_of w.heap in
-    subst (λ (s : State Frames Frames). HaltsWith s st w (halt_of stop)) (sym (two_popped w m l k upper lower e f st next))
+    subst (λ (x : FlatStack). HaltsWith (with_two (stack_in all m) st next) st w (stack_in all x) (halt_of stop)) (sym p)
+    (subst (λ (s : State Frames Frames). HaltsWith s st w (stack_in all k) (halt_of stop)) (sym (two_popped w m l k upper lower e f st next))
     (value_halts w (item_in all lower) (stack_in all k) st stop
-    (λ x. with_value flat (item_in all upper) (stack_in all k) st (λ y. next x y (stack_in all k))) same (g st same))
+    (λ x. with_value flat (item_in all upper) (stack_in all k) st (λ y. next x y (stack_in all k))) same (g st same)))
 
 pub second_stops : (w : World) (m l k n : FlatStack) (upper lower : Item) (first : Val) (stop : Stop) → held.pop m ≡ Some (upper, l)
-    → held.pop l ≡ Some (lower, k) → Finds w k lower (Ok first) → Finds w k upper (Err stop)
+    → held.pop l ≡ Some (lower, k) → n ≡ k → Finds w k lower (Ok first) → Finds w k upper (Err stop)
     → TakesTwo w m n (Err stop)
-second_stops w m l k n upper lower first stop e f g h st next same =
+second_stops w m l k n upper lower first stop e f p g h st next same =
     let all : Extent = extent_of w.heap in
     let to : with_two (stack_in all m) st next ≡ with_value flat (item_in all upper) (stack_in all k) st (λ y. next (value_in all first) y (stack_in all k))
     = two_popped w m l k upper lower e f st next
     ∙ value_goes all (item_in all lower) (stack_in all k) st first
     (λ x. with_value flat (item_in all upper) (stack_in all k) st (λ y. next x y (stack_in all k))) (g st same) in
-    subst (λ (s : State Frames Frames). HaltsWith s st w (halt_of stop)) (sym to)
-    (value_halts w (item_in all upper) (stack_in all k) st stop (λ y. next (value_in all first) y (stack_in all k)) same (h st same))
+    subst (λ (x : FlatStack). HaltsWith (with_two (stack_in all m) st next) st w (stack_in all x) (halt_of stop)) (sym p)
+    (subst (λ (s : State Frames Frames). HaltsWith s st w (stack_in all k) (halt_of stop)) (sym to)
+    (value_halts w (item_in all upper) (stack_in all k) st stop (λ y. next (value_in all first) y (stack_in all k)) same (h st same)))
 
 -- two operands that are taken are of the world
 pub record TwoLive (t : Tables) (reach : Reach) (upper lower : Item) (n : FlatStack) : Type 0 where
@@ -156,7 +160,7 @@ number_is (Vals.Table number) id e = cc
 
 -- what is no co-expression is not activated
 pub not_activated : (all : Extent) (first : Value) (v : Val) (m : Frames) (st : Store Frames) → None ≡ coexp_number v
-    → activation flat first (value_in all v) m st ≡ errs 118 (Some (value_in all v)) st
+    → activation flat first (value_in all v) m st ≡ errs 118 (Some (value_in all v)) m st
 not_activated all first (Vals.Coexp number) m st e = cc
 not_activated all first Vals.Null m st e = refl
 not_activated all first (Vals.Integer n) m st e = refl
@@ -171,7 +175,7 @@ not_activated all first (Vals.Table number) m st e = refl
 
 -- and not made anew
 pub not_refreshed : (all : Extent) (v : Val) (m : Frames) (st : Store Frames) → None ≡ coexp_number v
-    → refresh flat (value_in all v) m st ≡ errs 118 (Some (value_in all v)) st
+    → refresh flat (value_in all v) m st ≡ errs 118 (Some (value_in all v)) m st
 not_refreshed all (Vals.Coexp number) m st e = cc
 not_refreshed all Vals.Null m st e = refl
 not_refreshed all (Vals.Integer n) m st e = refl
@@ -186,9 +190,9 @@ not_refreshed all (Vals.Table number) m st e = refl
 
 -- nor is `&main`
 pub main_refused : (all : Extent) (v : Val) (m : Frames) (st : Store Frames) → v ≡ Vals.Coexp 0
-    → refresh flat (value_in all v) m st ≡ errs 215 (Some (value_in all v)) st
+    → refresh flat (value_in all v) m st ≡ errs 215 (Some (value_in all v)) m st
 main_refused all v m st e =
-    ap (λ (x : Val). refresh flat (value_in all x) m st) e ∙ ap (λ (x : Val). errs 215 (Some (value_in all x)) st) (sym e)
+    ap (λ (x : Val). refresh flat (value_in all x) m st) e ∙ ap (λ (x : Val). errs 215 (Some (value_in all x)) m st) (sym e)
 
 -- a second operand is there
 pub second_there : (m l : FlatStack) (upper : Item) → held.pop m ≡ Some (upper, l) → IfSome (held.pop m) (λ popped. IsSome (held.pop popped.1))

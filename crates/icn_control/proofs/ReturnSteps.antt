@@ -78,12 +78,13 @@ pub result_err : (result : Result Item Stop) (w : World) (m : FlatStack) (item :
     → FindsValue (extent_of w.heap) (item_in (extent_of w.heap) item) (here flat (stack_in (extent_of w.heap) m) st) (Err stop)) → (st : Store Frames)
     (next : rows.Item → State Frames Frames) → st.world ≡ world_of w
     → MatchResult result (λ x. with_result flat (item_in (extent_of w.heap) item) (stack_in (extent_of w.heap) m) st next ≡ next (item_in (extent_of w.heap) x))
-    (λ s. HaltsWith (with_result flat (item_in (extent_of w.heap) item) (stack_in (extent_of w.heap) m) st next) st w (halt_of s))
+    (λ s. HaltsWith (with_result flat (item_in (extent_of w.heap) item) (stack_in (extent_of w.heap) m) st next) st w
+    (stack_in (extent_of w.heap) m) (halt_of s))
 result_err (Ok x) w m item stop r e h st next same = absurd r
 result_err (Err s) w m item stop r e h st next same =
     let all : Extent = extent_of w.heap in
-    subst (λ (x : Stop). HaltsWith (with_result flat (item_in all item) (stack_in all m) st next) st w (halt_of x)) (sym r)
-    (subst (λ (x : State Frames Frames). HaltsWith x st w (halt_of stop)) (sym (local_result all item e (stack_in all m) st next))
+    subst (λ (x : Stop). HaltsWith (with_result flat (item_in all item) (stack_in all m) st next) st w (stack_in all m) (halt_of x)) (sym r)
+    (subst (λ (x : State Frames Frames). HaltsWith x st w (stack_in all m) (halt_of stop)) (sym (local_result all item e (stack_in all m) st next))
     (value_halts w (item_in all item) (stack_in all m) st stop (λ value. next (rows.Val value)) same (h st same)))
 
 -- Scans that are left
@@ -216,7 +217,8 @@ Finds w m item x = (st : Store Frames) (next : rows.Item → State Frames Frames
 
 abbrev pub Stops : World → FlatStack → Item → Stop → Type 0
 Stops w m item stop = (st : Store Frames) (next : rows.Item → State Frames Frames) → st.world ≡ world_of w
-    → HaltsWith (with_result flat (item_in (extent_of w.heap) item) (stack_in (extent_of w.heap) m) st next) st w (halt_of stop)
+    → HaltsWith (with_result flat (item_in (extent_of w.heap) item) (stack_in (extent_of w.heap) m) st next) st w (stack_in (extent_of w.heap) m)
+    (halt_of stop)
 
 pret_goes : (w v : World) (m k l : FlatStack) (item x : Item) (pair : Option HeldPair) → held.pop m ≡ Some (item, k) → Finds w k item x → l ≡ k
     → pair ≡ held.pair_at l.cells (held.oldest None l)
@@ -253,18 +255,19 @@ pret_runs w v m k l o n item x pair e h p q back heap b r tables st same =
     ∙ ap F (sym heap)
 
 pub pret_err : (result : Result RunState Halt) (w : World) (m k n : FlatStack) (item : Item) (stop : Stop) → IsErrAnd result (λ h. h ≡ halt_of stop)
-    → held.pop m ≡ Some (item, k) → Stops w k item stop → (tables : Tables)
+    → held.pop m ≡ Some (item, k) → n ≡ k → Stops w k item stop → (tables : Tables)
     (st : Store Frames) → st.world ≡ world_of w
     → MatchResult result (StandsWith (instruction_state (extent_of w.heap) tables Instrs.Pret m st) st w n)
-    (HaltsWith (instruction_state (extent_of w.heap) tables Instrs.Pret m st) st w)
-pret_err result w m k n item stop err e h tables st same =
+    (HaltsWith (instruction_state (extent_of w.heap) tables Instrs.Pret m st) st w (stack_in (extent_of w.heap) n))
+pret_err result w m k n item stop err e p h tables st same =
     let all : Extent = extent_of w.heap in
     let next : rows.Item
     → State Frames Frames = λ result. return_to (flat.leave (stack_in all k)) (push_item flat result) (all_left flat (stack_in all k) st) in
     match_halt result (halt_of stop) (StandsWith (instruction_state all tables Instrs.Pret m st) st w n)
-    (HaltsWith (instruction_state all tables Instrs.Pret m st) st w) err
-    (subst (λ (s : State Frames Frames). HaltsWith s st w (halt_of stop)) (sym (popped_runs m k item e all
-    (λ y n. with_result flat y n st (λ result. return_to (flat.leave n) (push_item flat result) (all_left flat n st))))) (h st next same))
+    (HaltsWith (instruction_state all tables Instrs.Pret m st) st w (stack_in all n)) err
+    (subst (λ (x : FlatStack). HaltsWith (instruction_state all tables Instrs.Pret m st) st w (stack_in all x) (halt_of stop)) (sym p)
+    (subst (λ (s : State Frames Frames). HaltsWith s st w (stack_in all k) (halt_of stop)) (sym (popped_runs m k item e all
+    (λ y n. with_result flat y n st (λ result. return_to (flat.leave n) (push_item flat result) (all_left flat n st))))) (h st next same)))
 
 -- Suspending
 
@@ -318,11 +321,11 @@ psusp_runs w v m k a l o n item x e c h p s heap b tables st same =
     ∙ ap (λ (y : FlatStack). running (stack_in all y) (with_world (world_of v) st)) split.1.1
 
 pub psusp_err : (result : Result RunState Halt) (w : World) (m k a n : FlatStack) (item : Item) (stop : Stop) → IsErrAnd result (λ h. h ≡ halt_of stop)
-    → held.pop m ≡ Some (item, k) → a ≡ held.push item k → Stops w a item stop
+    → held.pop m ≡ Some (item, k) → a ≡ held.push item k → n ≡ a → Stops w a item stop
     → (tables : Tables) (st : Store Frames) → st.world ≡ world_of w
     → MatchResult result (StandsWith (instruction_state (extent_of w.heap) tables Instrs.Psusp m st) st w n)
-    (HaltsWith (instruction_state (extent_of w.heap) tables Instrs.Psusp m st) st w)
-psusp_err result w m k a n item stop err e b h tables st same =
+    (HaltsWith (instruction_state (extent_of w.heap) tables Instrs.Psusp m st) st w (stack_in (extent_of w.heap) n))
+psusp_err result w m k a n item stop err e b p h tables st same =
     let all : Extent = extent_of w.heap in
     let back : a ≡ m = b ∙ pushed_back m k item e in
     let next : rows.Item → Frames → Store Frames → State Frames Frames = λ result n. return_to (flat.suspend_proc n) (push_item flat result) in
@@ -330,9 +333,10 @@ psusp_err result w m k a n item stop err e b h tables st same =
     → State Frames Frames = λ result. maybe_exchanged (flat.swap_oldest (pair_now st) (stack_in all m)) (stack_in all m) st (next result) in
     let found : Stops w m item stop = subst (λ (y : FlatStack). Stops w y item stop) back h in
     match_halt result (halt_of stop) (StandsWith (instruction_state all tables Instrs.Psusp m st) st w n)
-    (HaltsWith (instruction_state all tables Instrs.Psusp m st) st w) err
-    (subst (λ (s : State Frames Frames). HaltsWith s st w (halt_of stop))
-    (sym (popped_runs m k item e all (λ y n. with_result flat y (stack_in all m) st after))) (found st after same))
+    (HaltsWith (instruction_state all tables Instrs.Psusp m st) st w (stack_in all n)) err
+    (subst (λ (x : FlatStack). HaltsWith (instruction_state all tables Instrs.Psusp m st) st w (stack_in all x) (halt_of stop)) (sym (p ∙ back))
+    (subst (λ (s : State Frames Frames). HaltsWith s st w (stack_in all m) (halt_of stop))
+    (sym (popped_runs m k item e all (λ y n. with_result flat y (stack_in all m) st after))) (found st after same)))
 
 -- an item that is put where the procedure is left or suspended
 pub given_free : (t : Tables) (reach : Reach) (m n : FlatStack) (x : Item) → n ≡ held.push x m → IsLiveStack t reach m

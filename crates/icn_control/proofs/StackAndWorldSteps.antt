@@ -47,9 +47,9 @@ value_goes all item m st val next h = ap (λ (o : Outcome). with_given o m st ne
 -- where an item has no value, the instruction halts with the reason
 pub value_halts : (w : World) (item : rows.Item) (m : Frames) (st : Store Frames) (stop : Stop) (next : rows.Value → State Frames Frames)
     → st.world ≡ world_of w → FindsValue (extent_of w.heap) item (here flat m st) (Err stop)
-    → HaltsWith (with_value flat item m st next) st w (halt_of stop)
+    → HaltsWith (with_value flat item m st next) st w m (halt_of stop)
 value_halts w item m st (StopError number offending) next e h =
-    ap (λ (o : Outcome). with_given o m st next) h ∙ ap (errs number (option_map (value_in (extent_of w.heap)) offending)) (same_world w st e)
+    ap (λ (o : Outcome). with_given o m st next) h ∙ ap (errs number (option_map (value_in (extent_of w.heap)) offending) m) (same_world w st e)
 value_halts w item m st StopNoMemory next e h = tt
 
 -- a pair that comes back is in the world then
@@ -79,9 +79,10 @@ popped_value w m k item val e st h next =
 pub popped_halts : (w : World) (m k : FlatStack) (item : Item) (stop : Stop) → held.pop m ≡ Some (item, k) → (st : Store Frames) → st.world ≡ world_of w
     → FindsValue (extent_of w.heap) (item_in (extent_of w.heap) item) (here flat (stack_in (extent_of w.heap) k) st) (Err stop)
     → (next : rows.Value → Frames → State Frames Frames)
-    → HaltsWith (with_popped flat (stack_in (extent_of w.heap) m) (λ x n. with_value flat x n st (λ value. next value n))) st w (halt_of stop)
+    → HaltsWith (with_popped flat (stack_in (extent_of w.heap) m) (λ x n. with_value flat x n st (λ value. next value n))) st w (stack_in (extent_of w.heap) k)
+    (halt_of stop)
 popped_halts w m k item stop e st same h next =
-    subst (λ (s : State Frames Frames). HaltsWith s st w (halt_of stop))
+    subst (λ (s : State Frames Frames). HaltsWith s st w (stack_in (extent_of w.heap) k) (halt_of stop))
     (sym (popped_runs m k item e (extent_of w.heap) (λ x n. with_value flat x n st (λ value. next value n))))
     (value_halts w (item_in (extent_of w.heap) item) (stack_in (extent_of w.heap) k) st stop (λ value. next value (stack_in (extent_of w.heap) k)) same h)
 
@@ -105,7 +106,7 @@ pub eret_halts : (w : World) (m k : FlatStack) (item : Item) (stop : Stop) → h
     → ((st : Store Frames)
     → st.world ≡ world_of w → FindsValue (extent_of w.heap) (item_in (extent_of w.heap) item) (here flat (stack_in (extent_of w.heap) k) st) (Err stop))
     → (tables : Tables) (st : Store Frames)
-    → st.world ≡ world_of w → HaltsWith (instruction_state (extent_of w.heap) tables Instrs.Eret m st) st w (halt_of stop)
+    → st.world ≡ world_of w → HaltsWith (instruction_state (extent_of w.heap) tables Instrs.Eret m st) st w (stack_in (extent_of w.heap) k) (halt_of stop)
 eret_halts w m k item stop e h tables st same =
     popped_halts w m k item stop e st same (h st same) (λ value a. unmark_then flat a st (push_item flat (rows.Val value)))
 
@@ -116,15 +117,18 @@ match_halt (Err h) halt P Q e q = subst Q (sym e) q
 match_halt (Ok a) halt P Q e q = absurd e
 
 pub eret_err : {A : Type 0} (result : Result A Halt) (w : World) (m k n : FlatStack) (item : Item) (stop : Stop) → IsErrAnd result (λ h. h ≡ halt_of stop)
-    → held.pop m ≡ Some (item, k)
+    → held.pop m ≡ Some (item, k) → n ≡ k
     → ((st : Store Frames)
     → st.world ≡ world_of w → FindsValue (extent_of w.heap) (item_in (extent_of w.heap) item) (here flat (stack_in (extent_of w.heap) k) st) (Err stop))
     → (tables : Tables) (st : Store Frames)
     → st.world ≡ world_of w → MatchResult result (λ (x : A). RunsWith (instruction_state (extent_of w.heap) tables Instrs.Eret m st) st w n)
-    (HaltsWith (instruction_state (extent_of w.heap) tables Instrs.Eret m st) st w)
-eret_err {A} result w m k n item stop err e h tables st same =
+    (HaltsWith (instruction_state (extent_of w.heap) tables Instrs.Eret m st) st w (stack_in (extent_of w.heap) n))
+eret_err {A} result w m k n item stop err e p h tables st same =
     match_halt result (halt_of stop) (λ (x : A). RunsWith (instruction_state (extent_of w.heap) tables Instrs.Eret m st) st w n)
-    (HaltsWith (instruction_state (extent_of w.heap) tables Instrs.Eret m st) st w) err (eret_halts w m k item stop e h tables st same)
+    (HaltsWith (instruction_state (extent_of w.heap) tables Instrs.Eret m st) st w (stack_in (extent_of w.heap) n)) err
+    (subst (λ (x : FlatStack). HaltsWith (instruction_state (extent_of w.heap) tables Instrs.Eret m st) st w (stack_in (extent_of w.heap) x) (halt_of stop))
+    (sym p)
+    (eret_halts w m k item stop e h tables st same))
 
 -- The limit of a limitation
 
@@ -142,20 +146,23 @@ pub limit_halts : (w : World) (m k : FlatStack) (item : Item) (stop : Stop) → 
     → ((st : Store Frames)
     → st.world ≡ world_of w → FindsValue (extent_of w.heap) (item_in (extent_of w.heap) item) (here flat (stack_in (extent_of w.heap) k) st) (Err stop))
     → (tables : Tables) (st : Store Frames)
-    → st.world ≡ world_of w → HaltsWith (instruction_state (extent_of w.heap) tables Instrs.Limit m st) st w (halt_of stop)
+    → st.world ≡ world_of w → HaltsWith (instruction_state (extent_of w.heap) tables Instrs.Limit m st) st w (stack_in (extent_of w.heap) k) (halt_of stop)
 limit_halts w m k item stop e h tables st same =
     popped_halts w m k item stop e st same (h st same) (λ value a. limit_results flat value (integer_of value) a st)
 
 pub limit_err : (result : Result RunState Halt) (w : World) (m k n : FlatStack) (item : Item) (stop : Stop) → IsErrAnd result (λ h. h ≡ halt_of stop)
-    → held.pop m ≡ Some (item, k)
+    → held.pop m ≡ Some (item, k) → n ≡ k
     → ((st : Store Frames)
     → st.world ≡ world_of w → FindsValue (extent_of w.heap) (item_in (extent_of w.heap) item) (here flat (stack_in (extent_of w.heap) k) st) (Err stop))
     → (tables : Tables) (st : Store Frames)
     → st.world ≡ world_of w → MatchResult result (StandsWith (instruction_state (extent_of w.heap) tables Instrs.Limit m st) st w n)
-    (HaltsWith (instruction_state (extent_of w.heap) tables Instrs.Limit m st) st w)
-limit_err result w m k n item stop err e h tables st same =
+    (HaltsWith (instruction_state (extent_of w.heap) tables Instrs.Limit m st) st w (stack_in (extent_of w.heap) n))
+limit_err result w m k n item stop err e p h tables st same =
     match_halt result (halt_of stop) (StandsWith (instruction_state (extent_of w.heap) tables Instrs.Limit m st) st w n)
-    (HaltsWith (instruction_state (extent_of w.heap) tables Instrs.Limit m st) st w) err (limit_halts w m k item stop e h tables st same)
+    (HaltsWith (instruction_state (extent_of w.heap) tables Instrs.Limit m st) st w (stack_in (extent_of w.heap) n)) err
+    (subst (λ (x : FlatStack). HaltsWith (instruction_state (extent_of w.heap) tables Instrs.Limit m st) st w (stack_in (extent_of w.heap) x) (halt_of stop))
+    (sym p)
+    (limit_halts w m k item stop e h tables st same))
 
 -- the integer that a count stands for
 count_is : (n : ℤ) (count : ℕ) → natural_of n ≡ Some count → n ≡ pos count
@@ -167,26 +174,31 @@ below_is (pos k) e = cc
 below_is (negsuc k) e = (k, refl)
 
 -- what a limit comes to, by its integer
-pub limit_none : (w : World) (m k : FlatStack) (item : Item) (val : Val) → held.pop m ≡ Some (item, k)
+pub limit_none : (w : World) (m k l : FlatStack) (item : Item) (val : Val) → held.pop m ≡ Some (item, k)
     → ((st : Store Frames)
     → st.world ≡ world_of w → FindsValue (extent_of w.heap) (item_in (extent_of w.heap) item) (here flat (stack_in (extent_of w.heap) k) st) (Ok val))
-    → None ≡ integer_of (value_in (extent_of w.heap) val)
+    → None ≡ integer_of (value_in (extent_of w.heap) val) → l ≡ k
     → (tables : Tables) (st : Store Frames) → st.world ≡ world_of w
-    → instruction_state (extent_of w.heap) tables Instrs.Limit m st ≡ errs 101 (Some (value_in (extent_of w.heap) val)) (with_world (world_of w) st)
-limit_none w m k item val e h i tables st same =
-    limit_goes w m k item val e h None i tables st same ∙ ap (errs 101 (Some (value_in (extent_of w.heap) val))) (same_world w st same)
+    → instruction_state (extent_of w.heap) tables Instrs.Limit m st
+    ≡ errs 101 (Some (value_in (extent_of w.heap) val)) (stack_in (extent_of w.heap) l) (with_world (world_of w) st)
+limit_none w m k l item val e h i p tables st same =
+    limit_goes w m k item val e h None i tables st same
+    ∙ ap (errs 101 (Some (value_in (extent_of w.heap) val)) (stack_in (extent_of w.heap) k)) (same_world w st same)
+    ∙ ap (λ (x : FlatStack). errs 101 (Some (value_in (extent_of w.heap) val)) (stack_in (extent_of w.heap) x) (with_world (world_of w) st)) (sym p)
 
-pub limit_below : (w : World) (m k : FlatStack) (item : Item) (val : Val) → held.pop m ≡ Some (item, k)
+pub limit_below : (w : World) (m k l : FlatStack) (item : Item) (val : Val) → held.pop m ≡ Some (item, k)
     → ((st : Store Frames)
     → st.world ≡ world_of w → FindsValue (extent_of w.heap) (item_in (extent_of w.heap) item) (here flat (stack_in (extent_of w.heap) k) st) (Ok val))
     → (n : ℤ) → Some n ≡ integer_of (value_in (extent_of w.heap) val)
-    → None ≡ natural_of n → (tables : Tables) (st : Store Frames) → st.world ≡ world_of w
-    → instruction_state (extent_of w.heap) tables Instrs.Limit m st ≡ errs 205 (Some (value_in (extent_of w.heap) val)) (with_world (world_of w) st)
-limit_below w m k item val e h n i b tables st same =
+    → None ≡ natural_of n → l ≡ k → (tables : Tables) (st : Store Frames) → st.world ≡ world_of w
+    → instruction_state (extent_of w.heap) tables Instrs.Limit m st
+    ≡ errs 205 (Some (value_in (extent_of w.heap) val)) (stack_in (extent_of w.heap) l) (with_world (world_of w) st)
+limit_below w m k l item val e h n i b p tables st same =
     let below = below_is n (sym b) in
     limit_goes w m k item val e h (Some n) i tables st same
     ∙ ap (λ (x : ℤ). limit_results flat (value_in (extent_of w.heap) val) (Some x) (stack_in (extent_of w.heap) k) st) below.1
-    ∙ ap (errs 205 (Some (value_in (extent_of w.heap) val))) (same_world w st same)
+    ∙ ap (errs 205 (Some (value_in (extent_of w.heap) val)) (stack_in (extent_of w.heap) k)) (same_world w st same)
+    ∙ ap (λ (x : FlatStack). errs 205 (Some (value_in (extent_of w.heap) val)) (stack_in (extent_of w.heap) x) (with_world (world_of w) st)) (sym p)
 
 limit_count : (w : World) (m k : FlatStack) (item : Item) (val : Val) → held.pop m ≡ Some (item, k)
     → ((st : Store Frames)

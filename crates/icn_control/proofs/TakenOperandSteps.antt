@@ -177,11 +177,11 @@ values_stop (Err s) w m items others rest vals after first stop err e f so st ne
     let all : Extent = extent_of w.heap in
     let go : with_values_in w m items st next ≡ with_values_in w m (first ∷ others) st (λ ys. next (map (value_in all) vals ++ ys))
     = so st next same ∙ ap (λ (r : List Item). with_values_in w m r st (λ ys. next (map (value_in all) vals ++ ys))) e in
-    let at : HaltsWith (with_values_in w m (first ∷ others) st (λ ys. next (map (value_in all) vals ++ ys))) st w (halt_of stop)
+    let at : HaltsWith (with_values_in w m (first ∷ others) st (λ ys. next (map (value_in all) vals ++ ys))) st w (stack_in all m) (halt_of stop)
     = value_halts w (item_in all first) (stack_in all m) st stop
     (λ value. with_values flat (map (item_in all) others) (stack_in all m) st (λ ys. next (map (value_in all) vals ++ value ∷ ys))) same (f st same) in
-    subst (λ (z : Stop). HaltsWith (with_values_in w m items st next) st w (halt_of z)) (sym err)
-    (subst (λ (x : State Frames Frames). HaltsWith x st w (halt_of stop)) (sym go) at)
+    subst (λ (z : Stop). HaltsWith (with_values_in w m items st next) st w (stack_in all m) (halt_of z)) (sym err)
+    (subst (λ (x : State Frames Frames). HaltsWith x st w (stack_in all m) (halt_of stop)) (sym go) at)
 
 pub values_found : (w : World) (m : FlatStack) (items rest : List Item) (vals : List Val) → length rest ≡ 0 → ValuesSo w m items vals rest
     → (st : Store Frames) (next : List Value → State Frames Frames) → st.world ≡ world_of w
@@ -216,14 +216,17 @@ made_goes t w v m row val st next same k l s r =
     ∙ ap (λ (o : Outcome). with_made flat o (stack_in (extent_of w.heap) m) st next) r
     ∙ ap (λ (a : Frames). next (value_in (extent_of v.heap) val) a (with_world (world_of v) st)) (locals_back t w v m k l s)
 
-pub made_halts : (w v : World) (m : FlatStack) (row : Row) (number : ℕ) (offending : Option Val) (st : Store Frames)
-    (next : Value → Frames → Store Frames → State Frames Frames) → st.world ≡ world_of w
+pub made_halts : (t : Tables) (w v : World) (m : FlatStack) (row : Row) (number : ℕ) (offending : Option Val) (st : Store Frames)
+    (next : Value → Frames → Store Frames → State Frames Frames) → st.world ≡ world_of w → KeepsItems (reach_of w []) (reach_of v [])
+    → IsLiveStack t (reach_of w []) m → held.set_locals (held.locals m) m ≡ m
     → row (setting_of st.outside w (held.locals m))
     ≡ Error number (option_map (value_in (extent_of v.heap)) offending) (setting_of st.outside v (held.locals m))
-    → made_in row w m st next ≡ errs number (option_map (value_in (extent_of v.heap)) offending) (with_world (world_of v) st)
-made_halts w v m row number offending st next same r =
+    → made_in row w m st next
+    ≡ errs number (option_map (value_in (extent_of v.heap)) offending) (stack_in (extent_of v.heap) m) (with_world (world_of v) st)
+made_halts t w v m row number offending st next same k l s r =
     ap (λ (x : Setting). with_made flat (row x) (stack_in (extent_of w.heap) m) st next) (here_is w m st same)
     ∙ ap (λ (o : Outcome). with_made flat o (stack_in (extent_of w.heap) m) st next) r
+    ∙ ap (λ (a : Frames). errs number (option_map (value_in (extent_of v.heap)) offending) a (with_world (world_of v) st)) (locals_back t w v m k l s)
 
 pub made_at : (row : Row) (w v : World) (m k : FlatStack) (result : Result Val Stop) → k ≡ m → MakesValue row w k v result → MakesValue row w m v result
 made_at row w v m k result e f = subst (λ (x : FlatStack). MakesValue row w x v result) e f
@@ -238,11 +241,12 @@ pub makes_value : (t : Tables) (w v : World) (m : FlatStack) (find : Finds Value
 makes_value t w v m find (Ok val) k l s f st next same =
     made_goes t w v m (find gives_value) val st next same (keeps_without_locals w v (held.locals m) k) l s (f st.outside gives_value)
 makes_value t w v m find (Err (StopError number offending)) k l s f st next same =
-    made_halts w v m (find gives_value) number offending st next same (f st.outside gives_value)
+    made_halts t w v m (find gives_value) number offending st next same (keeps_without_locals w v (held.locals m) k) l s (f st.outside gives_value)
 makes_value t w v m find (Err StopNoMemory) k l s f st next same = tt
 
 -- want of memory says nothing of what is looked for
 pub values_lack : (result : Result Unit Stop) (w : World) (m : FlatStack) (items : List Item) (after : List Val) → IsErrAnd result (λ s. s ≡ StopNoMemory)
     → FindsValues w m items after result
 values_lack (Ok a) w m items after err st next same = absurd err
-values_lack (Err s) w m items after err st next same = subst (λ (z : Stop). HaltsWith (with_values_in w m items st next) st w (halt_of z)) (sym err) tt
+values_lack (Err s) w m items after err st next same =
+    subst (λ (z : Stop). HaltsWith (with_values_in w m items st next) st w (stack_in (extent_of w.heap) m) (halt_of z)) (sym err) tt

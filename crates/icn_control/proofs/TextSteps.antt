@@ -9,6 +9,7 @@ use Rattle.icn_value.specs.Store.{Setting, outside_of}
 use Rattle.icn_heap.specs.declared.heap.Heap.{Heap as HeldHeap}
 use Rattle.icn_heap.specs.Extents.{KeepsValues, IsText, text_in}
 use Rattle.icn_heap.specs.Heaps.{extent_of, heap_of}
+use Rattle.icn_vars.specs.declared.words.Words.{Words}
 use Rattle.icn_vars.specs.declared.world.World.{World}
 use Rattle.icn_vars.specs.WorldFacts.{IsSoundWorld}
 use Rattle.icn_vars.specs.Worlds.{IsLiveItem, KeepsItems, reach_of, world_of}
@@ -30,12 +31,12 @@ use Rattle.icn_control.proofs.KeptItems.{stack_stays, stack_same}
 use Rattle.icn_control.proofs.StackAndWorldSteps.{same_world}
 
 -- a heap that holds a text more, in a world that is the same
-pub world_same : (old new : HeldHeap) (pair : Pair) (random : ℕ) (globals statics : List Val) → KeepsValues (extent_of old) (extent_of new)
-    → heap_of new ≡ heap_of old → IsSoundWorld (extent_of old) pair random globals statics
-    → world_over new pair random globals statics ≡ world_over old pair random globals statics
-world_same old new pair random globals statics keeps same sound =
+pub world_same : (old new : HeldHeap) (pair : Pair) (words : Words) (globals statics : List Val) → KeepsValues (extent_of old) (extent_of new)
+    → heap_of new ≡ heap_of old → IsSoundWorld (extent_of old) pair words globals statics
+    → world_over new pair words globals statics ≡ world_over old pair words globals statics
+world_same old new pair words globals statics keeps same sound =
     sym
-    (ap (λ (s : Setting). s.world) (heap_changed (outside_of []) old new pair random globals statics [] keeps same sound (All-nil (IsLive (extent_of old)))))
+    (ap (λ (s : Setting). s.world) (heap_changed (outside_of []) old new pair words globals statics [] keeps same sound (All-nil (IsLive (extent_of old)))))
 
 pub string_runs : (w v : World) (t tables : Tables) (m n : FlatStack) (k : ℕ) (bytes : List ℕ) (span : Span) → slice_get tables.strings k ≡ Some bytes
     → text_in (extent_of v.heap) span ≡ bytes → world_of v ≡ world_of w

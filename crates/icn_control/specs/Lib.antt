@@ -5,6 +5,7 @@ pub mod ResultCounts
 pub mod Machines
 pub mod Pairs
 pub mod StackAndWorld
+pub mod KeywordsRead
 pub mod Results
 pub mod FailingStacks
 pub mod TransfersRead

@@ -17,7 +17,7 @@ use Rattle.icn_code.specs.Codes.{Tables}
 use Rattle.icn_run.specs.Rows.{Exit, Done}
 use Rattle.icn_run.specs.Stacks.{Frames, flat}
 use Rattle.icn_run.specs.Step as code
-use Rattle.icn_run.specs.Step.{State, Store, Status, Fresh, Active, Waiting, Exhausted, running, failing, hopping, over, instruction, errs, at_bound, all_names}
+use Rattle.icn_run.specs.Step.{State, Store, Status, Fresh, Active, Waiting, Exhausted, running, failing, hopping, over, instruction, ended_by, errs, at_bound, all_names}
 use Rattle.icn_control.specs.ResultCounts.{AreCounted}
 use Rattle.icn_control.specs.LiveStacks.{IsLiveStack, variable_count}
 use Rattle.icn_control.specs.StackViews.{stack_in}
@@ -100,20 +100,37 @@ HasStack m RunStates.Hopping = m.stacks.table.running ≡ None
 HasStack m RunStates.Over = ⊤
 HasStack m RunStates.AtBound = ⊤
 
--- The run is over by an error or with a status; what neither reads nor writes comes to no fault. Of want of memory this says nothing.
+-- It comes to an error, after which the code would fail with the stack that is left, or the run is over with a status; what neither reads nor writes
+-- comes to no fault. Of want of memory this says nothing.
 abbrev pub HaltsAt : {K : Type 0} → Tables → Outside → State Frames Frames → Machine K → Halt → Type 0
 HaltsAt tables outside state m (Halts.Error number offending) =
-    state ≡ errs number (option_map (value_in (extent m)) offending) (store_seen tables outside m)
+    state
+    ≡ errs number (option_map (value_in (extent m)) offending) (stack_seen m) (store_seen tables outside m)
 HaltsAt tables outside state m (Halts.Ends status) = state ≡ over (Exit status) outside
 HaltsAt tables outside state m Halts.ReadFault = ⊥
 HaltsAt tables outside state m Halts.WriteFault = ⊥
 HaltsAt tables outside state m Halts.NoMemory = ⊤
 
--- the machine stands at this state of the run, or it halts as the run ends in it
+-- the machine stands at this state of the run, or it halts as the run comes to an error or ends in it
 abbrev pub ComesTo : {K : Type 0} → Tables → Outside → State Frames Frames → Machine K → Result RunState Halt
     → Type 0
 ComesTo tables outside state m result =
     MatchResult result (StandsAt tables outside state m) (HaltsAt tables outside state m)
+
+-- The run is over by an error, or with a status; of want of memory this says nothing.
+abbrev pub EndsAt : {K : Type 0} → Tables → Outside → State Frames Frames → Machine K → Halt → Type 0
+EndsAt tables outside state m (Halts.Error number offending) =
+    state ≡ ended_by number (option_map (value_in (extent m)) offending) (store_seen tables outside m)
+EndsAt tables outside state m (Halts.Ends status) = state ≡ over (Exit status) outside
+EndsAt tables outside state m Halts.ReadFault = ⊥
+EndsAt tables outside state m Halts.WriteFault = ⊥
+EndsAt tables outside state m Halts.NoMemory = ⊤
+
+-- The same where an error that becomes failure has: the machine stands at this state, or the run is over in it.
+abbrev pub SettlesAt : {K : Type 0} → Tables → Outside → State Frames Frames → Machine K
+    → Result RunState Halt → Type 0
+SettlesAt tables outside state m result =
+    MatchResult result (StandsAt tables outside state m) (EndsAt tables outside state m)
 
 -- What a machine keeps
 

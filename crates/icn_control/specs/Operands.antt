@@ -36,7 +36,8 @@ TakesTop w m n result =
     → MatchResult result
     (λ val. with_top (stack_in (extent_of w.heap) m) st next
     ≡ next (value_in (extent_of w.heap) val) (stack_in (extent_of w.heap) n))
-    (λ stop. HaltsWith (with_top (stack_in (extent_of w.heap) m) st next) st w (halt_of stop))
+    (λ stop. HaltsWith (with_top (stack_in (extent_of w.heap) m) st next) st w (stack_in (extent_of w.heap) n)
+    (halt_of stop))
 
 -- the two top operands are taken for their values, or one has none for this reason
 abbrev pub TakesTwo : World → FlatStack → FlatStack → Result (Val × Val) Stop → Type 0
@@ -45,7 +46,8 @@ TakesTwo w m n result =
     → MatchResult result
     (λ two. with_two (stack_in (extent_of w.heap) m) st next ≡ next (value_in (extent_of w.heap) two.0)
     (value_in (extent_of w.heap) two.1) (stack_in (extent_of w.heap) n))
-    (λ stop. HaltsWith (with_two (stack_in (extent_of w.heap) m) st next) st w (halt_of stop))
+    (λ stop. HaltsWith (with_two (stack_in (extent_of w.heap) m) st next) st w (stack_in (extent_of w.heap) n)
+    (halt_of stop))
 
 -- the number of a co-expression
 abbrev pub coexp_number : Val → Option ℕ

@@ -37,26 +37,26 @@ StandsWith state st w m RunStates.Over = state ≡ finish_run (with_world (world
 StandsWith state st w m RunStates.Hopping = ⊥
 StandsWith state st w m RunStates.AtBound = ⊥
 
--- an error, or want of memory
-abbrev pub HaltsWith : State Frames Frames → Store Frames → World → Halt → Type 0
-HaltsWith state st w (Halts.Error number offending) =
-    state ≡ errs number (option_map (value_in (extent_of w.heap)) offending) (with_world (world_of w) st)
-HaltsWith state st w (Halts.Ends status) = ⊥
-HaltsWith state st w Halts.ReadFault = ⊥
-HaltsWith state st w Halts.WriteFault = ⊥
-HaltsWith state st w Halts.NoMemory = ⊤
+-- an error, after which the code would fail with this stack, or want of memory
+abbrev pub HaltsWith : State Frames Frames → Store Frames → World → Frames → Halt → Type 0
+HaltsWith state st w m (Halts.Error number offending) =
+    state ≡ errs number (option_map (value_in (extent_of w.heap)) offending) m (with_world (world_of w) st)
+HaltsWith state st w m (Halts.Ends status) = ⊥
+HaltsWith state st w m Halts.ReadFault = ⊥
+HaltsWith state st w m Halts.WriteFault = ⊥
+HaltsWith state st w m Halts.NoMemory = ⊤
 
 -- The instruction, done on a stack in a world, goes on with another stack in another world, or halts there.
 abbrev pub DoesWith : {A : Type 0} → Instr → World → FlatStack → World → FlatStack → Result A Halt → Type 0
 DoesWith instr w m v n result = (tables : Tables) (st : Store Frames) → st.world ≡ world_of w
     → MatchResult result (λ _. RunsWith (instruction_state (extent_of w.heap) tables instr m st) st v n)
-    (HaltsWith (instruction_state (extent_of w.heap) tables instr m st) st v)
+    (HaltsWith (instruction_state (extent_of w.heap) tables instr m st) st v (stack_in (extent_of v.heap) n))
 
 -- The same where the instruction may fail.
 abbrev pub ComesWith : Instr → World → FlatStack → World → FlatStack → Result RunState Halt → Type 0
 ComesWith instr w m v n result = (tables : Tables) (st : Store Frames) → st.world ≡ world_of w
     → MatchResult result (StandsWith (instruction_state (extent_of w.heap) tables instr m st) st v n)
-    (HaltsWith (instruction_state (extent_of w.heap) tables instr m st) st v)
+    (HaltsWith (instruction_state (extent_of w.heap) tables instr m st) st v (stack_in (extent_of v.heap) n))
 
 -- the value of an item, or why there is none
 abbrev pub FindsValue : Extent → Item → Setting → Result Val Stop → Type 0

@@ -1,5 +1,5 @@
 -- Operands that are taken together, and values that are found or made of them.
-use Rattle.std.specs.Prelude.{◌≡◌, ℕ, zero, suc, List, [], ◌∷◌, map, Option, Some, Result, MatchResult}
+use Rattle.std.specs.Prelude.{◌≡◌, ℕ, zero, suc, List, [], ◌∷◌, map, Option, Some, Result, Ok, Err, MatchResult, ⊤}
 use Rattle.std.specs.Option.{option_and_then}
 use Rattle.icn_value.specs.declared.val.Val.{Val}
 use Rattle.icn_value.specs.declared.item.Item.{Item}
@@ -8,6 +8,7 @@ use Rattle.icn_defs.specs.Rows.{Row}
 use Rattle.icn_heap.specs.Extents.{value_in}
 use Rattle.icn_heap.specs.Heaps.{extent_of, heap_of}
 use Rattle.icn_vars.specs.declared.stop.Stop.{Stop}
+use Rattle.icn_vars.specs.declared.stop.Stop.TheVariants as Stops
 use Rattle.icn_vars.specs.declared.world.World.{World}
 use Rattle.icn_vars.specs.Stops.{halt_of}
 use Rattle.icn_vars.specs.Worlds.{item_in, world_of}
@@ -40,7 +41,7 @@ FindsValues w m items vals result =
     (st : Store Frames) (next : List Value → State Frames Frames) → st.world ≡ world_of w
     → MatchResult result
     (λ _. with_values_in w m items st next ≡ next (map (value_in (extent_of w.heap)) vals))
-    (λ stop. HaltsWith (with_values_in w m items st next) st w (halt_of stop))
+    (λ stop. HaltsWith (with_values_in w m items st next) st w (stack_in (extent_of w.heap) m) (halt_of stop))
 
 -- what comes of a row that makes a value
 abbrev pub made_in : Row → World → FlatStack → Store Frames
@@ -54,12 +55,18 @@ MakesValue row w m v result =
     (st : Store Frames) (next : Value → Frames → Store Frames → State Frames Frames) → st.world ≡ world_of w
     → MatchResult result (λ val. made_in row w m st next
     ≡ next (value_in (extent_of v.heap) val) (stack_in (extent_of v.heap) m) (with_world (world_of v) st))
-    (λ stop. HaltsWith (made_in row w m st next) st v (halt_of stop))
+    (λ stop. HaltsWith (made_in row w m st next) st v (stack_in (extent_of v.heap) m) (halt_of stop))
 
 -- the limits stay, and so do the counts of results
 pub record KeepsCounts (w v : World) : Type 0 where
   pub bounds : (heap_of v.heap).bounds ≡ (heap_of w.heap).bounds
   pub coexps : (heap_of v.heap).coexps ≡ (heap_of w.heap).coexps
+
+-- it holds where something is answered, or an error, but not where memory was wanting
+abbrev pub UnlessNoMemory : {A : Type 0} → Result A Stop → Type 0 → Type 0
+UnlessNoMemory (Ok a) P = P
+UnlessNoMemory (Err (Stops.Error number offending)) P = P
+UnlessNoMemory (Err Stops.NoMemory) P = ⊤
 
 -- what comes of a list that is made of the values of items, and pushed
 abbrev pub push_list : World → FlatStack → List Item → Store Frames → State Frames Frames

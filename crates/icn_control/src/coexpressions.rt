@@ -1,5 +1,5 @@
 // Co-expressions that are made.
-ghost use Rattle.std.specs.Prelude.{◌≡◌, ◌<◌, ◌^◌, ℕ, suc, [], length, slice_index, IsSome, IfOk, OnOk, IfErr};
+ghost use Rattle.std.specs.Prelude.{◌≡◌, ◌<◌, ◌^◌, ℕ, suc, [], length, slice_index, IsSome, IfOk, OnOk, OnErr, IfErr};
 ghost use Rattle.icn_value.specs.declared.val.Val.TheVariants.{Coexp as HeldCoexp};
 ghost use Rattle.icn_text.specs.declared.op.Op.TheVariants as Ops;
 ghost use Rattle.icn_value.specs.Store.{Outside};
@@ -107,6 +107,7 @@ pub fn charge_coexp(world: &mut World, locals: u64) -> Result<(), Stop>
         (length (heap_of world.new.heap).coexps ≡ suc (length (heap_of world.old.heap).coexps)) }
     ensures counts { OnOk result ((n : ℕ)
         → slice_index (heap_of world.new.heap).coexps n ≡ slice_index (heap_of world.old.heap).coexps n) }
+    ensures unchanged { OnErr result (heap_of world.new.heap ≡ heap_of world.old.heap) }
 {
     world.heap.charge_coexp(locals)?;
     few_coexps(&world.heap);

@@ -8,6 +8,7 @@ mod failing;
 mod failing_step;
 mod hops;
 mod initial;
+mod kept_errors;
 mod keywords;
 mod leaving;
 mod limits;

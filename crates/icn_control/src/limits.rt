@@ -1,5 +1,5 @@
 // A limit on results, by the value of an operand in the activation that runs.
-ghost use Rattle.std.specs.Prelude.{◌≡◌, ◌<◌, [], IsSome, OnOk, IfErr};
+ghost use Rattle.std.specs.Prelude.{◌≡◌, ◌<◌, [], IsSome, IfErr};
 ghost use Rattle.icn_code.specs.Codes.{Tables};
 ghost use Rattle.icn_code.specs.declared.instr.Instr.TheVariants as Instrs;
 ghost use Rattle.icn_vars.specs.Outcomes.{IsLiveHalt};
@@ -7,6 +7,7 @@ ghost use Rattle.icn_vars.specs.Worlds.{reach_of};
 ghost use Rattle.icn_frames.specs.Stacks as flat;
 ghost use Rattle.icn_control.specs.LiveStacks.{IsLiveStack};
 ghost use Rattle.icn_control.specs.StackAndWorld.{ComesWith, natural_of};
+ghost use Rattle.icn_control.specs.Soundness.{UnlessEnded};
 
 use crate::machine::RunState;
 use crate::values::value_of;
@@ -22,7 +23,7 @@ pub fn limit<K: Stack<Cell> + Drop>(frames: &mut Frames<K>, world: &World) -> Re
     requires live { (tables : Tables) × IsLiveStack tables (reach_of world.now []) frames.old.flat }
     ensures step { ComesWith Instrs.Limit world.now frames.old.flat world.now frames.new.flat result }
     ensures live { (tables : Tables) → IsLiveStack tables (reach_of world.now []) frames.old.flat
-        → OnOk result (IsLiveStack tables (reach_of world.now []) frames.new.flat) }
+        → UnlessEnded result (IsLiveStack tables (reach_of world.now []) frames.new.flat) }
     ensures halt { IfErr result (IsLiveHalt (reach_of world.now [])) }
 {
     let x = frames.pop();

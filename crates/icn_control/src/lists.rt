@@ -1,5 +1,5 @@
 // Lists that are made of operands.
-ghost use Rattle.std.specs.Prelude.{◌≡◌, [], IsSome, OnOk, MatchResult};
+ghost use Rattle.std.specs.Prelude.{◌≡◌, [], IsSome, MatchResult};
 ghost use Rattle.std.specs.List.{All};
 ghost use Rattle.icn_value.specs.Store.{Outside};
 ghost use Rattle.icn_code.specs.Codes.{Tables};
@@ -10,9 +10,11 @@ ghost use Rattle.icn_run.specs.Stacks.{Frames as FramesRead};
 ghost use Rattle.icn_run.specs.Step.{Store};
 ghost use Rattle.icn_control.specs.LiveStacks.{IsLiveStack, with_locals};
 ghost use Rattle.icn_control.specs.Machines.{ComesTo, does, stack_of};
-ghost use Rattle.icn_control.specs.Soundness.{LeavesWorld, IsRunnable, StaysSound};
+ghost use Rattle.icn_control.specs.Soundness.{LeavesWorld, IsRunnable, StaysSound, UnlessEnded};
 ghost use Rattle.icn_control.specs.StackAndWorld.{HaltsWith, RunsWith};
 ghost use Rattle.icn_control.specs.TakenOperands.{push_list, take_operands};
+ghost use Rattle.icn_heap.specs.Heaps.{extent_of};
+ghost use Rattle.icn_control.specs.StackViews.{stack_in};
 
 use crate::machine::{Machine, RunState};
 use crate::operands::take_operands;
@@ -35,9 +37,10 @@ pub fn push_list<K: Stack<Cell> + Drop>(
         items.now }
     ensures step { (st : Store FramesRead) → st.world ≡ world_of world.old → MatchResult result
         (λ _. RunsWith (push_list world.old frames.old.flat items.now st) st world.new frames.new.flat)
-        (HaltsWith (push_list world.old frames.old.flat items.now st) st world.new) }
+        (HaltsWith (push_list world.old frames.old.flat items.now st) st world.new
+        (stack_in (extent_of world.new.heap) frames.new.flat)) }
     ensures live { (tables : Tables) → IsLiveStack tables (reach_of world.old []) frames.old.flat
-        → OnOk result (IsLiveStack tables (reach_of world.new []) frames.new.flat) }
+        → UnlessEnded result (IsLiveStack tables (reach_of world.new []) frames.new.flat) }
     ensures leaves { LeavesWorld world.old world.new result }
 {
     values_of(frames, world, items, vals)?;

@@ -1,5 +1,5 @@
 // The instruction that opens a scan.
-ghost use Rattle.std.specs.Prelude.{◌≡◌, ◌<◌, ◌≤◌, [], Ok, Err, IsSome, IfOk, IfErr, OnOk, MatchResult};
+ghost use Rattle.std.specs.Prelude.{◌≡◌, ◌<◌, [], Ok, Err, IsSome, IfOk, IfErr, OnOk, MatchResult};
 ghost use Rattle.icn_value.specs.declared.val.Val.TheVariants.{Text as TextVal};
 ghost use Rattle.icn_value.specs.Values.{Text};
 ghost use Rattle.icn_defs.specs.StepRows.{text_row};
@@ -15,8 +15,8 @@ ghost use Rattle.icn_run.specs.Step.{Store, scan_opened};
 ghost use Rattle.icn_control.specs.LiveStacks.{IsLiveStack};
 ghost use Rattle.icn_control.specs.StackAndWorld.{DoesWith, RunsWith};
 ghost use Rattle.icn_control.specs.StackViews.{stack_in};
-ghost use Rattle.icn_control.specs.TakenOperands.{KeepsCounts, MakesValue};
-ghost use Rattle.icn_control.specs.Soundness.{KeepsHeap, LeavesWorld};
+ghost use Rattle.icn_control.specs.TakenOperands.{KeepsCounts, MakesValue, UnlessNoMemory};
+ghost use Rattle.icn_control.specs.Soundness.{KeepsHeap, LeavesWorld, UnlessEnded};
 
 use crate::activation::Activation;
 use crate::values::value_of;
@@ -41,13 +41,13 @@ fn subject_of<K: Stack<Cell> + Drop>(
     ensures live { IfOk result (IsText (extent_of world.new.heap)) }
     ensures stops { IfErr result (IsLiveStop (extent_of world.new.heap)) }
     ensures kept { KeepsItems (reach_of world.old []) (reach_of world.new []) }
-    ensures counts { OnOk result (KeepsCounts world.old world.new) }
+    ensures counts { UnlessNoMemory result (KeepsCounts world.old world.new) }
     ensures made { MatchResult result (λ span. MakesValue (text_row (value_in (extent_of world.old.heap) v))
         world.old frames.old.flat world.new (Ok (TextVal span))) (λ stop. MakesValue
         (text_row (value_in (extent_of world.old.heap) v)) world.old frames.old.flat world.new (Err stop)) }
 {
-    check_text(v)?;
     frames.local_count();
+    check_text(v)?;
     let activation = Activation { frames };
     text_of(world, &activation, v)
 }
@@ -86,7 +86,7 @@ pub fn open_scan<K: Stack<Cell> + Drop>(
     requires live { (tables : Tables) × IsLiveStack tables (reach_of world.old []) frames.old.flat }
     ensures step { DoesWith Instrs.Bscan world.old frames.old.flat world.new frames.new.flat result }
     ensures live { (tables : Tables) → IsLiveStack tables (reach_of world.old []) frames.old.flat
-        → OnOk result (IsLiveStack tables (reach_of world.new []) frames.new.flat) }
+        → UnlessEnded result (IsLiveStack tables (reach_of world.new []) frames.new.flat) }
     ensures leaves { LeavesWorld world.old world.new result }
 {
     let x = frames.pop();

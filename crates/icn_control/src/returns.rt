@@ -1,5 +1,5 @@
 // Instructions that end a procedure, or suspend it.
-ghost use Rattle.std.specs.Prelude.{◌≡◌, ◌<◌, ◌≤◌, ℕ, [], false, IsSome, IfSome, IfOk, OnOk, IfErr, MatchResult};
+ghost use Rattle.std.specs.Prelude.{◌≡◌, ◌<◌, ℕ, [], false, IsSome, IfOk, IfErr, MatchResult};
 ghost use Rattle.icn_code.specs.Codes.{Tables};
 ghost use Rattle.icn_code.specs.declared.instr.Instr.TheVariants as Instrs;
 ghost use Rattle.icn_heap.specs.Heaps.{extent_of};
@@ -14,7 +14,7 @@ ghost use Rattle.icn_control.specs.LiveStacks.{IsLiveStack, with_locals};
 ghost use Rattle.icn_control.specs.StackAndWorld.{ComesWith, HaltsWith, StandsWith};
 ghost use Rattle.icn_control.specs.Results.{is_local_item, is_local_root};
 ghost use Rattle.icn_control.specs.StackViews.{instruction_state, stack_in};
-ghost use Rattle.icn_control.specs.Soundness.{KeepsHeap};
+ghost use Rattle.icn_control.specs.Soundness.{KeepsHeap, UnlessEnded};
 
 use crate::machine::RunState;
 use crate::on_stack::put;
@@ -69,7 +69,8 @@ pub fn result_of<K: Stack<Cell> + Drop>(
         (stack_in (extent_of world.now.heap) frames.old.flat) st next
         ≡ next (item_in (extent_of world.now.heap) x))
         (λ stop. HaltsWith (with_result calls (item_in (extent_of world.now.heap) item)
-        (stack_in (extent_of world.now.heap) frames.old.flat) st next) st world.now (halt_of stop)) }
+        (stack_in (extent_of world.now.heap) frames.old.flat) st next) st world.now
+        (stack_in (extent_of world.now.heap) frames.old.flat) (halt_of stop)) }
 {
     if is_local(item) {
         let v = value_of(frames, world, item)?;
@@ -121,7 +122,7 @@ pub fn give_back<K: Stack<Cell> + Drop>(
     requires live { (tables : Tables) × IsLiveStack tables (reach_of world.old []) frames.old.flat }
     ensures step { ComesWith Instrs.Pret world.old frames.old.flat world.new frames.new.flat result }
     ensures live { (tables : Tables) → IsLiveStack tables (reach_of world.old []) frames.old.flat
-        → OnOk result (IsLiveStack tables (reach_of world.new []) frames.new.flat) }
+        → UnlessEnded result (IsLiveStack tables (reach_of world.new []) frames.new.flat) }
     ensures halt { IfErr result (IsLiveHalt (reach_of world.new [])) }
     ensures same { KeepsHeap world.old world.new }
 {
@@ -148,7 +149,7 @@ pub fn suspend_with<K: Stack<Cell> + Drop>(
     requires live { (tables : Tables) × IsLiveStack tables (reach_of world.old []) frames.old.flat }
     ensures step { ComesWith Instrs.Psusp world.old frames.old.flat world.new frames.new.flat result }
     ensures live { (tables : Tables) → IsLiveStack tables (reach_of world.old []) frames.old.flat
-        → OnOk result (IsLiveStack tables (reach_of world.new []) frames.new.flat) }
+        → UnlessEnded result (IsLiveStack tables (reach_of world.new []) frames.new.flat) }
     ensures halt { IfErr result (IsLiveHalt (reach_of world.new [])) }
     ensures same { KeepsHeap world.old world.new }
 {

@@ -54,7 +54,7 @@ fn string_at(code: &Code, index: u32) -> &[u8]
 
 // Keeps a text in the heap of a world, without a charge.
 #[tactic(auto, using(icn_vars::proofs::GrowingWorlds::grows))]
-fn hold(world: &mut World, bytes: &[u8]) -> Result<Span, AllocError>
+pub fn hold(world: &mut World, bytes: &[u8]) -> Result<Span, AllocError>
     ensures live { IfOk result (IsText (extent_of world.new.heap)) }
     ensures bytes { IfOk result (λ span. text_in (extent_of world.new.heap) span ≡ bytes.now) }
     ensures kept { KeepsItems (reach_of world.old []) (reach_of world.new []) }

@@ -1,5 +1,5 @@
 // The values of operands.
-ghost use Rattle.std.specs.Prelude.{◌≡◌, ◌<◌, ◌≤◌, ◌++◌, ◌∷◌, [], map, OnOk, IfOk, IfErr};
+ghost use Rattle.std.specs.Prelude.{◌≡◌, ◌<◌, ◌++◌, ◌∷◌, [], map, OnOk, IfOk, IfErr};
 ghost use Rattle.std.specs.List.{All};
 ghost use Rattle.icn_code.specs.Codes.{Tables};
 ghost use Rattle.icn_heap.specs.Extents.{IsLive, value_in};
@@ -13,7 +13,7 @@ ghost use Rattle.icn_run.specs.Step.{Store, here};
 ghost use Rattle.icn_control.specs.LiveStacks.{IsLiveStack, with_locals};
 ghost use Rattle.icn_control.specs.StackAndWorld.{FindsValue};
 ghost use Rattle.icn_control.specs.StackViews.{stack_in};
-ghost use Rattle.icn_control.specs.TakenOperands.{FindsValues, KeepsCounts, MakesValue};
+ghost use Rattle.icn_control.specs.TakenOperands.{FindsValues, KeepsCounts, MakesValue, UnlessNoMemory};
 
 use crate::activation::Activation;
 use icn_args::new_list;
@@ -92,7 +92,7 @@ pub fn list_of<K: Stack<Cell> + Drop>(
     ensures live { IfOk result (IsLive (extent_of world.new.heap)) }
     ensures stops { IfErr result (IsLiveStop (extent_of world.new.heap)) }
     ensures kept { KeepsItems (reach_of world.old []) (reach_of world.new []) }
-    ensures counts { OnOk result (KeepsCounts world.old world.new) }
+    ensures counts { UnlessNoMemory result (KeepsCounts world.old world.new) }
     ensures made { MakesValue (list_row (map (value_in (extent_of world.old.heap)) vals.now)) world.old
         frames.old.flat world.new result }
 {

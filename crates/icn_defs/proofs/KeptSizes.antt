@@ -7,7 +7,7 @@ use Rattle.icn_text.specs.declared.op.Op.{Op}
 use Rattle.icn_text.specs.declared.op.Op.TheVariants as Ops
 use Rattle.icn_text.specs.declared.func.Func.{Func}
 use Rattle.icn_text.specs.declared.func.Func.TheVariants as Funcs
-use Rattle.icn_value.specs.Values.{Value, Root, Global, Static, Local, Element, Field, Key, Keyword, KeywordVariable, Subject, Position, Random, Variable, Whole, Part, Item, Val, Var}
+use Rattle.icn_value.specs.Values.{Value, Root, Global, Static, Local, Element, Field, Key, Keyword, KeywordVariable, Subject, Position, Random, ErrorCount, Variable, Whole, Part, Item, Val, Var}
 use Rattle.icn_value.specs.Store.{Setting, Heap, Names, having_position, having_heap}
 use Rattle.icn_defs.specs.Conversions.{integer_of, place_of, ValueGroup, Textual, Listed, Collected, Tabled, Recorded, Filed, Activated, Single}
 use Rattle.icn_defs.specs.Rows.{Row, Outcome, Fails, Gives, Suspends, Error, Ends, Residual, TextBytes, VariableBytes, ListItems, SetMembers, TableValues, TableKeys, RecordFields, InputLines, UndoAssign, UndoExchange, UndoPosition, Counting, Sequence, Balanced, Found, Among, Mover, Neither, Left, Right, check, present, number_or_error, passing, thing_or_failure, natural, costs_made, gives_list}
@@ -26,8 +26,8 @@ use Rattle.icn_defs.specs.KeptSizes.{KeepsSizes, KeepsIn}
 pub record OutcomeKeepsSizes (b : Setting) (o : Outcome) : Type 0 where
   pub is : KeepsIn b o
 
-pub k_error : (b : Setting) (n : ℕ) (v : Option Value) (s : Setting) → OutcomeKeepsSizes b (Error n v s)
-k_error b n v s = record { is = tt }
+pub k_error : (b : Setting) (n : ℕ) (v : Option Value) (s : Setting) → KeepsSizes b s → OutcomeKeepsSizes b (Error n v s)
+k_error b n v s k = record { is = k }
 
 pub k_ends : (b : Setting) (n : ℕ) (s : Setting) → OutcomeKeepsSizes b (Ends n s)
 k_ends b n s = record { is = tt }
@@ -52,20 +52,20 @@ follows b s a k e g h f = record { locals = e ∙ k.locals; globals = g ∙ k.gl
 
 -- Words
 
-pub k_check : (b : Setting) (t : Bool) (n : ℕ) (v : Option Value) (next : Row) (a : Setting) → OutcomeKeepsSizes b (next a)
+pub k_check : (b : Setting) (t : Bool) (n : ℕ) (v : Option Value) (next : Row) (a : Setting) → KeepsSizes b a → OutcomeKeepsSizes b (next a)
     → OutcomeKeepsSizes b (check t n v next a)
-k_check b true n v next a f = f
-k_check b false n v next a f = record { is = tt }
+k_check b true n v next a k f = f
+k_check b false n v next a k f = record { is = k }
 
-pub k_present : {A : Type 0} (b : Setting) (o : Option A) (n : ℕ) (v : Option Value) (next : A → Row) (a : Setting) → ((x : A) → OutcomeKeepsSizes b (next x a))
-    → OutcomeKeepsSizes b (present o n v next a)
-k_present b (Some x) n v next a f = f x
-k_present b None n v next a f = record { is = tt }
+pub k_present : {A : Type 0} (b : Setting) (o : Option A) (n : ℕ) (v : Option Value) (next : A → Row) (a : Setting) → KeepsSizes b a
+    → ((x : A) → OutcomeKeepsSizes b (next x a)) → OutcomeKeepsSizes b (present o n v next a)
+k_present b (Some x) n v next a k f = f x
+k_present b None n v next a k f = record { is = k }
 
-pub k_computed : (b : Setting) (o : Result ℤ Arith) (next : ℤ → Row) (a : Setting) → ((x : ℤ) → OutcomeKeepsSizes b (next x a))
+pub k_computed : (b : Setting) (o : Result ℤ Arith) (next : ℤ → Row) (a : Setting) → KeepsSizes b a → ((x : ℤ) → OutcomeKeepsSizes b (next x a))
     → OutcomeKeepsSizes b (number_or_error o next a)
-k_computed b (Ok x) next a f = f x
-k_computed b (Err why) next a f = record { is = tt }
+k_computed b (Ok x) next a k f = f x
+k_computed b (Err why) next a k f = record { is = k }
 
 pub k_passing : (b : Setting) (t : Bool) (next : Row) (a : Setting) → KeepsSizes b a → OutcomeKeepsSizes b (next a) → OutcomeKeepsSizes b (passing t next a)
 k_passing b true next a k f = f
@@ -76,10 +76,10 @@ pub k_found : {A : Type 0} (b : Setting) (o : Option A) (next : A → Row) (a : 
 k_found b (Some x) next a k f = f x
 k_found b None next a k f = record { is = k }
 
-pub k_natural : (b : Setting) (n : ℤ) (v : Value) (next : ℕ → Row) (a : Setting) → ((x : ℕ) → OutcomeKeepsSizes b (next x a))
+pub k_natural : (b : Setting) (n : ℤ) (v : Value) (next : ℕ → Row) (a : Setting) → KeepsSizes b a → ((x : ℕ) → OutcomeKeepsSizes b (next x a))
     → OutcomeKeepsSizes b (natural n v next a)
-k_natural b (pos n) v next a f = f n
-k_natural b (negsuc n) v next a f = record { is = tt }
+k_natural b (pos n) v next a k f = f n
+k_natural b (negsuc n) v next a k f = record { is = k }
 
 pub ruleset first_words = (k_error, k_ends, k_gives, k_suspends, k_fails, follows, k_check, k_present, k_computed, k_passing, k_found, k_natural, length-set)
 
@@ -93,25 +93,26 @@ pub k_unless : (b : Setting) (t : Bool) (next : Row) (a : Setting) → KeepsSize
 k_unless b true next a k f = f a k
 k_unless b false next a k f = search (first_words, f)
 
-pub k_reads : (b : Setting) (x : Variable) (next : Value → Row) (a : Setting) → ((v : Value) → OutcomeKeepsSizes b (next v a))
+pub k_reads : (b : Setting) (x : Variable) (next : Value → Row) (a : Setting) → KeepsSizes b a → ((v : Value) → OutcomeKeepsSizes b (next v a))
     → OutcomeKeepsSizes b (reads x next a)
-k_reads b (Whole root) next a f = search (first_words, f)
-k_reads b (Part root place size) next a f = search (first_words, f)
+k_reads b (Whole root) next a k f = search (first_words, f)
+k_reads b (Part root place size) next a k f = search (first_words, f)
 
-pub k_value : (b : Setting) (x : Item) (next : Value → Row) (a : Setting) → ((v : Value) → OutcomeKeepsSizes b (next v a))
+pub k_value : (b : Setting) (x : Item) (next : Value → Row) (a : Setting) → KeepsSizes b a → ((v : Value) → OutcomeKeepsSizes b (next v a))
     → OutcomeKeepsSizes b (the_value x next a)
-k_value b (Val v) next a f = f v
-k_value b (Var x) next a f = k_reads b x next a f
+k_value b (Val v) next a k f = f v
+k_value b (Var x) next a k f = k_reads b x next a k f
 
-k_values : (b : Setting) (xs : List Item) (next : List Value → Row) (a : Setting) → ((vs : List Value) → OutcomeKeepsSizes b (next vs a))
+k_values : (b : Setting) (xs : List Item) (next : List Value → Row) (a : Setting) → KeepsSizes b a → ((vs : List Value) → OutcomeKeepsSizes b (next vs a))
     → OutcomeKeepsSizes b (the_values xs next a)
-k_values b [] next a f = f []
-k_values b (x ∷ xs) next a f = k_value b x (λ v. the_values xs (λ vs. next (v ∷ vs))) a (λ v. k_values b xs (λ vs. next (v ∷ vs)) a (λ vs. f (v ∷ vs)))
+k_values b [] next a k f = f []
+k_values b (x ∷ xs) next a k f =
+    k_value b x (λ v. the_values xs (λ vs. next (v ∷ vs))) a k (λ v. k_values b xs (λ vs. next (v ∷ vs)) a k (λ vs. f (v ∷ vs)))
 
-pub k_variable : (b : Setting) (x : Item) (next : Variable → Row) (a : Setting) → ((v : Variable) → OutcomeKeepsSizes b (next v a))
+pub k_variable : (b : Setting) (x : Item) (next : Variable → Row) (a : Setting) → KeepsSizes b a → ((v : Variable) → OutcomeKeepsSizes b (next v a))
     → OutcomeKeepsSizes b (the_variable x next a)
-k_variable b (Val v) next a f = record { is = tt }
-k_variable b (Var x) next a f = f x
+k_variable b (Val v) next a k f = record { is = k }
+k_variable b (Var x) next a k f = f x
 
 pub ruleset words = (first_words, k_made, k_unless, k_reads, k_value, k_variable)
 
@@ -130,9 +131,10 @@ k_keyword b refused Position value next a k r f = by_number (integer_of value) r
         rw e (rw g (f (having_position place a) (record { locals = k.locals; globals = k.globals; statics = k.statics; bounds = k.bounds })))
 
     by_number : (o : Option ℤ) → integer_of value ≡ o → OutcomeKeepsSizes b (assigns_keyword refused Position value next a)
-    by_number None e = rw e (record { is = tt })
+    by_number None e = rw e (record { is = k })
     by_number (Some n) e = by_place n e (place_of n (length a.world.subject)) refl
 k_keyword b refused Random value next a k r f = search (words, f)
+k_keyword b refused ErrorCount value next a k r f = search (words, f)
 
 local_set : (a b : Setting) (place : ℕ) (value : Value) → KeepsSizes b a → KeepsSizes b (record a { locals = slice_set a.locals place value })
 local_set a b place value k = record { locals = length-set a.locals place value ∙ k.locals; globals = k.globals; statics = k.statics; bounds = k.bounds }
@@ -166,22 +168,22 @@ k_assigns : (b : Setting) (refused : Row) (x : Variable) (value : Value) (next :
 k_assigns b refused (Whole root) value next a k r f = k_root b refused root value (next (Whole root)) a k r (f (Whole root))
 k_assigns b refused (Part root place size) value next a k r f = search (words, k_root, r, f) depth 12
 
-k_moved : (b : Setting) (old new : ℕ) (x : Variable) (next : Variable → Row) (a : Setting) → ((v : Variable) → OutcomeKeepsSizes b (next v a))
+k_moved : (b : Setting) (old new : ℕ) (x : Variable) (next : Variable → Row) (a : Setting) → KeepsSizes b a → ((v : Variable) → OutcomeKeepsSizes b (next v a))
     → OutcomeKeepsSizes b (move_part old new x next a)
-k_moved b old new (Whole root) next a f = f (Whole root)
-k_moved b old new (Part root place size) next a f = search (words, f)
+k_moved b old new (Whole root) next a k f = f (Whole root)
+k_moved b old new (Part root place size) next a k f = search (words, f)
 
-k_moved_left : (b : Setting) (m : Mover) (old new : ℕ) (x : Variable) (next : Variable → Row) (a : Setting) → ((v : Variable) → OutcomeKeepsSizes b (next v a))
-    → OutcomeKeepsSizes b (moved_by_left m old new x next a)
-k_moved_left b Neither old new x next a f = f x
-k_moved_left b Left old new x next a f = k_moved b old new x next a f
-k_moved_left b Right old new x next a f = f x
+k_moved_left : (b : Setting) (m : Mover) (old new : ℕ) (x : Variable) (next : Variable → Row) (a : Setting) → KeepsSizes b a
+    → ((v : Variable) → OutcomeKeepsSizes b (next v a)) → OutcomeKeepsSizes b (moved_by_left m old new x next a)
+k_moved_left b Neither old new x next a k f = f x
+k_moved_left b Left old new x next a k f = k_moved b old new x next a k f
+k_moved_left b Right old new x next a k f = f x
 
-k_moved_right : (b : Setting) (m : Mover) (old new : ℕ) (x : Variable) (next : Variable → Row) (a : Setting) → ((v : Variable) → OutcomeKeepsSizes b (next v a))
-    → OutcomeKeepsSizes b (moved_by_right m old new x next a)
-k_moved_right b Neither old new x next a f = f x
-k_moved_right b Left old new x next a f = f x
-k_moved_right b Right old new x next a f = k_moved b old new x next a f
+k_moved_right : (b : Setting) (m : Mover) (old new : ℕ) (x : Variable) (next : Variable → Row) (a : Setting) → KeepsSizes b a
+    → ((v : Variable) → OutcomeKeepsSizes b (next v a)) → OutcomeKeepsSizes b (moved_by_right m old new x next a)
+k_moved_right b Neither old new x next a k f = f x
+k_moved_right b Left old new x next a k f = f x
+k_moved_right b Right old new x next a k f = k_moved b old new x next a k f
 
 k_both : (b : Setting) (refused : Row) (m : Mover) (x y : Variable) (v w : Value) (next : Variable × Variable → Row) (a : Setting) → KeepsSizes b a
     → ((s : Setting) → KeepsSizes b s → OutcomeKeepsSizes b (refused s))
@@ -227,7 +229,7 @@ k_random_of b x v Single a k = search (words) depth 12
 
 k_random_number : (b : Setting) (v : Value) (n : ℤ) (a : Setting) → KeepsSizes b a → OutcomeKeepsSizes b (random_number v n a)
 k_random_number b v (pos n) a k = search (words)
-k_random_number b v (negsuc n) a k = record { is = tt }
+k_random_number b v (negsuc n) a k = record { is = k }
 
 k_random_by : (b : Setting) (x : Item) (v : Value) (o : Option ℤ) (a : Setting) → KeepsSizes b a → OutcomeKeepsSizes b (random_by x v o a)
 k_random_by b x v (Some n) a k = k_random_number b v n a k
@@ -292,7 +294,7 @@ k_table_sorted b names h xs (pos (suc zero)) v a k = search (words, k_pairs)
 k_table_sorted b names h xs (pos (suc (suc zero))) v a k = search (words, k_pairs)
 k_table_sorted b names h xs (pos (suc (suc (suc zero)))) v a k = search (words)
 k_table_sorted b names h xs (pos (suc (suc (suc (suc zero))))) v a k = search (words)
-k_table_sorted b names h xs n v a k = record { is = tt }
+k_table_sorted b names h xs n v a k = record { is = k }
 
 k_sorted : (b : Setting) (names : Names) (v : Value) (n : ℤ) (w : Value) (g : ValueGroup) (a : Setting) → KeepsSizes b a
     → OutcomeKeepsSizes b (sorted_of names v n w g a)
@@ -305,10 +307,10 @@ k_sorted b names v n w (Filed file) a k = search words depth 12
 k_sorted b names v n w (Activated id) a k = search words depth 12
 k_sorted b names v n w Single a k = search words depth 12
 
-k_pieces : (b : Setting) (vs : List Value) (next : List WriteArgument → Row) (a : Setting) → ((ps : List WriteArgument) → OutcomeKeepsSizes b (next ps a))
-    → OutcomeKeepsSizes b (pieces vs next a)
-k_pieces b [] next a f = f []
-k_pieces b (v ∷ vs) next a f = search (words, k_pieces b vs, f)
+k_pieces : (b : Setting) (vs : List Value) (next : List WriteArgument → Row) (a : Setting) → KeepsSizes b a
+    → ((ps : List WriteArgument) → OutcomeKeepsSizes b (next ps a)) → OutcomeKeepsSizes b (pieces vs next a)
+k_pieces b [] next a k f = f []
+k_pieces b (v ∷ vs) next a k f = search (words, k_pieces b vs, f)
 
 -- All rows
 
@@ -414,6 +416,7 @@ k_function b names Funcs.TypeOf vs a k = search rows depth 16
 k_function b names Funcs.Upto vs a k = search rows depth 16
 k_function b names Funcs.Write vs a k = search rows depth 16
 k_function b names Funcs.Writes vs a k = search rows depth 16
+k_function b names Funcs.ErrorClear vs a k = search rows depth 16
 
 k_again : (b : Setting) (r : Residual) (a : Setting) → KeepsSizes b a → OutcomeKeepsSizes b (again r a)
 k_again b (TextBytes text place) a k = search rows depth 16
@@ -441,7 +444,7 @@ pub operation_keeps : (op : Op) (xs : List Item) (a : Setting) → KeepsIn a (op
 operation_keeps op xs a = (k_operation a op _ _ _ a (self a)).is
 
 pub function_keeps : (names : Names) (f : Func) (xs : List Item) (a : Setting) → KeepsIn a (function_row names f xs a)
-function_keeps names f xs a = (k_values a xs (function_of names f) a (λ vs. k_function a names f vs a (self a))).is
+function_keeps names f xs a = (k_values a xs (function_of names f) a (self a) (λ vs. k_function a names f vs a (self a))).is
 
 pub again_keeps : (r : Residual) (a : Setting) → KeepsIn a (again r a)
 again_keeps r a = (k_again a r a (self a)).is

@@ -5,3 +5,4 @@ pub mod FoundFacts
 pub mod KeptSizes
 pub mod OneObservation
 pub mod Interruptions
+pub mod OnErrors

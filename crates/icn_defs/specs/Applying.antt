@@ -3,7 +3,7 @@ use Rattle.std.specs.Prelude.{◌+◌, ℕ, List, slice_get, unwrap_or}
 use Rattle.icn_text.specs.declared.op.Op.{Op}
 use Rattle.icn_text.specs.declared.op.Op.TheVariants.{IsNull, IsNotNull, Dereference, Number, Negate, Size, Complement, Elements, Random, TabMatch, Refresh, Add, Subtract, Multiply, Divide, Remainder, Power, Less, LessOrEqual, Equal, GreaterOrEqual, Greater, NotEqual, LexicallyLess, LexicallyLessOrEqual, LexicallyEqual, LexicallyGreaterOrEqual, LexicallyGreater, LexicallyNotEqual, Equivalent, NotEquivalent, Concatenate, ConcatenateLists, Union, Difference, Intersection, Assign, Swap, ReversibleAssign, ReversibleSwap, Subscript, Section, SectionPlus, SectionMinus, ToBy}
 use Rattle.icn_text.specs.declared.func.Func.{Func}
-use Rattle.icn_text.specs.declared.func.Func.TheVariants.{Abs, Any, Bal, Center, Char, Copy, Cset, Delete, Exit, Find, Get, Iand, Icom, Image, Insert, Integer as IntegerF, Ior, Ishift, Ixor, Key, Left, List as ListF, Many, Map, Match, Member, Move, Numeric, Ord, Pop, Pos, Pull, Push, Put, Read, Reads, Repl, Reverse, Right, Seq, Set, Sort, Stop, String, Tab, Table, Trim, TypeOf, Upto, Write, Writes}
+use Rattle.icn_text.specs.declared.func.Func.TheVariants.{Abs, Any, Bal, Center, Char, Copy, Cset, Delete, Exit, Find, Get, Iand, Icom, Image, Insert, Integer as IntegerF, Ior, Ishift, Ixor, Key, Left, List as ListF, Many, Map, Match, Member, Move, Numeric, Ord, Pop, Pos, Pull, Push, Put, Read, Reads, Repl, Reverse, Right, Seq, Set, Sort, Stop, String, Tab, Table, Trim, TypeOf, Upto, Write, Writes, ErrorClear}
 use Rattle.icn_value.specs.Values.{Value, Null, Item, Val}
 use Rattle.icn_value.specs.Store.{Names}
 use Rattle.icn_defs.specs.Rows.{◌>>=◌, Row, fails, Residual, TextBytes, VariableBytes, ListItems, SetMembers, TableValues, TableKeys, RecordFields, InputLines, UndoAssign, UndoExchange, UndoPosition, Counting, Sequence, Balanced, Found, Among}
@@ -16,6 +16,7 @@ use Rattle.icn_defs.specs.Variables.{assign_row, swap_row, reversible_assign_row
 use Rattle.icn_defs.specs.Scanning.{any_row, bal_row, find_row, many_row, match_row, move_row, pos_row, tab_row, upto_row, tab_match_row, undo_position_again, balanced_again, found_from, among_from}
 use Rattle.icn_defs.specs.Strings.{abs_row, center_row, char_row, cset_row, iand_row, icom_row, image_row, integer_row, ior_row, ishift_row, ixor_row, left_row, map_row, ord_row, repl_row, reverse_row, right_row, seq_row, string_row, trim_row, type_row, sequence_again}
 use Rattle.icn_defs.specs.Structures.{copy_row, delete_row, get_row, insert_row, key_row, list_row, member_row, pull_row, push_row, put_row, set_row, sort_row, table_row, table_keys_from}
+use Rattle.icn_defs.specs.ErrorRows.{errorclear_row}
 use Rattle.icn_defs.specs.InputOutput.{exit_row, read_row, reads_row, stop_row, write_row, writes_row}
 
 -- An operation on up to three operands. The refreshing of a co-expression is no row here; it fails.
@@ -127,6 +128,7 @@ function_of names TypeOf args = type_row names args
 function_of names Upto args = upto_row args
 function_of names Write args = write_row args
 function_of names Writes args = writes_row args
+function_of names ErrorClear args = errorclear_row
 
 -- A function is applied: all its arguments are dereferenced first.
 abbrev pub function_row : Names → Func → List Item → Row

@@ -9,7 +9,7 @@ use Rattle.icn_defs.specs.Rows.{Finds, present}
 abbrev pub value_or : Value → Value → Value
 value_or default value = if is_null value then default else value
 
--- the argument at this place, which is null where it is missing; and with another value where it is null
+-- the argument at this place, which is null where it is missing
 abbrev pub arg : List Value → ℕ → Value
 arg values place = value_at values place
 

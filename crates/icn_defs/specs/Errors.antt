@@ -1,8 +1,8 @@
--- The texts of run-time errors, and the report of one.
-use Rattle.std.specs.Prelude.{◌==◌, ℕ, List, [], ◌∷◌, ◌++◌, Option, None, Some, unwrap_or, codes, decimal}
+-- The texts of run-time errors, the report of one, and which of them become failure.
+use Rattle.std.specs.Prelude.{◌==◌, ◌-◌, ◌^◌, ◌||◌, ℕ, zero, suc, ℤ, pos, negsuc, Bool, true, false, nat_lt, List, [], ◌∷◌, ◌++◌, Option, None, Some, unwrap_or, codes, decimal, if◌then◌else◌}
 use Rattle.std.specs.Map.{lookup}
 use Rattle.icn_value.specs.Values.{Value}
-use Rattle.icn_value.specs.Store.{Names, Heap}
+use Rattle.icn_value.specs.Store.{Names, Heap, World, KeptError}
 use Rattle.icn_defs.specs.Images.{image}
 
 abbrev pub error_texts : List (ℕ × List ℕ)
@@ -42,3 +42,37 @@ abbrev pub error_report : Names → Heap → ℕ → Option Value → List ℕ
 error_report names heap number offending =
     codes "Run-time error " ++ (decimal number ++ (codes "\n" ++ (error_text number ++ (codes "\n"
     ++ offending_line names heap offending))))
+
+-- Errors that become failure
+
+-- the errors that end the run whatever `&error` is
+abbrev pub is_fatal : ℕ → Bool
+is_fatal number = number == 117 || (number == 301 || (number == 306 || number == 307))
+
+-- whether an error of this number ends the run, where `&error` is this
+abbrev pub ends_run : ℕ → ℤ → Bool
+ends_run number (pos zero) = true
+ends_run number (pos (suc count)) = is_fatal number
+ends_run number (negsuc count) = is_fatal number
+
+-- one less, but that the least integer of 64 bits stays
+abbrev pub lowered : ℤ → ℤ
+lowered (pos zero) = negsuc zero
+lowered (pos (suc count)) = pos count
+lowered (negsuc count) = if nat_lt count (2 ^ 63 - 1) then negsuc (suc count) else negsuc count
+
+-- the error is kept, with the value that it is about, and `&error` is lowered
+abbrev pub with_kept : ℕ → Option Value → World → World
+with_kept number offending world =
+    record world { error = lowered world.error; kept = Some (record { number = number; value = offending }) }
+
+-- an error that ends the run, or one that becomes failure
+abbrev pub ended_or_failed : {S : Type 0} → Bool → ℕ → Option Value → World → S → (World → S) → S
+ended_or_failed true number offending world ended failed = ended
+ended_or_failed false number offending world ended failed = failed (with_kept number offending world)
+
+-- What goes on where a row comes to an error, after what the row did: the run ends by it, or it becomes
+-- failure. This is the one place where that is decided.
+abbrev pub on_error : {S : Type 0} → ℕ → Option Value → World → S → (World → S) → S
+on_error number offending world ended failed =
+    ended_or_failed (ends_run number world.error) number offending world ended failed

@@ -74,7 +74,7 @@ escape_of quote byte =
 abbrev pub in_quotes : ℕ → List ℕ → List ℕ
 in_quotes quote text = quote ∷ (flat_map (escape_of quote) text ++ quote ∷ [])
 
--- the csets that keywords give
+-- `&ucase`
 abbrev pub ucase : List ℕ
 ucase = range_with_len 65 26
 

@@ -9,10 +9,10 @@ pub record KeepsSizes (before after : Setting) : Type 0 where
   pub statics : length after.world.statics ≡ length before.world.statics
   pub bounds : after.world.heap.bounds ≡ before.world.heap.bounds
 
--- where a row goes on, its setting keeps them
+-- where a row goes on or comes to an error, its setting keeps them
 abbrev pub KeepsIn : Setting → Outcome → Type 0
 KeepsIn before (Fails seen) = KeepsSizes before seen
 KeepsIn before (Gives item seen) = KeepsSizes before seen
 KeepsIn before (Suspends item residual seen) = KeepsSizes before seen
-KeepsIn before (Error number value seen) = Unit {0}
+KeepsIn before (Error number value seen) = KeepsSizes before seen
 KeepsIn before (Ends status seen) = Unit {0}

@@ -14,6 +14,7 @@ pub mod Scanning
 pub mod Strings
 pub mod Structures
 pub mod InputOutput
+pub mod ErrorRows
 pub mod Applying
 pub mod RowFacts
 pub mod Calls

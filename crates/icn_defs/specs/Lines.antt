@@ -45,13 +45,13 @@ next_bytes count next = do
   costs_bytes (length bytes)
   next bytes
 
--- the lines of a file: 212 where it is not the input
+-- the next line of the input, and then those behind it
 abbrev pub lines_again : Row
 lines_again = do
   line ← next_line
   suspends (Val (Text line)) InputLines
 
--- `!f`
+-- `!f`: 212 where the file is not the input
 abbrev pub lines_row : File → Row
 lines_row file = do
   check (is_input file) 212 (Some (Std file))

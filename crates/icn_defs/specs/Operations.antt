@@ -48,7 +48,7 @@ complement_row x = do
 
 -- Comparisons
 
--- `s << t` and the like: the right string, or it fails
+-- a comparison of two texts: the right string, or it fails
 abbrev pub text_comparison_row : (List ℕ → List ℕ → Bool) → Item → Item → Row
 text_comparison_row test x y = do
   v ← the_value x
@@ -83,7 +83,7 @@ lexically_greater_row x y = text_comparison_row (λ s t. is_gt (slice_cmp nat_cm
 abbrev pub lexically_not_equal_row : Item → Item → Row
 lexically_not_equal_row x y = text_comparison_row (λ s t. is_ne (slice_cmp nat_cmp s t)) x y
 
--- `x === y`, `x ~=== y`: the right value, or it fails
+-- a test of whether two values are equal: the right value, or it fails
 abbrev pub equivalence_row : (Bool → Bool) → Item → Item → Row
 equivalence_row test x y = do
   v ← the_value x
@@ -155,11 +155,11 @@ set_row on_sets on_bytes x y = do
   w ← the_value y
   sets_or_csets on_sets on_bytes v w (two_sets (set_of v) (set_of w))
 
--- the members that are, and those that are not, in another set
+-- the members that are in another set
 abbrev pub intersection : List Value → List Value → List Value
 intersection first second = filter (has_value second) first
 
--- those that are not in another set
+-- the members that are not in another set
 abbrev pub difference : List Value → List Value → List Value
 difference first second = filter (λ value. not (has_value second value)) first
 

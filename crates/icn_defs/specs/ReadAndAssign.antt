@@ -3,18 +3,19 @@ use Rattle.std.specs.Prelude.{◌==◌, ◌&&◌, ◌+◌, ◌-◌, ◌^◌, ◌
 use Rattle.std.specs.Int.{w64, cast_unsigned}
 use Rattle.icn_structs.specs.Numbered.{item_numbered, with_numbered}
 use Rattle.icn_structs.specs.PairLists.{value_of, with_value_of}
-use Rattle.icn_value.specs.Values.{Value, Null, Integer, Text, Root, Global, Static, Local, Element, Field, Key, Keyword, KeywordVariable, Subject, Position, Random, Variable, Whole, Part, Item, Val, Var}
-use Rattle.icn_value.specs.Store.{Setting, Table, list_at, table_at, record_at, value_at, with_list, with_table, with_record, having_globals, having_statics, having_subject, having_position, having_random}
+use Rattle.icn_value.specs.Values.{Value, Null, Integer, Text, Root, Global, Static, Local, Element, Field, Key, Keyword, KeywordVariable, Subject, Position, Random, ErrorCount, Variable, Whole, Part, Item, Val, Var}
+use Rattle.icn_value.specs.Store.{Setting, Table, list_at, table_at, record_at, value_at, with_list, with_table, with_record, having_globals, having_statics, having_subject, having_position, having_random, having_error}
 use Rattle.icn_defs.specs.Conversions.{same, text_of, integer_of, held_text, place_of}
 use Rattle.icn_defs.specs.Rows.{◌>>=◌, ◌>>◌, Row, Finds, Mover, Neither, Left, Right, fails, wrong, check, present, here, changes, changes_heap, costs_bytes, costs_cells, costs_text}
 
 -- Reading
 
--- what `&subject`, `&pos` and `&random` hold
+-- what `&subject`, `&pos`, `&random` and `&error` hold
 abbrev pub keyword_value : Setting → KeywordVariable → Value
 keyword_value setting Subject = Text setting.world.subject
 keyword_value setting Position = Integer (pos setting.world.position)
 keyword_value setting Random = Integer (pos setting.world.random)
+keyword_value setting ErrorCount = Integer setting.world.error
 
 -- the value of a key that is there, else the default
 abbrev pub table_value : Table → Value → Value
@@ -75,7 +76,7 @@ the_variable (Var variable) next = next variable
 -- Assigning. Where `&pos` would be out of range it goes on as is said first, which is to fail, and in an
 -- undo error 205.
 
--- `&subject` wants a string, and sets `&pos` to 1; `&pos` and `&random` want integers
+-- `&subject` wants a string, and sets `&pos` to 1; the other keywords want integers
 abbrev pub assigns_keyword : Row → KeywordVariable → Value → Row → Row
 assigns_keyword refused Subject value next = do
   text ← present (text_of value) 103 (Some value)
@@ -93,6 +94,10 @@ assigns_keyword refused Position value next = do
 assigns_keyword refused Random value next = do
   n ← present (integer_of value) 101 (Some value)
   changes (having_random (cast_unsigned w64 n % 2 ^ 31))
+  next
+assigns_keyword refused ErrorCount value next = do
+  n ← present (integer_of value) 101 (Some value)
+  changes (having_error n)
   next
 
 -- what is new costs a cell
@@ -172,6 +177,7 @@ abbrev pub word_number : KeywordVariable → ℕ
 word_number Subject = 0
 word_number Position = 1
 word_number Random = 2
+word_number ErrorCount = 3
 
 -- the place or the structure of a root
 abbrev pub root_place : Root → ℕ

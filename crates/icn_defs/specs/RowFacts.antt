@@ -1,14 +1,15 @@
 -- What holds of each setting, item and residual that a row is given, and of those that it leaves. Each fact
 -- is a test.
-use Rattle.std.specs.Prelude.{ℕ, pos, int_le, not, [], ◌∷◌, ◌+◌, ◌^◌, ◌&&◌, ◌+ℤ◌, nat_lt, nat_le, Bool, true, List, length, is_some, Option, None, Some}
+use Rattle.std.specs.Prelude.{◌==◌, ℕ, pos, int_le, not, [], ◌∷◌, ◌+◌, ◌^◌, ◌&&◌, ◌+ℤ◌, nat_lt, nat_le, Bool, true, List, length, is_some, Option, None, Some}
 use Rattle.std.specs.List.{list_all}
-use Rattle.std.specs.Map.{keys_of}
+use Rattle.std.specs.Map.{keys_of, lookup}
 use Rattle.std.specs.Str.{bytes_eq}
 use Rattle.icn_profile.specs.Numbers.{most_cells, most_strings}
 use Rattle.icn_structs.specs.Numbered.{NumberedList}
-use Rattle.icn_value.specs.Values.{Value, Null, Integer, Text, Chars, Std, Procedure, ARecord, AList, ASet, ATable, ACoexp, KeywordVariable, Subject, Position, Random, Root, Global, Static, Local, Element, Field, Key, Keyword, Variable, Whole, Part, Item, Val, Var}
-use Rattle.icn_value.specs.Store.{Table, Record, Heap, World, Setting, Names, record_at}
+use Rattle.icn_value.specs.Values.{Value, Null, Integer, Text, Chars, Std, Procedure, ARecord, AList, ASet, ATable, ACoexp, KeywordVariable, Subject, Position, Random, ErrorCount, Root, Global, Static, Local, Element, Field, Key, Keyword, Variable, Whole, Part, Item, Val, Var}
+use Rattle.icn_value.specs.Store.{Table, Record, Heap, KeptError, World, Setting, Names, record_at}
 use Rattle.icn_defs.specs.Conversions.{has_value, fits, contains, members, held_text, held_integer}
+use Rattle.icn_defs.specs.Errors.{error_texts}
 use Rattle.icn_defs.specs.Images.{functions}
 use Rattle.icn_defs.specs.Rows.{Residual, TextBytes, VariableBytes, ListItems, SetMembers, TableValues, TableKeys, RecordFields, InputLines, UndoAssign, UndoExchange, UndoPosition, Counting, Sequence, Balanced, Found, Among, Outcome, Fails, Gives, Suspends, Error, Ends}
 
@@ -101,13 +102,28 @@ is_heap names heap =
     && (list_all (is_table names heap) heap.tables && (list_all (is_record names heap) heap.records
     && list_all (λ count. nat_lt count (2 ^ 63)) heap.coexps)))))
 
--- the position is a place of the subject, and `&random` below 2 ^ 31
+-- the value that an error is about, if any, is live
+abbrev pub is_live_or_none : Names → Heap → Option Value → Bool
+is_live_or_none names heap None = true
+is_live_or_none names heap (Some value) = is_live names heap value
+
+-- the number of an error
+abbrev pub is_error_number : ℕ → Bool
+is_error_number number = is_some (lookup (λ other. other == number) error_texts)
+
+-- the error that is kept, if any, has a text, and its value is live
+abbrev pub is_kept : Names → Heap → Option KeptError → Bool
+is_kept names heap None = true
+is_kept names heap (Some error) = is_error_number error.number && is_live_or_none names heap error.value
+
+-- the position is a place of the subject, `&random` below 2 ^ 31, and `&error` one of 64 bits
 abbrev pub is_world : Names → World → Bool
 is_world names world =
     is_heap names world.heap && (are_bytes world.subject && (nat_le 1 world.position
     && (nat_le world.position (length world.subject + 1)
     && (nat_lt world.random (2 ^ 31) && (are_live names world.heap world.globals
-    && are_live names world.heap world.statics)))))
+    && (are_live names world.heap world.statics
+    && (fits world.error && is_kept names world.heap world.kept)))))))
 
 -- the world, and the locals
 abbrev pub is_setting : Names → Setting → Bool
@@ -143,6 +159,7 @@ abbrev pub word_holds : KeywordVariable → Value → Bool
 word_holds Subject value = is_some (held_text value)
 word_holds Position value = is_some (held_integer value)
 word_holds Random value = is_some (held_integer value)
+word_holds ErrorCount value = is_some (held_integer value)
 
 -- whether a root can hold a value
 abbrev pub root_holds : Root → Value → Bool
@@ -187,11 +204,6 @@ is_residual names setting (Balanced wanted opening closing text place last) = ar
 is_residual names setting (Found wanted text place last) = are_bytes text && nat_le 1 place
 is_residual names setting (Among bytes text place last) = are_bytes text && nat_le 1 place
 
--- the value that an error is about, if any
-abbrev pub live_or_none : Names → Setting → Option Value → Bool
-live_or_none names setting None = true
-live_or_none names setting (Some value) = is_live names setting.world.heap value
-
 -- What an outcome leaves. A structure is never taken away, so that what was live stays so.
 abbrev pub is_outcome : Names → Outcome → Bool
 is_outcome names (Fails setting) = is_setting names setting
@@ -199,5 +211,5 @@ is_outcome names (Gives item setting) = is_setting names setting && is_item name
 is_outcome names (Suspends item rest setting) =
     is_setting names setting && (is_item names setting item && is_residual names setting rest)
 is_outcome names (Error number offending setting) =
-    is_setting names setting && live_or_none names setting offending
+    is_setting names setting && is_live_or_none names setting.world.heap offending
 is_outcome names (Ends status setting) = is_setting names setting && nat_lt status 256

@@ -1,5 +1,5 @@
 -- How a run starts, what is put as it ends early, and what is observed of it, whether it is the evaluation of a program or the run of its code.
-use Rattle.std.specs.Prelude.{◌≡◌, ℕ, ℤ, zero, suc, List, [], ◌∷◌, ◌++◌, length, replicate, Option, None, Some, codes}
+use Rattle.std.specs.Prelude.{◌≡◌, ℕ, ℤ, pos, zero, suc, List, [], ◌∷◌, ◌++◌, length, replicate, Option, None, Some, codes}
 use Rattle.std.specs.List.{sum_by}
 use Rattle.icn_value.specs.Limited.{Bounds}
 use Rattle.icn_value.specs.Values.{Value, Null, Integer, Text}
@@ -54,7 +54,7 @@ bound_report = codes "turn bound reached\n"
 abbrev pub with_errors : List ℕ → Outside → Outside
 with_errors text outside = record outside { errors = outside.errors ++ text }
 
--- The heap before anything is made. Co-expression 0 is `&main`, whose results are counted like those of the others.
+-- The heap before anything is made. Co-expression 0 is `&main`; its count of results begins with 0.
 abbrev pub first_heap : Bounds → Heap
 first_heap bounds = record {
   lists = [];
@@ -76,6 +76,8 @@ first_world bounds globals statics = record {
   random = zero;
   globals = globals;
   statics = replicate statics Null;
+  error = pos zero;
+  kept = None;
 }
 
 abbrev pub text_values : List (List ℕ) → List Value

@@ -18,7 +18,7 @@ pub record SearchedText : Type 0 where
   pub first : ℤ
   pub last : ℤ
 
--- the byte behind a place, and those between two places
+-- the byte behind a place
 abbrev pub byte_behind : List ℕ → ℕ → ℕ
 byte_behind text place = slice_index text (place - 1)
 

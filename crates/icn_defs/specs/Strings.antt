@@ -28,7 +28,7 @@ abs_row args = do
   result ← number_or_error (within_64_bits (pos (unsigned_abs n)))
   gives_integer result
 
--- `iand(i, j)`, `ior(i, j)`, `ixor(i, j)`
+-- an operation on the bits of two integers
 abbrev pub bits_row : (ℤ → ℤ → ℤ) → List Value → Row
 bits_row operation args = do
   m ← integer (arg args 0)
@@ -135,30 +135,29 @@ type_row names args = do
 
 -- Texts
 
--- so many bytes of a text put again and again, aligned at its left end and at its right end; an empty text
--- counts as a blank
+-- the text that a field is filled with: a blank where it is empty
 abbrev pub filling : List ℕ → List ℕ
 filling [] = 32 ∷ []
 filling (byte ∷ bytes) = byte ∷ bytes
 
--- aligned at the left end
+-- so many bytes of a text put again and again, aligned at the left end
 abbrev pub filled_left : List ℕ → ℕ → List ℕ
 filled_left fill count = take count (concat (replicate count (filling fill)))
 
--- aligned at the right end
+-- so many bytes of a text put again and again, aligned at the right end
 abbrev pub filled_right : List ℕ → ℕ → List ℕ
 filled_right fill count =
     let text = concat (replicate count (filling fill)) in drop (length text - count) text
 
--- a text in a field of so many bytes, at its left end, at its right end and in its middle
+-- a text at the left end of a field of so many bytes
 abbrev pub left_text : List ℕ → ℕ → List ℕ → List ℕ
 left_text text width fill = take width text ++ filled_right fill (width - length text)
 
--- at the right end of the field
+-- a text at the right end of a field
 abbrev pub right_text : List ℕ → ℕ → List ℕ → List ℕ
 right_text text width fill = filled_left fill (width - length text) ++ drop (length text - width) text
 
--- in the middle of the field
+-- a text in the middle of a field
 abbrev pub center_text : List ℕ → ℕ → List ℕ → List ℕ
 center_text text width fill =
     let missing = width - length text in

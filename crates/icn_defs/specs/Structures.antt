@@ -33,7 +33,7 @@ new_record_of structure next = do
   changes_heap (λ heap. record heap { records = heap.records ++ structure ∷ [] })
   next (ARecord (length records))
 
--- `copy(x)`
+-- a copy of a structure; any other value itself
 abbrev pub copy_of : Value → ValueGroup → Row
 copy_of v (Textual text) = gives_value v
 copy_of v (Listed id) = do

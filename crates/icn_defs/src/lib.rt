@@ -1,13 +1,15 @@
-//! The tables of operations, functions and keywords by their numbers, what each operation and function does, as definitions, and
-//! how a run ends.
+//! The tables of operations, functions and keywords by their numbers, the texts of run-time errors, what each operation and
+//! function does, as definitions, and how a run ends.
 #![tactic(auto)]
 
 mod arities;
 mod definition_laws;
 mod ending;
+mod error_texts;
 mod numbers;
 
 pub use arities::arity;
 pub use definition_laws::{broken_off, numbers_lead_back, rows_keep};
 pub use ending::Ending;
+pub use error_texts::error_text;
 pub use numbers::{func_numbered, keyword_numbered, op_numbered};

@@ -1,5 +1,6 @@
 //! What the programs are handed from outside: a source of input, a sink for output and a store of files. Each stands
-//! here three times: over the real things, over memory, and over memory with faults at the calls that a list names. Lines are put on a sink as far as it takes them.
+//! here three times: over the real things, over memory, and over memory with faults at the calls that a list names.
+//! Lines are put on a sink as far as it takes them.
 #![tactic(auto)]
 
 mod bytes;

@@ -53,7 +53,7 @@ fn all_tables(alloc: Global, bytes: &[u8]) -> Result<(Front, Vec<LinkedProcedure
 
 /// The code that an image spells. An error is the first rule that the bytes break, from the left (I1: the head is not that
 /// of an image; I2: the bytes end too early; I3: an unknown instruction, kind or flag; I4: something out of range; I5: bytes
-/// behind the end), or want of memory. The time is linear in the bytes.
+/// behind the end), or want of memory.
 pub fn read_image(alloc: Global, bytes: &[u8]) -> Result<Code, ImageFault>
     ensures exact { Gives tables_of result (image_read bytes.now) }
 {

@@ -4,6 +4,7 @@ use Rattle.icn_value.specs.Store.{Outside}
 use Rattle.icn_heap.specs.Extents.{Extent}
 use Rattle.icn_vars.specs.declared.world.World.{World}
 use Rattle.icn_vars.specs.declared.outcome.Halt.{Halt}
+use Rattle.icn_vars.specs.declared.outcome.Halt.TheVariants as Halts
 use Rattle.icn_frames.specs.Stacks.{FlatStack}
 use Rattle.icn_code.specs.declared.instr.Instr.{Instr}
 use Rattle.icn_code.specs.declared.instr.Instr.TheVariants.{Ccase}
@@ -13,6 +14,7 @@ use Rattle.icn_run.specs.Step.{Store, stuck}
 use Rattle.icn_control.specs.Machines.{ComesTo, does}
 use Rattle.icn_control.specs.declared.machine.Machine.{Machine}
 use Rattle.icn_control.specs.declared.machine.RunState.{RunState}
+use Rattle.icn_control.specs.Soundness.{UnlessEnded}
 use Rattle.icn_control.specs.StackViews.{instruction_state, GoesOn, GoesOnIn}
 use Rattle.icn_instructions.specs.InstructionEffects.{ComesIn, HasMemory}
 use Rattle.icn_instructions.specs.Groups.{takes_no_memory}
@@ -43,13 +45,13 @@ may_take i j e f h = cc
 pub ok_has_memory : (stage : RunState) → HasMemory (Ok stage)
 ok_has_memory stage e = cc
 
-pub on_ok_always : {A E : Type 0} (result : Result A E) (P : Type 0) → P → OnOk result P
-on_ok_always (Ok x) P h = h
-on_ok_always (Err e) P h = tt
-
-pub on_ok_both : {A E : Type 0} (result : Result A E) (P Q R : Type 0) → (P → Q → R) → OnOk result P → OnOk result Q → OnOk result R
-on_ok_both (Ok x) P Q R f h k = f h k
-on_ok_both (Err e) P Q R f h k = tt
+pub unless_both : {A : Type 0} (result : Result A Halt) (P Q R : Type 0) → (P → Q → R) → UnlessEnded result P → UnlessEnded result Q → UnlessEnded result R
+unless_both (Ok a) P Q R f h k = f h k
+unless_both (Err (Halts.Error number offending)) P Q R f h k = f h k
+unless_both (Err (Halts.Ends status)) P Q R f h k = tt
+unless_both (Err Halts.ReadFault) P Q R f h k = tt
+unless_both (Err Halts.WriteFault) P Q R f h k = tt
+unless_both (Err Halts.NoMemory) P Q R f h k = tt
 
 pub error_is_not_ok : (A : Type 0) {E : Type 0} (e : E) → (let r : Result A E = Err e in IsOk r) → ⊥
 error_is_not_ok A e h = cc

@@ -1,7 +1,8 @@
 -- What is said of a stack, or of a stack and a world, said of a machine.
-use Rattle.std.proofs.Common.{◌≡◌, ◌≢◌, ℕ, Bool, List, [], Option, Some, None, IsSome, if◌then◌else◌, Result, Ok, Err, IfOk, refl, sym, ap, ◌∙◌, subst}
+use Rattle.std.proofs.Common.{◌≡◌, ◌≢◌, ℕ, Bool, List, [], Option, Some, None, IsSome, if◌then◌else◌, Result, Ok, Err, refl, sym, ap, ◌∙◌, subst}
+use Rattle.std.specs.Option.{option_map}
 use Rattle.icn_value.specs.Store.{Heap, Names, Outside, World as StoreWorld}
-use Rattle.icn_heap.specs.Extents.{Extent}
+use Rattle.icn_heap.specs.Extents.{Extent, value_in}
 use Rattle.icn_heap.specs.Heaps.{extent_of, heap_of}
 use Rattle.icn_vars.specs.declared.world.World.{World}
 use Rattle.icn_vars.specs.declared.outcome.Halt.{Halt}
@@ -14,12 +15,13 @@ use Rattle.icn_code.specs.declared.instr.Instr.{Instr}
 use Rattle.icn_code.specs.Codes.{Tables}
 use Rattle.icn_run.specs.Rows.{Done}
 use Rattle.icn_run.specs.Stacks.{Frames, flat}
-use Rattle.icn_run.specs.Step.{State, Store, running, failing, over, stuck, all_names, instruction, is_main, with_world}
+use Rattle.icn_run.specs.Step.{State, Store, running, failing, errs, over, stuck, all_names, instruction, is_main, with_world}
 use Rattle.icn_control.specs.LiveStacks.{IsLiveStack}
-use Rattle.icn_control.specs.Machines.{store_in, running_of, AreLiveStacks, IsLiveRunning, ComesTo, HasStack, HaltsAt, StandsAt}
+use Rattle.icn_control.specs.Machines.{store_in, running_of, AreLiveStacks, IsLiveRunning, ComesTo, HaltsAt, StandsAt}
 use Rattle.icn_control.specs.declared.machine.Machine.{Machine}
 use Rattle.icn_control.specs.declared.machine.RunState.{RunState}
 use Rattle.icn_control.specs.declared.machine.RunState.TheVariants as RunStates
+use Rattle.icn_control.specs.Soundness.{HasItsStack}
 use Rattle.icn_control.specs.StackAndWorld.{StandsWith, HaltsWith}
 use Rattle.icn_control.specs.StackViews.{instruction_state, stack_in, GoesOnIn}
 use Rattle.icn_control.specs.TakenOperands.{KeepsCounts}
@@ -85,9 +87,9 @@ module _ {K : Type 0} (m : Machine K) (tables : Tables) (outside : Outside) (w :
       h ∙ ap F (ap is_main (o refl))
   world_stands state RunStates.AtBound h o = absurd h
 
-  pub world_halts : (state : State Frames Frames) (halt : Halt) → HaltsWith state (store_was tables outside w table m) m.world halt → HaltsAt tables outside
-      state m halt
-  world_halts state (Halts.Error number offending) h = h
+  pub world_halts : (state : State Frames Frames) (halt : Halt) → HaltsWith state (store_was tables outside w table m) m.world
+      (stack_in (extent_of m.world.heap) n) halt → HaltsAt tables outside state m halt
+  world_halts state (Halts.Error number offending) h = h ∙ moved (errs number (option_map (value_in (extent_of m.world.heap)) offending))
   world_halts state (Halts.Ends status) h = absurd h
   world_halts state Halts.ReadFault h = absurd h
   world_halts state Halts.WriteFault h = absurd h
@@ -121,13 +123,17 @@ world_comes m tables elsewhere outside w table f n instr (Err halt) t kept live 
 -- a stack runs after it, as it enters no co-expression
 pub world_stack : {K : Type 0} (m : Machine K) (tables : Tables) (instr : Instr) (w : World) (f : FlatStack) (v : World) (n : FlatStack)
     (result : Result RunState Halt) (st : Store Frames) → st.world ≡ world_of w → IsSome m.stacks.table.running
-    → ComesIn tables instr w f v n result → IfOk result (HasStack m)
+    → ComesIn tables instr w f v n result → HasItsStack m result
 world_stack m tables instr w f v n (Ok RunStates.Running) st e p h = p
 world_stack m tables instr w f v n (Ok RunStates.Failing) st e p h = p
 world_stack m tables instr w f v n (Ok RunStates.Hopping) st e p h = absurd (h st e)
 world_stack m tables instr w f v n (Ok RunStates.Over) st e p h = tt
 world_stack m tables instr w f v n (Ok RunStates.AtBound) st e p h = tt
-world_stack m tables instr w f v n (Err halt) st e p h = tt
+world_stack m tables instr w f v n (Err (Halts.Error number offending)) st e p h = p
+world_stack m tables instr w f v n (Err (Halts.Ends status)) st e p h = tt
+world_stack m tables instr w f v n (Err Halts.ReadFault) st e p h = tt
+world_stack m tables instr w f v n (Err Halts.WriteFault) st e p h = tt
+world_stack m tables instr w f v n (Err Halts.NoMemory) st e p h = tt
 
 -- A world that keeps what it may name, and its counts
 

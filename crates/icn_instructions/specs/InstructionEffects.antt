@@ -12,7 +12,7 @@ use Rattle.icn_code.specs.Codes.{Tables}
 use Rattle.icn_run.specs.Stacks.{Frames}
 use Rattle.icn_run.specs.Step.{Store, stuck}
 use Rattle.icn_control.specs.StackAndWorld.{HaltsWith, StandsWith}
-use Rattle.icn_control.specs.StackViews.{instruction_state}
+use Rattle.icn_control.specs.StackViews.{instruction_state, stack_in}
 use Rattle.icn_control.specs.declared.machine.RunState.{RunState}
 
 -- The instruction lacks nothing on this stack, with some store.
@@ -29,7 +29,7 @@ LacksNothingIn tables instr w m = (st : Store Frames)
 abbrev pub ComesIn : Tables → Instr → World → FlatStack → World → FlatStack → Result RunState Halt → Type 0
 ComesIn tables instr w m v n result = (st : Store Frames) → st.world ≡ world_of w
     → MatchResult result (StandsWith (instruction_state (extent_of w.heap) tables instr m st) st v n)
-    (HaltsWith (instruction_state (extent_of w.heap) tables instr m st) st v)
+    (HaltsWith (instruction_state (extent_of w.heap) tables instr m st) st v (stack_in (extent_of v.heap) n))
 
 -- It is no want of memory.
 abbrev pub HasMemory : Result RunState Halt → Type 0

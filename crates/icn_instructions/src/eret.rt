@@ -1,5 +1,5 @@
 // The instruction that gives the value of a result out of its mark.
-ghost use Rattle.std.specs.Prelude.{[], IfErr, OnOk};
+ghost use Rattle.std.specs.Prelude.{[], IfErr};
 ghost use Rattle.icn_code.specs.Codes.{Tables};
 ghost use Rattle.icn_code.specs.declared.instr.Instr.TheVariants as Instrs;
 ghost use Rattle.icn_vars.specs.Outcomes.{IsLiveHalt};
@@ -7,7 +7,7 @@ ghost use Rattle.icn_vars.specs.Worlds.{reach_of};
 ghost use Rattle.icn_control.specs.LiveStacks.{IsLiveStack};
 ghost use Rattle.icn_control.specs.StackAndWorld.{DoesWith};
 ghost use Rattle.icn_instructions.specs.InstructionEffects.{LacksNothingIn};
-ghost use Rattle.icn_control.specs.Soundness.{KeepsHeap};
+ghost use Rattle.icn_control.specs.Soundness.{KeepsHeap, UnlessEnded};
 
 use icn_control::{put, restore_pair, value_of};
 use icn_frames::{Cell, Frames, Stack};
@@ -25,7 +25,7 @@ pub fn give_out<K: Stack<Cell> + Drop>(
     requires live { (tables : Tables) × IsLiveStack tables (reach_of world.old []) frames.old.flat }
     ensures step { DoesWith Instrs.Eret world.old frames.old.flat world.new frames.new.flat result }
     ensures live { (tables : Tables) → IsLiveStack tables (reach_of world.old []) frames.old.flat
-        → OnOk result (IsLiveStack tables (reach_of world.new []) frames.new.flat) }
+        → UnlessEnded result (IsLiveStack tables (reach_of world.new []) frames.new.flat) }
     ensures halt { IfErr result (IsLiveHalt (reach_of world.new [])) }
     ensures same { KeepsHeap world.old world.new }
 {

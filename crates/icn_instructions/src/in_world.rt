@@ -1,12 +1,12 @@
 // The instructions that touch the stack that runs and the world, and nothing else.
-ghost use Rattle.std.specs.Prelude.{◌≡◌, [], true, OnOk};
+ghost use Rattle.std.specs.Prelude.{◌≡◌, [], true};
 ghost use Rattle.icn_code.specs.CodeTables.{tables_of};
 ghost use Rattle.icn_vars.specs.Worlds.{reach_of};
 ghost use Rattle.icn_control.specs.LiveStacks.{IsLiveStack};
 ghost use Rattle.icn_instructions.specs.InstructionEffects.{ComesIn, HasMemory, LacksNothingIn};
 ghost use Rattle.icn_instructions.specs.Groups.{group_of, takes_no_memory};
 ghost use Rattle.icn_instructions.specs.declared.groups.InstrGroup.TheVariants as Groups;
-ghost use Rattle.icn_control.specs.Soundness.{LeavesWorld};
+ghost use Rattle.icn_control.specs.Soundness.{LeavesWorld, UnlessEnded};
 
 use crate::eret::give_out;
 use icn_code::{Code, Instr};
@@ -30,7 +30,8 @@ pub fn do_in_world<K: Stack<Cell> + Drop>(
     requires live { IsLiveStack (tables_of code.now) (reach_of world.old []) frames.old.flat }
     ensures step { ComesIn (tables_of code.now) instr world.old frames.old.flat world.new frames.new.flat
         result }
-    ensures live { OnOk result (IsLiveStack (tables_of code.now) (reach_of world.new []) frames.new.flat) }
+    ensures live { UnlessEnded result
+        (IsLiveStack (tables_of code.now) (reach_of world.new []) frames.new.flat) }
     ensures leaves { LeavesWorld world.old world.new result }
     ensures no_memory { takes_no_memory instr ≡ true → HasMemory result }
 {

@@ -1,15 +1,16 @@
 // The instructions that perform no row and call nothing.
-ghost use Rattle.std.specs.Prelude.{◌≡◌, ◌≢◌, true, IfErr, IfOk, IsSome, OnOk};
+ghost use Rattle.std.specs.Prelude.{◌≡◌, ◌≢◌, true, IfErr, IsSome};
 ghost use Rattle.icn_code.specs.CodeTables.{tables_of};
 ghost use Rattle.icn_frames.specs.Stacks as flat;
 ghost use Rattle.icn_value.specs.Store.{Outside};
 ghost use Rattle.icn_vars.specs.Outcomes.{IsLiveHalt};
 ghost use Rattle.icn_run.specs.Step.{stuck};
-ghost use Rattle.icn_control.specs.Machines.{ComesTo, HasStack, IsSoundMachine, does, stack_of, stack_seen, store_seen, world_reach};
+ghost use Rattle.icn_control.specs.Machines.{ComesTo, IsSoundMachine, does, stack_of, stack_seen, store_seen, world_reach};
 ghost use Rattle.icn_instructions.specs.InstructionEffects.{HasMemory};
 ghost use Rattle.icn_instructions.specs.Groups.{group_of, takes_no_memory};
 ghost use Rattle.icn_run.specs.InstructionNeeds.{HasCaseMark, HasVariables};
 ghost use Rattle.icn_instructions.specs.Ranges.{IsInRange};
+ghost use Rattle.icn_control.specs.Soundness.{HasItsStack, UnlessEnded};
 ghost use Rattle.icn_instructions.specs.declared.groups.InstrGroup.TheVariants as Groups;
 
 use crate::coexpressions::do_with_coexpressions;
@@ -45,9 +46,9 @@ pub fn do_instruction<K: Stack<Cell> + Drop>(
         × HasVariables (tables_of code.now) (store_seen (tables_of code.now) outside m.old) }
     ensures step { (outside : Outside)
         → ComesTo (tables_of code.now) outside (does (tables_of code.now) outside instr m.old) m.new result }
-    ensures sound { OnOk result (IsSoundMachine (tables_of code.now) m.new) }
+    ensures sound { UnlessEnded result (IsSoundMachine (tables_of code.now) m.new) }
     ensures halt { IfErr result (IsLiveHalt (world_reach m.new)) }
-    ensures stack { IfOk result (HasStack m.new) }
+    ensures stack { HasItsStack m.new result }
     ensures limits { m.new.limits ≡ m.old.limits }
     ensures no_memory { takes_no_memory instr ≡ true → HasMemory result }
 {

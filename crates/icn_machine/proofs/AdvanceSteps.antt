@@ -11,12 +11,11 @@ use Rattle.icn_run.specs.AnyOutside.{over_outside, run_over}
 use Rattle.icn_streams.specs.Handed.{CallStreams, Follows, KeepsAllCounts, WantsMemory, WritingFails, uncounted, output_wants, errors_want, output_fails as writing_output, errors_fail as writing_errors}
 use Rattle.icn_streams.proofs.IdleCalls.{keeps_all_counts_refl}
 use Rattle.icn_streams.proofs.CallSequences.{follows_all, follows_then}
-use Rattle.icn_control.specs.Machines.{ComesTo, StandsAt, stack_seen, store_seen}
+use Rattle.icn_control.specs.Machines.{SettlesAt, StandsAt, stack_seen, store_seen}
 use Rattle.icn_control.specs.declared.machine.Machine.{Machine}
 use Rattle.icn_control.specs.declared.machine.RunState.{RunState}
 use Rattle.icn_control.specs.declared.machine.RunState.TheVariants as RunStates
-use Rattle.icn_machine.specs.InstructionAnswers.{AnswersStep, IsCause, with_left, idle}
-use Rattle.icn_machine.specs.Performing.{PerformsOn}
+use Rattle.icn_machine.specs.InstructionAnswers.{AnswersStep, IsCause, Performs, with_left}
 use Rattle.icn_machine.specs.Stepping.{Advances, IsAt, IsFirstFault, Leads, OutputFails, StandsBy, errors_fail, goes_on, output_fails, outside_at}
 
 -- Where a machine stands
@@ -47,15 +46,7 @@ at_same tables was state m RunStates.Hopping e = ap (over_outside was) e.1 ∙ s
 at_same tables was state m RunStates.Over e = absurd e
 at_same tables was state m RunStates.AtBound e = absurd e
 
--- where the run goes on, the machine stands for some state
-pub some_state : {K : Type 0} (tables : Tables) (was : Outside) (m : Machine K) (stage : RunState) → goes_on stage ≡ true
-    → (state : State Frames Frames) × IsAt tables was state m stage
-some_state tables was m RunStates.Running e = (running (stack_seen m) (store_seen tables was m), refl)
-some_state tables was m RunStates.Failing e = (failing (stack_seen m) (store_seen tables was m), refl)
-some_state tables was m RunStates.Hopping e = (hopping (stack_seen m) (store_seen tables was m), (stack_seen m, refl))
-some_state tables was m RunStates.Over e = cc
-some_state tables was m RunStates.AtBound e = cc
-
+-- where the run goes on, the state is the one at which it stands
 pub is_at : {K : Type 0} (tables : Tables) (was : Outside) (state : State Frames Frames) (m : Machine K) (stage : RunState) → goes_on stage ≡ true
     → StandsAt tables was state m stage → IsAt tables was state m stage
 is_at tables was state m RunStates.Running e h = h
@@ -134,40 +125,16 @@ first_fault a b (Err Halts.NoMemory) k = k
 
 -- One step
 
-stands_by : {K : Type 0} (tables : Tables) (now : Outside) (state : State Frames Frames) (n : Machine K) (result : Result RunState Halt)
-    → ComesTo tables now state n result → StandsBy tables now state n result
-stands_by tables now state n (Ok stage) h = h
-stands_by tables now state n (Err (Halts.Error number offending)) h = h
-stands_by tables now state n (Err (Halts.Ends status)) h = h
-stands_by tables now state n (Err Halts.ReadFault) h = tt
-stands_by tables now state n (Err Halts.WriteFault) h = tt
-stands_by tables now state n (Err Halts.NoMemory) h = tt
-
--- what neither reads nor puts answers no fault
-quiet_answer : {K : Type 0} (tables : Tables) (state : State Frames Frames) (n : Machine K) (h : CallStreams) (was : Outside) (result : Result RunState Halt)
-    → h.left ≡ Some was.left
-    → ComesTo tables was state n result → AnswersStep (λ now answer. ComesTo tables now state n answer) state was h h result
-quiet_answer tables state n h was (Ok stage) told k = record { now = was; follows = follows_all h was told; is = k }
-quiet_answer tables state n h was (Err (Halts.Error number offending)) told k = record { now = was; follows = follows_all h was told; is = k }
-quiet_answer tables state n h was (Err (Halts.Ends status)) told k = record { now = was; follows = follows_all h was told; is = k }
-quiet_answer tables state n h was (Err Halts.ReadFault) told k = absurd k
-quiet_answer tables state n h was (Err Halts.WriteFault) told k = absurd k
-quiet_answer tables state n h was (Err Halts.NoMemory) told k = idle refl
-
-quiet_cause : {K : Type 0} (tables : Tables) (state : State Frames Frames) (n : Machine K) (h : CallStreams) (was : Outside) (result : Result RunState Halt)
-    → ComesTo tables was state n result → IsFirstFault result h h
-quiet_cause tables state n h was (Ok stage) k = keeps_all_counts_refl h
-quiet_cause tables state n h was (Err (Halts.Error number offending)) k = keeps_all_counts_refl h
-quiet_cause tables state n h was (Err (Halts.Ends status)) k = keeps_all_counts_refl h
-quiet_cause tables state n h was (Err Halts.ReadFault) k = absurd k
-quiet_cause tables state n h was (Err Halts.WriteFault) k = absurd k
-quiet_cause tables state n h was (Err Halts.NoMemory) k = uncounted (keeps_all_counts_refl h)
+-- what is performed, where an error that becomes failure has
+abbrev pub SettlesOn : {K : Type 0} → Tables → (Outside → State Frames Frames) → Machine K → CallStreams → CallStreams → Result RunState Halt → Type 0
+SettlesOn tables leads m before after result =
+    Performs leads (λ was now answer. SettlesAt tables now (leads was) m answer) before after result
 
 -- a step is answered from the state's own outside on
 own_step : {K : Type 0} (tables : Tables) (m : Machine K) (stage : RunState) (n : Machine K) (was : Outside) (state : State Frames Frames)
     (before after : CallStreams) (result : Result RunState Halt)
     → IsAt tables was state m stage → before.left ≡ Some was.left
-    → AnswersStep (λ now answer. ComesTo tables now (step flat tables state) n answer) (step flat tables state) was before after result
+    → AnswersStep (λ now answer. SettlesAt tables now (step flat tables state) n answer) (step flat tables state) was before after result
     → Leads tables state was before n after result
 own_step tables m stage n was state before after result at told last =
     let own = at_own tables was state m stage at in record {
@@ -175,36 +142,33 @@ own_step tables m stage n was state before after result at told last =
       between = before;
       follows = subst (λ (o : Outside). Follows before before was o) (sym own) (follows_all before was told);
       last =
-          subst (λ (o : Outside). AnswersStep (λ now answer. ComesTo tables now (step flat tables state) n answer) (step flat tables state) o before
+          subst (λ (o : Outside). AnswersStep (λ now answer. SettlesAt tables now (step flat tables state) n answer) (step flat tables state) o before
           after result)
           (sym own) last;
     }
 
--- a step that neither reads nor puts
-pub quiet_step : {K : Type 0} (tables : Tables) (m : Machine K) (stage : RunState) (h : CallStreams) (n : Machine K) (result : Result RunState Halt)
+-- a step that neither reads nor puts, and never errs
+pub quiet_step : {K : Type 0} (tables : Tables) (m : Machine K) (stage : RunState) (h : CallStreams) (n : Machine K) (next : RunState)
     → goes_on stage ≡ true
-    → ((was : Outside) (state : State Frames Frames) → IsAt tables was state m stage → ComesTo tables was (step flat tables state) n result)
-    → Advances tables m stage h n h result
-quiet_step tables m stage h n result goes comes = record {
+    → ((was : Outside) (state : State Frames Frames) → IsAt tables was state m stage → StandsAt tables was (step flat tables state) n next)
+    → Advances tables m stage h n h (Ok next)
+quiet_step tables m stage h n next goes stands = record {
   answers =
-      λ was state at told. own_step tables m stage n was state h h result at told
-      (quiet_answer tables (step flat tables state) n h was result told (comes was state at));
+      λ was state at told. own_step tables m stage n was state h h (Ok next) at told
+      (record { now = was; follows = follows_all h was told; is = stands was state at });
   meant = λ was state at. record {
     first = was;
     later = [];
     now = was;
-    is = subst (λ (s : State Frames Frames). StandsBy tables was (step flat tables s) n result) (sym (at_same tables was state m stage at))
-        (stands_by tables was (step flat tables state) n result (comes was state at));
+    is = subst (λ (s : State Frames Frames). StandsAt tables was (step flat tables s) n next) (sym (at_same tables was state m stage at)) (stands was state at);
   };
-  caused =
-      let some = some_state tables (outside_of []) m stage goes in
-      quiet_cause tables (step flat tables some.0) n h (outside_of []) result (comes (outside_of []) some.0 some.1);
+  caused = keeps_all_counts_refl h;
 }
 
 -- where the machine stands over the input that the answer is meant for
 meant_at : {K : Type 0} (tables : Tables) (state : State Frames Frames) (n : Machine K) (was : Outside) (before after : CallStreams)
     (result : Result RunState Halt)
-    → AnswersStep (λ now answer. ComesTo tables now state n answer) state was before after result → (now : Outside) × StandsBy tables now state n result
+    → AnswersStep (λ now answer. SettlesAt tables now state n answer) state was before after result → (now : Outside) × StandsBy tables now state n result
 meant_at tables state n was before after (Ok stage) h = (h.now, h.is)
 meant_at tables state n was before after (Err (Halts.Error number offending)) h = (h.now, h.is)
 meant_at tables state n was before after (Err (Halts.Ends status)) h = (h.now, h.is)
@@ -216,10 +180,10 @@ meant_at tables state n was before after (Err Halts.NoMemory) h = (was, tt)
 pub performed_step : {K : Type 0} (tables : Tables) (leads : Outside → State Frames Frames) (m : Machine K) (stage : RunState) (before : CallStreams)
     (n : Machine K) (after : CallStreams) (result : Result RunState Halt)
     → ((was : Outside) (state : State Frames Frames) → IsAt tables was state m stage → step flat tables state ≡ leads was)
-    → PerformsOn tables leads n before after result → Advances tables m stage before n after result
+    → SettlesOn tables leads n before after result → Advances tables m stage before n after result
 performed_step tables leads m stage before n after result is p = record {
   answers = λ was state at told. own_step tables m stage n was state before after result at told
-      (subst (λ (s : State Frames Frames). AnswersStep (λ now answer. ComesTo tables now s n answer) s was before after result) (sym (is was state at))
+      (subst (λ (s : State Frames Frames). AnswersStep (λ now answer. SettlesAt tables now s n answer) s was before after result) (sym (is was state at))
       (p.answers was told));
   meant = λ was state at.
       let first : Outside = outside_of p.had in
@@ -258,11 +222,11 @@ advances_then tables m stage a n next b k c result goes first second = record {
             (follows_then (follows_then one.follows one.last.follows) two.follows);
         last =
             subst (λ (s : State Frames Frames). AnswersStep
-            (λ now answer. ComesTo tables now (steps flat tables (suc (suc one.count + two.count)) state) k answer)
+            (λ now answer. SettlesAt tables now (steps flat tables (suc (suc one.count + two.count)) state) k answer)
             (steps flat tables (suc (suc one.count + two.count)) state) (outside_at s) two.between c result)
             (sym same)
             (subst
-            (λ (s : State Frames Frames). AnswersStep (λ now answer. ComesTo tables now s k answer) s (outside_at (steps flat tables two.count there))
+            (λ (s : State Frames Frames). AnswersStep (λ now answer. SettlesAt tables now s k answer) s (outside_at (steps flat tables two.count there))
             two.between c result)
             (sym all) two.last);
       };
@@ -279,24 +243,4 @@ advances_then tables m stage a n next b k c result goes first second = record {
             (sym (over_then tables (one.first ∷ one.later) (two.first ∷ two.later) state)) two.is;
       };
   caused = fault_then a b c result first.caused second.caused;
-}
-
-quiet_so : {K : Type 0} (tables : Tables) (state : State Frames Frames) (n : Machine K) (h : CallStreams) (was : Outside) (result : Result RunState Halt)
-    → ComesTo tables was state n result → IsCause result h h
-quiet_so tables state n h was (Ok stage) k = keeps_all_counts_refl h
-quiet_so tables state n h was (Err (Halts.Error number offending)) k = keeps_all_counts_refl h
-quiet_so tables state n h was (Err (Halts.Ends status)) k = keeps_all_counts_refl h
-quiet_so tables state n h was (Err Halts.ReadFault) k = absurd k
-quiet_so tables state n h was (Err Halts.WriteFault) k = absurd k
-quiet_so tables state n h was (Err Halts.NoMemory) k = uncounted (keeps_all_counts_refl h)
-
--- an instruction that neither reads nor puts, as one that may
-pub quietly_performs : {K : Type 0} (tables : Tables) (leads : Outside → State Frames Frames) (n : Machine K) (h : CallStreams) (result : Result RunState Halt)
-    → ((outside : Outside) → ComesTo tables outside (leads outside) n result) → PerformsOn tables leads n h h result
-quietly_performs tables leads n h result comes = record {
-  answers = λ was told. quiet_answer tables (leads was) n h was result told (comes was);
-  had = [];
-  has = [];
-  meant = λ was left. quiet_answer tables (leads was) n (with_left [] h) was result (ap Some (sym left)) (comes was);
-  caused = quiet_so tables (leads (outside_of [])) n h (outside_of []) result (comes (outside_of []));
 }

@@ -1,8 +1,11 @@
 -- A machine at which an instruction is being done.
 use Rattle.std.proofs.Common.{◌≡◌, ◌≢◌, ℕ, suc, Bool, true, false, List, [], length, Option, Some, None, Result, Ok, Err, refl, sym, ap, ◌∙◌, subst}
+use Rattle.std.specs.Option.{option_map}
 use Rattle.std.specs.Prelude.{IsErrAnd, IsSome, slice_get, slice_index_or, nat_lt, ⊤}
 use Rattle.icn_value.specs.Store.{Outside, outside_of}
+use Rattle.icn_value.specs.Values.{Value}
 use Rattle.icn_value.specs.Limited.{limits_of}
+use Rattle.icn_heap.specs.Extents.{value_in}
 use Rattle.icn_heap.specs.Heaps.{extent_of, heap_of}
 use Rattle.icn_vars.specs.declared.outcome.Halt.{Halt}
 use Rattle.icn_vars.specs.declared.outcome.Halt.TheVariants as Halts
@@ -16,13 +19,15 @@ use Rattle.icn_code.specs.Rules.{keeps_rules}
 use Rattle.icn_code.specs.declared.instr.Instr.{Instr}
 use Rattle.icn_code.specs.declared.instr.Instr.TheVariants as Instrs
 use Rattle.icn_run.specs.Stacks.{Frames, flat}
-use Rattle.icn_run.specs.Step.{State, Store, running, failing, hopping, over, stuck, step, all_names, initial_if, instruction, instruction_at, instrs_of, turn_if, with_found}
+use Rattle.icn_defs.specs.Running.{Ending, Done, Exit, Errored, AtBound}
+use Rattle.icn_run.proofs.Errors.{at_error}
+use Rattle.icn_run.specs.Step.{State, Store, running, failing, hopping, over, stuck, step, all_names, errs, initial_if, instruction, instruction_at, instrs_of, turn_if, with_found}
 use Rattle.law_steps.specs.StateNames.{StackNamed, StoreNamed}
 use Rattle.law_steps.specs.KeepingNames.{MayCall}
 use Rattle.law_steps.specs.KeepingSizes.{StoreFits}
 use Rattle.icn_streams.specs.Handed.{CallStreams}
 use Rattle.icn_control.specs.ResultCounts.{EnterOthers, FitTurns}
-use Rattle.icn_control.specs.Machines.{AreLiveStacks, ComesTo, IsSoundMachine, StandsAt, does, running_of, stack_of, stack_seen, store_in, store_seen}
+use Rattle.icn_control.specs.Machines.{AreLiveStacks, ComesTo, IsSoundMachine, StandsAt, does, extent, running_of, stack_of, stack_seen, store_in, store_seen}
 use Rattle.icn_control.specs.StackViews.{stack_in}
 use Rattle.icn_control.specs.declared.machine.Machine.{Machine}
 use Rattle.icn_control.specs.declared.machine.RunState.{RunState}
@@ -126,12 +131,22 @@ module _ {K : Type 0} (m n : Machine K) (f : FlatStack) (moves : Moves m n f) wh
 
 -- Instructions that are done whole
 
+-- a run that ends so ends by no error
+abbrev IsNoError : Ending → Type 0
+IsNoError Done = ⊤
+IsNoError (Exit status) = ⊤
+IsNoError (Errored number) = ⊥
+IsNoError AtBound = ⊤
+
 abbrev NeverFails : State Frames Frames → Type 0
 NeverFails (running m st) = ⊤
 NeverFails (failing m st) = ⊥
 NeverFails (hopping m st) = ⊥
-NeverFails (over ending outside) = ⊤
+NeverFails (over ending outside) = IsNoError ending
 NeverFails stuck = ⊤
+
+errs_fails : (number : ℕ) (value : Option Value) (m : Frames) (st : Store Frames) → NeverFails (errs number value m st) → ⊥
+errs_fails number value m st = at_error (λ (s : State Frames Frames). NeverFails s → ⊥) number value m st (λ h. h) (λ h. h)
 
 found_whole : {A : Type 0} (o : Option A) (next : A → State Frames Frames) → ((x : A) → NeverFails (next x)) → NeverFails (with_found o next)
 found_whole (Some x) next f = f x
@@ -177,7 +192,10 @@ pub whole_done : {K : Type 0} (tables : Tables) (m n : Machine K) (instr : Instr
 whole_done tables m n instr (Ok stage) w comes memory =
     let o : Outside
     = outside_of [] in whole_stands tables o (does tables o instr m) n stage (whole_state tables instr (stack_seen m) (store_seen tables o m) w) (comes o)
-whole_done tables m n instr (Err (Halts.Error number offending)) w comes memory = tt
+whole_done tables m n instr (Err (Halts.Error number offending)) w comes memory =
+    let o : Outside = outside_of [] in
+    errs_fails number (option_map (value_in (extent n)) offending) (stack_seen n) (store_seen tables o n)
+    (subst NeverFails (comes o) (whole_state tables instr (stack_seen m) (store_seen tables o m) w))
 whole_done tables m n instr (Err (Halts.Ends status)) w comes memory = tt
 whole_done tables m n instr (Err Halts.ReadFault) w comes memory = tt
 whole_done tables m n instr (Err Halts.WriteFault) w comes memory = tt

@@ -58,17 +58,17 @@ values_live all (val ∷ vals) reach e are =
     let first : IsLiveItem reach (Items.Val val) = record { live = subst (λ (x : Extent). IsLive x val) (sym e) (All-head (IsLive all) val vals are) } in
     All-cons (IsLiveItem reach) (Items.Val val) (map Items.Val vals) first (values_live all vals reach e (All-tail (IsLive all) val vals are))
 
-plain_named : (names : Names) (values : List Value) → All (ValueNamed names) values → All (ItemNamed names) (map plain values)
+pub plain_named : (names : Names) (values : List Value) → All (ValueNamed names) values → All (ItemNamed names) (map plain values)
 plain_named names [] are = All-nil (ItemNamed names)
 plain_named names (value ∷ values) are =
     All-cons (ItemNamed names) (plain value) (map plain values) (record { named = All-head (ValueNamed names) value values are })
     (plain_named names values (All-tail (ValueNamed names) value values are))
 
-list_named : (names : Names) (o : Option (NumberedList Value)) → IfThere (ListNamed names) o → All (ValueNamed names) (unwrap_or o (new_list [])).items
+pub list_named : (names : Names) (o : Option (NumberedList Value)) → IfThere (ListNamed names) o → All (ValueNamed names) (unwrap_or o (new_list [])).items
 list_named names None h = All-nil (ValueNamed names)
 list_named names (Some list) h = h
 
-record_named : (names : Names) (o : Option Record) → IfThere (RecordNamed names) o → All (ValueNamed names) (unwrap_or o (record {
+pub record_named : (names : Names) (o : Option Record) → IfThere (RecordNamed names) o → All (ValueNamed names) (unwrap_or o (record {
   kind =
       0;
   fields = [];
@@ -124,13 +124,13 @@ record_elements w from id vals items f e p tables callee m st same =
 
 pub no_elements : (w : World) (from : Val) (items : List Item) → ((id : ℕ) → from ≡ Vals.List id → ⊥) → ((id : ℕ) → from ≡ Vals.Rec id → ⊥) → FindsElements {A =
     Unit} w from items (Err (Halts.Error 126 (Some from)))
-no_elements w from items h k tables callee m st same = by_value from h k ∙ ap (errs 126 (Some (value_in (extent_of w.heap) from))) (same_world w st same)
+no_elements w from items h k tables callee m st same = by_value from h k ∙ ap (errs 126 (Some (value_in (extent_of w.heap) from)) m) (same_world w st same)
   where
     all : Extent
     all = extent_of w.heap
 
     by_value : (from : Val) → ((id : ℕ) → from ≡ Vals.List id → ⊥) → ((id : ℕ) → from ≡ Vals.Rec id → ⊥)
-        → elements_called flat tables callee (value_in all from) m st ≡ errs 126 (Some (value_in all from)) st
+        → elements_called flat tables callee (value_in all from) m st ≡ errs 126 (Some (value_in all from)) m st
     by_value Vals.Null h k = refl
     by_value (Vals.Integer n) h k = refl
     by_value (Vals.Text span) h k = refl
@@ -189,45 +189,47 @@ elements_event tables names w v m k n callee from value other items xs before af
 
 stops_event : (tables : Tables) (names : Names) (w : World) (m n : FlatStack) (callee from : Item) (halt : Halt) (before : CallStreams)
     (result : Result RunState Halt)
-    → IsErrAnd result (λ h. h ≡ halt)
-    → ((st : Store Frames) → st.world ≡ world_of w → HaltsWith (applied_on tables w m callee from st) st w halt)
+    → IsErrAnd result (λ h. h ≡ halt) → n ≡ m
+    → ((st : Store Frames) → st.world ≡ world_of w → HaltsWith (applied_on tables w m callee from st) st w (stack_in (extent_of w.heap) m) halt)
     → PerformsEvent names (applied_on tables w m callee from) w before w n before result
-stops_event tables names w m n callee from halt before result err h =
+stops_event tables names w m n callee from halt before result err e h =
+    let all : Extent = extent_of w.heap in
     still_event names (applied_on tables w m callee from) w w n before result
-    (λ st same. match_halt result halt (StandsWith (applied_on tables w m callee from st) st w n) (HaltsWith (applied_on tables w m callee from st) st w)
-    err (h st same))
+    (λ st same. match_halt result halt (StandsWith (applied_on tables w m callee from st) st w n)
+    (HaltsWith (applied_on tables w m callee from st) st w (stack_in all n)) err
+    (subst (λ (x : FlatStack). HaltsWith (applied_on tables w m callee from st) st w (stack_in all x) halt) (sym e) (h st same)))
 
 pub callee_stops : (tables : Tables) (names : Names) (w : World) (m n : FlatStack) (callee from : Item) (stop : Stop) (before : CallStreams)
     (result : Result RunState Halt)
-    → IsErrAnd result (λ h. h ≡ halt_of stop)
+    → IsErrAnd result (λ h. h ≡ halt_of stop) → n ≡ m
     → FindsItem w m callee (Err stop) → PerformsEvent names (applied_on tables w m callee from) w before w n before result
-callee_stops tables names w m n callee from stop before result err f =
+callee_stops tables names w m n callee from stop before result err e f =
     let all : Extent = extent_of w.heap in
     let M : Frames = stack_in all m in
-    stops_event tables names w m n callee from (halt_of stop) before result err
+    stops_event tables names w m n callee from (halt_of stop) before result err e
     (λ st same. value_halts w (item_in all callee) M st stop
     (λ called. with_value flat (item_in all from) M st (λ x. elements_called flat tables called x M st)) same (f st same))
 
 pub from_stops : (tables : Tables) (names : Names) (w : World) (m n : FlatStack) (callee from : Item) (value : Val) (stop : Stop) (before : CallStreams)
     (result : Result RunState Halt)
-    → IsErrAnd result (λ h. h ≡ halt_of stop)
+    → IsErrAnd result (λ h. h ≡ halt_of stop) → n ≡ m
     → FindsItem w m callee (Ok value) → FindsItem w m from (Err stop) → PerformsEvent names (applied_on tables w m callee from) w before w n before result
-from_stops tables names w m n callee from value stop before result err f g =
+from_stops tables names w m n callee from value stop before result err e f g =
     let all : Extent = extent_of w.heap in
     let M : Frames = stack_in all m in
-    stops_event tables names w m n callee from (halt_of stop) before result err
-    (λ st same. subst (λ (s : State Frames Frames). HaltsWith s st w (halt_of stop)) (sym (first_goes tables w m callee from value st same f))
+    stops_event tables names w m n callee from (halt_of stop) before result err e
+    (λ st same. subst (λ (s : State Frames Frames). HaltsWith s st w M (halt_of stop)) (sym (first_goes tables w m callee from value st same f))
     (value_halts w (item_in all from) M st stop (λ x. elements_called flat tables (value_in all value) x M st) same (g st same)))
 
 pub elements_stop : (tables : Tables) (names : Names) (w : World) (m n : FlatStack) (callee from : Item) (value other : Val) (items : List Item)
     (halt : Halt) (before : CallStreams) (result : Result RunState Halt)
-    → IsErrAnd result (λ h. h ≡ halt)
+    → IsErrAnd result (λ h. h ≡ halt) → n ≡ m
     → FindsItem w m callee (Ok value) → FindsItem w m from (Ok other) → FindsElements {A = Unit} w other items (Err halt)
     → PerformsEvent names (applied_on tables w m callee from) w before w n before result
-elements_stop tables names w m n callee from value other items halt before result err f g h =
+elements_stop tables names w m n callee from value other items halt before result err e f g h =
     let all : Extent = extent_of w.heap in
-    stops_event tables names w m n callee from halt before result err
-    (λ st same. subst (λ (s : State Frames Frames). HaltsWith s st w halt) (sym (both_go tables w m callee from value other st same f g))
+    stops_event tables names w m n callee from halt before result err e
+    (λ st same. subst (λ (s : State Frames Frames). HaltsWith s st w (stack_in all m) halt) (sym (both_go tables w m callee from value other st same f g))
     (h tables (value_in all value) (stack_in all m) st same))
 
 -- Two operands

@@ -9,7 +9,8 @@ use Rattle.icn_code.specs.Codes.{Tables}
 use Rattle.icn_run.specs.Rows.{Outcome, Fails, Gives, Suspends, Error, Ends, Done, again}
 use Rattle.icn_run.specs.Calls.{Pair, Why, Alt, Op, Scan, Escan, Proc}
 use Rattle.icn_run.specs.Stacks.{Cell, base, call, local, mark, limit, suspension, operand, Frames, cut, cell_at, drop_from, flat, leave_from, resume_from as resumed_from, swap_at, with_pair as with_pair_at}
-use Rattle.icn_run.specs.Step.{State, Store, Status, Fresh, Active, Waiting, Exhausted as IsExhausted, running, failing, hopping, over, stuck, activator_of, all_left, with_exchange, exhaust_active, fail_by, fails, here, hop, is_create_body, is_main, mark_dropped, maybe_exchanged, outcome, pair_now, passed_failure, proc_fails, resume_by, resumed_or_dropped, return_to, status_of, swapped_back, turn, turn_if, with_status}
+use Rattle.icn_run.specs.Step.{State, Store, Status, Fresh, Active, Waiting, Exhausted as IsExhausted, running, failing, hopping, over, stuck, activator_of, all_left, with_exchange, exhaust_active, fail_by, fails, here, hop, is_create_body, is_main, mark_dropped, maybe_exchanged, outcome, pair_now, passed_failure, proc_fails, resume_by, resumed_or_dropped, return_to, status_of, swapped_back, turn, turn_if, with_at, with_status}
+use Rattle.icn_run.proofs.Errors.{at_error}
 
 -- a state after a turn more than so many
 abbrev After : ℕ → State Frames Frames → Type 0
@@ -54,7 +55,8 @@ after_outcome : (t : ℕ) (o : Outcome) (m : Frames) (st : Store Frames) → st.
 after_outcome t (Fails seen) m st e = e
 after_outcome t (Gives item seen) m st e = tt
 after_outcome t (Suspends item rest seen) m st e = tt
-after_outcome t (Error n value seen) m st e = tt
+after_outcome t (Error n value seen) m st e =
+    at_error (After t) n value (flat.set_locals seen.locals m) (with_at seen st) tt e
 after_outcome t (Ends n seen) m st e = tt
 
 after_maybe : (t : ℕ) (o : Option (Pair × Frames)) (m : Frames) (st : Store Frames) → After t (maybe_exchanged o m st running)

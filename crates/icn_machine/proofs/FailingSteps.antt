@@ -1,5 +1,5 @@
 -- A step of failing, on a machine.
-use Rattle.std.proofs.Common.{◌≡◌, ◌≢◌, ◌⊎◌, inl, inr, ◌<◌, ℕ, suc, [], length, Result, Ok, Err, OnOk, IfOk, refl, sym, ap, ◌∙◌, subst, arith}
+use Rattle.std.proofs.Common.{◌≡◌, ◌≢◌, ◌⊎◌, inl, inr, ◌<◌, ℕ, suc, [], length, Result, Ok, Err, IfOk, refl, sym, ap, subst, arith}
 use Rattle.icn_value.specs.declared.limits.Limits.{Limits}
 use Rattle.icn_value.specs.Limited.{Bounds, limits_of}
 use Rattle.icn_value.specs.Store.{Names, Outside, outside_of}
@@ -13,16 +13,20 @@ use Rattle.law_steps.specs.KeepingSizes.{StepsKeepSizes}
 use Rattle.icn_streams.specs.Handed.{CallStreams}
 use Rattle.icn_control.specs.FailingMachines.{DueAt}
 use Rattle.icn_control.specs.FailingStacks.{DueNamed}
-use Rattle.icn_control.specs.Machines.{StandsAt, extent, stack_seen, store_seen}
+use Rattle.icn_control.specs.Machines.{ComesTo, IsSoundMachine, StandsAt, extent, stack_seen, store_seen}
+use Rattle.icn_control.specs.Soundness.{HasItsStack, UnlessEnded}
 use Rattle.icn_control.specs.declared.failing.AfterFailure.{AfterFailure}
 use Rattle.icn_control.specs.declared.machine.Machine.{Machine}
 use Rattle.icn_control.specs.declared.machine.RunState.{RunState}
 use Rattle.icn_control.specs.declared.machine.RunState.TheVariants as RunStates
+use Rattle.icn_control.proofs.Halts.{unless_ended}
 use Rattle.icn_machine.specs.Performing.{PerformsOn}
-use Rattle.icn_machine.specs.Stepping.{Advances, FailsFurther, IsKept, IsKeptAt, IsTurn, KeepsState, MakesTurn}
-use Rattle.icn_machine.proofs.AdvanceSteps.{quiet_step, performed_step}
+use Rattle.icn_machine.specs.Stepping.{Advances, FailsFurther, IsKept, IsKeptAt, IsReady, IsReadyToFail, IsTurn, KeepsState, MakesTurn}
+use Rattle.icn_machine.proofs.AdvanceSteps.{SettlesOn, quiet_step, performed_step}
 use Rattle.icn_machine.proofs.FailFalls.{Further, fails_further, hops_further}
 use Rattle.icn_machine.proofs.KeptSteps.{kept_at, kept_failing, kept_hopping, kept_over, next_lacks_nothing}
+use Rattle.icn_machine.proofs.NextSteps.{comes_by, erring_after, ready_after}
+use Rattle.icn_machine.proofs.PerformEvents.{performs_as}
 
 -- the state in which a machine fails
 abbrev pub seen : {K : Type 0} → Tables → Machine K → Outside → State Frames Frames
@@ -90,7 +94,7 @@ failed_further tables m n RunStates.Failing b l =
 pub failed_quietly : {K : Type 0} (tables : Tables) (m n : Machine K) (h : CallStreams) (stage : RunState)
     → ((outside : Outside) → StandsAt tables outside (failed tables m outside) n stage) → Advances tables m RunStates.Failing h n h (Ok stage)
 failed_quietly tables m n h stage f =
-    quiet_step tables m RunStates.Failing h n (Ok stage) refl
+    quiet_step tables m RunStates.Failing h n stage refl
     (λ was state at. subst (λ (s : State Frames Frames). StandsAt tables was (step flat tables s) n stage) (sym at) (f was))
 
 pub lands_quietly : {K : Type 0} (tables : Tables) (m n : Machine K) (stage : RunState)
@@ -103,30 +107,52 @@ pub by_due : {K : Type 0} (tables : Tables) (outside : Outside) (state due : Sta
 by_due tables outside state due n stage e h = subst (λ (s : State Frames Frames). StandsAt tables outside s n stage) (sym e) h
 
 -- where a row is resumed
-pub failed_performing : {K : Type 0} (tables : Tables) (leads : Outside → State Frames Frames) (m : Machine K) (before : CallStreams) (n : Machine K)
-    (after : CallStreams) (result : Result RunState Halt)
-    → ((was : Outside) → failed tables m was ≡ leads was) → PerformsOn tables leads n before after result
-    → Advances tables m RunStates.Failing before n after result
-failed_performing tables leads m before n after result e p =
-    performed_step tables leads m RunStates.Failing before n after result (λ was state at. ap (step flat tables) at ∙ e was) p
+pub resumed_performs : {K : Type 0} (tables : Tables) (leads : Outside → State Frames Frames) (m : Machine K) (before : CallStreams) (k : Machine K)
+    (after : CallStreams) (answer : Result RunState Halt)
+    → ((was : Outside) → failed tables m was ≡ leads was) → PerformsOn tables leads k before after answer
+    → PerformsOn tables (failed tables m) k before after answer
+resumed_performs tables leads m before k after answer e p =
+    performs_as (failed tables m) leads (λ was now a. ComesTo tables now (leads was) k a) (λ was now a. ComesTo tables now (failed tables m was) k a)
+    before after answer e (λ was now h. subst (λ (s : State Frames Frames). ComesTo tables now s k answer) (sym (e was)) h) p
 
-pub lands_performing : {K : Type 0} (tables : Tables) (leads : Outside → State Frames Frames) (m : Machine K) (before : CallStreams) (n : Machine K)
-    (after : CallStreams) (result : Result RunState Halt)
-    → ((was : Outside) → failed tables m was ≡ leads was) → PerformsOn tables leads n before after result → IfOk result (Lands tables m n)
-lands_performing tables leads m before n after (Ok stage) e p =
-    let first : Outside = outside_of p.had in let told = p.meant first refl in
-    (first, (told.now, by_due tables told.now (failed tables m first) (leads first) n stage (e first) told.is))
-lands_performing tables leads m before n after (Err halt) e p = tt
+resumed_keeps : {K : Type 0} (tables : Tables) → StepsKeepNames → StepsKeepSizes → (m k : Machine K) (answer : Result RunState Halt)
+    → KeepsState tables m RunStates.Failing
+    → (was now : Outside) → ComesTo tables now (failed tables m was) k answer → UnlessEnded answer (IsKept tables (failed tables m was))
+resumed_keeps tables names sizes m k answer kept was now comes =
+    unless_ended answer (IsKept tables (failed tables m was))
+    (kept_failing tables names sizes (stack_seen m) (store_seen tables was m) (kept_seen tables m kept was))
 
--- two things that are so where something is answered
-pub if_both : {A E : Type 0} (result : Result A E) (P Q R : A → Type 0) → ((x : A) → P x → Q x → R x) → IfOk result P → IfOk result Q → IfOk result R
-if_both (Ok x) P Q R f p q = f x p q
-if_both (Err e) P Q R f p q = tt
+pub resumed_ready : {K : Type 0} (tables : Tables) → StepsKeepNames → StepsKeepSizes → (m : Machine K) (before : CallStreams) (k : Machine K)
+    (after : CallStreams) (answer : Result RunState Halt) → KeepsState tables m RunStates.Failing
+    → PerformsOn tables (failed tables m) k before after answer → UnlessEnded answer (IsSoundMachine tables k) → HasItsStack k answer
+    → IfOk answer (IsReady tables k)
+resumed_ready tables names sizes m before k after answer kept p sound stack =
+    ready_after tables (failed tables m) k answer (resumed_keeps tables names sizes m k answer kept)
+    (comes_by tables (failed tables m) before k after answer p) sound stack
 
-pub if_on : {A E : Type 0} (result : Result A E) (P : Type 0) (Q R : A → Type 0) → ((x : A) → P → Q x → R x) → OnOk result P → IfOk result Q → IfOk result R
-if_on (Ok x) P Q R f p q = f x p q
-if_on (Err e) P Q R f p q = tt
+pub resumed_erring : {K : Type 0} (tables : Tables) → StepsKeepNames → StepsKeepSizes → (m : Machine K) (before : CallStreams) (k : Machine K)
+    (after : CallStreams) (answer : Result RunState Halt) → KeepsState tables m RunStates.Failing
+    → PerformsOn tables (failed tables m) k before after answer → UnlessEnded answer (IsSoundMachine tables k) → HasItsStack k answer
+    → IsReadyToFail tables k answer
+resumed_erring tables names sizes m before k after answer kept p sound stack =
+    erring_after tables (failed tables m) k answer (resumed_keeps tables names sizes m k answer kept)
+    (comes_by tables (failed tables m) before k after answer p) sound stack
 
+-- and where its error is settled
+pub failed_performing : {K : Type 0} (tables : Tables) (m : Machine K) (before : CallStreams) (n : Machine K) (after : CallStreams)
+    (result : Result RunState Halt)
+    → SettlesOn tables (failed tables m) n before after result → Advances tables m RunStates.Failing before n after result
+failed_performing tables m before n after result p =
+    performed_step tables (failed tables m) m RunStates.Failing before n after result (λ was state at. ap (step flat tables) at) p
+
+pub lands_performing : {K : Type 0} (tables : Tables) (m : Machine K) (before : CallStreams) (n : Machine K) (after : CallStreams)
+    (result : Result RunState Halt)
+    → SettlesOn tables (failed tables m) n before after result → IfOk result (Lands tables m n)
+lands_performing tables m before n after (Ok stage) p =
+    let first : Outside = outside_of p.had in let told = p.meant first refl in (first, (told.now, told.is))
+lands_performing tables m before n after (Err halt) p = tt
+
+-- what follows where something is answered
 pub if_so : {A E : Type 0} (result : Result A E) (Q R : A → Type 0) → ((x : A) → Q x → R x) → IfOk result Q → IfOk result R
 if_so (Ok x) Q R f q = f x q
 if_so (Err e) Q R f q = tt
@@ -141,7 +167,7 @@ pub hopped_quietly : {K : Type 0} (tables : Tables) (m n : Machine K) (h : CallS
     → ((outside : Outside) (old : Frames) → StandsAt tables outside (hopped tables m outside old) n stage)
     → Advances tables m RunStates.Hopping h n h (Ok stage)
 hopped_quietly tables m n h stage f =
-    quiet_step tables m RunStates.Hopping h n (Ok stage) refl
+    quiet_step tables m RunStates.Hopping h n stage refl
     (λ was state at. subst (λ (s : State Frames Frames). StandsAt tables was (step flat tables s) n stage) (sym at.1) (f was at.0))
 
 pub hopped_kept : {K : Type 0} (tables : Tables) → StepsKeepNames → StepsKeepSizes → (m n : Machine K) (stage : RunState)

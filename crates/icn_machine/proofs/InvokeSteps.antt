@@ -70,19 +70,20 @@ first_event tables names w v m k n items others first callee before after result
 -- the first item has no value
 pub first_stops : (tables : Tables) (names : Names) (w : World) (m n : FlatStack) (items : List Item) (first : Item) (others : List Item) (stop : Stop)
     (before : CallStreams) (result : Result RunState Halt)
-    → items ≡ first ∷ others
+    → items ≡ first ∷ others → n ≡ m
     → IsErrAnd result (λ h. h ≡ halt_of stop)
     → ((st : Store Frames) → st.world ≡ world_of w
     → FindsValue (extent_of w.heap) (item_in (extent_of w.heap) first) (here flat (stack_in (extent_of w.heap) m) st) (Err stop))
     → PerformsEvent names (λ st. invoked_with flat tables (map (item_in (extent_of w.heap)) items) (stack_in (extent_of w.heap) m)
     st) w before w n before result
-first_stops tables names w m n items first others stop before result is err found =
+first_stops tables names w m n items first others stop before result is e err found =
     let all : Extent = extent_of w.heap in
     let event : Store Frames → State Frames Frames = λ st. invoked_with flat tables (map (item_in all) items) (stack_in all m) st in
     still_event names event w w n before result
     (λ st same.
-    match_halt result (halt_of stop) (StandsWith (event st) st w n) (HaltsWith (event st) st w) err
-    (subst (λ (s : State Frames Frames). HaltsWith s st w (halt_of stop))
+    match_halt result (halt_of stop) (StandsWith (event st) st w n) (HaltsWith (event st) st w (stack_in all n)) err
+    (subst (λ (x : FlatStack). HaltsWith (event st) st w (stack_in all x) (halt_of stop)) (sym e)
+    (subst (λ (s : State Frames Frames). HaltsWith s st w (stack_in all m) (halt_of stop))
     (sym (ap (λ (xs : List Item). invoked_with flat tables (map (item_in all) xs) (stack_in all m) st) is))
     (value_halts w (item_in all first) (stack_in all m) st stop (λ value. invoke_value flat tables value (map (item_in all) others) (stack_in all m) st)
-    same (found st same))))
+    same (found st same)))))

@@ -14,6 +14,7 @@ pub mod OperandCalls
 pub mod OperateSteps
 pub mod PerformEvents
 pub mod PerformSteps
+pub mod SettleSteps
 pub mod SetTwice
 pub mod StartLoops
 pub mod StartSteps

@@ -1,12 +1,15 @@
 -- The instruction that is due, and what comes of it.
-use Rattle.std.proofs.Common.{◌≡◌, ◌≢◌, ◌<◌, ℕ, suc, true, false, [], length, Option, Some, None, Result, Ok, Err, OnOk, refl, sym, ap, ◌∙◌, subst}
+use Rattle.std.proofs.Common.{◌≡◌, ◌≢◌, ◌<◌, ℕ, suc, true, false, [], length, Option, Some, None, Result, Ok, Err, refl, sym, ap, ◌∙◌, subst}
 use Rattle.std.specs.Prelude.{IfOk, IsSome, slice_get}
+use Rattle.std.specs.List.{All}
+use Rattle.std.specs.Option.{option_map}
 use Rattle.std.proofs.lemmas.Option.{slice_get_within}
 use Rattle.icn_text.specs.declared.op.Op.{Op}
 use Rattle.icn_text.specs.declared.op.Op.TheVariants as Ops
 use Rattle.icn_defs.specs.Arities.{arity}
 use Rattle.icn_value.specs.Store.{Names, Outside, outside_of}
-use Rattle.icn_heap.specs.Extents.{Extent}
+use Rattle.icn_value.specs.Values.{Value}
+use Rattle.icn_heap.specs.Extents.{Extent, value_in}
 use Rattle.icn_heap.specs.Heaps.{heap_of}
 use Rattle.law_names.specs.NamedSettings.{WorldNamed}
 use Rattle.law_names.specs.RowSizes.{FitSizes}
@@ -21,23 +24,27 @@ use Rattle.icn_code.specs.declared.instr.Instr.{Instr}
 use Rattle.icn_code.specs.declared.instr.Instr.TheVariants as Instrs
 use Rattle.icn_run.specs.Stacks.{Frames, flat}
 use Rattle.icn_run.specs.Step.{State, Store, running, stuck, step, all_names, instruction, instruction_at, instrs_of, with_found}
-use Rattle.law_steps.specs.StateNames.{StackNamed, StateNamed, StoreNamed}
+use Rattle.law_steps.specs.StateNames.{CoexpNamed, StackNamed, StateNamed, StoreNamed}
 use Rattle.law_steps.specs.KeepingNames.{MayCall, StepsKeepNames}
 use Rattle.law_steps.specs.KeepingSizes.{StateFits, StepsKeepSizes, StoreFits, field_count}
 use Rattle.icn_streams.specs.Handed.{CallStreams}
-use Rattle.icn_control.specs.Machines.{ComesTo, HasStack, IsSoundMachine, StandsAt, does, extent, stack_of, stack_seen, store_seen}
+use Rattle.icn_control.specs.Machines.{ComesTo, IsSoundMachine, StandsAt, does, extent, stack_of, stack_seen, store_seen}
+use Rattle.icn_control.specs.Soundness.{HasItsStack, UnlessEnded}
 use Rattle.icn_control.specs.StackViews.{reading_of, stack_in}
 use Rattle.icn_control.specs.TakenOperands.{take_operands}
 use Rattle.icn_control.specs.declared.machine.Machine.{Machine}
 use Rattle.icn_control.specs.declared.machine.RunState.{RunState}
 use Rattle.icn_control.specs.declared.machine.RunState.TheVariants as RunStates
+use Rattle.icn_control.proofs.Halts.{unless_ended}
 use Rattle.icn_instructions.specs.Groups.{group_of, group_of_op}
 use Rattle.icn_instructions.specs.declared.groups.InstrGroup.TheVariants as Groups
 use Rattle.icn_instructions.proofs.LackSteps.{one_there, take_there}
-use Rattle.icn_machine.specs.Performing.{LeavesNamed, PerformsOn}
-use Rattle.icn_machine.specs.Stepping.{Advances, AlwaysOver, IsDoing, IsKept, IsReady, KeepsState, LacksNothing, applies_op, is_applied, is_whole}
-use Rattle.icn_machine.proofs.AdvanceSteps.{performed_step}
+use Rattle.icn_machine.specs.NamedWorlds.{coexps_seen}
+use Rattle.icn_machine.specs.Performing.{LeavesNamed, PerformsOn, UnlessOver}
+use Rattle.icn_machine.specs.Stepping.{Advances, AlwaysOver, IsDoing, IsKept, IsReady, IsReadyToFail, KeepsState, LacksNothing, applies_op, is_applied, is_whole}
+use Rattle.icn_machine.proofs.AdvanceSteps.{SettlesOn, performed_step}
 use Rattle.icn_machine.proofs.KeptSteps.{always_next, kept_at, kept_over, next_lacks_nothing}
+use Rattle.icn_machine.proofs.SettleSteps.{fit_errs, named_errs}
 
 -- The instruction that is due
 
@@ -145,36 +152,58 @@ pub world_names_as : {K : Type 0} (names : Names) (tables : Tables) (m : Machine
     → IsDoing tables m instr → WorldNamed names (world_of m.world)
 world_names_as names tables m instr e d = subst (λ (n : Names). WorldNamed n (world_of m.world)) (sym e) (d.store_named (outside_of [])).world
 
--- where a machine stands over some outside
-abbrev pub LandsBy : {K : Type 0} → Tables → (Outside → State Frames Frames) → Machine K → RunState → Type 0
-LandsBy tables leads n stage = (was : Outside) × ((now : Outside) × StandsAt tables now (leads was) n stage)
+-- where a machine stands over some outside, or the error to which it came
+abbrev pub ComesBy : {K : Type 0} → Tables → (Outside → State Frames Frames) → Machine K → Result RunState Halt → Type 0
+ComesBy tables leads n result = UnlessEnded result ((was : Outside) × ((now : Outside) × ComesTo tables now (leads was) n result))
 
-pub lands_by : {K : Type 0} (tables : Tables) (leads : Outside → State Frames Frames) (before : CallStreams) (n : Machine K) (after : CallStreams)
+pub comes_by : {K : Type 0} (tables : Tables) (leads : Outside → State Frames Frames) (before : CallStreams) (n : Machine K) (after : CallStreams)
     (result : Result RunState Halt)
-    → PerformsOn tables leads n before after result → IfOk result (LandsBy tables leads n)
-lands_by tables leads before n after (Ok stage) p = let first : Outside = outside_of p.had in let told = p.meant first refl in (first, (told.now, told.is))
-lands_by tables leads before n after (Err halt) p = tt
+    → PerformsOn tables leads n before after result → ComesBy tables leads n result
+comes_by tables leads before n after (Ok stage) p = let first : Outside = outside_of p.had in let told = p.meant first refl in (first, (told.now, told.is))
+comes_by tables leads before n after (Err (Halts.Error number offending)) p =
+    let first : Outside = outside_of p.had in let told = p.meant first refl in (first, (told.now, told.is))
+comes_by tables leads before n after (Err (Halts.Ends status)) p = tt
+comes_by tables leads before n after (Err Halts.ReadFault) p = tt
+comes_by tables leads before n after (Err Halts.WriteFault) p = tt
+comes_by tables leads before n after (Err Halts.NoMemory) p = tt
 
-pub lands_quietly_by : {K : Type 0} (tables : Tables) (leads : Outside → State Frames Frames) (n : Machine K) (result : Result RunState Halt)
-    → ((outside : Outside) → ComesTo tables outside (leads outside) n result) → IfOk result (LandsBy tables leads n)
-lands_quietly_by tables leads n (Ok stage) f = let o : Outside = outside_of [] in (o, (o, f o))
-lands_quietly_by tables leads n (Err halt) f = tt
+pub comes_quietly : {K : Type 0} (tables : Tables) (leads : Outside → State Frames Frames) (n : Machine K) (result : Result RunState Halt)
+    → ((outside : Outside) → ComesTo tables outside (leads outside) n result) → ComesBy tables leads n result
+comes_quietly tables leads n result f =
+    let o : Outside = outside_of [] in unless_ended result ((was : Outside) × ((now : Outside) × ComesTo tables now (leads was) n result)) (o, (o, f o))
 
--- by the laws of names and sizes
-pub done_ready : {K : Type 0} (tables : Tables) → StepsKeepNames → StepsKeepSizes → (m n : Machine K) (instr : Instr) (result : Result RunState Halt)
-    → (MayCall instr → ⊥) → IsDoing tables m instr
-    → IfOk result (LandsBy tables (λ o. does tables o instr m) n) → OnOk result (IsSoundMachine tables n) → IfOk result (HasStack n)
-    → IfOk result (IsReady tables n)
-done_ready tables names sizes m n instr (Err halt) calls d l sound stack = tt
-done_ready tables names sizes m n instr (Ok stage) calls d l sound stack = record {
+-- where all that is kept of each state to which an instruction leads
+pub ready_after : {K : Type 0} (tables : Tables) (leads : Outside → State Frames Frames) (n : Machine K) (result : Result RunState Halt)
+    → ((was now : Outside) → ComesTo tables now (leads was) n result → UnlessEnded result (IsKept tables (leads was)))
+    → ComesBy tables leads n result → UnlessEnded result (IsSoundMachine tables n) → HasItsStack n result → IfOk result (IsReady tables n)
+ready_after tables leads n (Ok stage) kept l sound stack = record {
   sound = sound;
   stack = stack;
-  kept = kept_at tables l.1.0 (does tables l.0 instr m) n stage l.1.1 (record {
-    always = d.always l.0;
-    named = names.instructions tables instr (stack_seen m) (store_seen tables l.0 m) calls d.stack_named (d.store_named l.0);
-    fits = sizes.instructions tables instr (stack_seen m) (store_seen tables l.0 m) calls (d.fits l.0);
-  });
+  kept = kept_at tables l.1.0 (leads l.0) n stage l.1.1 (kept l.0 l.1.0 l.1.1);
 }
+ready_after tables leads n (Err halt) kept l sound stack = tt
+
+pub erring_after : {K : Type 0} (tables : Tables) (leads : Outside → State Frames Frames) (n : Machine K) (result : Result RunState Halt)
+    → ((was now : Outside) → ComesTo tables now (leads was) n result → UnlessEnded result (IsKept tables (leads was)))
+    → ComesBy tables leads n result → UnlessEnded result (IsSoundMachine tables n) → HasItsStack n result → IsReadyToFail tables n result
+erring_after tables leads n (Ok stage) kept l sound stack = tt
+erring_after tables leads n (Err (Halts.Error number offending)) kept l sound stack =
+    (sound, (stack, (l.1.0, (leads l.0, (l.1.1, kept l.0 l.1.0 l.1.1)))))
+erring_after tables leads n (Err (Halts.Ends status)) kept l sound stack = tt
+erring_after tables leads n (Err Halts.ReadFault) kept l sound stack = tt
+erring_after tables leads n (Err Halts.WriteFault) kept l sound stack = tt
+erring_after tables leads n (Err Halts.NoMemory) kept l sound stack = tt
+
+-- by the laws of names and sizes
+pub done_keeps : {K : Type 0} (tables : Tables) → StepsKeepNames → StepsKeepSizes → (m n : Machine K) (instr : Instr) (result : Result RunState Halt)
+    → (MayCall instr → ⊥) → IsDoing tables m instr
+    → (was now : Outside) → ComesTo tables now (does tables was instr m) n result → UnlessEnded result (IsKept tables (does tables was instr m))
+done_keeps tables names sizes m n instr result calls d was now comes =
+    unless_ended result (IsKept tables (does tables was instr m)) (record {
+      always = d.always was;
+      named = names.instructions tables instr (stack_seen m) (store_seen tables was m) calls d.stack_named (d.store_named was);
+      fits = sizes.instructions tables instr (stack_seen m) (store_seen tables was m) calls (d.fits was);
+    })
 
 -- where the call says it itself
 named_by : {K : Type 0} (names : Names) (tables : Tables) (now : Outside) (state : State Frames Frames) (n : Machine K) (stage : RunState)
@@ -193,32 +222,53 @@ fits_by tables now state n RunStates.Hopping e h = subst (λ (s : State Frames F
 fits_by tables now state n RunStates.Over e h = subst (λ (s : State Frames Frames). StateFits tables s) (sym e) tt
 fits_by tables now state n RunStates.AtBound e h = subst (λ (s : State Frames Frames). StateFits tables s) (sym e) tt
 
-pub called_ready : {K : Type 0} (names : Names) (tables : Tables) (m n : Machine K) (instr j : Instr) (result : Result RunState Halt)
-    → names ≡ all_names tables → instr ≡ j → IsDoing tables m instr
-    → IfOk result (LandsBy tables (λ o. does tables o j m) n) → OnOk result (IsSoundMachine tables n) → IfOk result (HasStack n)
-    → LeavesNamed names n.world (stack_of n) result
-    → ((outside : Outside) → StoreNamed names (store_seen tables outside m) → OnOk result (StoreNamed names (store_seen tables outside n)))
-    → (FitSizes (field_count tables) (heap_of m.world.heap) → OnOk result (FitSizes (field_count tables) (heap_of n.world.heap)))
-    → IfOk result (IsReady tables n)
-called_ready names tables m n instr j (Err halt) e i d l sound stack named store sized = tt
-called_ready names tables m n instr j (Ok stage) e i d l sound stack named store sized = record {
-  sound = sound;
-  stack = stack;
-  kept = kept_at tables l.1.0 (does tables l.0 j m) n stage l.1.1 (record {
-    always = subst (λ (x : Instr). AlwaysOver tables (LacksNothing tables) (does tables l.0 x m)) i (d.always l.0);
-    named = named_by (all_names tables) tables l.1.0 (does tables l.0 j m) n stage l.1.1
-        (subst (λ (x : Names). StackNamed x (stack_seen n)) e named.0)
-        (subst (λ (x : Names). StoreNamed x (store_seen tables l.1.0 n)) e
-        (store l.1.0 (subst (λ (x : Names). StoreNamed x (store_seen tables l.1.0 m)) (sym e) (d.store_named l.1.0))));
-    fits = fits_by tables l.1.0 (does tables l.0 j m) n stage l.1.1 (sized (d.fits l.1.0));
-  });
-}
+pub called_keeps : {K : Type 0} (names : Names) (tables : Tables) (m n : Machine K) (instr j : Instr) (result : Result RunState Halt)
+    → names ≡ all_names tables → instr ≡ j → IsDoing tables m instr → LeavesNamed names n.world (stack_of n) result
+    → (All (CoexpNamed names) (coexps_seen m) → All (CoexpNamed names) (coexps_seen n))
+    → (FitSizes (field_count tables) (heap_of m.world.heap) → UnlessOver n.world result (FitSizes (field_count tables) (heap_of n.world.heap)))
+    → (was now : Outside) → ComesTo tables now (does tables was j m) n result → UnlessEnded result (IsKept tables (does tables was j m))
+called_keeps names tables m n instr j result e i d left more sized was now comes =
+    by_result result (subst (λ (x : Names). LeavesNamed x n.world (stack_of n) result) e left)
+    (sized (d.fits was)) comes
+  where
+    ns : Names
+    ns = all_names tables
+
+    always : AlwaysOver tables (LacksNothing tables) (does tables was j m)
+    always = subst (λ (x : Instr). AlwaysOver tables (LacksNothing tables) (does tables was x m)) i (d.always was)
+
+    coexps : All (CoexpNamed ns) (coexps_seen n)
+    coexps =
+        subst (λ (x : Names). All (CoexpNamed x) (coexps_seen n)) e
+        (more (subst (λ (x : Names). All (CoexpNamed x) (coexps_seen m)) (sym e) (d.store_named was).coexps))
+
+    by_result : (result : Result RunState Halt) → LeavesNamed ns n.world (stack_of n) result
+        → UnlessOver n.world result (FitSizes (field_count tables) (heap_of n.world.heap)) → ComesTo tables now (does tables was j m) n result
+        → UnlessEnded result (IsKept tables (does tables was j m))
+    by_result (Ok stage) left fits comes = record {
+      always = always;
+      named = named_by ns tables now (does tables was j m) n stage comes left.0 (record { world = left.1; coexps = coexps });
+      fits = fits_by tables now (does tables was j m) n stage comes fits;
+    }
+    by_result (Err (Halts.Error number offending)) left fits comes =
+        let value : Option Value = option_map (value_in (extent n)) offending in record {
+          always = always;
+          named = subst (λ (s : State Frames Frames). StateNamed ns s) (sym comes)
+              (named_errs ns number value (stack_seen n) (store_seen tables now n)
+              (λ goes. ((left goes).0, record { world = (left goes).1; coexps = coexps })));
+          fits = subst (λ (s : State Frames Frames). StateFits tables s) (sym comes)
+              (fit_errs tables number value (stack_seen n) (store_seen tables now n) fits);
+        }
+    by_result (Err (Halts.Ends status)) left fits comes = tt
+    by_result (Err Halts.ReadFault) left fits comes = tt
+    by_result (Err Halts.WriteFault) left fits comes = tt
+    by_result (Err Halts.NoMemory) left fits comes = tt
 
 -- the step of the run
 pub next_step : {K : Type 0} (tables : Tables) (m k : Machine K) (instr : Instr) (before : CallStreams) (n : Machine K) (after : CallStreams)
     (result : Result RunState Halt)
     → ((outside : Outside) → step flat tables (running (stack_seen m) (store_seen tables outside m)) ≡ does tables outside instr k)
-    → PerformsOn tables (λ o. does tables o instr k) n before after result → Advances tables m RunStates.Running before n after result
+    → SettlesOn tables (λ o. does tables o instr k) n before after result → Advances tables m RunStates.Running before n after result
 next_step tables m k instr before n after result e p =
     performed_step tables (λ o. does tables o instr k) m RunStates.Running before n after result (λ was state at. ap (step flat tables) at ∙ e was) p
 

@@ -1,12 +1,12 @@
 -- Instructions that take operands, count a turn and then do something that may read or put.
 use Rattle.std.proofs.Common.{◌≡◌, ◌+◌, ℕ, zero, suc, Bool, true, false, nat_lt, List, [], ◌∷◌, length, map, Option, Some, None, IsSome, Result, Ok, Err, MatchResult, refl, sym, ap, ◌∙◌, subst, arith}
-use Rattle.std.specs.Prelude.{IfOk, IsErrAnd, OnOk}
+use Rattle.std.specs.Prelude.{IfOk, IsErrAnd}
 use Rattle.std.specs.List.{All}
 use Rattle.std.specs.Option.{option_map, option_and_then}
 use Rattle.std.proofs.lemmas.List.Elements.{All-cons, All-nil}
 use Rattle.std.proofs.lemmas.Option.{same_Some}
 use Rattle.icn_value.specs.declared.item.Item.{Item}
-use Rattle.icn_value.specs.Store.{Names, Outside}
+use Rattle.icn_value.specs.Store.{Names, Outside, outside_of}
 use Rattle.icn_heap.specs.Extents.{Extent}
 use Rattle.icn_heap.specs.Heaps.{extent_of, heap_of}
 use Rattle.law_names.specs.NamedSettings.{ItemNamed}
@@ -25,13 +25,14 @@ use Rattle.icn_code.specs.declared.instr.Instr.{Instr}
 use Rattle.icn_run.specs.Rows as rows
 use Rattle.icn_run.specs.Stacks.{Frames, flat}
 use Rattle.icn_run.specs.Step.{State, Store, all_names, at_bound, instruction, on_pair, turn, turn_if, with_found}
-use Rattle.law_steps.specs.StateNames.{StackNamed, StoreNamed}
+use Rattle.law_steps.specs.StateNames.{CoexpNamed, StackNamed}
 use Rattle.law_steps.proofs.CallsNamed as C
 use Rattle.law_steps.proofs.CallsNamed.{IfThere}
 use Rattle.icn_streams.specs.Handed.{CallStreams}
 use Rattle.icn_control.specs.ResultCounts.{EnterOthers, FitTurns}
 use Rattle.icn_control.specs.LiveStacks.{IsLiveStack}
-use Rattle.icn_control.specs.Machines.{AreLiveStacks, ComesTo, HasStack, IsSoundMachine, does, running_of, store_in, store_seen}
+use Rattle.icn_control.specs.Machines.{AreLiveStacks, ComesTo, IsSoundMachine, coexp_in, does, running_of, store_in, store_seen}
+use Rattle.icn_control.specs.Soundness.{HasItsStack, UnlessEnded}
 use Rattle.icn_control.specs.StackAndWorld.{HaltsWith, StandsWith}
 use Rattle.icn_control.specs.StackViews.{reading_of, stack_in}
 use Rattle.icn_control.specs.TakenOperands.{KeepsCounts, take_operands, taken_onto}
@@ -44,7 +45,7 @@ use Rattle.icn_control.proofs.ListSteps.{turn_bound}
 use Rattle.icn_control.proofs.TakenOperandSteps.{taken_runs}
 use Rattle.icn_calls.specs.Calling.{IsGoing}
 use Rattle.icn_machine.specs.Invoking.{PerformsEvent}
-use Rattle.icn_machine.specs.Performing.{LeavesNamed, PerformsOn}
+use Rattle.icn_machine.specs.Performing.{PerformsOn}
 use Rattle.icn_machine.proofs.PerformEvents.{comes_performs, stands_on, stands_over, still_performs, turn_performs}
 
 -- Operands
@@ -145,7 +146,8 @@ pub operands_come : {K : Type 0} (m after : Machine K) (t tables : Tables) (inst
     → after.turns ≡ suc m.turns → after.begun.items ≡ m.begun.items → after.stacks.table ≡ record m.stacks.table { running = Some l } → IfOk result IsGoing
     → ((st : Store Frames) → st.world ≡ world_of m.world
     → MatchResult result (StandsWith (next (map (item_in (extent_of m.world.heap)) xs) (stack_in (extent_of m.world.heap) g) st) st after.world l)
-    (HaltsWith (next (map (item_in (extent_of m.world.heap)) xs) (stack_in (extent_of m.world.heap) g) st) st after.world))
+    (HaltsWith (next (map (item_in (extent_of m.world.heap)) xs) (stack_in (extent_of m.world.heap) g) st) st after.world
+    (stack_in (extent_of after.world.heap) l)))
     → (outside : Outside) → ComesTo tables outside (does tables outside instr m) after result
 operands_come m after t tables instr n next f k g l items xs result is e p on of b kept live turns begun table going comes outside =
     let all : Extent = extent_of m.world.heap in
@@ -192,29 +194,26 @@ lacks_memory tables leads m before = still_performs leads (λ was now answer. Co
 
 -- What is left
 
-pub both_on : {A : Type 0} (result : Result A Halt) (P Q R : Type 0) → OnOk result P → OnOk result Q → (P → Q → R) → OnOk result R
-both_on (Ok a) P Q R p q f = f p q
-both_on (Err halt) P Q R p q f = tt
-
 pub going_has_stack : {K : Type 0} (m : Machine K) (result : Result RunState Halt) → IfOk result IsGoing → IsSome m.stacks.table.running
-    → IfOk result (HasStack m)
+    → HasItsStack m result
 going_has_stack m (Ok RunStates.Running) g r = r
 going_has_stack m (Ok RunStates.Failing) g r = r
 going_has_stack m (Ok RunStates.Hopping) g r = absurd g
 going_has_stack m (Ok RunStates.Over) g r = absurd g
 going_has_stack m (Ok RunStates.AtBound) g r = absurd g
-going_has_stack m (Err halt) g r = tt
+going_has_stack m (Err (Halts.Error number offending)) g r = r
+going_has_stack m (Err (Halts.Ends status)) g r = tt
+going_has_stack m (Err Halts.ReadFault) g r = tt
+going_has_stack m (Err Halts.WriteFault) g r = tt
+going_has_stack m (Err Halts.NoMemory) g r = tt
 
--- the store after names only what has a name, where the world after does and the co-expressions did
-pub store_left : (t : Tables) (names ns : Names) (outside : Outside) (w v : World) (turns more : ℕ) (begun : List _) (table : CoexpTable) (n : FlatStack)
-    (result : Result RunState Halt)
-    → KeepsItems (reach_of w []) (reach_of v []) → AreLiveStacks t (reach_of w []) table → LeavesNamed names v n result
-    → StoreNamed names (store_in ns outside (world_of w) turns begun (extent_of w.heap) table)
-    → OnOk result (StoreNamed names (store_in ns outside (world_of v) more begun (extent_of v.heap) (record table { running = Some n })))
-store_left t names ns outside w v turns more begun table n (Ok stage) kept live left h =
-    let here : StoreNamed names (store_in ns outside (world_of v) more begun (extent_of w.heap) table) = record { world = left.1; coexps = h.coexps } in
-    subst (λ (st : Store Frames). StoreNamed names st) (grown_store t ns outside w v more begun table (Some n) kept live) here
-store_left t names ns outside w v turns more begun table n (Err halt) kept live left h = tt
+-- co-expressions name only what has a name, where they did in a world that has grown
+pub coexps_left : (t : Tables) (names : Names) (w v : World) (table : CoexpTable) (n : FlatStack)
+    → KeepsItems (reach_of w []) (reach_of v []) → AreLiveStacks t (reach_of w []) table
+    → All (CoexpNamed names) (map (coexp_in (extent_of w.heap)) table.coexps)
+    → All (CoexpNamed names) (map (coexp_in (extent_of v.heap)) (record table { running = Some n }).coexps)
+coexps_left t names w v table n kept live h =
+    subst (λ (st : Store Frames). All (CoexpNamed names) st.coexps) (grown_store t names (outside_of []) w v 0 [] table (Some n) kept live) h
 
 -- a machine on which a turn was counted, and whose world has grown, is sound
 pub sound_after : {K : Type 0} (m after : Machine K) (t : Tables) (n : FlatStack) → after.turns ≡ m.turns + 1 → after.limits ≡ m.limits
@@ -243,10 +242,29 @@ sound_after m after t n turns limits table kept live counts k =
       };
     }
 
--- the top operand is one operand that is taken
-pub one_taken : (m n : FlatStack) (item : Item) → held.pop m ≡ Some (item, n) → take_operands 1 m ≡ Some (item ∷ [], n)
-one_taken m n item e = ap (option_and_then (λ (popped : Item × FlatStack). taken_onto 0 popped.1 (popped.0 ∷ []))) e
-
+-- an error is no stage at which the run goes on
 pub not_going : (result : Result RunState Halt) (halt : Halt) → IsErrAnd result (λ h. h ≡ halt) → IfOk result IsGoing
 not_going (Ok stage) halt e = absurd e
 not_going (Err other) halt e = tt
+
+-- the same where an error came of it
+pub erred_sound : {K : Type 0} (m after : Machine K) (t : Tables) (n : FlatStack) (result : Result RunState Halt) (halt : Halt)
+    → IsErrAnd result (λ h. h ≡ halt) → after.turns ≡ m.turns + 1 → after.limits ≡ m.limits
+    → after.stacks.table ≡ record m.stacks.table { running = Some n }
+    → KeepsItems (reach_of m.world []) (reach_of after.world []) → UnlessEnded {A = Unit} (Err halt) (IsLiveStack t (reach_of after.world []) n)
+    → KeepsCounts m.world after.world → IsSoundMachine t m → UnlessEnded result (IsSoundMachine t after)
+erred_sound m after t n (Ok stage) halt e turns limits table kept live counts k = absurd e
+erred_sound m after t n (Err other) halt e turns limits table kept live counts k =
+    subst (λ (h : Halt). UnlessEnded {A = RunState} (Err h) (IsSoundMachine t after)) (sym e) (by_halt halt live)
+  where
+    by_halt : (h : Halt) → UnlessEnded {A = Unit} (Err h) (IsLiveStack t (reach_of after.world []) n)
+        → UnlessEnded {A = RunState} (Err h) (IsSoundMachine t after)
+    by_halt (Halts.Error number offending) l = sound_after m after t n turns limits table kept l counts k
+    by_halt (Halts.Ends status) l = tt
+    by_halt Halts.ReadFault l = tt
+    by_halt Halts.WriteFault l = tt
+    by_halt Halts.NoMemory l = tt
+
+-- the top operand is one operand that is taken
+pub one_taken : (m n : FlatStack) (item : Item) → held.pop m ≡ Some (item, n) → take_operands 1 m ≡ Some (item ∷ [], n)
+one_taken m n item e = ap (option_and_then (λ (popped : Item × FlatStack). taken_onto 0 popped.1 (popped.0 ∷ []))) e

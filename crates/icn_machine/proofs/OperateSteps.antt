@@ -1,7 +1,7 @@
 -- Rows that a machine performs as instructions, and as what was left is resumed.
 use Rattle.std.proofs.Common.{◌≡◌, ℕ, zero, suc, ◌+◌, Bool, true, false, nat_lt, List, [], ◌∷◌, ◌++◌, length, map, Option, Some, None, Result, Ok, Err, refl, sym, ap, ◌∙◌, subst, arith}
 use Rattle.std.proofs.lemmas.Option.{same_Some}
-use Rattle.std.specs.Prelude.{if◌then◌else◌, IfOk, IsSome, OnOk}
+use Rattle.std.specs.Prelude.{if◌then◌else◌, IsSome}
 use Rattle.std.specs.Option.{option_and_then, option_map}
 use Rattle.icn_host.specs.Sinks.{SinkState}
 use Rattle.icn_host.proofs.SinkSteps.{gains_nothing}
@@ -16,7 +16,7 @@ use Rattle.icn_defs.specs.Arities.{arity}
 use Rattle.icn_defs.specs.Rows.{Row, Outcome, Fails, Gives, Suspends, Error, Ends}
 use Rattle.icn_defs.specs.StepRows as step_rows
 use Rattle.icn_defs.specs.StepRows.{Operation}
-use Rattle.icn_heap.specs.Extents.{Extent}
+use Rattle.icn_heap.specs.Extents.{Extent, value_in}
 use Rattle.icn_heap.specs.Heaps.{extent_of, heap_of}
 use Rattle.law_names.specs.NamedSettings.{ItemNamed}
 use Rattle.icn_vars.specs.declared.outcome.Halt.{Halt}
@@ -34,10 +34,12 @@ use Rattle.icn_streams.specs.Handed.{CallStreams, Follows, KeepsAllCounts, PutsA
 use Rattle.icn_run.specs.Calls as calls
 use Rattle.icn_run.specs.Rows as run_rows
 use Rattle.icn_run.specs.Stacks.{Frames, flat}
-use Rattle.icn_run.specs.Step.{State, Store, running, failing, over, stuck, all_names, finish_run, here, instruction, is_main, operate, outcome, resume_by, turn, turn_if, with_world}
+use Rattle.icn_run.specs.Step.{State, Store, running, failing, over, stuck, all_names, errs, finish_run, here, instruction, is_main, operate, outcome, resume_by, turn, turn_if, with_at, with_world}
+use Rattle.icn_run.proofs.Errors.{at_error}
 use Rattle.law_steps.specs.StateNames.{StackNamed}
 use Rattle.law_steps.proofs.CallsNamed as named
-use Rattle.icn_control.specs.Machines.{AreLiveStacks, ComesTo, HasStack, IsSoundMachine, running_of, store_in}
+use Rattle.icn_control.specs.Machines.{AreLiveStacks, ComesTo, IsSoundMachine, running_of, store_in}
+use Rattle.icn_control.specs.Soundness.{HasItsStack}
 use Rattle.icn_control.specs.StackViews.{reading_of, stack_in}
 use Rattle.icn_control.specs.ResultCounts.{EnterOthers, FitTurns}
 use Rattle.icn_control.specs.LiveStacks.{IsLiveStack, with_locals}
@@ -111,7 +113,8 @@ goes_on : (oc : Outcome) (m : Frames) (st : Store Frames) → is_finished (outco
 goes_on (Fails seen) m st = refl
 goes_on (Gives item seen) m st = refl
 goes_on (Suspends item rest seen) m st = refl
-goes_on (Error n value seen) m st = refl
+goes_on (Error n value seen) m st =
+    at_error (λ (s : State Frames Frames). is_finished s ≡ false) n value (flat.set_locals seen.locals m) (with_at seen st) refl refl
 goes_on (Ends n seen) m st = refl
 
 -- no row is the end of the starting call
@@ -145,7 +148,13 @@ comes_to m t tables w turns table n oc a st was now (Ok RunStates.Over) k l e f 
     absurd (unfinished oc a st
     (with_world (world_of m.world) (store_in (all_names tables) now (world_of w) (suc turns) m.begun.items (extent_of w.heap) table)) h)
 comes_to m t tables w turns table n oc a st was now (Ok RunStates.AtBound) k l e f h = absurd h
-comes_to m t tables w turns table n oc a st was now (Err (Halts.Error number offending)) k l e f h = h
+comes_to m t tables w turns table n oc a st was now (Err (Halts.Error number offending)) k l e f h =
+    let next : Frames → Store Frames → State Frames Frames = errs number (option_map (value_in (extent_of m.world.heap)) offending) in
+    let F : CoexpTable → ℕ → State Frames Frames
+    = λ x y. next (stack_in (extent_of m.world.heap) (running_of x.running))
+    (store_in (all_names tables) now (world_of m.world) y m.begun.items (extent_of m.world.heap) x) in
+    h ∙ ap (next (stack_in (extent_of m.world.heap) n)) (grown_store t (all_names tables) now w m.world (suc turns) m.begun.items table (Some n) k l)
+    ∙ ap (λ (x : CoexpTable). F x (suc turns)) (sym e) ∙ ap (F m.stacks.table) (sym f)
 comes_to m t tables w turns table n oc a st was now (Err (Halts.Ends status)) k l e f h = h
 comes_to m t tables w turns table n oc a st was now (Err Halts.ReadFault) k l e f h = absurd h
 comes_to m t tables w turns table n oc a st was now (Err Halts.WriteFault) k l e f h = absurd h
@@ -179,13 +188,17 @@ store_of w =
 
 -- a stack runs where a row was answered, which never comes to a hop
 pub has_stack : {K : Type 0} (m : Machine K) (w : World) (k n : FlatStack) (row : Row) (b a : CallStreams) (result : Result RunState Halt)
-    → m.stacks.table.running ≡ Some n → PerformsRow row w k b m.world n a result → IfOk result (HasStack m)
+    → m.stacks.table.running ≡ Some n → PerformsRow row w k b m.world n a result → HasItsStack m result
 has_stack m w k n row b a (Ok RunStates.Running) e p = subst (λ (o : Option FlatStack). IsSome o) (sym e) refl
 has_stack m w k n row b a (Ok RunStates.Failing) e p = subst (λ (o : Option FlatStack). IsSome o) (sym e) refl
 has_stack m w k n row b a (Ok RunStates.Hopping) e p = let said = p (store_of w) refl in absurd (said.meant (outside_of said.had) refl).is
 has_stack m w k n row b a (Ok RunStates.Over) e p = tt
 has_stack m w k n row b a (Ok RunStates.AtBound) e p = tt
-has_stack m w k n row b a (Err halt) e p = tt
+has_stack m w k n row b a (Err (Halts.Error number offending)) e p = subst (λ (o : Option FlatStack). IsSome o) (sym e) refl
+has_stack m w k n row b a (Err (Halts.Ends status)) e p = tt
+has_stack m w k n row b a (Err Halts.ReadFault) e p = tt
+has_stack m w k n row b a (Err Halts.WriteFault) e p = tt
+has_stack m w k n row b a (Err Halts.NoMemory) e p = tt
 
 -- Operations
 
@@ -312,10 +325,6 @@ pub rest_running : (reach : Reach) (table : CoexpTable) (m : FlatStack) (rest : 
 rest_running reach table m rest e h = subst (λ (o : Option FlatStack). IsLiveResidual (with_locals (held.local_count (running_of o)) reach) rest) e h
 
 -- what is kept by a row that is answered
-
-pub on_ok_both : {A E : Type 0} (result : Result A E) (P Q R : Type 0) → OnOk result P → OnOk result Q → (P → Q → R) → OnOk result R
-on_ok_both (Ok x) P Q R p q f = f p q
-on_ok_both (Err e) P Q R p q f = tt
 
 pub sound_after : {K : Type 0} (m after : Machine K) (t : Tables) (n : FlatStack) → KeepsItems (reach_of m.world []) (reach_of after.world [])
     → after.stacks.table ≡ record m.stacks.table { running = Some n } → after.turns ≡ m.turns + 1

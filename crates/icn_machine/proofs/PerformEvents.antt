@@ -1,8 +1,10 @@
 -- What is performed on a stack in a world, on a machine, and what neither reads nor puts anything.
 use Rattle.std.proofs.Common.{◌≡◌, ℕ, suc, Bool, true, false, nat_lt, if◌then◌else◌, List, [], Some, Result, Ok, Err, MatchResult, refl, sym, ap, ◌∙◌, subst}
 use Rattle.std.specs.Prelude.{IfOk, ⊤}
+use Rattle.std.specs.Option.{option_map}
 use Rattle.icn_value.specs.Store.{Names, Outside, outside_of}
 use Rattle.icn_defs.specs.Rows.{Outcome, Row, Fails, Gives, Suspends, Error, Ends}
+use Rattle.icn_heap.specs.Extents.{value_in}
 use Rattle.icn_heap.specs.Heaps.{extent_of, heap_of}
 use Rattle.icn_vars.specs.declared.outcome.Halt.{Halt}
 use Rattle.icn_vars.specs.declared.outcome.Halt.TheVariants as Halts
@@ -13,10 +15,12 @@ use Rattle.icn_coexp.specs.Transfers.{CoexpTable}
 use Rattle.icn_code.specs.Codes.{Tables}
 use Rattle.icn_run.specs.Rows.{Done}
 use Rattle.icn_run.specs.Stacks.{Frames, flat}
-use Rattle.icn_run.specs.Step.{State, Store, running, failing, over, all_names, finish_run, is_main, outcome, stuck, with_world, turn, turn_if}
+use Rattle.icn_run.specs.Step.{State, Store, running, failing, over, all_names, errs, finish_run, is_main, outcome, stuck, with_at, with_world, turn, turn_if}
+use Rattle.icn_run.proofs.Errors.{at_error}
 use Rattle.icn_streams.specs.Handed.{CallStreams, uncounted}
 use Rattle.icn_streams.proofs.CallSequences.{follows_all}
 use Rattle.icn_control.specs.Machines.{AreLiveStacks, ComesTo, running_of, stack_seen, store_in, store_seen}
+use Rattle.icn_control.specs.Soundness.{UnlessEnded}
 use Rattle.icn_control.specs.StackAndWorld.{HaltsWith, StandsWith}
 use Rattle.icn_control.specs.StackViews.{stack_in}
 use Rattle.icn_control.specs.declared.machine.Machine.{Machine}
@@ -55,6 +59,15 @@ performs_as leads others Comes Same before after result e h p = record {
       (p.meant was left);
   caused = p.caused;
 }
+
+-- two things that are so unless the run ended
+pub unless_both : {A : Type 0} (result : Result A Halt) (P Q R : Type 0) → UnlessEnded result P → UnlessEnded result Q → (P → Q → R) → UnlessEnded result R
+unless_both (Ok a) P Q R p q f = f p q
+unless_both (Err (Halts.Error number offending)) P Q R p q f = f p q
+unless_both (Err (Halts.Ends status)) P Q R p q f = tt
+unless_both (Err Halts.ReadFault) P Q R p q f = tt
+unless_both (Err Halts.WriteFault) P Q R p q f = tt
+unless_both (Err Halts.NoMemory) P Q R p q f = tt
 
 -- What neither reads nor puts anything
 
@@ -120,7 +133,7 @@ comes_performs tables leads m before result h =
 -- the same on a stack in a world
 
 halts_over : (state : State Frames Frames) (st : Store Frames) (w : World) (m : FlatStack) (was : Outside) (halt : Halt)
-    → HaltsWith state (over_outside was st) w halt → StandsOver state st w m was (Err halt)
+    → HaltsWith state (over_outside was st) w (stack_in (extent_of w.heap) m) halt → StandsOver state st w m was (Err halt)
 halts_over state st w m was (Halts.Error number offending) h = h
 halts_over state st w m was (Halts.Ends status) h = absurd h
 halts_over state st w m was Halts.ReadFault h = h
@@ -128,12 +141,13 @@ halts_over state st w m was Halts.WriteFault h = h
 halts_over state st w m was Halts.NoMemory h = tt
 
 pub stands_over : (state : State Frames Frames) (st : Store Frames) (w : World) (m : FlatStack) (was : Outside) (result : Result RunState Halt)
-    → MatchResult result (StandsWith state (over_outside was st) w m) (HaltsWith state (over_outside was st) w) → StandsOver state st w m was result
+    → MatchResult result (StandsWith state (over_outside was st) w m) (HaltsWith state (over_outside was st) w (stack_in (extent_of w.heap) m))
+    → StandsOver state st w m was result
 stands_over state st w m was (Ok stage) h = h
 stands_over state st w m was (Err halt) h = halts_over state st w m was halt h
 
 with_faultless : (state : State Frames Frames) (st : Store Frames) (w : World) (m : FlatStack) (result : Result RunState Halt)
-    → MatchResult result (StandsWith state st w m) (HaltsWith state st w) → IsFaultless result
+    → MatchResult result (StandsWith state st w m) (HaltsWith state st w (stack_in (extent_of w.heap) m)) → IsFaultless result
 with_faultless state st w m (Ok stage) h = tt
 with_faultless state st w m (Err (Halts.Error number offending)) h = tt
 with_faultless state st w m (Err (Halts.Ends status)) h = tt
@@ -143,7 +157,8 @@ with_faultless state st w m (Err Halts.NoMemory) h = tt
 
 pub still_event : (names : Names) (event : Store Frames → State Frames Frames) (w v : World) (n : FlatStack) (before : CallStreams)
     (result : Result RunState Halt)
-    → ((st : Store Frames) → st.world ≡ world_of w → MatchResult result (StandsWith (event st) st v n) (HaltsWith (event st) st v))
+    → ((st : Store Frames) → st.world ≡ world_of w
+    → MatchResult result (StandsWith (event st) st v n) (HaltsWith (event st) st v (stack_in (extent_of v.heap) n)))
     → PerformsEvent names event w before v n before result
 still_event names event w v n before result h st same names_same =
     still_performs (λ was. event (over_outside was st)) (λ was now answer. StandsOver (event (over_outside was st)) st v n now answer) before result
@@ -175,12 +190,16 @@ never_finished o m st other e = by_main (is_main other.active) o e
     by_main true (Fails seen) e = cc
     by_main true (Gives item seen) e = cc
     by_main true (Suspends item rest seen) e = cc
-    by_main true (Error number value seen) e = cc
+    by_main true (Error number value seen) e =
+        at_error (λ (s : State Frames Frames). s ≡ over Done other.outside → ⊥) number value (flat.set_locals seen.locals m) (with_at seen st)
+        (λ q. absurd (cc)) (λ q. absurd (cc)) e
     by_main true (Ends status seen) e = cc
     by_main false (Fails seen) e = cc
     by_main false (Gives item seen) e = cc
     by_main false (Suspends item rest seen) e = cc
-    by_main false (Error number value seen) e = cc
+    by_main false (Error number value seen) e =
+        at_error (λ (s : State Frames Frames). s ≡ stuck → ⊥) number value (flat.set_locals seen.locals m) (with_at seen st)
+        (λ q. absurd (cc)) (λ q. absurd (cc)) e
     by_main false (Ends status seen) e = cc
 
 pub row_going : (row : Row) (w v : World) (m n : FlatStack) (before after : CallStreams) (result : Result RunState Halt) (st : Store Frames)
@@ -228,7 +247,7 @@ stands_on {K} m t tables was now w turns table n state result k l e f g h = by_r
     by_result (Ok RunStates.Hopping) g h = absurd g
     by_result (Ok RunStates.Over) g h = absurd g
     by_result (Ok RunStates.AtBound) g h = absurd g
-    by_result (Err (Halts.Error number offending)) g h = h
+    by_result (Err (Halts.Error number offending)) g h = h ∙ seen (errs number (option_map (value_in (extent_of m.world.heap)) offending))
     by_result (Err (Halts.Ends status)) g h = h
     by_result (Err Halts.ReadFault) g h = absurd h
     by_result (Err Halts.WriteFault) g h = absurd h

@@ -1,6 +1,7 @@
 -- Rows on a stack in a world, as steps.
 use Rattle.std.proofs.Common.{◌≡◌, ℕ, zero, suc, List, [], ◌∷◌, ◌++◌, length, map, take, Option, Some, None, Result, Ok, Err, refl, sym, ap, ◌∙◌, subst}
 use Rattle.std.specs.Prelude.{IfErr, IsErrAnd}
+use Rattle.std.specs.Option.{option_map}
 use Rattle.std.specs.List.{All}
 use Rattle.std.specs.Io.KnownBytes.{Appends}
 use Rattle.std.proofs.lemmas.List.Elements.{All-head, All-tail}
@@ -8,13 +9,14 @@ use Rattle.icn_host.specs.Sinks.{SinkState}
 use Rattle.icn_value.specs.declared.val.Val.{Val}
 use Rattle.icn_value.specs.Values.{Value, Item}
 use Rattle.icn_value.specs.Store.{Heap, Names, Outside, Setting, World as StoreWorld, outside_of}
+use Rattle.icn_defs.specs.Errors.{with_kept}
 use Rattle.icn_defs.specs.Rows.{Row, Outcome, Fails, Gives, Suspends, Error, Ends}
 use Rattle.icn_defs.specs.Applying.{function_of}
 use Rattle.icn_defs.specs.StepRows as step_rows
 use Rattle.icn_heap.specs.Extents.{Extent, IsLive, value_in}
 use Rattle.icn_heap.specs.Heaps.{extent_of}
 use Rattle.law_names.specs.RowsNamed.{OutcomeNamed}
-use Rattle.law_names.specs.NamedSettings.{SettingNamed, ValueNamed, WorldNamed}
+use Rattle.law_names.specs.NamedSettings.{ErrorNamed, SettingNamed, ValueNamed, WorldNamed}
 use Rattle.law_names.specs.RowSizes.{heap_after}
 use Rattle.icn_vars.specs.declared.outcome.Outcome.{Outcome as HeldOutcome}
 use Rattle.icn_vars.specs.declared.outcome.Outcome.TheVariants.{Fails as HeldFails, Gives as HeldGives, Suspends as HeldSuspends}
@@ -35,15 +37,18 @@ use Rattle.icn_streams.specs.Applies.{Applies}
 use Rattle.icn_streams.specs.Handed.{CallStreams, Follows, PutsPart, uncounted}
 use Rattle.icn_apply.specs.Applicable.{applied_of}
 use Rattle.icn_apply.specs.NamesAfter.{AnswerNamed}
+use Rattle.icn_apply.specs.SizesAfter.{AnswerKeepsSizes, WorldsKeepSizes}
 use Rattle.icn_apply.specs.declared.applied.Applied.{Applied as HeldApplied}
 use Rattle.icn_apply.specs.declared.applied.Applied.TheVariants.{Op, Func}
 use Rattle.icn_run.specs.Stacks.{Frames, flat}
-use Rattle.icn_run.specs.Step.{State, Store, here, outcome}
+use Rattle.icn_run.specs.Step.{State, Store, errs, here, outcome, with_at, with_world}
+use Rattle.icn_run.proofs.Errors.{at_error}
 use Rattle.law_steps.specs.KeepingCounts.{KeepCounts}
 use Rattle.law_steps.specs.StateNames.{StackNamed}
 use Rattle.law_steps.proofs.CallsNamed as named
 use Rattle.law_steps.proofs.RowCounts.{rows_keep_counts}
 use Rattle.icn_control.specs.LiveStacks.{IsLiveStack, with_locals}
+use Rattle.icn_control.specs.Soundness.{UnlessEnded}
 use Rattle.icn_control.specs.StackViews.{reading_of, stack_in}
 use Rattle.icn_control.specs.TakenOperands.{KeepsCounts}
 use Rattle.icn_control.specs.declared.machine.RunState.{RunState}
@@ -111,14 +116,17 @@ readings_in : (oc : Outcome) (M : Frames) (st : Store Frames) (was : Outside) �
 readings_in (Fails seen) M st was = refl
 readings_in (Gives item seen) M st was = refl
 readings_in (Suspends item rest seen) M st was = refl
-readings_in (Error n value seen) M st was = refl
+readings_in (Error n value seen) M st was =
+    at_error (λ (s : State Frames Frames). (outside_in was s).readings ≡ seen.outside.readings) n value (flat.set_locals seen.locals M)
+    (with_at seen st) refl refl
 readings_in (Ends n seen) M st was = refl
 
 output_in : (oc : Outcome) (M : Frames) (st : Store Frames) (was : Outside) → (outside_in was (outcome flat oc M st)).output ≡ (outside_after oc).output
 output_in (Fails seen) M st was = refl
 output_in (Gives item seen) M st was = refl
 output_in (Suspends item rest seen) M st was = refl
-output_in (Error n value seen) M st was = refl
+output_in (Error n value seen) M st was =
+    at_error (λ (s : State Frames Frames). (outside_in was s).output ≡ seen.outside.output) n value (flat.set_locals seen.locals M) (with_at seen st) refl refl
 output_in (Ends n seen) M st was = refl
 
 nil_right : (xs : List ℕ) → xs ≡ xs ++ []
@@ -131,7 +139,9 @@ errors_in : (oc : Outcome) (M : Frames) (st : Store Frames) (was : Outside)
 errors_in (Fails seen) M st was = ([], nil_right seen.outside.errors)
 errors_in (Gives item seen) M st was = ([], nil_right seen.outside.errors)
 errors_in (Suspends item rest seen) M st was = ([], nil_right seen.outside.errors)
-errors_in (Error n value seen) M st was = (_, refl)
+errors_in (Error n value seen) M st was =
+    at_error (λ (s : State Frames Frames). (more : List ℕ) × ((outside_in was s).errors ≡ seen.outside.errors ++ more)) n value
+    (flat.set_locals seen.locals M) (with_at seen st) (_, refl) ([], nil_right seen.outside.errors)
 errors_in (Ends n seen) M st was = ([], nil_right seen.outside.errors)
 
 none_taken : (k : ℕ) (none : List ℕ) → none ≡ [] → [] ≡ take k none
@@ -255,15 +265,24 @@ breaks_behind w v m k row st was b a oc same c =
     behind (subst (λ (x : Outside). Follows b a was x) (sym out) c.follows)
 
 halts : (w v : World) (m k n : FlatStack) (row : Row) (st : Store Frames) (was : Outside) (b a : CallStreams) (halt : Halt) → st.world ≡ world_of w
-    → Answers row was (call_state w (held.locals m) b) (call_state v (held.locals k) a) (Err halt)
+    → Sets w v m k → n ≡ k → Answers row was (call_state w (held.locals m) b) (call_state v (held.locals k) a) (Err halt)
     → AnswersStep (λ now answer. StandsOver (row_on row w m st was) st v n now answer) (row_on row w m st was) was b a (Err halt)
-halts w v m k n row st was b a (Halts.Error number offending) same c =
+halts w v m k n row st was b a (Halts.Error number offending) same s p c =
+    let all : Extent = extent_of v.heap in
+    let value : Option Value = option_map (value_in all) offending in
+    let at : Store Frames = with_world (world_of v) (over_outside c.now st) in
+    record {
+      now = c.now;
+      follows = c.follows;
+      is =
+          state_is row w m st was same ∙ ap (outcome_on w m st was) c.comes
+          ∙ ap (λ (x : Frames). errs number value x at) (s.same ∙ ap (stack_in all) (sym p));
+    }
+halts w v m k n row st was b a (Halts.Ends status) same s p c =
     record { now = c.now; follows = c.follows; is = state_is row w m st was same ∙ ap (outcome_on w m st was) c.comes }
-halts w v m k n row st was b a (Halts.Ends status) same c =
-    record { now = c.now; follows = c.follows; is = state_is row w m st was same ∙ ap (outcome_on w m st was) c.comes }
-halts w v m k n row st was b a Halts.ReadFault same c = reads_part w v m row st was b a same c
-halts w v m k n row st was b a Halts.WriteFault same c = puts_part w v m row st was b a same c
-halts w v m k n row st was b a Halts.NoMemory same c = breaks w v m row st was b a same c
+halts w v m k n row st was b a Halts.ReadFault same s p c = reads_part w v m row st was b a same c
+halts w v m k n row st was b a Halts.WriteFault same s p c = puts_part w v m row st was b a same c
+halts w v m k n row st was b a Halts.NoMemory same s p c = breaks w v m row st was b a same c
 
 cause : (b a : CallStreams) (halt : Halt) → CausedBy (Err halt) b a → IsCause {A = RunState} (Err halt) b a
 cause b a (Halts.Error number offending) c = c
@@ -295,21 +314,22 @@ performs_lack w v m k n row b a oc r st same = record {
   caused = uncounted r.caused;
 }
 
-performs_halt : (w v : World) (m k n : FlatStack) (row : Row) (b a : CallStreams) (halt : Halt)
+performs_halt : (w v : World) (m k n : FlatStack) (row : Row) (b a : CallStreams) (halt : Halt) → Sets w v m k → n ≡ k
     → Applies row (call_state w (held.locals m) b) (call_state v (held.locals k) a) (Err halt) → PerformsRow row w m b v n a (Err halt)
-performs_halt w v m k n row b a halt r st same = record {
-  answers = λ was told. halts w v m k n row st was b a halt same (r.answers was told);
+performs_halt w v m k n row b a halt s p r st same = record {
+  answers = λ was told. halts w v m k n row st was b a halt same s p (r.answers was told);
   had = r.meant.had;
   has = r.meant.has;
-  meant = λ was left. halts w v m k n row st was (with_left r.meant.had b) (with_left r.meant.has a) halt same (r.meant.answers was left);
+  meant = λ was left. halts w v m k n row st was (with_left r.meant.had b) (with_left r.meant.has a) halt same s p (r.meant.answers was left);
   caused = cause b a halt r.caused;
 }
 
-pub performs_err : (result : Result RunState Halt) (w v : World) (m k n : FlatStack) (row : Row) (b a : CallStreams) (halt : Halt)
-    → IsErrAnd result (λ h. h ≡ halt)
+performs_err : (result : Result RunState Halt) (w v : World) (m k n : FlatStack) (row : Row) (b a : CallStreams) (halt : Halt)
+    → IsErrAnd result (λ h. h ≡ halt) → Sets w v m k → n ≡ k
     → Applies row (call_state w (held.locals m) b) (call_state v (held.locals k) a) (Err halt) → PerformsRow row w m b v n a result
-performs_err (Ok stage) w v m k n row b a halt e r = absurd e
-performs_err (Err other) w v m k n row b a halt e r = subst (λ (h : Halt). PerformsRow row w m b v n a (Err h)) (sym e) (performs_halt w v m k n row b a halt r)
+performs_err (Ok stage) w v m k n row b a halt e s p r = absurd e
+performs_err (Err other) w v m k n row b a halt e s p r =
+    subst (λ (h : Halt). PerformsRow row w m b v n a (Err h)) (sym e) (performs_halt w v m k n row b a halt s p r)
 
 -- Counts
 
@@ -323,15 +343,53 @@ pub apply_counts : (names : Names) (what : HeldApplied) (items : List Item) (at 
 apply_counts names (Op op) items at = rows_keep_counts.operations op items at
 apply_counts names (Func func) items at = rows_keep_counts.values items (function_of names func) at (λ values. rows_keep_counts.functions names func values at)
 
+counts_kept : (w v : World) (m k : FlatStack) (row : Row) (outside now : Outside) (after : Heap)
+    → ((at : Setting) → KeepCounts at.world.heap (heap_after (row at)))
+    → heap_after (row (setting_of outside w (held.locals m))) ≡ after → after ≡ (setting_of now v (held.locals k)).world.heap → KeepsCounts w v
+counts_kept w v m k row outside now after h e f =
+    let kept = subst (λ (x : Heap). KeepCounts (world_of w).heap x) (e ∙ f) (h (setting_of outside w (held.locals m))) in
+    record { bounds = kept.bounds; coexps = kept.coexps }
+
 pub counts_after : (w v : World) (m k : FlatStack) (row : Row) (b a : CallStreams) (oc : HeldOutcome)
     → ((at : Setting) → KeepCounts at.world.heap (heap_after (row at)))
     → Applies row (call_state w (held.locals m) b) (call_state v (held.locals k) a) (Ok oc) → KeepsCounts w v
 counts_after w v m k row b a oc h r =
     let was : Outside = outside_of r.meant.had in
     let c = r.meant.answers was refl in
-    let e = ap heap_after c.comes ∙ heap_given (extent_of v.heap) oc (setting_of c.now v (held.locals k)) in
-    let kept = subst (λ (x : Heap). KeepCounts (world_of w).heap x) e (h (setting_of was w (held.locals m))) in
-    record { bounds = kept.bounds; coexps = kept.coexps }
+    counts_kept w v m k row was c.now (heap_after (outcome_in (extent_of v.heap) oc (setting_of c.now v (held.locals k)))) h (ap heap_after c.comes)
+    (heap_given (extent_of v.heap) oc (setting_of c.now v (held.locals k)))
+
+-- and so of an error
+pub counts_halted : (result : Result RunState Halt) (w v : World) (m k : FlatStack) (row : Row) (b a : CallStreams) (halt : Halt)
+    → IsErrAnd result (λ h. h ≡ halt) → ((at : Setting) → KeepCounts at.world.heap (heap_after (row at)))
+    → Applies row (call_state w (held.locals m) b) (call_state v (held.locals k) a) (Err halt) → UnlessEnded result (KeepsCounts w v)
+counts_halted (Ok stage) w v m k row b a halt e h r = absurd e
+counts_halted (Err other) w v m k row b a halt e h r = subst (λ (x : Halt). UnlessEnded {A = RunState} (Err x) (KeepsCounts w v)) (sym e) (by_halt halt r)
+  where
+    by_halt : (x : Halt) → Applies row (call_state w (held.locals m) b) (call_state v (held.locals k) a) (Err x)
+        → UnlessEnded {A = RunState} (Err x) (KeepsCounts w v)
+    by_halt (Halts.Error number offending) q =
+        let was : Outside = outside_of q.meant.had in
+        let c = q.meant.answers was refl in
+        counts_kept w v m k row was c.now (setting_of c.now v (held.locals k)).world.heap h (ap heap_after c.comes) refl
+    by_halt (Halts.Ends status) q = tt
+    by_halt Halts.ReadFault q = tt
+    by_halt Halts.WriteFault q = tt
+    by_halt Halts.NoMemory q = tt
+
+-- Sizes
+
+pub sizes_halted : (result : Result RunState Halt) (w v : World) (halt : Halt) → IsErrAnd result (λ h. h ≡ halt) → AnswerKeepsSizes w v (Err halt)
+    → UnlessEnded result (WorldsKeepSizes w v)
+sizes_halted (Ok stage) w v halt e h = absurd e
+sizes_halted (Err other) w v halt e h = subst (λ (x : Halt). UnlessEnded {A = RunState} (Err x) (WorldsKeepSizes w v)) (sym e) (by_halt halt h)
+  where
+    by_halt : (x : Halt) → AnswerKeepsSizes w v (Err x) → UnlessEnded {A = RunState} (Err x) (WorldsKeepSizes w v)
+    by_halt (Halts.Error number offending) q = q
+    by_halt (Halts.Ends status) q = tt
+    by_halt Halts.ReadFault q = tt
+    by_halt Halts.WriteFault q = tt
+    by_halt Halts.NoMemory q = tt
 
 -- Names
 
@@ -340,24 +398,27 @@ seen_named names all HeldFails seen h = h
 seen_named names all (HeldGives item) seen h = h.1
 seen_named names all (HeldSuspends item rest) seen h = h.1.1
 
-pub set_named : (names : Names) (w v : World) (m k : FlatStack) (oc : HeldOutcome) → Sets w v m k → StackNamed names (stack_in (extent_of w.heap) m)
+-- the stack with locals that name only what has a name
+stack_set : (names : Names) (w v : World) (m k : FlatStack) (outside : Outside) → Sets w v m k → StackNamed names (stack_in (extent_of w.heap) m)
+    → SettingNamed names (setting_of outside v (held.locals k)) → StackNamed names (stack_in (extent_of v.heap) k)
+stack_set names w v m k outside s h seen =
+    let values : List Value = map (value_in (extent_of v.heap)) (held.locals k) in
+    let M : Frames = stack_in (extent_of w.heap) m in
+    subst (λ (x : Frames). StackNamed names x) s.same
+    (named.stack_out names (flat.set_locals values M)
+    (named.set_locals names values M (named.each_of (ValueNamed names) values seen.locals) (named.stack_in names M h)))
+
+set_named : (names : Names) (w v : World) (m k : FlatStack) (oc : HeldOutcome) → Sets w v m k → StackNamed names (stack_in (extent_of w.heap) m)
     → OutcomeNamed names (outcome_in (extent_of v.heap) oc (setting_of (outside_of []) v (held.locals k)))
     → StackNamed names (stack_in (extent_of v.heap) k) × WorldNamed names (world_of v)
 set_named names w v m k oc s h o =
-    let all : Extent = extent_of v.heap in
-    let seen = seen_named names all oc (setting_of (outside_of []) v (held.locals k)) o in
-    let values : List Value = map (value_in all) (held.locals k) in
-    let M : Frames = stack_in (extent_of w.heap) m in (
-      subst (λ (x : Frames). StackNamed names x) s.same
-          (named.stack_out names (flat.set_locals values M)
-          (named.set_locals names values M (named.each_of (ValueNamed names) values seen.locals) (named.stack_in names M h))),
-      seen.world,
-    )
+    let seen = seen_named names (extent_of v.heap) oc (setting_of (outside_of []) v (held.locals k)) o in
+    (stack_set names w v m k (outside_of []) s h seen, seen.world)
 
-pub names_left : (result : Result RunState Halt) (names : Names) (v : World) (n : FlatStack) (halt : Halt) → IsErrAnd result (λ h. h ≡ halt)
-    → LeavesNamed names v n result
-names_left (Ok stage) names v n halt e = absurd e
-names_left (Err other) names v n halt e = tt
+-- a world that names only what has a name, with an error kept that does
+world_keeps : (names : Names) (world : StoreWorld) (number : ℕ) (offending : Option Value) → WorldNamed names world → ErrorNamed names number offending
+    → WorldNamed names (with_kept number offending world)
+world_keeps names world number offending h e = record { heap = h.heap; globals = h.globals; statics = h.statics; kept = e }
 
 -- What follows of what a call said of a row, on a stack of which it has set the locals
 
@@ -373,6 +434,11 @@ sets_in : (t : Tables) (w v : World) (m k : FlatStack) (row : Row) (b a : CallSt
     → held.set_locals (held.locals k) m ≡ k
     → IsLiveStack t (reach_of w []) m → Sets w v m k
 sets_in t w v m k row b a answer r s l = record { same = set_is t w v m k (kept_after w v m k row b a answer r) l s }
+
+pub halted_row : (t : Tables) (result : Result RunState Halt) (w v : World) (m k : FlatStack) (row : Row) (b a : CallStreams) (halt : Halt)
+    → IsErrAnd result (λ h. h ≡ halt) → AppliesOn row w m b v k a (Err halt) → held.set_locals (held.locals k) m ≡ k
+    → IsLiveStack t (reach_of w []) m → PerformsRow row w m b v k a result
+halted_row t result w v m k row b a halt e r s l = performs_err result w v m k k row b a halt e (sets_in t w v m k row b a (Err halt) r s l) refl r
 
 pub given_row : (t : Tables) (w v : World) (m k n : FlatStack) (row : Row) (b a : CallStreams) (oc : HeldOutcome) (stage : RunState)
     → AppliesOn row w m b v k a (Ok oc) → held.set_locals (held.locals k) m ≡ k
@@ -414,3 +480,22 @@ pub named_with : (t : Tables) (names : Names) (w v : World) (m k : FlatStack) (r
 named_with t names w v m k row b a oc r s l h n =
     let both = set_named names w v m k oc (sets_in t w v m k row b a (Ok oc) r s l) h n in
     record { stack = both.0; world = both.1; outcome = n }
+
+-- what an error leaves
+pub names_halted : (t : Tables) (result : Result RunState Halt) (names : Names) (w v : World) (m k : FlatStack) (row : Row) (b a : CallStreams) (halt : Halt)
+    → IsErrAnd result (λ h. h ≡ halt) → AppliesOn row w m b v k a (Err halt) → held.set_locals (held.locals k) m ≡ k
+    → IsLiveStack t (reach_of w []) m → StackNamed names (stack_in (extent_of w.heap) m) → AnswerNamed names v (held.locals k) (Err halt)
+    → LeavesNamed names v k result
+names_halted t (Ok stage) names w v m k row b a halt e r s l h n = absurd e
+names_halted t (Err other) names w v m k row b a halt e r s l h n =
+    subst (λ (x : Halt). LeavesNamed names v k (Err x)) (sym e) (by_halt halt (sets_in t w v m k row b a (Err halt) r s l) n)
+  where
+    by_halt : (x : Halt) → Sets w v m k → AnswerNamed names v (held.locals k) (Err x) → LeavesNamed names v k (Err x)
+    by_halt (Halts.Error number offending) q f = λ goes. (
+      stack_set names w v m k (outside_of []) q h f.1,
+      world_keeps names (world_of v) number (option_map (value_in (extent_of v.heap)) offending) f.1.world f.0,
+    )
+    by_halt (Halts.Ends status) q f = tt
+    by_halt Halts.ReadFault q f = tt
+    by_halt Halts.WriteFault q f = tt
+    by_halt Halts.NoMemory q f = tt

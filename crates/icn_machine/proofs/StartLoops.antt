@@ -1,6 +1,6 @@
 -- Tables of a code that are gone over, and words that are charged.
-use Rattle.std.proofs.Common.{◌≡◌, ◌+◌, ◌≤◌, ℕ, zero, suc, Bool, true, false, ◌&&◌, nat_le, if◌then◌else◌, List, [], ◌∷◌, ◌++◌, length, map, replicate, Result, Ok, Err, inl, inr, refl, sym, ap, ◌∙◌, subst, arith, append_assoc, append-nil, leb-true}
-use Rattle.std.specs.Prelude.{◌-◌, IsErrAnd}
+use Rattle.std.proofs.Common.{◌≡◌, ◌+◌, ◌≤◌, ℕ, zero, suc, Bool, true, false, ◌&&◌, nat_le, if◌then◌else◌, List, [], ◌∷◌, ◌++◌, length, map, replicate, None, Result, Ok, Err, inl, inr, refl, sym, ap, ◌∙◌, subst, arith, append_assoc, append-nil, leb-true}
+use Rattle.std.specs.Prelude.{IsErrAnd, pos}
 use Rattle.std.specs.List.{All, list_all, sum_by}
 use Rattle.std.proofs.lemmas.Bool.{le-leb}
 use Rattle.std.proofs.lemmas.List.{map-append, replicate-append-replicate}
@@ -256,7 +256,17 @@ pub world_is : (tables : Tables) (bounds : Bounds) (words : List (List ℕ)) (fi
     → new_world now globals statics ≡ world_charged tables bounds words
 world_is tables bounds words first now globals statics e h g s =
     let all : Extent = extent_of now in
-    let F : Heap → List Value → List Value → World = λ heap gs ss. record { heap = heap; subject = []; position = 1; random = 0; globals = gs; statics = ss } in
+    let F : Heap → List Value → List Value → World
+    = λ heap gs ss. record {
+      heap = heap;
+      subject = [];
+      position = 1;
+      random = 0;
+      globals = gs;
+      statics = ss;
+      error = pos zero;
+      kept = None;
+    } in
     let heap : heap_of now ≡ record (first_heap bounds) { strings = 0 + sum_by length words } = h
     ∙ ap (λ (x : Heap). record x { strings = x.strings + sum_by length words }) e in
     ap (λ (x : Heap). F x (map (value_in all) globals) (map (value_in all) statics)) heap

@@ -13,9 +13,11 @@ use Rattle.icn_value.specs.declared.val.Val.TheVariants as Vals
 use Rattle.icn_value.specs.Limited.{Bounds, limits_of}
 use Rattle.icn_value.specs.Store.{Setting, World as StoreWorld, new_list}
 use Rattle.icn_value.specs.Values.{Value, Null}
+use Rattle.icn_defs.specs.Errors.{is_fatal}
 use Rattle.icn_defs.specs.Running.{Launch, text_values, words_row}
 use Rattle.icn_defs.specs.Rows.{Outcome, Row, check}
 use Rattle.icn_defs.specs.StepRows.{list_row}
+use Rattle.icn_defs.proofs.OnErrors.{fatal_ends, is_ended}
 use Rattle.icn_heap.specs.Extents.{Extent, IsLive, value_in}
 use Rattle.icn_heap.specs.Heaps.{extent_of, heap_of}
 use Rattle.icn_vars.specs.declared.outcome.Halt.{Halt}
@@ -33,9 +35,10 @@ use Rattle.icn_code.specs.declared.code.Start.TheVariants as Starts
 use Rattle.icn_code.specs.Codes.{Proc, Tables}
 use Rattle.icn_code.specs.Rules.{is_global, is_start, keeps_rules, name_of}
 use Rattle.icn_run.specs.FlatStep.{start}
+use Rattle.icn_run.proofs.Errors.{at_error}
 use Rattle.icn_run.specs.Rows as rows
 use Rattle.icn_run.specs.Stacks.{Frames, empty, flat}
-use Rattle.icn_run.specs.Step.{State, Store, all_names, begun_if, collect_rest, errs, first_store, here, with_made, main_of, procedure_at, running, start_of, stuck, with_at, with_found, with_world}
+use Rattle.icn_run.specs.Step.{State, Store, all_names, begun_if, collect_rest, ended_by, errs, failing, first_store, here, with_made, main_of, procedure_at, running, start_of, stuck, with_at, with_found, with_world}
 use Rattle.icn_control.specs.ResultCounts.{EnterOthers, FitTurns}
 use Rattle.icn_control.specs.LiveStacks.{IsLiveStack, variable_count}
 use Rattle.icn_control.specs.Machines.{AreLiveStacks, IsLiveCoexp, IsSoundMachine, running_of, store_in}
@@ -109,13 +112,22 @@ main_there tables main rules e f = global_there tables main (find (is_called_mai
 
 -- Lists, on whatever stack they are made
 
+-- an error that ends every run
+fatal_over : (number : ℕ) (offending : Option Value) (m : Frames) (st : Store Frames) → is_fatal number ≡ true
+    → errs number offending m st ≡ ended_by number offending st
+fatal_over number offending m st f =
+    is_ended number offending st.world (ended_by number offending st) (λ world. failing m (with_world world st)) (fatal_ends number st.world.error f)
+
 -- what follows a check
 check_made : (t : Bool) (number : ℕ) (offending : Option Value) (next : Row) (at : Setting) (a b : Frames) (st su : Store Frames)
     (N : Value → Frames → Store Frames → State Frames Frames)
-    → with_at at st ≡ with_at at su → with_made flat (next at) a st N ≡ with_made flat (next at) b su N
+    → is_fatal number ≡ true → with_at at st ≡ with_at at su → with_made flat (next at) a st N ≡ with_made flat (next at) b su N
     → with_made flat (check t number offending next at) a st N ≡ with_made flat (check t number offending next at) b su N
-check_made true number offending next at a b st su N e h = h
-check_made false number offending next at a b st su N e h = ap (errs number offending) e
+check_made true number offending next at a b st su N f e h = h
+check_made false number offending next at a b st su N f e h =
+    fatal_over number offending (flat.set_locals at.locals a) (with_at at st) f
+    ∙ ap (λ (s : Store Frames). ended_by number offending s) e
+    ∙ sym (fatal_over number offending (flat.set_locals at.locals b) (with_at at su) f)
 
 -- the setting in which a list is made
 abbrev listed_in : List Value → Setting → Setting
@@ -133,7 +145,7 @@ pub list_as : (values : List Value) (at : Setting) (a b : Frames) (st su : Store
 list_as values at a b st su N e h =
     let value : Value = rows.AList (length at.world.heap.lists) in
     let seen : Setting = listed_in values at in
-    check_made (nat_le (at.world.heap.cells + (1 + length values)) at.world.heap.bounds.cells) 307 None _ at a b st su N (e at)
+    check_made (nat_le (at.world.heap.cells + (1 + length values)) at.world.heap.bounds.cells) 307 None _ at a b st su N refl (e at)
     (h value (with_at seen st) ∙ ap (N value (flat.set_locals at.locals b)) (e seen))
 
 abbrev pub stays_stuck : Value → Frames → Store Frames → State Frames Frames
@@ -143,13 +155,13 @@ stays_stuck value a st = stuck
 pub data OutcomeSo (o : Outcome) (at : Setting) : Type 0 where
   fits : ((a : Frames) (st : Store Frames) → with_made flat o a st stays_stuck ≡ stuck) → OutcomeSo o at
   is_full : ((a : Frames) (st : Store Frames) (N : Value → Frames → Store Frames → State Frames Frames)
-      → with_made flat o a st N ≡ errs 307 None (with_at at st))
+      → with_made flat o a st N ≡ ended_by 307 None (with_at at st))
       → OutcomeSo o at
 
 check_so : (t : Bool) (next : Row) (at : Setting) → ((a : Frames) (st : Store Frames) → with_made flat (next at) a st stays_stuck ≡ stuck)
     → OutcomeSo (check t 307 None next at) at
 check_so true next at h = fits h
-check_so false next at h = is_full (λ a st N. refl)
+check_so false next at h = is_full (λ a st N. fatal_over 307 None (flat.set_locals at.locals a) (with_at at st) refl)
 
 pub list_so : (values : List Value) (at : Setting) → OutcomeSo (list_row values at) at
 list_so values at = check_so (nat_le (at.world.heap.cells + (1 + length values)) at.world.heap.bounds.cells) _ at (λ a st. refl)
@@ -166,8 +178,8 @@ pub words_paid : (words : List (List ℕ)) (at : Setting) → nat_le (at.world.h
 words_paid words at e = check_passes (nat_le (at.world.heap.strings + sum_by length words) at.world.heap.bounds.strings) e _ at
 
 words_refused : (t : Bool) → t ≡ false → (next : Row) (at : Setting) (a : Frames) (st : Store Frames) (N : Value → Frames → Store Frames → State Frames Frames)
-    → with_made flat (check t 306 None next at) a st N ≡ errs 306 None (with_at at st)
-words_refused false q next at a st N = refl
+    → with_made flat (check t 306 None next at) a st N ≡ ended_by 306 None (with_at at st)
+words_refused false q next at a st N = fatal_over 306 None (flat.set_locals at.locals a) (with_at at st) refl
 words_refused true q next at a st N = cc
 
 -- The start
@@ -175,8 +187,9 @@ words_refused true q next at a st N = cc
 abbrev first : Tables → Launch → Store Frames
 first tables launch = first_store tables launch
 
-pub start_none : (tables : Tables) (launch : Launch) → main_of tables ≡ None → start tables launch ≡ errs 117 None (first tables launch)
-start_none tables launch e = ap (start_of flat tables launch.words empty (first tables launch)) e
+pub start_none : (tables : Tables) (launch : Launch) → main_of tables ≡ None → start tables launch ≡ ended_by 117 None (first tables launch)
+start_none tables launch e =
+    ap (start_of flat tables launch.words empty (first tables launch)) e ∙ fatal_over 117 None empty (first tables launch) refl
 
 pub start_is : (tables : Tables) (launch : Launch) (main : ℕ) (entry : Proc) → main_of tables ≡ Some main → slice_get tables.procs main ≡ Some entry
     → start tables launch ≡ with_made flat (words_row launch.words (here flat empty (first tables launch))) empty (first tables launch) (begun_with main entry)
@@ -186,7 +199,7 @@ start_is tables launch main entry e f =
     ∙ ap (λ (o : Option Proc). with_found o (λ (proc : Proc). with_made flat (words_row launch.words (here flat empty st)) empty st (begun_with main proc))) f
 
 pub start_full : (tables : Tables) (launch : Launch) (main : ℕ) (entry : Proc) → main_of tables ≡ Some main → slice_get tables.procs main ≡ Some entry
-    → nat_le (0 + sum_by length launch.words) launch.bounds.strings ≡ false → start tables launch ≡ errs 306 None (first tables launch)
+    → nat_le (0 + sum_by length launch.words) launch.bounds.strings ≡ false → start tables launch ≡ ended_by 306 None (first tables launch)
 start_full tables launch main entry e f w =
     start_is tables launch main entry e f
     ∙ words_refused (nat_le (0 + sum_by length launch.words) launch.bounds.strings) w _ (here flat empty (first tables launch)) empty (first tables launch)
@@ -206,7 +219,7 @@ begun_as : (t : Bool) (main : ℕ) (entry : Proc) (arguments : List Value) (all 
 begun_as true main entry arguments all st =
     begun_collected entry.collects entry.parameters arguments all st (λ ps a s. running (flat.begin main (ps ++ replicate entry.locals Null) 0 a) s)
     (λ ps s. refl)
-begun_as false main entry arguments all st = refl
+begun_as false main entry arguments all st = fatal_over 301 None empty st refl ∙ sym (fatal_over 301 None (stack_in all bare) st refl)
 
 -- as a list of values of a world in which the words are charged
 pub start_in : (tables : Tables) (launch : Launch) (main : ℕ) (entry : Proc) (w : World) (vals : List Val) → main_of tables ≡ Some main
@@ -241,7 +254,7 @@ levels_pass levels p = le-leb 1 levels p
 -- arguments become parameters, or there are too many cells
 pub data CollectedSo (collects : Bool) (count : ℕ) (arguments : List Value) (m : Frames) (st : Store Frames) : Type 0 where
   collects_fit : collect_rest flat collects count arguments m st (λ ps a s. stuck) ≡ stuck → CollectedSo collects count arguments m st
-  collects_full : ((K : List Value → Frames → Store Frames → State Frames Frames) → collect_rest flat collects count arguments m st K ≡ errs 307 None st)
+  collects_full : ((K : List Value → Frames → Store Frames → State Frames Frames) → collect_rest flat collects count arguments m st K ≡ ended_by 307 None st)
       → CollectedSo collects count arguments m st
 
 collected_by : (count : ℕ) (arguments : List Value) (m : Frames) (st : Store Frames)
@@ -254,11 +267,14 @@ collected_so false count arguments m st = collects_fit refl
 collected_so true count arguments m st = collected_by count arguments m st (list_so (drop (count - 1) arguments) (here flat m st))
 
 -- an error that is the same is of this number
-same_error : (n : ℕ) (offending : Option Value) (st su : Store Frames) → errs {K = Frames} {M = Frames} 307 None st ≡ errs n offending su → n ≡ 307
-same_error n offending st su e = cc
+same_error : (n : ℕ) (offending : Option Value) (m : Frames) (st su : Store Frames) → ended_by {K = Frames} {M = Frames} 307 None st ≡ errs n offending m su
+    → n ≡ 307
+same_error n offending m st su =
+    at_error (λ (s : State Frames Frames). ended_by {K = Frames} {M = Frames} 307 None st ≡ s → n ≡ 307) n offending m su (λ e. cc) (λ e. absurd (cc))
 
-never_error : (a : State Frames Frames) (n : ℕ) (offending : Option Value) (su : Store Frames) → a ≡ stuck → a ≡ errs n offending su → ⊥
-never_error a n offending su e f = cc
+never_error : (a : State Frames Frames) (n : ℕ) (offending : Option Value) (m : Frames) (su : Store Frames) → a ≡ stuck → a ≡ errs n offending m su → ⊥
+never_error a n offending m su e f =
+    at_error (λ (s : State Frames Frames). stuck ≡ s → ⊥) n offending m su (λ q. absurd (cc)) (λ q. absurd (cc)) (sym e ∙ f)
 
 pub begins_runs : (entry : Proc) (w v u : World) (f k : FlatStack) (vals one params locals : List Val) (list : Val) → f ≡ bare → k ≡ f → one ≡ list ∷ []
     → MakesValue (list_row (map (value_in (extent_of w.heap)) vals)) w f v (Ok list)
@@ -282,20 +298,21 @@ begins_runs entry w v u f k vals one params locals list p q o made_one found mor
     (sym (ap (map (value_in late)) more ∙ map_with_nulls late entry.locals params))
     ∙ ap (λ (x : Frames). running x (with_world (world_of u) st)) (begin_read (reading_of late) main locals 0 (stack_in late bare))
 
-list_error : (entry : Proc) (w v : World) (vals : List Val) (n : ℕ) (offending : Option Val) (main : ℕ) (st : Store Frames)
+list_error : (entry : Proc) (w v : World) (vals : List Val) (n : ℕ) (offending : Option Val) (main : ℕ) (m : Frames) (st : Store Frames)
     → OutcomeSo (list_row (map (value_in (extent_of w.heap)) vals) (here flat (stack_in (extent_of w.heap) bare) st)) (here flat
     (stack_in (extent_of w.heap) bare) st)
     → made_in (list_row (map (value_in (extent_of w.heap)) vals)) w bare st stays_stuck
-    ≡ errs n (option_map (value_in (extent_of v.heap)) offending) (with_world (world_of v) st)
-    → made_in (list_row (map (value_in (extent_of w.heap)) vals)) w bare st (begun_with main entry) ≡ errs n None st
-list_error entry w v vals n offending main st (fits g) e =
+    ≡ errs n (option_map (value_in (extent_of v.heap)) offending) m (with_world (world_of v) st)
+    → made_in (list_row (map (value_in (extent_of w.heap)) vals)) w bare st (begun_with main entry) ≡ ended_by n None st
+list_error entry w v vals n offending main m st (fits g) e =
     absurd (never_error (made_in (list_row (map (value_in (extent_of w.heap)) vals)) w bare st stays_stuck) n
-    (option_map (value_in (extent_of v.heap)) offending) (with_world (world_of v) st)
+    (option_map (value_in (extent_of v.heap)) offending) m (with_world (world_of v) st)
     (g (stack_in (extent_of w.heap) bare) st) e)
-list_error entry w v vals n offending main st (is_full g) e =
+list_error entry w v vals n offending main m st (is_full g) e =
     let M : Frames = stack_in (extent_of w.heap) bare in
-    let number : n ≡ 307 = same_error n (option_map (value_in (extent_of v.heap)) offending) st (with_world (world_of v) st) (sym (g M st stays_stuck) ∙ e) in
-    g M st (begun_with main entry) ∙ ap (λ (k : ℕ). errs k None st) (sym number)
+    let number : n ≡ 307
+    = same_error n (option_map (value_in (extent_of v.heap)) offending) m st (with_world (world_of v) st) (sym (g M st stays_stuck) ∙ e) in
+    g M st (begun_with main entry) ∙ ap (λ (k : ℕ). ended_by k None st) (sym number)
 
 pub list_stops : (entry : Proc) (w v : World) (f : FlatStack) (vals locals : List Val) (stop : Stop) → f ≡ bare
     → MakesValue (list_row (map (value_in (extent_of w.heap)) vals)) w f v (Err stop)
@@ -304,7 +321,7 @@ list_stops entry w v f vals locals Stops.NoMemory p h = tt
 list_stops entry w v f vals locals (Stops.Error n offending) p h =
     let here_made : MakesValue (list_row (map (value_in (extent_of w.heap)) vals)) w bare v (Err (Stops.Error n offending))
     = subst (λ (x : FlatStack). MakesValue (list_row (map (value_in (extent_of w.heap)) vals)) w x v (Err (Stops.Error n offending))) p h in
-    λ main st same. list_error entry w v vals n offending main st
+    λ main st same. list_error entry w v vals n offending main (stack_in (extent_of v.heap) bare) st
     (list_so (map (value_in (extent_of w.heap)) vals) (here flat (stack_in (extent_of w.heap) bare) st)) (here_made st stays_stuck same)
 
 -- what the parameters come to
@@ -314,15 +331,15 @@ begin_with_them main entry ps a s = running (flat.begin main (ps ++ replicate en
 abbrev all_stuck : List Value → Frames → Store Frames → State Frames Frames
 all_stuck ps a s = stuck
 
-collected_error : (entry : Proc) (arguments : List Value) (m : Frames) (s su : Store Frames) (n : ℕ) (offending : Option Value) (main : ℕ)
+collected_error : (entry : Proc) (arguments : List Value) (m k : Frames) (s su : Store Frames) (n : ℕ) (offending : Option Value) (main : ℕ)
     → CollectedSo entry.collects entry.parameters arguments m s
-    → collect_rest flat entry.collects entry.parameters arguments m s all_stuck ≡ errs n offending su
-    → collect_rest flat entry.collects entry.parameters arguments m s (begin_with_them main entry) ≡ errs n None s
-collected_error entry arguments m s su n offending main (collects_fit g) e =
-    absurd (never_error (collect_rest flat entry.collects entry.parameters arguments m s all_stuck) n offending su g e)
-collected_error entry arguments m s su n offending main (collects_full g) e =
-    let number : n ≡ 307 = same_error n offending s su (sym (g all_stuck) ∙ e) in
-    g (begin_with_them main entry) ∙ ap (λ (k : ℕ). errs k None s) (sym number)
+    → collect_rest flat entry.collects entry.parameters arguments m s all_stuck ≡ errs n offending k su
+    → collect_rest flat entry.collects entry.parameters arguments m s (begin_with_them main entry) ≡ ended_by n None s
+collected_error entry arguments m k s su n offending main (collects_fit g) e =
+    absurd (never_error (collect_rest flat entry.collects entry.parameters arguments m s all_stuck) n offending k su g e)
+collected_error entry arguments m k s su n offending main (collects_full g) e =
+    let number : n ≡ 307 = same_error n offending k s su (sym (g all_stuck) ∙ e) in
+    g (begin_with_them main entry) ∙ ap (λ (x : ℕ). ended_by x None s) (sym number)
 
 pub parameters_stop : (entry : Proc) (w v u : World) (f k : FlatStack) (vals one params locals : List Val) (list : Val) (stop : Stop) → f ≡ bare → k ≡ f
     → one ≡ list ∷ []
@@ -343,7 +360,8 @@ parameters_stop entry w v u f k vals one params locals list (Stops.Error n offen
     ∙ ap (λ (xs : List Val). collect_rest flat entry.collects entry.parameters (map (value_in all) xs) M (with_world (world_of v) st)
     (begin_with_them main entry))
     (sym o)
-    ∙ collected_error entry (map (value_in all) one) M (with_world (world_of v) st) (with_world (world_of u) (with_world (world_of v) st)) n
+    ∙ collected_error entry (map (value_in all) one) M (stack_in (extent_of u.heap) bare) (with_world (world_of v) st)
+    (with_world (world_of u) (with_world (world_of v) st)) n
     (option_map (value_in (extent_of u.heap)) offending) main
     (collected_so entry.collects entry.parameters (map (value_in all) one) M (with_world (world_of v) st))
     (here_found (with_world (world_of v) st) all_stuck refl)
@@ -380,7 +398,7 @@ pub words_stop : (K A : Type 0) (tables : Tables) (launch : Launch) (main : ℕ)
     → WordsFit {A = A} launch.bounds launch.words (Err stop) → StartsAs {K = K} tables launch (Err (about_nothing stop))
 words_stop K A tables launch main entry Stops.NoMemory e f h = tt
 words_stop K A tables launch main entry (Stops.Error n offending) e f h =
-    start_full tables launch main entry e f h.0 ∙ ap (λ (k : ℕ). errs k None (first tables launch)) (sym h.1)
+    start_full tables launch main entry e f h.0 ∙ ap (λ (k : ℕ). ended_by k None (first tables launch)) (sym h.1)
 
 pub locals_stop : (K : Type 0) (tables : Tables) (launch : Launch) (main : ℕ) (entry : Proc) (w v : World) (vals locals : List Val) (stop : Stop)
     → main_of tables ≡ Some main → slice_get tables.procs main ≡ Some entry

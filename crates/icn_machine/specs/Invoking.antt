@@ -33,4 +33,4 @@ FindsElements w from items result =
     (tables : Tables) (callee : Value) (m : Frames) (st : Store Frames) → st.world ≡ world_of w
     → MatchResult result (λ _. elements_called flat tables callee (value_in (extent_of w.heap) from) m st
     ≡ invoke_value flat tables callee (map (item_in (extent_of w.heap)) items) m st)
-    (HaltsWith (elements_called flat tables callee (value_in (extent_of w.heap) from) m st) st w)
+    (HaltsWith (elements_called flat tables callee (value_in (extent_of w.heap) from) m st) st w m)

@@ -4,5 +4,6 @@ pub mod Invoking
 pub mod NamedWorlds
 pub mod Performing
 pub mod Stepping
+pub mod Settling
 pub mod AfterInstruction
 pub mod Starting

@@ -9,9 +9,11 @@ use Rattle.icn_vars.specs.declared.world.World.{World}
 use Rattle.icn_vars.specs.Worlds.{IsLiveItem, item_in, reach_of, world_of}
 use Rattle.icn_frames.specs.Stacks.{FlatStack, local_count}
 use Rattle.icn_code.specs.Codes.{Tables}
+use Rattle.icn_run.specs.Stacks.{Frames}
+use Rattle.icn_run.specs.Step.{Coexp}
 use Rattle.law_steps.specs.StateNames.{StackNamed}
 use Rattle.icn_control.specs.LiveStacks.{IsLiveStack, with_locals}
-use Rattle.icn_control.specs.Machines.{stack_seen}
+use Rattle.icn_control.specs.Machines.{coexp_in, extent, stack_seen}
 use Rattle.icn_control.specs.StackViews.{stack_in}
 use Rattle.icn_control.specs.declared.machine.Machine.{Machine}
 
@@ -30,3 +32,7 @@ pub record AreNamed (names : Names) (world : World) (m : FlatStack) (operands : 
 pub record MachineNamed {K : Type 0} (names : Names) (m : Machine K) : Type 0 where
   pub stack_named : StackNamed names (stack_seen m)
   pub world_named : WorldNamed names (world_of m.world)
+
+-- the co-expressions of a machine, as its run has them
+abbrev pub coexps_seen : {K : Type 0} → Machine K → List (Coexp Frames)
+coexps_seen m = map (coexp_in (extent m)) m.stacks.table.coexps

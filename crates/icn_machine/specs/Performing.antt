@@ -1,7 +1,8 @@
 -- Rows on a stack and on a machine.
-use Rattle.std.specs.Prelude.{◌≡◌, Result, Ok, Err, ⊤}
+use Rattle.std.specs.Prelude.{◌≡◌, false, Result, Ok, Err, ⊤}
 use Rattle.std.specs.Option.{option_map}
 use Rattle.icn_value.specs.Store.{Names, Outside}
+use Rattle.icn_defs.specs.Errors.{ends_run, with_kept}
 use Rattle.icn_defs.specs.Rows.{Row}
 use Rattle.icn_heap.specs.Extents.{value_in}
 use Rattle.icn_heap.specs.Heaps.{extent_of}
@@ -33,13 +34,13 @@ abbrev pub row_on : Row → World → FlatStack → Store Frames → Outside →
 row_on row w m st was = let at = over_outside was st in
     outcome flat (row (here flat (stack_in (extent_of w.heap) m) at)) (stack_in (extent_of w.heap) m) at
 
--- where a stack and a world stand after it; or the run is over
+-- where a stack and a world stand after it; or it comes to an error, or the run is over
 abbrev pub StandsOver : State Frames Frames → Store Frames → World → FlatStack → Outside
     → Result RunState Halt
     → Type 0
 StandsOver state st w m now (Ok stage) = StandsWith state (over_outside now st) w m stage
 StandsOver state st w m now (Err (Halts.Error number offending)) =
-    state ≡ errs number (option_map (value_in (extent_of w.heap)) offending)
+    state ≡ errs number (option_map (value_in (extent_of w.heap)) offending) (stack_in (extent_of w.heap) m)
     (with_world (world_of w) (over_outside now st))
 StandsOver state st w m now (Err (Halts.Ends status)) = state ≡ over (Exit status) now
 StandsOver state st w m now (Err Halts.ReadFault) = ⊥
@@ -59,8 +60,23 @@ abbrev pub PerformsOn : {K : Type 0} → Tables → (Outside → State Frames Fr
 PerformsOn tables leads m before after result =
     Performs leads (λ was now answer. ComesTo tables now (leads was) m answer) before after result
 
--- what stands on a stack and in a world names only what has a name, where something is answered but a fault or want of memory
+-- it holds of what a call leaves, unless the run is over
+abbrev pub UnlessOver : {A : Type 0} → World → Result A Halt → Type 0 → Type 0
+UnlessOver w (Ok a) P = P
+UnlessOver w (Err (Halts.Error number offending)) P = ends_run number w.words.error ≡ false → P
+UnlessOver w (Err (Halts.Ends status)) P = ⊤
+UnlessOver w (Err Halts.ReadFault) P = ⊤
+UnlessOver w (Err Halts.WriteFault) P = ⊤
+UnlessOver w (Err Halts.NoMemory) P = ⊤
+
+-- What stands on a stack and in a world names only what has a name, unless the run ended; where an error becomes failure, it does so with the error kept.
 abbrev pub LeavesNamed : Names → World → FlatStack → Result RunState Halt → Type 0
 LeavesNamed names w m (Ok stage) =
     StackNamed names (stack_in (extent_of w.heap) m) × WorldNamed names (world_of w)
-LeavesNamed names w m (Err halt) = ⊤
+LeavesNamed names w m (Err (Halts.Error number offending)) =
+    ends_run number w.words.error ≡ false → StackNamed names (stack_in (extent_of w.heap) m)
+    × WorldNamed names (with_kept number (option_map (value_in (extent_of w.heap)) offending) (world_of w))
+LeavesNamed names w m (Err (Halts.Ends status)) = ⊤
+LeavesNamed names w m (Err Halts.ReadFault) = ⊤
+LeavesNamed names w m (Err Halts.WriteFault) = ⊤
+LeavesNamed names w m (Err Halts.NoMemory) = ⊤

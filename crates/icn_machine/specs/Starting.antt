@@ -21,7 +21,7 @@ use Rattle.icn_vars.specs.declared.outcome.Halt.TheVariants as Halts
 use Rattle.icn_code.specs.Codes.{Proc, Tables}
 use Rattle.icn_run.specs.FlatStep.{start}
 use Rattle.icn_run.specs.Stacks.{Frames, flat}
-use Rattle.icn_run.specs.Step.{State, Store, begun_if, errs, first_globals, first_store, running, static_count, with_world}
+use Rattle.icn_run.specs.Step.{State, Store, begun_if, ended_by, first_globals, first_store, running, static_count, with_world}
 use Rattle.icn_control.specs.Machines.{stack_seen, store_seen}
 use Rattle.icn_control.specs.StackViews.{stack_in}
 use Rattle.icn_control.specs.TakenOperands.{made_in}
@@ -38,7 +38,7 @@ abbrev pub StartsAs : {K : Type 0} → Tables → Launch → Result (Machine K) 
 StartsAs tables launch (Ok m) =
     start tables launch ≡ running (stack_seen m) (store_seen tables launch.outside m)
 StartsAs tables launch (Err (Halts.Error number None)) =
-    start tables launch ≡ errs number None (first_store tables launch)
+    start tables launch ≡ ended_by number None (first_store tables launch)
 StartsAs tables launch (Err (Halts.Error number (Some offending))) = ⊥
 StartsAs tables launch (Err (Halts.Ends status)) = ⊥
 StartsAs tables launch (Err Halts.ReadFault) = ⊥
@@ -92,5 +92,5 @@ BeginsWith entry w vals v locals (Ok a) = (main : ℕ) (st : Store Frames) → s
 BeginsWith entry w vals v locals (Err (Stops.Error number offending)) =
     (main : ℕ) (st : Store Frames) → st.world ≡ world_of w
     → made_in (list_row (map (value_in (extent_of w.heap)) vals)) w bare st (begun_with main entry)
-    ≡ errs number None st
+    ≡ ended_by number None st
 BeginsWith entry w vals v locals (Err Stops.NoMemory) = ⊤

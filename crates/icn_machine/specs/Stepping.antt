@@ -18,7 +18,7 @@ use Rattle.icn_run.specs.AnyOutside.{run_over}
 use Rattle.icn_streams.specs.Handed.{CallStreams, Follows, FailsOnce, KeepsAllCounts, KeepsFaultCounts, WantsMemory}
 use Rattle.icn_run.specs.InstructionNeeds.{HasCaseMark, HasVariables}
 use Rattle.icn_instructions.specs.Ranges.{IsInRange}
-use Rattle.icn_control.specs.Machines.{ComesTo, HaltsAt, HasStack, IsSoundMachine, StandsAt, does, stack_of, stack_seen, store_seen}
+use Rattle.icn_control.specs.Machines.{EndsAt, HaltsAt, HasStack, IsSoundMachine, SettlesAt, StandsAt, does, stack_of, stack_seen, store_seen}
 use Rattle.icn_control.specs.declared.machine.Machine.{Machine}
 use Rattle.icn_control.specs.declared.machine.RunState.{RunState}
 use Rattle.icn_control.specs.declared.machine.RunState.TheVariants as RunStates
@@ -120,7 +120,7 @@ pub record Leads {K : Type 0} (tables : Tables) (state : State Frames Frames) (w
   pub count : ℕ
   pub between : CallStreams
   pub follows : Follows before between was (outside_at (steps flat tables count state))
-  pub last : AnswersStep (λ now answer. ComesTo tables now (steps flat tables (suc count) state) n answer)
+  pub last : AnswersStep (λ now answer. SettlesAt tables now (steps flat tables (suc count) state) n answer)
       (steps flat tables (suc count) state) (outside_at (steps flat tables count state)) between after result
 
 -- where a machine stands, or how the run is over; of a fault and of want of memory nothing is said
@@ -128,8 +128,8 @@ abbrev pub StandsBy : {K : Type 0} → Tables → Outside → State Frames Frame
     → Type 0
 StandsBy tables outside state n (Ok stage) = StandsAt tables outside state n stage
 StandsBy tables outside state n (Err (Halts.Error number offending)) =
-    HaltsAt tables outside state n (Halts.Error number offending)
-StandsBy tables outside state n (Err (Halts.Ends status)) = HaltsAt tables outside state n (Halts.Ends status)
+    EndsAt tables outside state n (Halts.Error number offending)
+StandsBy tables outside state n (Err (Halts.Ends status)) = EndsAt tables outside state n (Halts.Ends status)
 StandsBy tables outside state n (Err Halts.ReadFault) = ⊤
 StandsBy tables outside state n (Err Halts.WriteFault) = ⊤
 StandsBy tables outside state n (Err Halts.NoMemory) = ⊤
@@ -186,6 +186,21 @@ pub record IsDoing {K : Type 0} (tables : Tables) (m : Machine K) (instr : Instr
   pub store_named : (outside : Outside) → StoreNamed (all_names tables) (store_seen tables outside m)
   pub fits : (outside : Outside) → StoreFits tables (store_seen tables outside m)
 
+-- The machine stands at an error to which a run comes.
+abbrev pub KeepsError : {K : Type 0} → Tables → Machine K → Halt → Type 0
+KeepsError tables m halt = (outside : Outside)
+    × ((state : State Frames Frames) × (HaltsAt tables outside state m halt × IsKept tables state))
+
+-- After an error the machine is sound, a stack runs with which the code would fail, and a run comes to that error.
+abbrev pub IsReadyToFail : {K : Type 0} → Tables → Machine K → Result RunState Halt → Type 0
+IsReadyToFail tables m (Ok stage) = ⊤
+IsReadyToFail tables m (Err (Halts.Error number offending)) = IsSoundMachine tables m
+    × (IsSome m.stacks.table.running × KeepsError tables m (Halts.Error number offending))
+IsReadyToFail tables m (Err (Halts.Ends status)) = ⊤
+IsReadyToFail tables m (Err Halts.ReadFault) = ⊤
+IsReadyToFail tables m (Err Halts.WriteFault) = ⊤
+IsReadyToFail tables m (Err Halts.NoMemory) = ⊤
+
 -- whether an instruction performs an operation, calls something or takes a field
 abbrev pub applies_op : Op → Bool
 applies_op Ops.Refresh = false
@@ -208,10 +223,10 @@ is_whole (Instrs.Loop label) = true
 is_whole (Instrs.Init label) = true
 is_whole instr = false
 
--- nothing fails, and memory was not wanting
+-- nothing fails or errs, and memory was not wanting
 abbrev pub EndsWhole : Result RunState Halt → Type 0
 EndsWhole (Ok stage) = is_failing stage ≡ false
-EndsWhole (Err (Halts.Error number offending)) = ⊤
+EndsWhole (Err (Halts.Error number offending)) = ⊥
 EndsWhole (Err (Halts.Ends status)) = ⊤
 EndsWhole (Err Halts.ReadFault) = ⊤
 EndsWhole (Err Halts.WriteFault) = ⊤

@@ -7,6 +7,7 @@ ghost use Rattle.icn_control.specs.Soundness.{KeepsLimits};
 ghost use Rattle.icn_control.specs.declared.machine.RunState.TheVariants as RunStates;
 ghost use Rattle.icn_machine.specs.Stepping.{Advances, FailsFurther, GoesOn, IsReady, MakesTurn, fails_within, is_failing};
 
+use crate::errors::settle;
 use crate::operations::resume;
 use icn_control::{
     AfterFailure, Machine, RunState, begin_again, end_failing, fail_once, hop, reenter,
@@ -43,7 +44,10 @@ fn fail_next<K: Stack<Cell> + Drop, N: Names, I: Source, O: Sink, E: Sink>(
         AfterFailure::Failing => Ok(RunState::Failing),
         AfterFailure::Running => Ok(RunState::Running),
         AfterFailure::Beginning => Ok(begin_again(m)),
-        AfterFailure::Resuming(rest) => resume(m, rest, names, buffer, input, out, err),
+        AfterFailure::Resuming(rest) => {
+            let answer = resume(m, rest, names, buffer, input, out, err);
+            settle(m, answer)
+        }
         AfterFailure::Reentering => Ok(reenter(m)),
         AfterFailure::Leaving => Ok(end_failing(m)),
     }

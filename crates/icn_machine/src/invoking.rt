@@ -1,9 +1,10 @@
 // Calls.
-ghost use Rattle.std.specs.Prelude.{◌≡◌, ◌<◌, ◌^◌, ◌∷◌, [], Some, suc, length, map, IsSome, IfOk, OnOk};
+ghost use Rattle.std.specs.Prelude.{◌≡◌, ◌<◌, ◌^◌, ◌∷◌, [], Some, suc, length, map, IsSome, IfOk};
+ghost use Rattle.std.specs.List.{All};
 ghost use Rattle.icn_value.specs.Limited.{limits_of};
-ghost use Rattle.icn_value.specs.Store.{Outside};
 ghost use Rattle.icn_heap.specs.Extents.{IsLive, value_in};
 ghost use Rattle.icn_heap.specs.Heaps.{extent_of, heap_of};
+ghost use Rattle.law_names.specs.NamedSettings.{ItemNamed, ValueNamed};
 ghost use Rattle.law_names.specs.RowSizes.{FitSizes};
 ghost use Rattle.icn_vars.specs.Worlds.{IsLiveItem, item_in, reach_of};
 ghost use Rattle.icn_frames.specs.Stacks as flat;
@@ -12,17 +13,17 @@ ghost use Rattle.icn_code.specs.declared.instr.Instr.TheVariants as Instrs;
 ghost use Rattle.icn_run.specs.Stacks.{flat as calls};
 ghost use Rattle.icn_run.specs.Step.{all_names, applied_to_elements, invoke_value, invoked_with};
 ghost use Rattle.law_steps.specs.KeepingSizes.{field_count};
-ghost use Rattle.law_steps.specs.StateNames.{StoreNamed};
+ghost use Rattle.law_steps.specs.StateNames.{CoexpNamed};
 ghost use Rattle.icn_streams.specs.Handed.{call_streams};
 ghost use Rattle.icn_control.specs.LiveStacks.{IsLiveStack, with_locals};
-ghost use Rattle.icn_control.specs.Machines.{HasStack, IsSoundMachine, does, stack_of, store_seen};
-ghost use Rattle.icn_control.specs.Soundness.{KeepsLimits, LeavesWorld, IsRunnable};
+ghost use Rattle.icn_control.specs.Machines.{IsSoundMachine, does, stack_of};
+ghost use Rattle.icn_control.specs.Soundness.{KeepsLimits, LeavesWorld, IsRunnable, UnlessEnded, HasItsStack};
 ghost use Rattle.icn_control.specs.StackViews.{stack_in};
 ghost use Rattle.icn_control.specs.TakenOperands.{take_operands};
 ghost use Rattle.icn_calls.specs.Calling.{IsGoing};
 ghost use Rattle.icn_machine.specs.Invoking.{PerformsEvent};
-ghost use Rattle.icn_machine.specs.Performing.{LeavesNamed, PerformsOn};
-ghost use Rattle.icn_machine.specs.NamedWorlds.{AreNamed, HoldsNamed, MachineNamed};
+ghost use Rattle.icn_machine.specs.Performing.{LeavesNamed, PerformsOn, UnlessOver};
+ghost use Rattle.icn_machine.specs.NamedWorlds.{AreNamed, HoldsNamed, MachineNamed, coexps_seen};
 
 use crate::elements::elements_of;
 use crate::performing::perform;
@@ -62,6 +63,7 @@ pub fn call_value<K: Stack<Cell> + Drop, N: Names, I: Source, O: Sink, E: Sink>(
     requires bounds { (heap_of world.old.heap).bounds ≡ limits_of limits.now }
     requires here { HoldsNamed (N.known names.now) world.old frames.old.flat }
     requires callee { IsLive (extent_of world.old.heap) callee }
+    requires callee_named { ValueNamed (N.known names.now) (value_in (extent_of world.old.heap) callee) }
     requires given { AreNamed (N.known names.now) world.old frames.old.flat items.now }
     ensures step { PerformsEvent (all_names (tables_of code.now))
         (λ st. invoke_value calls (tables_of code.now)
@@ -70,12 +72,12 @@ pub fn call_value<K: Stack<Cell> + Drop, N: Names, I: Source, O: Sink, E: Sink>(
         (I.faults input.old) (O.state out.old) (E.state err.old)) world.new frames.new.flat
         (call_streams (I.left input.new) (I.faults input.new) (O.state out.new) (E.state err.new)) result }
     ensures live { IsLiveStack (tables_of code.now) (reach_of world.old []) frames.old.flat
-        → OnOk result (IsLiveStack (tables_of code.now) (reach_of world.new []) frames.new.flat) }
+        → UnlessEnded result (IsLiveStack (tables_of code.now) (reach_of world.new []) frames.new.flat) }
     ensures leaves { LeavesWorld world.old world.new result }
     ensures going { IfOk result IsGoing }
     ensures named { LeavesNamed (N.known names.now) world.new frames.new.flat result }
     ensures sized { FitSizes (field_count (tables_of code.now)) (heap_of world.old.heap)
-        → OnOk result (FitSizes (field_count (tables_of code.now)) (heap_of world.new.heap)) }
+        → UnlessOver world.new result (FitSizes (field_count (tables_of code.now)) (heap_of world.new.heap)) }
 {
     steps_keep_names();
     steps_keep_sizes();
@@ -121,13 +123,14 @@ fn call_first<K: Stack<Cell> + Drop, N: Names, I: Source, O: Sink, E: Sink>(
         (I.faults input.old) (O.state out.old) (E.state err.old)) world.new frames.new.flat
         (call_streams (I.left input.new) (I.faults input.new) (O.state out.new) (E.state err.new)) result }
     ensures live { IsLiveStack (tables_of code.now) (reach_of world.old []) frames.old.flat
-        → OnOk result (IsLiveStack (tables_of code.now) (reach_of world.new []) frames.new.flat) }
+        → UnlessEnded result (IsLiveStack (tables_of code.now) (reach_of world.new []) frames.new.flat) }
     ensures leaves { LeavesWorld world.old world.new result }
     ensures going { IfOk result IsGoing }
     ensures named { LeavesNamed (N.known names.now) world.new frames.new.flat result }
     ensures sized { FitSizes (field_count (tables_of code.now)) (heap_of world.old.heap)
-        → OnOk result (FitSizes (field_count (tables_of code.now)) (heap_of world.new.heap)) }
+        → UnlessOver world.new result (FitSizes (field_count (tables_of code.now)) (heap_of world.new.heap)) }
 {
+    steps_keep_names();
     let Some((first, others)) = items.split_first() else {
         unreachable!()
     };
@@ -163,15 +166,16 @@ pub fn invoke<K: Stack<Cell> + Drop, N: Names, I: Source, O: Sink, E: Sink>(
         (λ outside. does (tables_of code.now) outside (Instrs.Invoke count) m.old) m.new
         (call_streams (I.left input.old) (I.faults input.old) (O.state out.old) (E.state err.old))
         (call_streams (I.left input.new) (I.faults input.new) (O.state out.new) (E.state err.new)) result }
-    ensures sound { IsSoundMachine (tables_of code.now) m.old → OnOk result (IsSoundMachine (tables_of code.now) m.new) }
+    ensures sound { IsSoundMachine (tables_of code.now) m.old
+        → UnlessEnded result (IsSoundMachine (tables_of code.now) m.new) }
     ensures within { KeepsLimits m.old m.new result }
-    ensures stack { IfOk result (HasStack m.new) }
+    ensures stack { HasItsStack m.new result }
     ensures named { LeavesNamed (N.known names.now) m.new.world (stack_of m.new) result }
-    ensures store_named { (outside : Outside)
-        → StoreNamed (N.known names.now) (store_seen (tables_of code.now) outside m.old)
-        → OnOk result (StoreNamed (N.known names.now) (store_seen (tables_of code.now) outside m.new)) }
+    ensures coexps_named { All (CoexpNamed (N.known names.now)) (coexps_seen m.old)
+        → All (CoexpNamed (N.known names.now)) (coexps_seen m.new) }
     ensures sized { FitSizes (field_count (tables_of code.now)) (heap_of m.old.world.heap)
-        → OnOk result (FitSizes (field_count (tables_of code.now)) (heap_of m.new.world.heap)) }
+        → UnlessOver m.new.world result (FitSizes (field_count (tables_of code.now))
+        (heap_of m.new.world.heap)) }
 {
     let Ok(()) = take_operands(m.stacks.frames(), items, count as usize + 1) else {
         return Err(Halt::NoMemory);
@@ -218,6 +222,8 @@ fn call_with_elements<K: Stack<Cell> + Drop, N: Names, I: Source, O: Sink, E: Si
     requires callee { IsLiveItem (with_locals (flat.local_count frames.old.flat) (reach_of world.old []))
         callee }
     requires from { IsLiveItem (with_locals (flat.local_count frames.old.flat) (reach_of world.old [])) from }
+    requires callee_named { ItemNamed (N.known names.now) (item_in (extent_of world.old.heap) callee) }
+    requires from_named { ItemNamed (N.known names.now) (item_in (extent_of world.old.heap) from) }
     ensures step { PerformsEvent (all_names (tables_of code.now)) (λ st. applied_to_elements calls
         (tables_of code.now) (item_in (extent_of world.old.heap) callee ∷ item_in (extent_of world.old.heap)
         from ∷ []) (stack_in (extent_of world.old.heap) frames.old.flat) st) world.old
@@ -225,13 +231,14 @@ fn call_with_elements<K: Stack<Cell> + Drop, N: Names, I: Source, O: Sink, E: Si
         world.new frames.new.flat
         (call_streams (I.left input.new) (I.faults input.new) (O.state out.new) (E.state err.new)) result }
     ensures live { IsLiveStack (tables_of code.now) (reach_of world.old []) frames.old.flat
-        → OnOk result (IsLiveStack (tables_of code.now) (reach_of world.new []) frames.new.flat) }
+        → UnlessEnded result (IsLiveStack (tables_of code.now) (reach_of world.new []) frames.new.flat) }
     ensures leaves { LeavesWorld world.old world.new result }
     ensures going { IfOk result IsGoing }
     ensures named { LeavesNamed (N.known names.now) world.new frames.new.flat result }
     ensures sized { FitSizes (field_count (tables_of code.now)) (heap_of world.old.heap)
-        → OnOk result (FitSizes (field_count (tables_of code.now)) (heap_of world.new.heap)) }
+        → UnlessOver world.new result (FitSizes (field_count (tables_of code.now)) (heap_of world.new.heap)) }
 {
+    steps_keep_names();
     let callee = value_of(frames, world, callee)?;
     let from = value_of(frames, world, from)?;
     elements_of(world, from, items)?;
@@ -266,15 +273,16 @@ pub fn appl<K: Stack<Cell> + Drop, N: Names, I: Source, O: Sink, E: Sink>(
         (λ outside. does (tables_of code.now) outside Instrs.Appl m.old) m.new
         (call_streams (I.left input.old) (I.faults input.old) (O.state out.old) (E.state err.old))
         (call_streams (I.left input.new) (I.faults input.new) (O.state out.new) (E.state err.new)) result }
-    ensures sound { IsSoundMachine (tables_of code.now) m.old → OnOk result (IsSoundMachine (tables_of code.now) m.new) }
+    ensures sound { IsSoundMachine (tables_of code.now) m.old
+        → UnlessEnded result (IsSoundMachine (tables_of code.now) m.new) }
     ensures within { KeepsLimits m.old m.new result }
-    ensures stack { IfOk result (HasStack m.new) }
+    ensures stack { HasItsStack m.new result }
     ensures named { LeavesNamed (N.known names.now) m.new.world (stack_of m.new) result }
-    ensures store_named { (outside : Outside)
-        → StoreNamed (N.known names.now) (store_seen (tables_of code.now) outside m.old)
-        → OnOk result (StoreNamed (N.known names.now) (store_seen (tables_of code.now) outside m.new)) }
+    ensures coexps_named { All (CoexpNamed (N.known names.now)) (coexps_seen m.old)
+        → All (CoexpNamed (N.known names.now)) (coexps_seen m.new) }
     ensures sized { FitSizes (field_count (tables_of code.now)) (heap_of m.old.world.heap)
-        → OnOk result (FitSizes (field_count (tables_of code.now)) (heap_of m.new.world.heap)) }
+        → UnlessOver m.new.world result (FitSizes (field_count (tables_of code.now))
+        (heap_of m.new.world.heap)) }
 {
     let two = take_two(m.stacks.frames());
     if m.turns >= m.limits.turns {

@@ -2,6 +2,7 @@
 #![tactic(auto)]
 
 mod elements;
+mod errors;
 mod failing;
 mod fields;
 mod giving;

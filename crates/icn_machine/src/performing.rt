@@ -1,5 +1,5 @@
 // Rows that are performed on a stack in a world.
-ghost use Rattle.std.specs.Prelude.{◌≡◌, [], length, map, OnOk};
+ghost use Rattle.std.specs.Prelude.{◌≡◌, [], length, map};
 ghost use Rattle.icn_defs.specs.Applying as rows;
 ghost use Rattle.icn_defs.specs.StepRows as step_rows;
 ghost use Rattle.icn_heap.specs.Heaps.{extent_of};
@@ -16,7 +16,7 @@ ghost use Rattle.icn_apply.specs.NamesAfter.{AnswerNamed};
 ghost use Rattle.icn_apply.specs.SizesAfter.{AnswerKeepsSizes, WorldsKeepSizes};
 ghost use Rattle.icn_control.specs.LiveStacks.{IsLiveStack, with_locals};
 ghost use Rattle.icn_machine.specs.Performing.{LeavesNamed, PerformsRow};
-ghost use Rattle.icn_control.specs.Soundness.{LeavesWorld};
+ghost use Rattle.icn_control.specs.Soundness.{LeavesWorld, UnlessEnded};
 ghost use Rattle.icn_machine.specs.NamedWorlds.{AreNamed, HoldsNamed};
 
 use crate::giving::give_outcome;
@@ -57,9 +57,9 @@ pub fn perform<K: Stack<Cell> + Drop, N: Names, I: Source, O: Sink, E: Sink>(
         world.new frames.new.flat
         (call_streams (I.left input.new) (I.faults input.new) (O.state out.new) (E.state err.new)) result }
     ensures live { (tables : Tables) → IsLiveStack tables (reach_of world.old []) frames.old.flat
-        → OnOk result (IsLiveStack tables (reach_of world.new []) frames.new.flat) }
+        → UnlessEnded result (IsLiveStack tables (reach_of world.new []) frames.new.flat) }
     ensures leaves { LeavesWorld world.old world.new result }
-    ensures sized { OnOk result (WorldsKeepSizes world.old world.new) }
+    ensures sized { UnlessEnded result (WorldsKeepSizes world.old world.new) }
     ensures named { LeavesNamed (N.known names.now) world.new frames.new.flat result }
 {
     let outcome = perform_in(frames, world, what, items, names, buffer, input, out, err)?;
@@ -158,9 +158,9 @@ pub fn perform_again<K: Stack<Cell> + Drop, N: Names, I: Source, O: Sink, E: Sin
         (I.faults input.old) (O.state out.old) (E.state err.old)) world.new frames.new.flat
         (call_streams (I.left input.new) (I.faults input.new) (O.state out.new) (E.state err.new)) result }
     ensures live { (tables : Tables) → IsLiveStack tables (reach_of world.old []) frames.old.flat
-        → OnOk result (IsLiveStack tables (reach_of world.new []) frames.new.flat) }
+        → UnlessEnded result (IsLiveStack tables (reach_of world.new []) frames.new.flat) }
     ensures leaves { LeavesWorld world.old world.new result }
-    ensures sized { OnOk result (WorldsKeepSizes world.old world.new) }
+    ensures sized { UnlessEnded result (WorldsKeepSizes world.old world.new) }
     ensures named { LeavesNamed (N.known names.now) world.new frames.new.flat result }
 {
     let outcome = again_in(frames, world, rest, names, buffer, input, out, err)?;

@@ -12,9 +12,10 @@ ghost use Rattle.icn_control.specs.Machines.{ComesTo, does, stack_seen, store_se
 ghost use Rattle.icn_control.specs.Soundness.{KeepsLimits};
 ghost use Rattle.icn_control.specs.declared.machine.RunState.TheVariants as RunStates;
 ghost use Rattle.icn_machine.specs.Performing.{PerformsOn};
-ghost use Rattle.icn_machine.specs.Stepping.{Advances, EndsWhole, GoesOn, IsDoing, IsReady, is_applied, is_failing, is_whole};
+ghost use Rattle.icn_machine.specs.Stepping.{Advances, EndsWhole, GoesOn, IsDoing, IsReady, IsReadyToFail, is_applied, is_failing, is_whole};
 ghost use Rattle.icn_machine.specs.AfterInstruction.{stage_of, stage_result};
 
+use crate::errors::settle;
 use crate::failing::{fail_through, is_failing as fails_now};
 use crate::fields::field;
 use crate::invoking::{appl, invoke};
@@ -120,6 +121,7 @@ fn do_applied<K: Stack<Cell> + Drop, N: Names, I: Source, O: Sink, E: Sink>(
         m.new (call_streams (I.left input.old) (I.faults input.old) (O.state out.old) (E.state err.old))
         (call_streams (I.left input.new) (I.faults input.new) (O.state out.new) (E.state err.new)) result }
     ensures ready { IfOk result (IsReady (tables_of code.now) m.new) }
+    ensures erring { IsReadyToFail (tables_of code.now) m.new result }
     ensures within { KeepsLimits m.old m.new result }
 {
     steps_keep_names();
@@ -148,6 +150,7 @@ fn do_plain<K: Stack<Cell> + Drop>(
     ensures step { (outside : Outside)
         → ComesTo (tables_of code.now) outside (does (tables_of code.now) outside instr m.old) m.new result }
     ensures ready { IfOk result (IsReady (tables_of code.now) m.new) }
+    ensures erring { IsReadyToFail (tables_of code.now) m.new result }
     ensures whole { is_whole instr ≡ true → EndsWhole result }
     ensures within { KeepsLimits m.old m.new result }
 {
@@ -156,7 +159,7 @@ fn do_plain<K: Stack<Cell> + Drop>(
     do_instruction(m, code, instr, &mut rooms.items, &mut rooms.vals)
 }
 
-// Does the instruction that is due, but for the failing behind it. The errors are those of the instruction.
+// Does the instruction that is due, but for the failing behind it. The errors are those of the instruction that end the run.
 fn do_next<K: Stack<Cell> + Drop, N: Names, I: Source, O: Sink, E: Sink>(
     m: &mut Machine<K>,
     code: &Code,
@@ -179,9 +182,11 @@ fn do_next<K: Stack<Cell> + Drop, N: Names, I: Source, O: Sink, E: Sink>(
 {
     let instr = next_instr(m, code);
     if is_applied(instr) {
-        return do_applied(m, code, instr, names, rooms, input, out, err);
+        let answer = do_applied(m, code, instr, names, rooms, input, out, err);
+        return settle(m, answer);
     }
-    do_plain(m, code, instr, rooms)
+    let answer = do_plain(m, code, instr, rooms);
+    settle(m, answer)
 }
 
 // Where the run stands at a stage at which nothing fails.

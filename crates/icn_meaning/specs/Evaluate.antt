@@ -38,10 +38,15 @@ keyword_among name (keyword ∷ others) =
 abbrev pub give_value : Value → Works → Choices → Store → Evaluation
 give_value v k r st = succeed (Val v) k r st
 
--- what keywords tell of the run: the level, the active co-expression and its activator
+-- what keywords tell of the run: the level, the active co-expression and its activator, and the error that is kept
 abbrev pub standing_of : Surroundings → Store → Standing
 standing_of s st =
-    record { level = (frame_of s).level; current = st.active; source = activator_of st.active st }
+    record {
+      level = (frame_of s).level;
+      current = st.active;
+      source = activator_of st.active st;
+      kept = st.world.kept;
+    }
 
 -- the item is the result, or it fails
 abbrev pub item_or_failure : Option Item → Works → Choices → Store → Evaluation

@@ -4,7 +4,7 @@ use Rattle.icn_value.specs.Values.{Value, Local, Whole, Part, Item, Val, Var}
 use Rattle.icn_value.specs.Store.{Setting}
 use Rattle.icn_defs.specs.Rows.{Outcome, Fails, Gives, Suspends, Error, Ends}
 use Rattle.icn_defs.specs.StepRows.{value_row}
-use Rattle.icn_defs.specs.Errors.{error_report}
+use Rattle.icn_defs.specs.Errors.{error_report, on_error}
 use Rattle.icn_defs.specs.Running.{bound_report, with_errors}
 use Rattle.icn_meaning.specs.Contexts.{Works, Choices, ◌or_else◌, Resume, Store, Evaluation, succeed, fail, over, Ending, Exit, Errored, AtBound}
 
@@ -12,9 +12,11 @@ use Rattle.icn_meaning.specs.Contexts.{Works, Choices, ◌or_else◌, Resume, St
 abbrev pub end_run : Ending → List ℕ → Store → Evaluation
 end_run ending text st = over ending (record st { outside = with_errors text st.outside })
 
--- An error ends the run. This is the one place where errors come to, with the choices that stand there, so that an error can become failure here.
+-- An error ends the run, or it is kept and something fails, over the choices that stand there. This is the one place where errors come to.
 abbrev pub errs : ℕ → Option Value → Choices → Store → Evaluation
-errs n offending r st = end_run (Errored n) (error_report st.names st.world.heap n offending) st
+errs n offending r st = on_error n offending st.world
+    (end_run (Errored n) (error_report st.names st.world.heap n offending) st)
+    (λ world. fail r (record st { world = world }))
 
 -- a turn is counted before its event, or the run ends at the bound
 abbrev pub turn_if : Bool → Store → (Store → Evaluation) → Evaluation

@@ -70,8 +70,8 @@ fn random_number<L: Locals>(w: &mut World, l: &L, val: Val, n: i64) -> Result<Ou
     ensures kept { KeepsItems (reach_of w.old (L.items l.now)) (reach_of w.new (L.items l.now)) }
 {
     if n > 0 {
-        w.random = random_step(w.random);
-        let place = pick(w.random, n as u64);
+        w.words.random = random_step(w.words.random);
+        let place = pick(w.words.random, n as u64);
         Ok(Outcome::Gives(Item::Val(Val::Integer(1 + place as i64))))
     } else {
         Err(Halt::Error(205, Some(val)))
@@ -95,8 +95,8 @@ fn random_byte<L: Locals>(w: &mut World, l: &L, x: Item, val: Val) -> Result<Out
     let text = text_of(w, l, val)?;
     let size = text_length(&w.heap, text);
     if size > 0 {
-        w.random = random_step(w.random);
-        let place = pick(w.random, size);
+        w.words.random = random_step(w.words.random);
+        let place = pick(w.words.random, size);
         let holder = text_holder(x, val);
         Ok(Outcome::Gives(part_item(w, l, holder, text, place + 1, 1)))
     } else {
@@ -118,8 +118,8 @@ fn random_item<L: Locals>(w: &mut World, l: &L, x: Item, list: u32) -> Result<Ou
 {
     let size = list_count(&w.heap, list);
     if size > 0 {
-        w.random = random_step(w.random);
-        let place = pick(w.random, size);
+        w.words.random = random_step(w.words.random);
+        let place = pick(w.words.random, size);
         Ok(Outcome::Gives(element_item(w, l, list, place)))
     } else {
         Ok(Outcome::Fails)
@@ -140,8 +140,8 @@ fn random_member<L: Locals>(w: &mut World, l: &L, x: Item, set: u32) -> Result<O
 {
     let size = set_count(&w.heap, set);
     if size > 0 {
-        w.random = random_step(w.random);
-        match w.heap.member_at(set, pick(w.random, size)) {
+        w.words.random = random_step(w.words.random);
+        match w.heap.member_at(set, pick(w.words.random, size)) {
             Some(member) => Ok(Outcome::Gives(Item::Val(member))),
             None => unreachable!(),
         }
@@ -164,8 +164,8 @@ fn random_value<L: Locals>(w: &mut World, l: &L, x: Item, table: u32) -> Result<
 {
     let size = table_count(&w.heap, table);
     if size > 0 {
-        w.random = random_step(w.random);
-        match w.heap.pair_at(table, pick(w.random, size)) {
+        w.words.random = random_step(w.words.random);
+        match w.heap.pair_at(table, pick(w.words.random, size)) {
             Some(pair) => Ok(Outcome::Gives(Item::Var(VarRef::Whole(Root::Key {
                 table,
                 key: pair.0,
@@ -191,8 +191,8 @@ fn random_field<L: Locals>(w: &mut World, l: &L, x: Item, rec: u32) -> Result<Ou
 {
     let size = field_count(&w.heap, rec);
     if size > 0 {
-        w.random = random_step(w.random);
-        let place = pick(w.random, size);
+        w.words.random = random_step(w.words.random);
+        let place = pick(w.words.random, size);
         Ok(Outcome::Gives(Item::Var(VarRef::Whole(Root::Field {
             rec,
             place: place as u16,

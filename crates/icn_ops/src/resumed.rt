@@ -64,6 +64,16 @@ pub fn is_of_operations(rest: Residual) -> bool
         | Residual::Balanced { .. }
         | Residual::Found { .. }
         | Residual::Among { .. } => false,
-        _ => true,
+        Residual::TextBytes { .. }
+        | Residual::VariableBytes { .. }
+        | Residual::ListItems { .. }
+        | Residual::SetMembers { .. }
+        | Residual::TableValues { .. }
+        | Residual::RecordFields { .. }
+        | Residual::InputLines
+        | Residual::UndoAssign { .. }
+        | Residual::UndoExchange { .. }
+        | Residual::UndoPosition { .. }
+        | Residual::Counting { .. } => true,
     }
 }

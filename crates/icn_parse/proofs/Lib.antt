@@ -6,4 +6,5 @@ pub mod ParserLoops
 pub mod BodyLoop
 pub mod FileLoop
 pub mod UnknownKeywords
+pub mod FirstUnspelled
 pub mod ReadOutcomes

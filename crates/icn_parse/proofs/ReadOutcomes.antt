@@ -16,14 +16,18 @@ use Rattle.icn_parse.specs.FileReading.{file_read}
 use Rattle.icn_parse.specs.KeptDeclarations.{CappedProcedure, CappedDeclaration, IsKept, IsTooHigh, finish_initial, finish_procedure, finish, high_with, done_with, kept_declarations}
 use Rattle.icn_parse.specs.Outcomes.{ProfileFault, UnknownKeyword, NotInProfile, Parsed, NoProgram, TooHigh, Faulty, IsTree, IsOutcome, no_program, too_high, faulty, is_tree, first_too_high, first_fault}
 use Rattle.icn_tree.specs.declared.rule.Rule.{Rule}
+use Rattle.icn_tree.specs.declared.rule.Rule.TheVariants.{S1}
+use Rattle.icn_tree.specs.Phrases.{place_of}
+use Rattle.icn_tree.specs.Pieces.{pieces}
 use Rattle.icn_parse.specs.declared.fault.ParseFault.{ParseFault}
 use Rattle.icn_parse.specs.declared.fault.ParseFault.TheVariants.{Broken}
 use Rattle.icn_parse.specs.declared.check.Unfit.{Unfit}
 use Rattle.icn_parse.specs.declared.check.Unfit.TheVariants as U
 use Rattle.icn_parse.specs.declared.stop.ParseStop.{ParseStop}
 use Rattle.icn_parse.specs.declared.stop.ParseStop.TheVariants.{NotHere, NoMemory}
-use Rattle.icn_parse.specs.Views.{ReadsNothing, Breaks, IsLowTree, broken_by, fault_at, fault_of_stop, fault_of_unfit}
+use Rattle.icn_parse.specs.Views.{ReadsNothing, Breaks, DecidesTree, IsLowTree, UnspelledAt, broken_by, fault_at, fault_of_unfit}
 use Rattle.icn_parse.proofs.DeclarationsExact as Exact
+use Rattle.icn_parse.proofs.FirstUnspelled.{one_unspelled, some_unspelled, unspelled_no_tree}
 
 -- what the code keeps of a declaration
 abbrev shown : Declaration → CappedDeclaration
@@ -183,7 +187,7 @@ outcome_of file = outcome_by (first_too_high file) (first_fault file) file
 
 pub tree_outcome : (tokens : List Token) (file : List Declaration) (outcome : Parsed) → IsTreeOf file tokens → IsOutcome tokens outcome
     → outcome ≡ outcome_of file
-tree_outcome tokens file _ s (no_program n) = absurd (n (file, s))
+tree_outcome tokens file _ s (no_program piece u) = absurd (unspelled_no_tree tokens piece u (file, s))
 tree_outcome tokens file _ s (too_high f place t h) =
     let same : f ≡ file = one_file f file tokens t s in
     ap (λ p. outcome_by p (first_fault file) file) (sym (sym (ap first_too_high same) ∙ h))
@@ -205,24 +209,41 @@ is_outcome tokens file s = by_place (first_too_high file) (first_fault file) ref
     by_place None (Some fault) h f = faulty file fault s h f
     by_place None None h f = is_tree file s h f
 
+-- no program, and where the piece begins at which that shows
+no_program_at : (tokens : List Token) (place : Place) → UnspelledAt tokens place → IsOutcome tokens (NoProgram place)
+no_program_at tokens place u = subst (λ p. IsOutcome tokens (NoProgram p)) u.2 (no_program u.0 u.1)
+
+-- whether tokens have a tree shows in what is read of them
+pub tree_decided : (tokens : List Token) → (b : Bool) × DecidesTree tokens b
+tree_decided tokens = by_read (file_read builds_with_height (length tokens) tokens) refl
+  where
+    by_read : (read : Option (List CappedDeclaration)) → file_read builds_with_height (length tokens) tokens ≡ read → (b : Bool) × DecidesTree tokens b
+    by_read None r = (false, nothing_read tokens r)
+    by_read (Some found) r =
+        let s = Exact.file_sound (WithHeight Tree) (WithHeight Trees) (WithHeight Clauses) builds_with_height capped_shows tokens (length tokens) found r in
+        (true, (s.0, s.1))
+
 pub some_outcome : (tokens : List Token) → (outcome : Parsed) × IsOutcome tokens outcome
 some_outcome tokens = by_read (file_read builds_with_height (length tokens) tokens) refl
   where
     by_read : (read : Option (List CappedDeclaration)) → file_read builds_with_height (length tokens) tokens ≡ read
         → (outcome : Parsed) × IsOutcome tokens outcome
-    by_read None r = (NoProgram, no_program (nothing_read tokens r))
+    by_read None r =
+        let found = some_unspelled tree_decided (length tokens) tokens (omega arith) (nothing_read tokens r) in
+        (NoProgram found.0, no_program_at tokens found.0 found.1)
     by_read (Some found) r =
         let s = Exact.file_sound (WithHeight Tree) (WithHeight Trees) (WithHeight Clauses) builds_with_height capped_shows tokens (length tokens) found r in
         (outcome_of s.0, is_outcome tokens s.0 s.1)
 
 pub one_outcome : (tokens : List Token) (a b : Parsed) → IsOutcome tokens a → IsOutcome tokens b → a ≡ b
-one_outcome tokens _ _ (no_program n) (no_program m) = refl
+one_outcome tokens _ _ (no_program p u) (no_program q v) =
+    ap (λ piece. NoProgram (place_of piece)) (one_unspelled (pieces tokens) p q u v)
 one_outcome tokens _ b (too_high f place t h) o = tree_outcome tokens f (TooHigh place) t (too_high f place t h) ∙ sym (tree_outcome tokens f b t o)
 one_outcome tokens _ b (faulty f fault t n h) o = tree_outcome tokens f (Faulty fault) t (faulty f fault t n h) ∙ sym (tree_outcome tokens f b t o)
 one_outcome tokens _ b (is_tree f t n m) o = tree_outcome tokens f (IsTree f) t (is_tree f t n m) ∙ sym (tree_outcome tokens f b t o)
-one_outcome tokens _ _ (no_program n) (too_high f place t h) = absurd (n (f, t))
-one_outcome tokens _ _ (no_program n) (faulty f fault t m h) = absurd (n (f, t))
-one_outcome tokens _ _ (no_program n) (is_tree f t m k) = absurd (n (f, t))
+one_outcome tokens _ _ (no_program piece u) (too_high f place t h) = absurd (unspelled_no_tree tokens piece u (f, t))
+one_outcome tokens _ _ (no_program piece u) (faulty f fault t m h) = absurd (unspelled_no_tree tokens piece u (f, t))
+one_outcome tokens _ _ (no_program piece u) (is_tree f t m k) = absurd (unspelled_no_tree tokens piece u (f, t))
 
 pub tree_read : (file : List Declaration) (tokens : List Token) → IsTreeOf file tokens → first_too_high file ≡ None → first_fault file ≡ None
     → (outcome : Parsed) → IsOutcome tokens outcome → outcome ≡ IsTree file
@@ -242,11 +263,20 @@ pub broken_as : (IsIt : Parsed → Type 0) (outcome : Parsed) (rule : Rule) (pla
     → broken_by outcome ≡ Some (rule, place) → IsIt outcome → Breaks IsIt fault
 broken_as IsIt outcome rule place fault e b o = subst (Breaks IsIt) (sym e) (outcome, o, b)
 
-pub stop_breaks : (tokens : List Token) (stop : ParseStop) → ReadsNothing (file_read builds_with_height (length tokens) tokens) stop
-    → Breaks (IsOutcome tokens) (fault_of_stop stop)
-stop_breaks tokens NotHere (inl e) = absurd (not_here_differs e)
-stop_breaks tokens NotHere (inr e) = (NoProgram, no_program (nothing_read tokens e), refl)
-stop_breaks tokens NoMemory s = tt
+-- tokens of which declarations are read have a tree
+pub tree_of_read : (tokens : List Token) (n : ℕ) (all : Option Place × List Declaration)
+    → option_map (kept_declarations None []) (file_read builds_with_height n tokens) ≡ Some all → HasTree tokens
+tree_of_read tokens n all e = let r = read_sound tokens n all e in (r.file, r.is)
+
+-- tokens of which nothing is read have no tree
+pub not_read : (tokens : List Token) (stop : ParseStop) → stop ≡ NotHere → ReadsNothing (file_read builds_with_height (length tokens) tokens) stop
+    → HasTree tokens → ⊥
+not_read tokens stop e (inl is) = absurd (not_here_differs (sym e ∙ is))
+not_read tokens stop e (inr is) = nothing_read tokens is
+
+pub unspelled_breaks : (tokens : List Token) (place : Place) (fault : ParseFault) → UnspelledAt tokens place → fault ≡ Broken S1 place.file place.line
+    → Breaks (IsOutcome tokens) fault
+unspelled_breaks tokens place fault u e = broken_as (IsOutcome tokens) (NoProgram place) S1 place fault e refl (no_program_at tokens place u)
 
 pub unfit_breaks : (tokens : List Token) (file : List Declaration) (unfit : Unfit) → IsLowTree tokens file → Some (fault_at unfit) ≡ first_fault file
     → Breaks (IsOutcome tokens) (fault_of_unfit unfit)

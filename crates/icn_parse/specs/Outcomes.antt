@@ -1,5 +1,5 @@
 -- What the parser must answer: the tree of the tokens, or the first fault with its place.
-use Rattle.std.specs.Prelude.{◌≡◌, ℕ, Bool, nat_le, List, [], ◌∷◌, ◌++◌, Option, Some, None, if◌then◌else◌}
+use Rattle.std.specs.Prelude.{◌≡◌, ◌⊎◌, ℕ, Bool, nat_le, List, [], ◌∷◌, ◌++◌, Option, Some, None, if◌then◌else◌}
 use Rattle.std.specs.List.{list_any}
 use Rattle.std.specs.Option.{option_map}
 use Rattle.std.specs.Str.{bytes_eq}
@@ -11,7 +11,9 @@ use Rattle.icn_text.specs.declared.keyword.Keyword.{Keyword as KnownKeyword}
 use Rattle.icn_text.specs.declared.keyword.Keyword.TheVariants as K
 use Rattle.icn_text.specs.Keywords.{keyword_name}
 use Rattle.icn_tree.specs.Trees.{Tree, MaybeTree, Trees, Clause, Clauses, Keyword, Parentheses, Listing, Compound, Call, CoCall, Subscript, Section, Field, Prefix, Not, Binary, To, If, Case, Loop, Repeat, Create, Break, Return, Suspend, Absent, Present, NoTrees, More, Default, Guarded, NoClauses, MoreClauses, Initial, NoInitial, Initially, Declaration, Invocable, ProcedureOf}
-use Rattle.icn_tree.specs.Declarations.{IsTreeOf, HasTree}
+use Rattle.icn_tree.specs.Phrases.{place_of}
+use Rattle.icn_tree.specs.Pieces.{pieces}
+use Rattle.icn_tree.specs.Declarations.{IsTreeOf, SpellDeclaration}
 use Rattle.icn_expr.specs.Heights.{procedure_height}
 
 -- the names after `&`, in reading order
@@ -59,7 +61,8 @@ abbrev mutual
 
 abbrev pub known_keywords : List KnownKeyword
 known_keywords = K.Ascii ∷ K.Cset ∷ K.Current ∷ K.Digits ∷ K.Errout ∷ K.Fail ∷ K.Input ∷ K.Lcase ∷ K.Letters
-    ∷ K.Level ∷ K.Main ∷ K.Null ∷ K.Output ∷ K.Pos ∷ K.Random ∷ K.Source ∷ K.Subject ∷ K.Ucase ∷ []
+    ∷ K.Level ∷ K.Main ∷ K.Null ∷ K.Output ∷ K.Pos ∷ K.Random ∷ K.Source ∷ K.Subject ∷ K.Ucase
+    ∷ K.Error ∷ K.ErrorNumber ∷ K.ErrorValue ∷ K.ErrorText ∷ []
 
 abbrev pub is_known : List ℕ → Bool
 is_known text = list_any (λ keyword. bytes_eq text (keyword_name keyword)) known_keywords
@@ -101,16 +104,24 @@ abbrev pub first_fault : List Declaration → Option ProfileFault
 first_fault [] = None
 first_fault (declaration ∷ others) = fault_or (declaration_fault declaration) (first_fault others)
 
--- The answers, by their cases. No program comes before a tree that is too high, and that before the other faults.
+-- this piece is the first of some that spells no declaration
+abbrev pub IsFirstUnspelled : List (List Token) → List Token → Type 0
+IsFirstUnspelled [] piece = ⊥
+IsFirstUnspelled (first ∷ others) piece =
+    ((SpellDeclaration first → ⊥) × (first ≡ piece)) ⊎ (SpellDeclaration first × IsFirstUnspelled others piece)
+
+-- The answers, by their cases. No program, and where its first piece begins that spells no declaration, comes before a tree
+-- that is too high, and that before the other faults.
 pub data Parsed : Type 0 where
-  NoProgram : Parsed
+  NoProgram : Place → Parsed
   TooHigh : Place → Parsed
   Faulty : ProfileFault → Parsed
   IsTree : List Declaration → Parsed
 
 -- what tokens come to: they are no program; a tree is too high; a rule is broken; or this is their tree
 pub data IsOutcome (tokens : List Token) : Parsed → Type 0 where
-  no_program : (HasTree tokens → ⊥) → IsOutcome tokens NoProgram
+  no_program : (piece : List Token) → IsFirstUnspelled (pieces tokens) piece
+      → IsOutcome tokens (NoProgram (place_of piece))
   too_high : (file : List Declaration) (place : Place) → IsTreeOf file tokens
       → first_too_high file ≡ Some place → IsOutcome tokens (TooHigh place)
   faulty : (file : List Declaration) (fault : ProfileFault) → IsTreeOf file tokens

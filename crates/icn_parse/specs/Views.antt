@@ -1,5 +1,5 @@
 -- What the parser reads, as the definitions see it.
-use Rattle.std.specs.Prelude.{◌≡◌, ◌⊎◌, List, map, Option, Some, None, Result, Ok, Err}
+use Rattle.std.specs.Prelude.{◌≡◌, ◌⊎◌, Bool, true, false, not, List, map, Option, Some, None, Result, Ok, Err}
 use Rattle.std.specs.Option.{option_map}
 use Rattle.icn_tree.specs.declared.tree.Place.{Place}
 use Rattle.icn_tree.specs.declared.token.Token.{Token}
@@ -8,11 +8,13 @@ use Rattle.icn_tree.specs.declared.rule.Rule.{Rule}
 use Rattle.icn_tree.specs.declared.rule.Rule.TheVariants.{S1, S2, S3, S4}
 use Rattle.icn_tree.specs.TreeOf.{declaration_of, declarations_of, locals_of}
 use Rattle.icn_tree.specs.Trees.{Tree, Declaration}
-use Rattle.icn_tree.specs.Declarations.{IsTreeOf}
+use Rattle.icn_tree.specs.Phrases.{place_of}
+use Rattle.icn_tree.specs.Pieces.{kind_declares, pieces}
+use Rattle.icn_tree.specs.Declarations.{IsTreeOf, HasTree}
 use Rattle.icn_expr.specs.Capped.{WithHeight}
 use Rattle.icn_expr.specs.Views.{capped_of, elements_of}
 use Rattle.icn_parse.specs.declared.stop.ParseStop.{ParseStop}
-use Rattle.icn_parse.specs.declared.stop.ParseStop.TheVariants.{NotHere, NoMemory}
+use Rattle.icn_parse.specs.declared.stop.ParseStop.TheVariants.{NoMemory}
 use Rattle.icn_parse.specs.declared.procedure.InitialExpr.{InitialExpr}
 use Rattle.icn_parse.specs.declared.procedure.Outline.{Outline}
 use Rattle.icn_parse.specs.declared.declaration.Finished.{Finished}
@@ -23,7 +25,7 @@ use Rattle.icn_parse.specs.declared.fault.ParseFault.{ParseFault}
 use Rattle.icn_parse.specs.declared.fault.ParseFault.TheVariants.{Broken, NoMemory as NoMemoryFault}
 use Rattle.icn_parse.specs.FileReading.{ProcedureIs}
 use Rattle.icn_parse.specs.KeptDeclarations.{CappedDeclaration, Finish, IsKept, IsTooHigh, finish}
-use Rattle.icn_parse.specs.Outcomes.{ProfileFault, UnknownKeyword, NotInProfile, Parsed, NoProgram, TooHigh, Faulty, IsTree, first_too_high}
+use Rattle.icn_parse.specs.Outcomes.{ProfileFault, UnknownKeyword, NotInProfile, Parsed, NoProgram, TooHigh, Faulty, IsTree, IsFirstUnspelled, first_too_high}
 
 -- nothing is read, or memory ran out
 abbrev pub ReadsNothing : {A : Type 0} → Option A → ParseStop → Type 0
@@ -67,19 +69,14 @@ abbrev pub fault_found : Result (Unit {0}) Unfit → Option ProfileFault
 fault_found (Ok done) = None
 fault_found (Err unfit) = Some (fault_at unfit)
 
--- the rule that is broken where a file could not be read on, or want of memory
-abbrev pub fault_of_stop : ParseStop → ParseFault
-fault_of_stop NotHere = Broken S1 0 0
-fault_of_stop NoMemory = NoMemoryFault
-
 -- the rule that a name after `&` or a form breaks that the profile has not
 abbrev pub fault_of_unfit : Unfit → ParseFault
 fault_of_unfit (U.UnknownKeyword place) = Broken S3 place.file place.line
 fault_of_unfit (U.NotInProfile place) = Broken S4 place.file place.line
 
--- the rule that an outcome breaks, and where: S1 has line 0 of the named file
+-- the rule that an outcome breaks, and where
 abbrev pub broken_by : Parsed → Option (Rule × Place)
-broken_by NoProgram = Some (S1, record { line = 0; file = 0 })
+broken_by (NoProgram place) = Some (S1, place)
 broken_by (TooHigh place) = Some (S2, place)
 broken_by (Faulty (UnknownKeyword place)) = Some (S3, place)
 broken_by (Faulty (NotInProfile place)) = Some (S4, place)
@@ -99,3 +96,16 @@ Answers IsIt (Err fault) = Breaks IsIt fault
 -- these are the declarations of the tokens, of which none is too high
 abbrev pub IsLowTree : List Token → List Declaration → Type 0
 IsLowTree tokens file = IsTreeOf file tokens × (first_too_high file ≡ None)
+
+-- a token that begins no declaration
+abbrev pub begins_no_declaration : Token → Bool
+begins_no_declaration token = not (kind_declares token.kind)
+
+-- whether tokens have a tree
+abbrev pub DecidesTree : List Token → Bool → Type 0
+DecidesTree tokens true = HasTree tokens
+DecidesTree tokens false = HasTree tokens → ⊥
+
+-- the first piece of tokens that spells no declaration begins at this place
+abbrev pub UnspelledAt : List Token → Place → Type 0
+UnspelledAt tokens place = (piece : List Token) × IsFirstUnspelled (pieces tokens) piece × (place_of piece ≡ place)

@@ -1,12 +1,9 @@
 // Why tokens have no tree that breaks no rule.
 ghost use Rattle.std.specs.Prelude.{◌≡◌};
 ghost use Rattle.icn_parse.specs.declared.fault.ParseFault.TheVariants.{Broken as IsBroken, NoMemory as IsNoMemory};
-ghost use Rattle.icn_tree.specs.declared.rule.Rule.TheVariants.{S1};
-ghost use Rattle.icn_parse.specs.declared.stop.ParseStop.TheVariants.{NotHere};
-ghost use Rattle.icn_parse.specs.Views.{fault_of_stop, fault_of_unfit};
+ghost use Rattle.icn_parse.specs.Views.{fault_of_unfit};
 
 use crate::check::Unfit;
-use crate::stop::ParseStop;
 use icn_tree::{Place, Rule};
 use std::alloc::AllocError;
 
@@ -14,7 +11,7 @@ use std::alloc::AllocError;
 #[derive(Clone, Copy, Debug, PartialEq, Eq)]
 pub enum ParseFault {
     /// The first rule that the text breaks, one of S1 to S4; the place of the file's name among the names of the lines, and
-    /// the number of the line. S1 is of the whole text, and has the first file and line 0.
+    /// the number of the line.
     Broken { rule: Rule, file: u32, line: u32 },
     /// Memory ran out.
     NoMemory,
@@ -48,21 +45,6 @@ impl From<Unfit> for ParseFault {
         match unfit {
             Unfit::UnknownKeyword(place) => ParseFault::at(place, Rule::S3),
             Unfit::NotInProfile(place) => ParseFault::at(place, Rule::S4),
-        }
-    }
-}
-
-impl From<ParseStop> for ParseFault {
-    ghost from_gives = { λ stop fault. fault ≡ fault_of_stop stop };
-
-    fn from(stop: ParseStop) -> Self {
-        match stop {
-            ParseStop::NotHere => ParseFault::Broken {
-                rule: Rule::S1,
-                file: 0,
-                line: 0,
-            },
-            ParseStop::NoMemory => ParseFault::NoMemory,
         }
     }
 }

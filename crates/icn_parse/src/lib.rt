@@ -9,6 +9,7 @@ mod keywords;
 mod names;
 mod parse_laws;
 mod parser;
+mod pieces;
 mod procedure;
 mod sign;
 mod stop;

@@ -7,6 +7,8 @@ ghost use Rattle.icn_parse.specs.Views.{Answers, Breaks, IsLowTree};
 use crate::check::check_declarations;
 use crate::fault::ParseFault;
 use crate::file::read_file;
+use crate::pieces::unspelled_place;
+use crate::stop::ParseStop;
 use icn_tree::{Bytes, Decl, Rule, SourceFile, Token};
 use std::alloc::Global;
 
@@ -15,10 +17,16 @@ fn read_declarations(alloc: Global, tokens: &[Token]) -> Result<Vec<Decl>, Parse
     ensures { MatchResult result (λ decls. IsLowTree tokens.now (map declaration_of decls.items))
         (Breaks (IsOutcome tokens.now)) }
 {
-    let all = read_file(alloc, tokens)?;
-    match all.high {
-        Some(place) => Err(ParseFault::at(place, Rule::S2)),
-        None => Ok(all.decls),
+    match read_file(alloc, tokens) {
+        Ok(all) => match all.high {
+            Some(place) => Err(ParseFault::at(place, Rule::S2)),
+            None => Ok(all.decls),
+        },
+        Err(ParseStop::NotHere) => {
+            let place = unspelled_place(alloc, tokens)?;
+            Err(ParseFault::at(place, Rule::S1))
+        }
+        Err(ParseStop::NoMemory) => Err(ParseFault::NoMemory),
     }
 }
 
@@ -26,7 +34,8 @@ fn read_declarations(alloc: Global, tokens: &[Token]) -> Result<Vec<Decl>, Parse
 ///
 /// # Errors
 ///
-/// `Broken` with S1 where the tokens have no tree; with S2, at its name, where a procedure has a tree higher than 2000, of
+/// `Broken` with S1 where the tokens have no tree, at the first token of the first piece that spells no declaration: a piece
+/// begins with the text and with each word that begins a declaration; with S2, at its name, where a procedure has a tree higher than 2000, of
 /// which an operand, an element or a part of a clause is one lower; with S3, at the name behind `&`, where a keyword is
 /// unknown; with S4 where a form is not in this profile, which is `invocable`. S1 comes before S2, S2 before the others, and
 /// these in the order of places. `NoMemory` where memory ran out.

@@ -1,1 +1,2 @@
 pub mod OneObservation
+pub mod Errors

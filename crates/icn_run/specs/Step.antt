@@ -18,7 +18,7 @@ use Rattle.icn_code.specs.declared.code.Start.{Start}
 use Rattle.icn_code.specs.declared.code.Start.TheVariants as Starts
 use Rattle.icn_code.specs.Codes.{Tables, Proc as Procedure, RecordType}
 use Rattle.icn_code.specs.Rules.{name_of}
-use Rattle.icn_run.specs.Rows.{Value, Null, Integer, Text, Chars, Procedure as ProcedureValue, ARecord, AList, ACoexp, Global, Static, Local, Field, Whole, Part, Item, Val, Var, World, Outside, Setting, Names, list_at, record_at, Outcome, Fails, Gives, Suspends, Error, Ends, error_report, integer_of, place_of, again, Standing, keyword_item, Operation, Function, apply, value_row, list_row, text_row, record_row, coexpression_row, first_world, words_row, Ending, Done, Exit, Errored, AtBound, number_of}
+use Rattle.icn_run.specs.Rows.{Value, Null, Integer, Text, Chars, Procedure as ProcedureValue, ARecord, AList, ACoexp, Global, Static, Local, Field, Whole, Part, Item, Val, Var, World, Outside, Setting, Names, list_at, record_at, Outcome, Fails, Gives, Suspends, Error, Ends, error_report, on_error, integer_of, place_of, again, Standing, keyword_item, Operation, Function, apply, value_row, list_row, text_row, record_row, coexpression_row, first_world, words_row, Ending, Done, Exit, Errored, AtBound, number_of}
 pub use Rattle.icn_defs.specs.Running.{Observation, Launch}
 use Rattle.icn_defs.specs.Running.{after_steps, bound_report, with_errors}
 use Rattle.icn_run.specs.Calls.{Pair, Why, Alt, Op as Operation, Scan, Escan, Proc, MarkDrop, NoMark, Goes, Repeats, Outside as WithoutLabel, Calls}
@@ -74,9 +74,18 @@ on_pair next pair = next pair.0 pair.1
 
 -- Ends and turns
 
--- the run ends by an error, with its report on the error output
-abbrev pub errs : {K M : Type 0} → ℕ → Option Value → Store K → State K M
-errs n value st = over (Errored n) (with_errors (error_report st.names st.world.heap n value) st.outside)
+-- a store with another world
+abbrev pub with_world : {K : Type 0} → World → Store K → Store K
+with_world world st = record st { world = world }
+
+-- the run is over by an error, with its report on the error output
+abbrev pub ended_by : {K M : Type 0} → ℕ → Option Value → Store K → State K M
+ended_by n value st = over (Errored n) (with_errors (error_report st.names st.world.heap n value) st.outside)
+
+-- An error ends the run, or it is kept and the code fails. This is the one place where errors come to.
+abbrev pub errs : {K M : Type 0} → ℕ → Option Value → M → Store K → State K M
+errs n value m st =
+    on_error n value st.world (ended_by n value st) (λ world. failing m (with_world world st))
 
 -- the run ends at the bound of turns, with its report on the error output
 abbrev pub at_bound : {K M : Type 0} → Store K → State K M
@@ -97,10 +106,6 @@ turn P st event = turn_if (nat_lt st.turns st.world.heap.bounds.turns) st event
 abbrev pub here : {K M : Type 0} → Calls K M → M → Store K → Setting
 here C m st = record { world = st.world; locals = C.locals m; outside = st.outside }
 
--- the same with another world
-abbrev pub with_world : {K : Type 0} → World → Store K → Store K
-with_world world st = record st { world = world }
-
 -- what an operation left of the world and the outside
 abbrev pub with_at : {K : Type 0} → Setting → Store K → Store K
 with_at seen st = record st { world = seen.world; outside = seen.outside }
@@ -108,14 +113,14 @@ with_at seen st = record st { world = seen.world; outside = seen.outside }
 -- A row gives a value, and it goes on with that; or it is an error. What such a row never answers counts as failure.
 abbrev pub with_given : {K M : Type 0} → Outcome → M → Store K → (Value → State K M) → State K M
 with_given (Gives (Val value) seen) m st next = next value
-with_given (Error n value seen) m st next = errs n value st
+with_given (Error n value seen) m st next = errs n value m st
 with_given _ m st next = failing m st
 
 -- the same where the row changes the store
 abbrev pub with_made : {K M : Type 0} → Calls K M → Outcome → M → Store K → (Value → M → Store K → State K M)
     → State K M
 with_made C (Gives (Val value) seen) m st next = next value (C.set_locals seen.locals m) (with_at seen st)
-with_made C (Error n value seen) m st next = errs n value (with_at seen st)
+with_made C (Error n value seen) m st next = errs n value (C.set_locals seen.locals m) (with_at seen st)
 with_made C _ m st next = failing m st
 
 -- the value of an item, or its error
@@ -139,7 +144,7 @@ outcome C (Fails seen) m st = failing (C.set_locals seen.locals m) (with_at seen
 outcome C (Gives item seen) m st = push_item C item (C.set_locals seen.locals m) (with_at seen st)
 outcome C (Suspends item residual seen) m st =
     push_item C item (C.suspend (Operation residual) (C.set_locals seen.locals m)) (with_at seen st)
-outcome C (Error n value seen) m st = errs n value (with_at seen st)
+outcome C (Error n value seen) m st = errs n value (C.set_locals seen.locals m) (with_at seen st)
 outcome C (Ends n seen) m st = over (Exit n) seen.outside
 
 -- a list of values is charged and made
@@ -304,9 +309,9 @@ refreshed_from C None m st = stuck
 
 -- a copy of a co-expression that has not begun; `&main` has none
 abbrev pub refresh : {K M : Type 0} → Calls K M → Value → M → Store K → State K M
-refresh C (ACoexp zero) m st = errs 215 (Some (ACoexp zero)) st
+refresh C (ACoexp zero) m st = errs 215 (Some (ACoexp zero)) m st
 refresh C (ACoexp (suc n)) m st = refreshed_from C (slice_get st.coexps (suc n)) m st
-refresh C value m st = errs 118 (Some value) st
+refresh C value m st = errs 118 (Some value) m st
 
 -- another one is entered: the active one waits, and becomes its activator
 abbrev pub entered_by : {K M : Type 0} → Calls K M → ℕ → Value → M → Store K → State K M
@@ -322,7 +327,7 @@ entered_if C false status n value m st = entered_by C n value m st
 -- a value is sent to a co-expression
 abbrev pub activation : {K M : Type 0} → Calls K M → Value → Value → M → Store K → State K M
 activation C value (ACoexp n) m st = entered_if C (n == st.active) (status_of n st) n value m st
-activation C value other m st = errs 118 (Some other) st
+activation C value other m st = errs 118 (Some other) m st
 
 -- Procedures
 
@@ -353,7 +358,7 @@ abbrev pub called_if : {K M : Type 0} → Calls K M → Bool → ℕ → Procedu
     → State K M
 called_if C true n entry arguments m st =
     with_parameters C entry arguments m st (λ parameters m st. enter_procedure C n entry parameters m st)
-called_if C false n entry arguments m st = errs 301 None st
+called_if C false n entry arguments m st = errs 301 None m st
 
 -- a procedure is called with these values, unless that is deeper than the limit
 abbrev pub call_procedure : {K M : Type 0} → Calls K M → ℕ → Procedure → List Value → M → Store K → State K M
@@ -385,7 +390,7 @@ pushed_or_fails C None m st = failing m st
 abbrev pub integer_called : {K M : Type 0} → Calls K M → Value → Option ℤ → List Item → M → Store K
     → State K M
 integer_called C callee (Some n) items m st = pushed_or_fails C (choose_item n items) m st
-integer_called C callee None items m st = errs 106 (Some callee) st
+integer_called C callee None items m st = errs 106 (Some callee) m st
 
 -- What is called by a number: procedures are numbered before constructors, and these before functions.
 pub data Callee : Type 0 where
@@ -423,7 +428,7 @@ callee_called C (IsRecord kind entry) n items m st =
     with_values C items m st (λ arguments. construct_record C kind entry arguments m st)
 callee_called C (IsFunc func) n items m st =
     outcome C (apply st.names (Function func) items (here C m st)) m st
-callee_called C IsNothing n items m st = errs 106 (Some (ProcedureValue n)) st
+callee_called C IsNothing n items m st = errs 106 (Some (ProcedureValue n)) m st
 
 -- a value is called with these arguments: a procedure, a record constructor or a function, or an integer
 abbrev pub invoke_value : {K M : Type 0} → Calls K M → Program → Value → List Item → M → Store K → State K M
@@ -445,7 +450,7 @@ elements_called C P callee (AList n) m st =
     invoke_value C P callee (map plain (list_at st.world.heap n).items) m st
 elements_called C P callee (ARecord n) m st =
     invoke_value C P callee (map plain (record_at st.world.heap n).fields) m st
-elements_called C P callee from m st = errs 126 (Some from) st
+elements_called C P callee from m st = errs 126 (Some from) m st
 
 -- a value is applied to the elements of another one
 abbrev pub applied_to_elements : {K M : Type 0} → Calls K M → Program → List Item → M → Store K → State K M
@@ -462,13 +467,13 @@ field_index tables field kind =
 -- the variable of a field; a record without that field is error 207
 abbrev pub field_taken : {K M : Type 0} → Calls K M → Option ℕ → ℕ → M → Store K → State K M
 field_taken C (Some place) n m st = push_item C (Var (Whole (Field n place))) m st
-field_taken C None n m st = errs 207 (Some (ARecord n)) st
+field_taken C None n m st = errs 207 (Some (ARecord n)) m st
 
 -- the variable of a record's field; what is no record is error 107
 abbrev pub field_of : {K M : Type 0} → Calls K M → Program → ℕ → Value → M → Store K → State K M
 field_of C P field (ARecord n) m st =
     field_taken C (field_index P field (record_at st.world.heap n).kind) n m st
-field_of C P field value m st = errs 107 (Some value) st
+field_of C P field value m st = errs 107 (Some value) m st
 
 -- a result that is a local, or a part of one, is its value
 abbrev pub with_result : {K M : Type 0} → Calls K M → Item → M → Store K → (Item → State K M) → State K M
@@ -528,9 +533,14 @@ fails C P m st = resumed_or_dropped C P m st (C.resume m)
 abbrev pub members_of : Cset → List ℕ
 members_of set = filter (has set) (range_with_len 0 256)
 
--- what keywords tell of the run: the level, the active co-expression and its activator
+-- what keywords tell of the run: the level, the active co-expression and its activator, and the error that is kept
 abbrev pub standing_of : {K M : Type 0} → Calls K M → M → Store K → Standing
-standing_of C m st = record { level = C.level m; current = st.active; source = activator_of st.active st }
+standing_of C m st = record {
+  level = C.level m;
+  current = st.active;
+  source = activator_of st.active st;
+  kept = st.world.kept;
+}
 
 -- it goes on with the operand on top
 abbrev pub with_popped : {K M : Type 0} → Calls K M → M → (Item → M → State K M) → State K M
@@ -547,8 +557,8 @@ unmark_then C m st next =
 
 -- the limit of a limitation
 abbrev pub limit_results : {K M : Type 0} → Calls K M → Value → Option ℤ → M → Store K → State K M
-limit_results C value None m st = errs 101 (Some value) st
-limit_results C value (Some (negsuc n)) m st = errs 205 (Some value) st
+limit_results C value None m st = errs 101 (Some value) m st
+limit_results C value (Some (negsuc n)) m st = errs 205 (Some value) m st
 limit_results C value (Some (pos zero)) m st = failing m st
 limit_results C value (Some (pos (suc n))) m st = running (C.limit (suc n) m) st
 
@@ -739,12 +749,12 @@ main_of tables = option_and_then (λ (global : GlobalEntry). procedure_at global
 abbrev pub begun_if : {K M : Type 0} → Calls K M → Bool → ℕ → Procedure → List Value → M → Store K → State K M
 begun_if C true n entry arguments m st = with_parameters C entry arguments m st
     (λ parameters m st. running (C.begin n (parameters ++ replicate entry.locals Null) 0 m) st)
-begun_if C false n entry arguments m st = errs 301 None st
+begun_if C false n entry arguments m st = errs 301 None m st
 
 -- `main` is called with the words of the launch; a program without it is error 117
 abbrev pub start_of : {K M : Type 0} → Calls K M → Program → List (List ℕ) → M → Store K → Option ℕ
     → State K M
-start_of C P words m st None = errs 117 None st
+start_of C P words m st None = errs 117 None m st
 start_of C P words m st (Some main) = with_found (slice_get P.procs main) (λ (entry : Procedure).
     with_made C (words_row words (here C m st)) m st
     (λ list m st. begun_if C (nat_le 1 st.world.heap.bounds.levels) main entry (list ∷ []) m st))

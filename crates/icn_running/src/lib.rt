@@ -2,7 +2,6 @@
 #![tactic(auto)]
 
 mod endings;
-mod error_texts;
 mod fault;
 mod launching;
 mod names;

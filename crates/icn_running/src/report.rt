@@ -7,9 +7,9 @@ ghost use Rattle.icn_heap.specs.Heaps.{extent_of, heap_of};
 ghost use Rattle.icn_code.specs.CodeTables.{tables_of};
 ghost use Rattle.icn_run.specs.Step.{all_names};
 
-use crate::error_texts::error_text;
 use crate::shown::{push, push_image};
 use icn_code::Code;
+use icn_defs::error_text;
 use icn_heap::Heap;
 use icn_text::decimal;
 use icn_value::Val;

@@ -10,6 +10,7 @@ use Rattle.icn_defs.specs.Rows.{Row, Gives as GivesOutcome, gives_value}
 use Rattle.icn_heap.specs.declared.heap.Heap.{Heap as HeldHeap}
 use Rattle.icn_heap.specs.Extents.{Extent, IsLive, KeepsValues}
 use Rattle.icn_heap.specs.Heaps.{extent_of, heap_of}
+use Rattle.icn_vars.specs.declared.words.Words.{Words}
 use Rattle.icn_vars.specs.WorldFacts.{IsSoundWorld}
 use Rattle.icn_vars.specs.declared.outcome.Halt.{Halt}
 use Rattle.icn_vars.specs.declared.outcome.Outcome.{Outcome}
@@ -53,13 +54,13 @@ pub gives_text : (row : Row) (before after : Setting) (bytes made : List ℕ) �
 gives_text row before after bytes made reads same = rw same reads
 
 -- a text is held, and nothing changes
-pub holds_text : (outside : Outside) (old new : HeldHeap) (pair : Pair) (random : ℕ) (globals statics locals : List HeldVal) (bytes made : List ℕ)
-    → KeepsValues (extent_of old) (extent_of new) → heap_of new ≡ heap_of old → IsSoundWorld (extent_of old) pair random globals statics
+pub holds_text : (outside : Outside) (old new : HeldHeap) (pair : Pair) (words : Words) (globals statics locals : List HeldVal) (bytes made : List ℕ)
+    → KeepsValues (extent_of old) (extent_of new) → heap_of new ≡ heap_of old → IsSoundWorld (extent_of old) pair words globals statics
     → All (IsLive (extent_of old)) locals → made ≡ bytes
-    → gives_value (Text bytes) (setting_over outside old pair random globals statics locals)
-    ≡ GivesOutcome (Val (Text made)) (setting_over outside new pair random globals statics locals)
-holds_text outside old new pair random globals statics locals bytes made keeps same sound live is =
-    rw is (ap (gives_value (Text bytes)) (heap_changed outside old new pair random globals statics locals keeps same sound live))
+    → gives_value (Text bytes) (setting_over outside old pair words globals statics locals)
+    ≡ GivesOutcome (Val (Text made)) (setting_over outside new pair words globals statics locals)
+holds_text outside old new pair words globals statics locals bytes made keeps same sound live is =
+    rw is (ap (gives_value (Text bytes)) (heap_changed outside old new pair words globals statics locals keeps same sound live))
 
 so_stopped : (all : Extent) (row : Row) (setting : Setting) (stop : Stop) → StopsRow all row setting stop → (let r : Result Outcome Stop = Err stop in
     ComesToOutcome all row setting setting r)

@@ -1,7 +1,7 @@
 -- Which functions and residuals this crate has.
 use Rattle.std.specs.Prelude.{Bool, true, false}
 use Rattle.icn_text.specs.declared.func.Func.{Func}
-use Rattle.icn_text.specs.declared.func.Func.TheVariants.{Abs, Any, Bal, Center, Char, Copy, Cset, Delete, Exit, Find, Get, Iand, Icom, Image, Insert, Integer, Ior, Ishift, Ixor, Key, Left, List, Many, Map, Match, Member, Move, Numeric, Ord, Pop, Pos, Pull, Push, Put, Read, Reads, Repl, Reverse, Right, Seq, Set, Sort, Stop, String, Tab, Table, Trim, TypeOf, Upto, Write, Writes}
+use Rattle.icn_text.specs.declared.func.Func.TheVariants.{Abs, Any, Bal, Center, Char, Copy, Cset, Delete, Exit, Find, Get, Iand, Icom, Image, Insert, Integer, Ior, Ishift, Ixor, Key, Left, List, Many, Map, Match, Member, Move, Numeric, Ord, Pop, Pos, Pull, Push, Put, Read, Reads, Repl, Reverse, Right, Seq, Set, Sort, Stop, String, Tab, Table, Trim, TypeOf, Upto, Write, Writes, ErrorClear}
 use Rattle.icn_value.specs.declared.residual.Residual.{Residual}
 use Rattle.icn_value.specs.declared.residual.Residual.TheVariants.{TextBytes, VariableBytes, ListItems, SetMembers, TableValues, TableKeys, RecordFields, InputLines, UndoAssign, UndoExchange, UndoPosition, Counting, Sequence, Balanced, Found, Among}
 
@@ -58,6 +58,7 @@ is_string_function TypeOf = true
 is_string_function Upto = false
 is_string_function Write = false
 is_string_function Writes = false
+is_string_function ErrorClear = false
 
 -- whether a sequence is resumed
 abbrev pub is_sequence : Residual → Bool

@@ -19,6 +19,7 @@ use Rattle.icn_heap.specs.declared.heap.Heap.{Heap as HeldHeap}
 use Rattle.icn_heap.specs.Extents.{Extent, IsLive, KeepsValues}
 use Rattle.icn_heap.specs.Heaps.{extent_of, heap_of, with_cells}
 use Rattle.icn_heap.proofs.HeapCharges.{charge_fits}
+use Rattle.icn_vars.specs.declared.words.Words.{Words}
 use Rattle.icn_vars.specs.declared.stop.Stop.{Stop}
 use Rattle.icn_vars.specs.WorldFacts.{IsSoundWorld}
 use Rattle.icn_vars.specs.Stops.{StopsPassing, stop_of}
@@ -116,17 +117,17 @@ module _ (grown : NumberedList Value → Value → NumberedList Value) (id : ℕ
 
   -- The part of a row
 
-  module _ (old new : HeldHeap) (pair : Pair) (random : ℕ) (globals statics locals : List Val) (keeps : KeepsValues (extent_of old) (extent_of new))
-      (sound : IsSoundWorld (extent_of old) pair random globals statics) (live : All (IsLive (extent_of old)) locals) (values : List Value) where
+  module _ (old new : HeldHeap) (pair : Pair) (words : Words) (globals statics locals : List Val) (keeps : KeepsValues (extent_of old) (extent_of new))
+      (sound : IsSoundWorld (extent_of old) pair words globals statics) (live : All (IsLive (extent_of old)) locals) (values : List Value) where
     pub elements_added : charged_cells (heap_of old) (length values) ≡ Ok (with_cells ((heap_of old).cells + length values) (heap_of old))
         → heap_of new ≡ added_to grown id values (heap_of old) → (outside : Outside)
-        → Passes (adds grown id values) (setting_over outside old pair random globals statics locals)
-        (setting_over outside new pair random globals statics locals)
+        → Passes (adds grown id values) (setting_over outside old pair words globals statics locals)
+        (setting_over outside new pair words globals statics locals)
     elements_added paid step outside next =
-        (cells_change (length values)).ok (setting_over outside old pair random globals statics locals)
+        (cells_change (length values)).ok (setting_over outside old pair words globals statics locals)
         (with_cells ((heap_of old).cells + length values) (heap_of old)) paid
         (here (λ setting. changes_heap (with_list id (fold grown (list_at setting.world.heap id) values)) next))
-        ∙ ap next (heap_changed outside old new pair random globals statics locals keeps step sound live)
+        ∙ ap next (heap_changed outside old new pair words globals statics locals keeps step sound live)
 
   pub not_added : {B : Type 0} (all : Extent) (setting : Setting) (values : List Value) (full : Full) (result : Result B Stop)
       → charged_cells setting.world.heap (length values) ≡ Err full

@@ -21,6 +21,7 @@ use Rattle.icn_defs.specs.Structures.{has_key, without_key}
 use Rattle.icn_heap.specs.declared.heap.Heap.{Heap as HeldHeap}
 use Rattle.icn_heap.specs.Extents.{IsLive, KeepsValues}
 use Rattle.icn_heap.specs.Heaps.{extent_of, heap_of}
+use Rattle.icn_vars.specs.declared.words.Words.{Words}
 use Rattle.icn_vars.specs.declared.stop.Stop.{Stop}
 use Rattle.icn_vars.specs.WorldFacts.{IsSoundWorld}
 use Rattle.icn_vars.specs.Stops.{stop_of}
@@ -83,33 +84,33 @@ refused_first (Ok paid) change full is = absurd (never is)
     never is = cc
 refused_first (Err why) change full is = is
 
-module _ (old new : HeldHeap) (pair : Pair) (random : ℕ) (globals statics locals : List Val) (keeps : KeepsValues (extent_of old) (extent_of new))
-    (sound : IsSoundWorld (extent_of old) pair random globals statics) (live : All (IsLive (extent_of old)) locals)
+module _ (old new : HeldHeap) (pair : Pair) (words : Words) (globals statics locals : List Val) (keeps : KeepsValues (extent_of old) (extent_of new))
+    (sound : IsSoundWorld (extent_of old) pair words globals statics) (live : All (IsLive (extent_of old)) locals)
     {part : Row → Row} {charge : Heap → ChangedHeap} (is : IsChange part charge) (change after : Heap → Heap) where
   -- it is charged, and the heap is changed
   pub charged : ((paid : Heap) → IsCharged (heap_of old) paid → change paid ≡ after paid)
       → and_then (charge (heap_of old)) (λ paid. let r : ChangedHeap = Ok (after paid) in r) ≡ Ok (heap_of new) → (outside : Outside)
-      → Passes (λ next. part (changes_heap change next)) (setting_over outside old pair random globals statics locals)
-      (setting_over outside new pair random globals statics locals)
+      → Passes (λ next. part (changes_heap change next)) (setting_over outside old pair words globals statics locals)
+      (setting_over outside new pair words globals statics locals)
   charged same step outside next =
-      let before : Setting = setting_over outside old pair random globals statics locals in
+      let before : Setting = setting_over outside old pair words globals statics locals in
       let paid = charged_then after (charge (heap_of old)) (heap_of new) step in
       is.ok before paid.0 paid.1 (changes_heap change next)
       ∙ (ap (λ (heap : Heap). next (having_heap (λ old. heap) before)) (same paid.0 (is.charged (heap_of old) paid.0 paid.1) ∙ paid.2)
-      ∙ ap next (heap_changed outside old new pair random globals statics locals keeps refl sound live))
+      ∙ ap next (heap_changed outside old new pair words globals statics locals keeps refl sound live))
 
   pub not_charged : {B : Type 0} (full : Full) (result : Result B Stop) → heap_of new ≡ heap_of old
       → Refuses (and_then (charge (heap_of old)) (λ paid. let r : ChangedHeap = Ok (after paid) in r)) full
       → IsErrAnd result (λ stop. stop ≡ stop_of full) → (outside : Outside)
-      → IsPassed (extent_of new) (λ next. part (changes_heap change next)) (setting_over outside old pair random globals statics locals)
-      (setting_over outside new pair random globals statics locals) result
+      → IsPassed (extent_of new) (λ next. part (changes_heap change next)) (setting_over outside old pair words globals statics locals)
+      (setting_over outside new pair words globals statics locals) result
   not_charged full result same why err outside =
       let first : Refuses (charge (heap_of old)) full =
       ⊎_elim (λ (e : full ≡ NoMemory). inl e) (λ (e : and_then (charge (heap_of old)) (λ paid. let r : ChangedHeap = Ok (after paid) in r) ≡ Err full).
       inr (refused_first (charge (heap_of old)) after full e)) why in
-      first_part_stops (extent_of new) part (changes_heap change) (setting_over outside old pair random globals statics locals)
-      (setting_over outside new pair random globals statics locals) (stop_of full) result err
-      (change_stops old new pair random globals statics locals keeps sound live is same full first (extent_of new) outside)
+      first_part_stops (extent_of new) part (changes_heap change) (setting_over outside old pair words globals statics locals)
+      (setting_over outside new pair words globals statics locals) (stop_of full) result err
+      (change_stops old new pair words globals statics locals keeps sound live is same full first (extent_of new) outside)
 
 -- what is put into a set or a table is the same whether it is charged before
 pub member_after : (id : ℕ) (value : Value) (heap paid : Heap) → IsCharged heap paid

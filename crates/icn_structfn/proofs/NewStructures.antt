@@ -14,6 +14,7 @@ use Rattle.icn_defs.specs.Rows.{Row, Finds, here, changes_heap, costs_cells}
 use Rattle.icn_heap.specs.declared.heap.Heap.{Heap as HeldHeap}
 use Rattle.icn_heap.specs.Extents.{Extent, IsLive, KeepsValues}
 use Rattle.icn_heap.specs.Heaps.{extent_of, heap_of}
+use Rattle.icn_vars.specs.declared.words.Words.{Words}
 use Rattle.icn_vars.specs.declared.stop.Stop.{Stop}
 use Rattle.icn_vars.specs.declared.stop.Stop.TheVariants.{Error, NoMemory as NoMemoryStop}
 use Rattle.icn_vars.specs.WorldFacts.{IsSoundWorld}
@@ -69,39 +70,39 @@ finding_of : {A : Type 0} (all : Extent) (part : Row → Row) (rest : (A → Row
 finding_of all part rest before after (Error number offending) is = λ next. is (rest next)
 finding_of all part rest before after NoMemoryStop is = tt
 
-module _ (old new : HeldHeap) (pair : Pair) (random : ℕ) (globals statics locals : List Val) (keeps : KeepsValues (extent_of old) (extent_of new))
-    (sound : IsSoundWorld (extent_of old) pair random globals statics) (live : All (IsLive (extent_of old)) locals)
+module _ (old new : HeldHeap) (pair : Pair) (words : Words) (globals statics locals : List Val) (keeps : KeepsValues (extent_of old) (extent_of new))
+    (sound : IsSoundWorld (extent_of old) pair words globals statics) (live : All (IsLive (extent_of old)) locals)
     (count : ℕ) (change : Heap → Heap) (number : Heap → Value) where
   -- it is made
   pub structure_made : ((paid : Heap) → IsCharged (heap_of old) paid → number paid ≡ number (heap_of old)) → (value : Value) → value ≡ number (heap_of old)
       → and_then (charged_cells (heap_of old) count) (λ paid. let r : ChangedHeap = Ok (change paid) in r) ≡ Ok (heap_of new) → (outside : Outside)
-      → GoesOn (makes count change number) (setting_over outside old pair random globals statics locals) value
-      (setting_over outside new pair random globals statics locals)
+      → GoesOn (makes count change number) (setting_over outside old pair words globals statics locals) value
+      (setting_over outside new pair words globals statics locals)
   structure_made same value is step outside next =
-      let before : Setting = setting_over outside old pair random globals statics locals in
+      let before : Setting = setting_over outside old pair words globals statics locals in
       let paid = charged_then change (charged_cells (heap_of old) count) (heap_of new) step in
       (cells_change count).ok before paid.0 paid.1 (here (λ setting. changes_heap change (next (number setting.world.heap))))
       ∙ (ap (λ (v : Value). next v (having_heap (λ heap. change paid.0) before))
       (same paid.0 ((cells_change count).charged (heap_of old) paid.0 paid.1) ∙ sym is)
       ∙ ap (next value)
-      (ap (λ (heap : Heap). having_heap (λ old. heap) before) paid.2 ∙ heap_changed outside old new pair random globals statics locals keeps refl sound live))
+      (ap (λ (heap : Heap). having_heap (λ old. heap) before) paid.2 ∙ heap_changed outside old new pair words globals statics locals keeps refl sound live))
 
   -- it is refused
   pub structure_refused : {B : Type 0} (shown : B → Value) (full : Full) (result : Result B Stop) → heap_of new ≡ heap_of old
       → Refuses (and_then (charged_cells (heap_of old) count) (λ paid. let r : ChangedHeap = Ok (change paid) in r)) full
       → IsErrAnd result (λ stop. stop ≡ stop_of full) → (outside : Outside)
-      → IsFound (extent_of new) (makes count change number) (setting_over outside old pair random globals statics locals)
-      (setting_over outside new pair random globals statics locals) shown result
+      → IsFound (extent_of new) (makes count change number) (setting_over outside old pair words globals statics locals)
+      (setting_over outside new pair words globals statics locals) shown result
   structure_refused shown full result same why err outside =
-      let before : Setting = setting_over outside old pair random globals statics locals in
-      let after : Setting = setting_over outside new pair random globals statics locals in
+      let before : Setting = setting_over outside old pair words globals statics locals in
+      let after : Setting = setting_over outside new pair words globals statics locals in
       let first : Refuses (charged_cells (heap_of old) count) full =
       ⊎_elim (λ (e : full ≡ NoMemory). inl e) (λ (e : and_then (charged_cells (heap_of old) count) (λ paid. let r : ChangedHeap = Ok (change paid) in r)
       ≡ Err full). inr (refused_first (charged_cells (heap_of old) count) change full e)) why in
       found_stops (extent_of new) (makes count change number) before after shown (stop_of full) result err
       (finding_of (extent_of new) (costs_cells count) (λ next. here (λ setting. changes_heap change (next (number setting.world.heap)))) before after
       (stop_of full)
-      (change_stops old new pair random globals statics locals keeps sound live (cells_change count) same full first (extent_of new) outside))
+      (change_stops old new pair words globals statics locals keeps sound live (cells_change count) same full first (extent_of new) outside))
 
 -- a record is made
 pub fields_new : (count kind : ℕ) (fields : List Value) (old new : Heap)

@@ -15,6 +15,7 @@ use Rattle.icn_heap.specs.declared.heap.Heap.{Heap as HeldHeap}
 use Rattle.icn_heap.specs.Extents.{IsLive, KeepsValues}
 use Rattle.icn_heap.specs.Heaps.{extent_of, heap_of}
 use Rattle.icn_heap.proofs.TakenElements.{none_there}
+use Rattle.icn_vars.specs.declared.words.Words.{Words}
 use Rattle.icn_vars.specs.WorldFacts.{IsSoundWorld}
 use Rattle.icn_vars.proofs.GrowingWorlds.{heap_changed, setting_over}
 
@@ -58,26 +59,26 @@ not_taken taken rest value none setting =
     ap (λ opt. present opt 108 (Some value) (λ id. here (λ setting. thing_or_failure (taken (list_at setting.world.heap id))
     (λ element. changes_heap (with_list id (rest (list_at setting.world.heap id))) (gives_value element)))) setting) none
 
-module _ (old new : HeldHeap) (pair : Pair) (random : ℕ) (globals statics locals : List Val) (keeps : KeepsValues (extent_of old) (extent_of new))
-    (sound : IsSoundWorld (extent_of old) pair random globals statics) (live : All (IsLive (extent_of old)) locals)
+module _ (old new : HeldHeap) (pair : Pair) (words : Words) (globals statics locals : List Val) (keeps : KeepsValues (extent_of old) (extent_of new))
+    (sound : IsSoundWorld (extent_of old) pair words globals statics) (live : All (IsLive (extent_of old)) locals)
     (taken : NumberedList Value → Option Value) (rest : NumberedList Value → NumberedList Value) (value : Value) (id : ℕ) (is : value ≡ AList id) where
   pub element_taken : (element : Value) → (let found : Option Value = Some element in found) ≡ taken (list_at (heap_of old) id)
       → heap_of new ≡ with_list id (rest (list_at (heap_of old) id)) (heap_of old) → (outside : Outside)
-      → takes_element taken rest value (setting_over outside old pair random globals statics locals)
-      ≡ Gives (ItemVal element) (setting_over outside new pair random globals statics locals)
+      → takes_element taken rest value (setting_over outside old pair words globals statics locals)
+      ≡ Gives (ItemVal element) (setting_over outside new pair words globals statics locals)
   element_taken element some step outside =
-      let before : Setting = setting_over outside old pair random globals statics locals in
+      let before : Setting = setting_over outside old pair words globals statics locals in
       ap (λ v. takes_element taken rest v before) is
       ∙ (ap (λ f. thing_or_failure f (λ element. changes_heap (with_list id (rest (list_at (heap_of old) id))) (gives_value element)) before) (sym some)
-      ∙ ap (Gives (ItemVal element)) (heap_changed outside old new pair random globals statics locals keeps step sound live))
+      ∙ ap (Gives (ItemVal element)) (heap_changed outside old new pair words globals statics locals keeps step sound live))
 
   pub none_taken : (let found : Option Value = None in found) ≡ taken (list_at (heap_of old) id) → rest (list_at (heap_of old) id) ≡ list_at (heap_of old) id
       → heap_of new ≡ with_list id (rest (list_at (heap_of old) id)) (heap_of old) → (outside : Outside)
-      → takes_element taken rest value (setting_over outside old pair random globals statics locals)
-      ≡ Fails (setting_over outside new pair random globals statics locals)
+      → takes_element taken rest value (setting_over outside old pair words globals statics locals)
+      ≡ Fails (setting_over outside new pair words globals statics locals)
   none_taken none same step outside =
-      let before : Setting = setting_over outside old pair random globals statics locals in
+      let before : Setting = setting_over outside old pair words globals statics locals in
       ap (λ v. takes_element taken rest v before) is
       ∙ (ap (λ f. thing_or_failure f (λ element. changes_heap (with_list id (rest (list_at (heap_of old) id))) (gives_value element)) before) (sym none)
-      ∙ ap Fails (heap_changed outside old new pair random globals statics locals keeps
+      ∙ ap Fails (heap_changed outside old new pair words globals statics locals keeps
       (step ∙ (ap (λ l. with_list id l (heap_of old)) same ∙ list_stays (heap_of old) id)) sound live))

@@ -6,7 +6,7 @@ use Rattle.std.specs.Option.{option_map_or}
 use Rattle.std.specs.Str.{bytes_eq}
 use Rattle.std.proofs.lemmas.Bool.{eqb-true, leb-true}
 use Rattle.icn_text.specs.declared.keyword.Keyword.{Keyword}
-use Rattle.icn_text.specs.declared.keyword.Keyword.TheVariants.{Ascii, Cset, Current, Digits, Errout, Fail, Input, Lcase, Letters, Level, Main, Null, Output, Pos, Random, Source, Subject, Ucase}
+use Rattle.icn_text.specs.declared.keyword.Keyword.TheVariants.{Ascii, Cset, Current, Digits, Errout, Fail, Input, Lcase, Letters, Level, Main, Null, Output, Pos, Random, Source, Subject, Ucase, Error, ErrorNumber, ErrorValue, ErrorText}
 use Rattle.icn_text.specs.declared.keyword.TheConstants.Keyword.{ALL}
 use Rattle.icn_text.specs.Keywords.{keyword_number, keyword_name}
 use Rattle.icn_text.proofs.Listed as listed
@@ -30,6 +30,10 @@ keyword_at Random default = refl
 keyword_at Source default = refl
 keyword_at Subject default = refl
 keyword_at Ucase default = refl
+keyword_at Error default = refl
+keyword_at ErrorNumber default = refl
+keyword_at ErrorValue default = refl
+keyword_at ErrorText default = refl
 
 -- what all of the list pass is passed by each
 pub every_keyword : (test : Keyword → Bool) → list_all test ALL ≡ true → (any : Keyword) → test any ≡ true

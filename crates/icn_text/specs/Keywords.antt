@@ -1,7 +1,7 @@
 -- The names and the numbers of the keywords.
 use Rattle.std.specs.Prelude.{ℕ, List as Bytes, codes}
 use Rattle.icn_text.specs.declared.keyword.Keyword.{Keyword}
-use Rattle.icn_text.specs.declared.keyword.Keyword.TheVariants.{Ascii, Cset, Current, Digits, Errout, Fail, Input, Lcase, Letters, Level, Main, Null, Output, Pos, Random, Source, Subject, Ucase}
+use Rattle.icn_text.specs.declared.keyword.Keyword.TheVariants.{Ascii, Cset, Current, Digits, Errout, Fail, Input, Lcase, Letters, Level, Main, Null, Output, Pos, Random, Source, Subject, Ucase, Error, ErrorNumber, ErrorValue, ErrorText}
 
 -- the name of a keyword, without its `&`
 abbrev pub keyword_name : Keyword → Bytes ℕ
@@ -23,6 +23,10 @@ keyword_name Random = codes "random"
 keyword_name Source = codes "source"
 keyword_name Subject = codes "subject"
 keyword_name Ucase = codes "ucase"
+keyword_name Error = codes "error"
+keyword_name ErrorNumber = codes "errornumber"
+keyword_name ErrorValue = codes "errorvalue"
+keyword_name ErrorText = codes "errortext"
 
 -- the number of a keyword, by which an image has it
 abbrev pub keyword_number : Keyword → ℕ
@@ -44,3 +48,7 @@ keyword_number Random = 15
 keyword_number Source = 16
 keyword_number Subject = 17
 keyword_number Ucase = 18
+keyword_number Error = 19
+keyword_number ErrorNumber = 20
+keyword_number ErrorValue = 21
+keyword_number ErrorText = 22

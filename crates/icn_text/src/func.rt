@@ -57,11 +57,12 @@ pub enum Func {
     Upto = 49,
     Write = 50,
     Writes = 51,
+    ErrorClear = 52,
 }
 
 impl Func {
     /// All of them, in the order of their numbers.
-    pub const ALL: [Func; 51] = [
+    pub const ALL: [Func; 52] = [
         Func::Abs,
         Func::Any,
         Func::Bal,
@@ -113,6 +114,7 @@ impl Func {
         Func::Upto,
         Func::Write,
         Func::Writes,
+        Func::ErrorClear,
     ];
 
     /// The number, from 1 to how many there are.
@@ -178,6 +180,7 @@ impl Func {
             Func::Upto => b"upto",
             Func::Write => b"write",
             Func::Writes => b"writes",
+            Func::ErrorClear => b"errorclear",
         }
     }
 }

@@ -24,11 +24,15 @@ pub enum Keyword {
     Source = 16,
     Subject = 17,
     Ucase = 18,
+    Error = 19,
+    ErrorNumber = 20,
+    ErrorValue = 21,
+    ErrorText = 22,
 }
 
 impl Keyword {
     /// All of them, in the order of their numbers.
-    pub const ALL: [Keyword; 18] = [
+    pub const ALL: [Keyword; 22] = [
         Keyword::Ascii,
         Keyword::Cset,
         Keyword::Current,
@@ -47,6 +51,10 @@ impl Keyword {
         Keyword::Source,
         Keyword::Subject,
         Keyword::Ucase,
+        Keyword::Error,
+        Keyword::ErrorNumber,
+        Keyword::ErrorValue,
+        Keyword::ErrorText,
     ];
 
     /// The number, from 1 to how many there are.
@@ -79,6 +87,10 @@ impl Keyword {
             Keyword::Source => b"source",
             Keyword::Subject => b"subject",
             Keyword::Ucase => b"ucase",
+            Keyword::Error => b"error",
+            Keyword::ErrorNumber => b"errornumber",
+            Keyword::ErrorValue => b"errorvalue",
+            Keyword::ErrorText => b"errortext",
         }
     }
 }

@@ -44,6 +44,10 @@ known_keyword K.Random = I.Keywd K.Random
 known_keyword K.Source = I.Keywd K.Source
 known_keyword K.Subject = I.Keywd K.Subject
 known_keyword K.Ucase = I.Keywd K.Ucase
+known_keyword K.Error = I.Keywd K.Error
+known_keyword K.ErrorNumber = I.Keywd K.ErrorNumber
+known_keyword K.ErrorValue = I.Keywd K.ErrorValue
+known_keyword K.ErrorText = I.Keywd K.ErrorText
 
 -- a text that has no unknown keyword never comes to the second line
 abbrev pub keyword_by : Option Keyword → UnitInstr

@@ -9,7 +9,7 @@ use Rattle.std.proofs.lemmas.Bool.{cond-true, false≢true}
 use Rattle.std.proofs.lemmas.Bool.Decides.{nat_tests}
 use Rattle.icn_tree.specs.ByteSets.{members_of}
 use Rattle.icn_text.specs.declared.keyword.Keyword.{Keyword}
-use Rattle.icn_text.specs.declared.keyword.Keyword.TheVariants.{Ascii as KeyAscii, Cset as KeyCset, Current as KeyCurrent, Digits as KeyDigits, Errout as KeyErrout, Fail as KeyFail, Input as KeyInput, Lcase as KeyLcase, Letters as KeyLetters, Level as KeyLevel, Main as KeyMain, Null as KeyNull, Output as KeyOutput, Pos as KeyPos, Random as KeyRandom, Source as KeySource, Subject as KeySubject, Ucase as KeyUcase}
+use Rattle.icn_text.specs.declared.keyword.Keyword.TheVariants.{Ascii as KeyAscii, Cset as KeyCset, Current as KeyCurrent, Digits as KeyDigits, Errout as KeyErrout, Fail as KeyFail, Input as KeyInput, Lcase as KeyLcase, Letters as KeyLetters, Level as KeyLevel, Main as KeyMain, Null as KeyNull, Output as KeyOutput, Pos as KeyPos, Random as KeyRandom, Source as KeySource, Subject as KeySubject, Ucase as KeyUcase, Error as KeyError, ErrorNumber as KeyErrorNumber, ErrorValue as KeyErrorValue, ErrorText as KeyErrorText}
 use Rattle.icn_text.specs.declared.op.Op.{Op as OpCode}
 use Rattle.icn_text.specs.declared.op.Op.TheVariants.{IsNull as OpIsNull, IsNotNull as OpIsNotNull, Dereference as OpDereference, Number as OpNumber, Negate as OpNegate, Size as OpSize, Complement as OpComplement, Elements as OpElements, Random as OpRandom, TabMatch as OpTabMatch, Refresh as OpRefresh, Add as OpAdd, Subtract as OpSubtract, Multiply as OpMultiply, Divide as OpDivide, Remainder as OpRemainder, Power as OpPower, Less as OpLess, LessOrEqual as OpLessOrEqual, Equal as OpEqual, GreaterOrEqual as OpGreaterOrEqual, Greater as OpGreater, NotEqual as OpNotEqual, LexicallyLess as OpLexicallyLess, LexicallyLessOrEqual as OpLexicallyLessOrEqual, LexicallyEqual as OpLexicallyEqual, LexicallyGreaterOrEqual as OpLexicallyGreaterOrEqual, LexicallyGreater as OpLexicallyGreater, LexicallyNotEqual as OpLexicallyNotEqual, Equivalent as OpEquivalent, NotEquivalent as OpNotEquivalent, Concatenate as OpConcatenate, ConcatenateLists as OpConcatenateLists, Union as OpUnion, Difference as OpDifference, Intersection as OpIntersection, Assign as OpAssign, Swap as OpSwap, ReversibleAssign as OpReversibleAssign, ReversibleSwap as OpReversibleSwap, Subscript as OpSubscript, Section as OpSection, SectionPlus as OpSectionPlus, SectionMinus as OpSectionMinus, ToBy as OpToBy}
 use Rattle.icn_text.specs.Keywords.{keyword_name}
@@ -252,6 +252,10 @@ keyword_clean KeyRandom = refl
 keyword_clean KeySource = refl
 keyword_clean KeySubject = refl
 keyword_clean KeyUcase = refl
+keyword_clean KeyError = refl
+keyword_clean KeyErrorNumber = refl
+keyword_clean KeyErrorValue = refl
+keyword_clean KeyErrorText = refl
 
 -- Instructions
 

@@ -8,7 +8,7 @@ use Rattle.std.proofs.lemmas.Bool.{cond-false, false_from_ne_true}
 use Rattle.std.proofs.lemmas.Bool.Decides.{nat_tests}
 use Rattle.std.proofs.lemmas.List.{at_drop_more}
 use Rattle.icn_text.specs.declared.keyword.Keyword.{Keyword}
-use Rattle.icn_text.specs.declared.keyword.Keyword.TheVariants.{Ascii, Cset, Current, Digits, Errout, Fail, Input, Lcase, Letters, Level, Main, Null, Output, Pos, Random, Source, Subject, Ucase}
+use Rattle.icn_text.specs.declared.keyword.Keyword.TheVariants.{Ascii, Cset, Current, Digits, Errout, Fail, Input, Lcase, Letters, Level, Main, Null, Output, Pos, Random, Source, Subject, Ucase, Error, ErrorNumber, ErrorValue, ErrorText}
 use Rattle.icn_text.specs.Keywords.{keyword_name}
 use Rattle.icn_tree.specs.Spellings.{lookup_text}
 use Rattle.icn_unit.specs.UnitOperands.{value_from, keywords, keyword_of, is_hexadecimal, hexadecimal_value, hexadecimal_bytes}
@@ -71,6 +71,10 @@ keyword_again Random = refl
 keyword_again Source = refl
 keyword_again Subject = refl
 keyword_again Ucase = refl
+keyword_again Error = refl
+keyword_again ErrorNumber = refl
+keyword_again ErrorValue = refl
+keyword_again ErrorText = refl
 
 no_keyword : (all : List Keyword) (text : List ℕ) → ((keyword : Keyword) → keyword_name keyword ≢ text)
     → lookup_text (map (λ (keyword : Keyword). (keyword_name keyword, keyword)) all) text ≡ None

@@ -6,7 +6,7 @@ use Rattle.std.specs.Option.{option_map}
 use Rattle.std.specs.Str.{bytes_eq}
 use Rattle.icn_profile.specs.Numbers.{greatest_number}
 use Rattle.icn_text.specs.declared.keyword.Keyword.{Keyword}
-use Rattle.icn_text.specs.declared.keyword.Keyword.TheVariants.{Ascii, Cset, Current, Digits, Errout, Fail, Input, Lcase, Letters, Level, Main, Null, Output, Pos, Random, Source, Subject, Ucase}
+use Rattle.icn_text.specs.declared.keyword.Keyword.TheVariants.{Ascii, Cset, Current, Digits, Errout, Fail, Input, Lcase, Letters, Level, Main, Null, Output, Pos, Random, Source, Subject, Ucase, Error, ErrorNumber, ErrorValue, ErrorText}
 use Rattle.icn_text.specs.Keywords.{keyword_name}
 use Rattle.icn_tree.specs.Characters.{begins_identifier, continues_identifier, is_digit, is_between}
 use Rattle.icn_tree.specs.Spellings.{lookup_text}
@@ -72,7 +72,8 @@ ascends (a ∷ b ∷ rest) = nat_lt a b && ascends (b ∷ rest)
 
 abbrev pub keywords : List Keyword
 keywords = Ascii ∷ Cset ∷ Current ∷ Digits ∷ Errout ∷ Fail ∷ Input ∷ Lcase ∷ Letters ∷ Level ∷ Main ∷ Null
-    ∷ Output ∷ Pos ∷ Random ∷ Source ∷ Subject ∷ Ucase ∷ []
+    ∷ Output ∷ Pos ∷ Random ∷ Source ∷ Subject ∷ Ucase
+    ∷ Error ∷ ErrorNumber ∷ ErrorValue ∷ ErrorText ∷ []
 
 -- the keyword of this name, if there is one
 unfoldable pub keyword_of : List ℕ → Option Keyword

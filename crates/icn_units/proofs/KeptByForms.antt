@@ -92,6 +92,10 @@ known_label K.Random = refl
 known_label K.Source = refl
 known_label K.Subject = refl
 known_label K.Ucase = refl
+known_label K.Error = refl
+known_label K.ErrorNumber = refl
+known_label K.ErrorValue = refl
+known_label K.ErrorText = refl
 
 known_place : (k : KeywordNamed) → own_label (known_keyword k) ≡ None
 known_place K.Ascii = refl
@@ -112,6 +116,10 @@ known_place K.Random = refl
 known_place K.Source = refl
 known_place K.Subject = refl
 known_place K.Ucase = refl
+known_place K.Error = refl
+known_place K.ErrorNumber = refl
+known_place K.ErrorValue = refl
+known_place K.ErrorText = refl
 
 known_variable : (k : KeywordNamed) → variable_in (known_keyword k) ≡ None
 known_variable K.Ascii = refl
@@ -132,6 +140,10 @@ known_variable K.Random = refl
 known_variable K.Source = refl
 known_variable K.Subject = refl
 known_variable K.Ucase = refl
+known_variable K.Error = refl
+known_variable K.ErrorNumber = refl
+known_variable K.ErrorValue = refl
+known_variable K.ErrorText = refl
 
 known_operand : (passes : List ℕ → Bool) (k : KeywordNamed) → operand_fits passes (known_keyword k) ≡ true
 known_operand passes K.Ascii = refl
@@ -152,6 +164,10 @@ known_operand passes K.Random = refl
 known_operand passes K.Source = refl
 known_operand passes K.Subject = refl
 known_operand passes K.Ucase = refl
+known_operand passes K.Error = refl
+known_operand passes K.ErrorNumber = refl
+known_operand passes K.ErrorValue = refl
+known_operand passes K.ErrorText = refl
 
 keyword_label : (k : Option KeywordNamed) → label_in (keyword_by k) ≡ None
 keyword_label None = refl

@@ -1,5 +1,5 @@
 -- What a heap stands for, the world round it, and the outside.
-use Rattle.std.specs.Prelude.{ℕ, List, [], ◌∷◌, length, slice_get, slice_set, slice_index, unwrap_or, pos}
+use Rattle.std.specs.Prelude.{ℕ, ℤ, List, [], ◌∷◌, length, slice_get, slice_set, slice_index, unwrap_or, pos, Option}
 use Rattle.icn_structs.specs.Numbered.{NumberedList}
 use Rattle.icn_value.specs.Limited.{Bounds}
 use Rattle.icn_value.specs.Values.{Value, Null}
@@ -26,6 +26,12 @@ pub record Heap : Type 0 where
   pub cells : ℕ
   pub bounds : Bounds
 
+-- an error that became failure: its number, and the value that it is about, if any
+pub record KeptError : Type 0 where
+  pub number : ℕ
+  pub value : Option Value
+
+-- Of `error` an error that becomes failure takes 1; where it is 0, none does. The last one that did is kept.
 pub record World : Type 0 where
   pub heap : Heap
   pub subject : List ℕ
@@ -33,6 +39,8 @@ pub record World : Type 0 where
   pub random : ℕ
   pub globals : List Value
   pub statics : List Value
+  pub error : ℤ
+  pub kept : Option KeptError
 
 -- what a reading asks for: a line, or so many bytes
 pub data Request : Type 0 where
@@ -146,6 +154,12 @@ having_position place setting = record setting { world = record setting.world { 
 
 abbrev pub having_random : ℕ → Setting → Setting
 having_random state setting = record setting { world = record setting.world { random = state } }
+
+abbrev pub having_error : ℤ → Setting → Setting
+having_error count setting = record setting { world = record setting.world { error = count } }
+
+abbrev pub having_kept : Option KeptError → Setting → Setting
+having_kept kept setting = record setting { world = record setting.world { kept = kept } }
 
 abbrev pub having_left : List ℕ → Setting → Setting
 having_left bytes setting = record setting { outside = record setting.outside { left = bytes } }

@@ -10,6 +10,8 @@ pub enum KeywordVariable {
     Position,
     /// `&random`
     Random,
+    /// `&error`
+    ErrorCount,
 }
 
 /// What a variable is rooted in.

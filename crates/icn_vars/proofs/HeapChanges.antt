@@ -18,6 +18,7 @@ use Rattle.icn_defs.specs.Rows.{Row, changes_heap, check, costs_bytes, costs_cel
 use Rattle.icn_heap.specs.declared.heap.Heap.{Heap as HeldHeap}
 use Rattle.icn_heap.specs.Extents.{Extent, IsLive, KeepsValues}
 use Rattle.icn_heap.specs.Heaps.{extent_of, heap_of}
+use Rattle.icn_vars.specs.declared.words.Words.{Words}
 use Rattle.icn_vars.specs.WorldFacts.{IsSoundWorld}
 use Rattle.icn_vars.specs.declared.stop.Stop.{Stop}
 use Rattle.icn_vars.specs.Stops.{StopsPassing, stop_of}
@@ -191,27 +192,27 @@ fields_by old made new keeps is = fields_then (field_counts old) (field_counts m
 
 -- A world whose heap changes
 
-module _ (old new : HeldHeap) (pair : Pair) (random : ℕ) (globals statics locals : List Val) (keeps : KeepsValues (extent_of old) (extent_of new))
-    (sound : IsSoundWorld (extent_of old) pair random globals statics) (live : All (IsLive (extent_of old)) locals) where
+module _ (old new : HeldHeap) (pair : Pair) (words : Words) (globals statics locals : List Val) (keeps : KeepsValues (extent_of old) (extent_of new))
+    (sound : IsSoundWorld (extent_of old) pair words globals statics) (live : All (IsLive (extent_of old)) locals) where
   -- the part of a row is passed
   pub change_passes : {part : Row → Row} {change : Heap → ChangedHeap} → IsChange part change → change (heap_of old) ≡ Ok (heap_of new) → (outside : Outside)
-      → Passes part (setting_over outside old pair random globals statics locals) (setting_over outside new pair random globals statics locals)
+      → Passes part (setting_over outside old pair words globals statics locals) (setting_over outside new pair words globals statics locals)
   change_passes is step outside next =
-      is.ok (setting_over outside old pair random globals statics locals) (heap_of new) step next
-      ∙ ap next (heap_changed outside old new pair random globals statics locals keeps refl sound live)
+      is.ok (setting_over outside old pair words globals statics locals) (heap_of new) step next
+      ∙ ap next (heap_changed outside old new pair words globals statics locals keeps refl sound live)
 
   -- it stops there
   pub change_stops : {part : Row → Row} {change : Heap → ChangedHeap} → IsChange part change → heap_of new ≡ heap_of old → (full : Full)
       → Refuses (change (heap_of old)) full
       → (all : Extent) (outside : Outside)
-      → StopsPassing all part (setting_over outside old pair random globals statics locals) (setting_over outside new pair random globals statics locals)
+      → StopsPassing all part (setting_over outside old pair words globals statics locals) (setting_over outside new pair words globals statics locals)
       (stop_of full)
   change_stops {part} {change} is same full why all outside =
-      subst (λ (setting : Setting). StopsPassing all part (setting_over outside old pair random globals statics locals) setting (stop_of full))
-      (heap_changed outside old new pair random globals statics locals keeps same sound live)
-      (⊎_elim (λ (e : full ≡ NoMemory). subst (λ f. StopsPassing all part (setting_over outside old pair random globals statics locals)
-      (setting_over outside old pair random globals statics locals) (stop_of f)) (sym e) tt)
-      (λ (e : change (heap_of old) ≡ Err full). is.err all (setting_over outside old pair random globals statics locals) full e) why)
+      subst (λ (setting : Setting). StopsPassing all part (setting_over outside old pair words globals statics locals) setting (stop_of full))
+      (heap_changed outside old new pair words globals statics locals keeps same sound live)
+      (⊎_elim (λ (e : full ≡ NoMemory). subst (λ f. StopsPassing all part (setting_over outside old pair words globals statics locals)
+      (setting_over outside old pair words globals statics locals) (stop_of f)) (sym e) tt)
+      (λ (e : change (heap_of old) ≡ Err full). is.err all (setting_over outside old pair words globals statics locals) full e) why)
 
 -- a part of a row that stopped is the answer
 pub stopped_part : {A : Type 0} (all : Extent) (part : Row → Row) (before after : Setting) (stop : Stop) (result : Result A Stop)

@@ -2,7 +2,7 @@
 use Rattle.std.proofs.Common.{◌≡◌, refl, sym, ap, ℕ, ◌+◌, ◌-◌, nat_le, Bool, true, false, List, length, Option, None, Some}
 use Rattle.std.specs.Prelude.{is_some}
 use Rattle.std.specs.List.{slice_range}
-use Rattle.icn_value.specs.Values.{Value, Null, Integer, Text, Chars, Std, Procedure, ARecord, AList, ASet, ATable, ACoexp, Global, Static, Local, Element, Field, Key, Keyword, Subject, Position, Random, Variable, Whole, Part, Val, Var}
+use Rattle.icn_value.specs.Values.{Value, Null, Integer, Text, Chars, Std, Procedure, ARecord, AList, ASet, ATable, ACoexp, Global, Static, Local, Element, Field, Key, Keyword, Subject, Position, Random, ErrorCount, Variable, Whole, Part, Val, Var}
 use Rattle.icn_value.specs.Store.{Setting}
 use Rattle.icn_defs.specs.Calls.{GoesOn}
 use Rattle.icn_defs.specs.Conversions.{held_integer, held_text}
@@ -72,4 +72,5 @@ read_holds (Whole (Key table key)) value s is = refl
 read_holds (Whole (Keyword Subject)) value s is = sym (ap (λ v. is_some (held_text v)) (ap given (is gives_value)))
 read_holds (Whole (Keyword Position)) value s is = sym (ap (λ v. is_some (held_integer v)) (ap given (is gives_value)))
 read_holds (Whole (Keyword Random)) value s is = sym (ap (λ v. is_some (held_integer v)) (ap given (is gives_value)))
+read_holds (Whole (Keyword ErrorCount)) value s is = sym (ap (λ v. is_some (held_integer v)) (ap given (is gives_value)))
 read_holds (Part root place size) value s is = part_by place size (root_value s root) value s (is gives_value)

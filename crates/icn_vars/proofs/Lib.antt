@@ -1,5 +1,6 @@
 pub mod ReadValues
 pub mod GrowingWorlds
+pub mod KeptErrors
 pub mod KeptItems
 pub mod KeptSettings
 pub mod KeptOutcomes

@@ -2,9 +2,9 @@
 use Rattle.std.proofs.Common.{◌≡◌, ◌∙◌, refl, sym, ap, subst, ℕ, Bool, true, false, List, length, Option, None, Some, Result, Ok, Err}
 use Rattle.std.specs.Prelude.{IsErrAnd, ◌%◌, ◌^◌, ℤ, is_some}
 use Rattle.std.specs.Int.{cast_unsigned, w64}
-use Rattle.icn_value.specs.Values.{Value, Text, Root, Variable, Whole, Part, Random, Subject}
-use Rattle.icn_value.specs.Store.{Setting, having_random, having_subject}
-use Rattle.icn_defs.specs.Calls.{GoesOn, Passes}
+use Rattle.icn_value.specs.Values.{Value, Text, Root, Variable, Whole, Part, Random, ErrorCount, Subject}
+use Rattle.icn_value.specs.Store.{Setting, having_random, having_error, having_subject}
+use Rattle.icn_defs.specs.Calls.{ComesTo, GoesOn, Passes}
 use Rattle.icn_defs.specs.Conversions.{integer_of, text_of}
 use Rattle.icn_defs.specs.ReadAndAssign.{assigns_keyword, assigns_or, assigns_root, reads_text, with_part, undoes}
 use Rattle.icn_defs.specs.Rows.{Row, Finds, changes, costs_bytes, costs_text, present, wrong}
@@ -50,6 +50,13 @@ pub random_assigned : (value : Value) (n : ℤ) (state : ℕ) (s : Setting) → 
 random_assigned value n state s has is refused next =
     ap (λ found. present found 101 (Some value) (λ n. changes (having_random (cast_unsigned w64 n % 2 ^ 31)) next) s) has
     ∙ sym (ap (λ state. next (having_random state s)) is)
+
+-- how many errors become failure
+pub error_assigned : (value : Value) (n count : ℤ) (s : Setting) → integer_of value ≡ Some n → count ≡ n
+    → (refused next : Row) → assigns_keyword refused ErrorCount value next s ≡ next (having_error count s)
+error_assigned value n count s has is refused next =
+    ap (λ found. present found 101 (Some value) (λ n. changes (having_error n) next) s) has
+    ∙ sym (ap (λ count. next (having_error count s)) is)
 
 -- Parts
 

@@ -18,6 +18,7 @@ use Rattle.icn_defs.specs.Rows.{Row, Error, changes_heap, check}
 use Rattle.icn_heap.specs.declared.heap.Heap.{Heap as HeldHeap}
 use Rattle.icn_heap.specs.Extents.{Extent, IsLive, KeepsValues, value_in}
 use Rattle.icn_heap.specs.Heaps.{extent_of, heap_of}
+use Rattle.icn_vars.specs.declared.words.Words.{Words}
 use Rattle.icn_vars.specs.WorldFacts.{IsSoundWorld}
 use Rattle.icn_vars.specs.declared.stop.Stop.{Stop}
 use Rattle.icn_vars.specs.Assignments.{RootAssigned}
@@ -27,28 +28,28 @@ use Rattle.icn_vars.proofs.GrowingWorlds.{heap_changed, setting_over}
 
 -- Globals, statics and locals
 
-module _ (outside : Outside) (heap : HeldHeap) (pair : Pair) (random : ℕ) (globals statics locals : List Val) (place : ℕ) (val : Val) where
+module _ (outside : Outside) (heap : HeldHeap) (pair : Pair) (words : Words) (globals statics locals : List Val) (place : ℕ) (val : Val) where
   pub global_assigned : (refused next : Row)
-      → assigns_root refused (Global place) (value_in (extent_of heap) val) next (setting_over outside heap pair random globals statics locals)
-      ≡ next (setting_over outside heap pair random (set globals place val) statics locals)
+      → assigns_root refused (Global place) (value_in (extent_of heap) val) next (setting_over outside heap pair words globals statics locals)
+      ≡ next (setting_over outside heap pair words (set globals place val) statics locals)
   global_assigned refused next =
-      ap (λ (vals : List Value). next (record (setting_over outside heap pair random globals statics
-      locals) { world = record (setting_over outside heap pair random globals statics locals).world { globals = vals } }))
+      ap (λ (vals : List Value). next (record (setting_over outside heap pair words globals statics
+      locals) { world = record (setting_over outside heap pair words globals statics locals).world { globals = vals } }))
       (sym (map-set (value_in (extent_of heap)) globals place val))
 
   pub static_assigned : (refused next : Row)
-      → assigns_root refused (Static place) (value_in (extent_of heap) val) next (setting_over outside heap pair random globals statics locals)
-      ≡ next (setting_over outside heap pair random globals (set statics place val) locals)
+      → assigns_root refused (Static place) (value_in (extent_of heap) val) next (setting_over outside heap pair words globals statics locals)
+      ≡ next (setting_over outside heap pair words globals (set statics place val) locals)
   static_assigned refused next =
-      ap (λ (vals : List Value). next (record (setting_over outside heap pair random globals statics
-      locals) { world = record (setting_over outside heap pair random globals statics locals).world { statics = vals } }))
+      ap (λ (vals : List Value). next (record (setting_over outside heap pair words globals statics
+      locals) { world = record (setting_over outside heap pair words globals statics locals).world { statics = vals } }))
       (sym (map-set (value_in (extent_of heap)) statics place val))
 
   pub local_assigned : (after : List Val) → after ≡ set locals place val → (refused next : Row)
-      → assigns_root refused (Local place) (value_in (extent_of heap) val) next (setting_over outside heap pair random globals statics locals)
-      ≡ next (setting_over outside heap pair random globals statics after)
+      → assigns_root refused (Local place) (value_in (extent_of heap) val) next (setting_over outside heap pair words globals statics locals)
+      ≡ next (setting_over outside heap pair words globals statics after)
   local_assigned after is refused next =
-      ap (λ (vals : List Value). next (record (setting_over outside heap pair random globals statics locals) { locals = vals }))
+      ap (λ (vals : List Value). next (record (setting_over outside heap pair words globals statics locals) { locals = vals }))
       (sym (ap (map (value_in (extent_of heap))) is ∙ map-set (value_in (extent_of heap)) locals place val))
 
 -- Elements
@@ -78,40 +79,40 @@ element_gone heap id number value gone =
     ap (λ list. with_list id list heap) (numbered_gone (list_at heap id) number value gone)
     ∙ ap (λ lists. let one : Heap = record heap { lists = lists } in one) (put_back heap.lists id (new_list []))
 
-module _ (outside : Outside) (old new : HeldHeap) (pair : Pair) (random : ℕ) (globals statics locals : List Val)
+module _ (outside : Outside) (old new : HeldHeap) (pair : Pair) (words : Words) (globals statics locals : List Val)
     (keeps : KeepsValues (extent_of old) (extent_of new))
-    (sound : IsSoundWorld (extent_of old) pair random globals statics) (live : All (IsLive (extent_of old)) locals) (id : ℕ) where
+    (sound : IsSoundWorld (extent_of old) pair words globals statics) (live : All (IsLive (extent_of old)) locals) (id : ℕ) where
   pub element_assigned : (number : ℤ) (value : Value) → is_some (item_numbered (list_at (heap_of old) id) number) ≡ true
       → heap_of new ≡ with_list id (with_numbered (list_at (heap_of old) id) number value) (heap_of old)
-      → (refused next : Row) → assigns_root refused (Element id number) value next (setting_over outside old pair random globals statics locals)
-      ≡ next (setting_over outside new pair random globals statics locals)
+      → (refused next : Row) → assigns_root refused (Element id number) value next (setting_over outside old pair words globals statics locals)
+      ≡ next (setting_over outside new pair words globals statics locals)
   element_assigned number value there is refused next =
       ap (λ t. check t 205 None (changes_heap (with_list id (with_numbered (list_at (heap_of old) id) number value)) next)
-      (setting_over outside old pair random globals statics locals)) there
-      ∙ ap next (heap_changed outside old new pair random globals statics locals keeps is sound live)
+      (setting_over outside old pair words globals statics locals)) there
+      ∙ ap next (heap_changed outside old new pair words globals statics locals keeps is sound live)
 
   pub element_missing : (all : Extent) (number : ℤ) (value : Value) → is_some (item_numbered (list_at (heap_of old) id) number) ≡ false
       → heap_of new ≡ with_list id (with_numbered (list_at (heap_of old) id) number value) (heap_of old)
-      → (refused next : Row) → assigns_root refused (Element id number) value next (setting_over outside old pair random globals statics locals)
-      ≡ Error 205 None (setting_over outside new pair random globals statics locals)
+      → (refused next : Row) → assigns_root refused (Element id number) value next (setting_over outside old pair words globals statics locals)
+      ≡ Error 205 None (setting_over outside new pair words globals statics locals)
   element_missing all number value gone is refused next =
       ap (λ t. check t 205 None (changes_heap (with_list id (with_numbered (list_at (heap_of old) id) number value)) next)
-      (setting_over outside old pair random globals statics locals)) gone
+      (setting_over outside old pair words globals statics locals)) gone
       ∙ ap (Error 205 None)
-      (heap_changed outside old new pair random globals statics locals keeps (is ∙ element_gone (heap_of old) id number value gone) sound live)
+      (heap_changed outside old new pair words globals statics locals keeps (is ∙ element_gone (heap_of old) id number value gone) sound live)
 
   pub field_assigned : (place : ℕ) (value : Value) → heap_of new ≡ with_field id place value (heap_of old)
-      → (refused next : Row) → assigns_root refused (Field id place) value next (setting_over outside old pair random globals statics locals)
-      ≡ next (setting_over outside new pair random globals statics locals)
-  field_assigned place value is refused next = ap next (heap_changed outside old new pair random globals statics locals keeps is sound live)
+      → (refused next : Row) → assigns_root refused (Field id place) value next (setting_over outside old pair words globals statics locals)
+      ≡ next (setting_over outside new pair words globals statics locals)
+  field_assigned place value is refused next = ap next (heap_changed outside old new pair words globals statics locals keeps is sound live)
 
   -- Keys
 
   pub key_assigned : (key value : Value) → stored_in (heap_of old) id key value ≡ Ok (heap_of new)
-      → (refused next : Row) → assigns_root refused (Key id key) value next (setting_over outside old pair random globals statics locals)
-      ≡ next (setting_over outside new pair random globals statics locals)
+      → (refused next : Row) → assigns_root refused (Key id key) value next (setting_over outside old pair words globals statics locals)
+      ≡ next (setting_over outside new pair words globals statics locals)
   key_assigned key value step refused next =
-      let setting : Setting = setting_over outside old pair random globals statics locals in
+      let setting : Setting = setting_over outside old pair words globals statics locals in
       let nothing : Bool = is_some (value_at_key (heap_of old) id key) in
       let made = charged_then (with_pair id key value) (charged_unless nothing (heap_of old)) (heap_of new) step in
       let table : Table = table_at (heap_of old) id in
@@ -121,7 +122,7 @@ module _ (outside : Outside) (old new : HeldHeap) (pair : Pair) (random : ℕ) (
       ∙ (ap (λ (tables : List Table). put (unwrap_or (slice_get tables id) none) (having_heap (λ heap. made.0) setting))
       (sym ((unless_change nothing).charged (heap_of old) made.0 made.1).tables)
       ∙ ap next (ap (λ (heap : Heap). having_heap (λ other. heap) setting) made.2
-      ∙ heap_changed outside old new pair random globals statics locals keeps refl sound live))
+      ∙ heap_changed outside old new pair words globals statics locals keeps refl sound live))
 
 refused_first : (f : Heap → Heap) (charged : ChangedHeap) (full : Full) → and_then charged (λ paid. let r : ChangedHeap = Ok (f paid) in r) ≡ Err full
     → charged ≡ Err full
@@ -145,18 +146,18 @@ key_refused all setting id key value full step refused =
         next)
     by NoMemory is = tt
 
-pub key_stops : (outside : Outside) (old new : HeldHeap) (pair : Pair) (random : ℕ) (globals statics locals : List Val)
+pub key_stops : (outside : Outside) (old new : HeldHeap) (pair : Pair) (words : Words) (globals statics locals : List Val)
     → KeepsValues (extent_of old) (extent_of new)
-    → IsSoundWorld (extent_of old) pair random globals statics
+    → IsSoundWorld (extent_of old) pair words globals statics
     → All (IsLive (extent_of old)) locals → (all : Extent) (id : ℕ) (key value : Value) (full : Full) → heap_of new ≡ heap_of old
     → Refuses (stored_in (heap_of old) id key value) full
-    → (refused : Row) → StopsPassing all (assigns_root refused (Key id key) value) (setting_over outside old pair random globals statics locals)
-    (setting_over outside new pair random globals statics locals) (stop_of full)
-key_stops outside old new pair random globals statics locals keeps sound live all id key value full unchanged why refused =
-    let before : Setting = setting_over outside old pair random globals statics locals in
+    → (refused : Row) → StopsPassing all (assigns_root refused (Key id key) value) (setting_over outside old pair words globals statics locals)
+    (setting_over outside new pair words globals statics locals) (stop_of full)
+key_stops outside old new pair words globals statics locals keeps sound live all id key value full unchanged why refused =
+    let before : Setting = setting_over outside old pair words globals statics locals in
     let part : Row → Row = assigns_root refused (Key id key) value in
     subst (λ (setting : Setting). StopsPassing all part before setting (stop_of full))
-    (heap_changed outside old new pair random globals statics locals keeps unchanged sound live)
+    (heap_changed outside old new pair words globals statics locals keeps unchanged sound live)
     (⊎_elim (λ (e : full ≡ NoMemory). subst (λ f. StopsPassing all part before before (stop_of f)) (sym e) tt)
     (λ (e : stored_in (heap_of old) id key value ≡ Err full). key_refused all before id key value full e refused) why)
 

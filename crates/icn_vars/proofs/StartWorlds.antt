@@ -1,5 +1,6 @@
 -- The world with which a run begins.
-use Rattle.std.proofs.Common.{◌≡◌, ◌∙◌, refl, ap, ℕ, zero, suc, List, [], ◌∷◌, map, replicate, arith}
+use Rattle.std.proofs.Common.{◌≡◌, ◌∙◌, refl, ap, ℕ, zero, suc, List, [], ◌∷◌, map, replicate, Option, Some, None, arith}
+use Rattle.std.specs.Prelude.{pos}
 use Rattle.std.specs.List.{All}
 use Rattle.icn_value.specs.Limited.{Bounds}
 use Rattle.icn_value.specs.declared.item.Pair.{Pair}
@@ -12,12 +13,24 @@ use Rattle.icn_defs.specs.Running.{first_heap, first_world}
 use Rattle.icn_heap.specs.declared.heap.Heap.{Heap as HeldHeap}
 use Rattle.icn_heap.specs.Extents.{Extent, IsLive, IsText, text_in, value_in}
 use Rattle.icn_heap.specs.Heaps.{extent_of, heap_of}
+use Rattle.icn_vars.specs.declared.words.HeldError.{HeldError}
+use Rattle.icn_vars.specs.declared.words.Words.{Words}
 use Rattle.icn_vars.specs.WorldFacts.{IsSoundWorld}
 use Rattle.icn_vars.specs.Worlds.{new_world}
 use Rattle.icn_vars.proofs.GrowingWorlds.{world_over}
 
+-- `&random` and `&error` are 0, and no error is kept
+abbrev first_words : Words
+first_words = record { random = 0; error = pos 0; kept = None }
+
+none : {A : Type 0} (error : HeldError) → (let k : Option HeldError = None in k) ≡ Some error → A
+none error is = absurd (never is)
+  where
+    never : (let k : Option HeldError = None in k) ≡ Some error → ⊥
+    never is = cc
+
 pub new_sound : (all : Extent) (subject : Span) (globals statics : List Val) → IsText all subject → All (IsLive all) globals → All (IsLive all) statics
-    → IsSoundWorld all (let pair : Pair = record { subject = subject; position = 1 } in pair) 0 globals statics
+    → IsSoundWorld all (let pair : Pair = record { subject = subject; position = 1 } in pair) first_words globals statics
 new_sound all subject globals statics text live live' = record {
   live_globals = live;
   live_statics = live';
@@ -25,11 +38,13 @@ new_sound all subject globals statics text live live' = record {
   low = omega arith;
   high = omega arith;
   state = omega arith;
+  kept = λ error value is about. none error is;
+  known = λ error is. none error is;
 }
 
 -- the subject is empty
 pub new_is : (heap : HeldHeap) (subject : Span) (globals statics : List Val) → text_in (extent_of heap) subject ≡ []
-    → world_over heap (record { subject = subject; position = 1 }) 0 globals statics ≡ new_world heap globals statics
+    → world_over heap (record { subject = subject; position = 1 }) first_words globals statics ≡ new_world heap globals statics
 new_is heap subject globals statics is = ap (λ bytes. let w : StoreWorld = record (new_world heap globals statics) { subject = bytes } in w) is
 
 nulls : (all : Extent) (count : ℕ) → map (value_in all) (replicate count NullVal) ≡ replicate count Null

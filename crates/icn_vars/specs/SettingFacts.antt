@@ -13,6 +13,6 @@ use Rattle.icn_vars.specs.Worlds.{IsLiveItem, reach_of}
 -- locals that it leaves, and by what it keeps of items the third stays.
 pub record IsSoundSetting (world : World) (locals : List Val) (items : List Item) : Type 0 where
   pub sound : IsSoundWorld
-      (extent_of world.heap) world.pair world.random world.globals.items world.statics.items
+      (extent_of world.heap) world.pair world.words world.globals.items world.statics.items
   pub live_locals : All (IsLive (extent_of world.heap)) locals
   pub live_items : All (IsLiveItem (reach_of world locals)) items

@@ -1,21 +1,29 @@
 -- What a program's world stands for, and which variables and items are of it.
-use Rattle.std.specs.Prelude.{◌≡◌, ℕ, ◌<◌, ◌≤◌, ◌^◌, List, [], map, length, slice_index, ⊤}
+use Rattle.std.specs.Prelude.{◌≡◌, ℕ, pos, ◌<◌, ◌≤◌, ◌^◌, List, [], map, length, slice_index, Option, None, ⊤}
+use Rattle.std.specs.Option.{option_map}
 use Rattle.icn_value.specs.declared.val.Val.{Val}
 use Rattle.icn_value.specs.declared.val.Val.TheVariants.{List as ListVal, Table as TableVal, Rec as RecVal}
 use Rattle.icn_value.specs.declared.item.KeywordVariable.{KeywordVariable as HeldWord}
-use Rattle.icn_value.specs.declared.item.KeywordVariable.TheVariants.{Subject as HeldSubject, Position as HeldPosition, Random as HeldRandom}
+use Rattle.icn_value.specs.declared.item.KeywordVariable.TheVariants.{Subject as HeldSubject, Position as HeldPosition, Random as HeldRandom, ErrorCount as HeldErrorCount}
 use Rattle.icn_value.specs.declared.item.Root.{Root as HeldRoot}
 use Rattle.icn_value.specs.declared.item.Root.TheVariants.{Global as HeldGlobal, Static as HeldStatic, Local as HeldLocal, Element as HeldElement, Field as HeldField, Key as HeldKey, Keyword as HeldKeyword}
 use Rattle.icn_value.specs.declared.item.VarRef.{VarRef}
 use Rattle.icn_value.specs.declared.item.VarRef.TheVariants.{Whole as HeldWhole, Part as HeldPart}
 use Rattle.icn_value.specs.declared.item.Item.{Item as HeldItem}
 use Rattle.icn_value.specs.declared.item.Item.TheVariants.{Val as HeldVal, Var as HeldVar}
-use Rattle.icn_value.specs.Values.{KeywordVariable, Subject, Position, Random, Root, Global, Static, Local, Element, Field, Key, Keyword, Variable, Whole, Part, Item, Val as ItemVal, Var as ItemVar}
-use Rattle.icn_value.specs.Store.{Heap, Record, Outside, Setting, World as StoreWorld}
+use Rattle.icn_value.specs.Values.{KeywordVariable, Subject, Position, Random, ErrorCount, Root, Global, Static, Local, Element, Field, Key, Keyword, Variable, Whole, Part, Item, Val as ItemVal, Var as ItemVar}
+use Rattle.icn_value.specs.Store.{Heap, Record, KeptError, Outside, Setting, World as StoreWorld}
 use Rattle.icn_heap.specs.declared.heap.Heap.{Heap as HeldHeap}
 use Rattle.icn_heap.specs.Extents.{Extent, IsLive, KeepsValues, text_in, value_in}
 use Rattle.icn_heap.specs.Heaps.{extent_of, heap_of}
+use Rattle.icn_vars.specs.declared.words.HeldError.{HeldError}
 use Rattle.icn_vars.specs.declared.world.World.{World}
+
+-- the error that is kept, if any, whose value holds its bytes
+abbrev pub kept_in : Extent → Option HeldError → Option KeptError
+kept_in all kept =
+    option_map (λ error. let one : KeptError =
+    record { number = error.number; value = option_map (value_in all) error.value } in one) kept
 
 -- the world, whose values hold their bytes
 abbrev pub world_of : World → StoreWorld
@@ -23,9 +31,11 @@ world_of world = record {
   heap = heap_of world.heap;
   subject = text_in (extent_of world.heap) world.pair.subject;
   position = world.pair.position;
-  random = world.random;
+  random = world.words.random;
   globals = map (value_in (extent_of world.heap)) world.globals.items;
   statics = map (value_in (extent_of world.heap)) world.statics.items;
+  error = world.words.error;
+  kept = kept_in (extent_of world.heap) world.words.kept;
 }
 
 -- the world of a heap with these globals and statics, as a run begins with it
@@ -37,6 +47,8 @@ new_world heap globals statics = record {
   random = 0;
   globals = map (value_in (extent_of heap)) globals;
   statics = map (value_in (extent_of heap)) statics;
+  error = pos 0;
+  kept = None;
 }
 
 -- the setting of this world, these locals, and an outside
@@ -54,6 +66,7 @@ abbrev pub word_of : HeldWord → KeywordVariable
 word_of HeldSubject = Subject
 word_of HeldPosition = Position
 word_of HeldRandom = Random
+word_of HeldErrorCount = ErrorCount
 
 -- the root of a variable; the key of a table holds its bytes
 abbrev pub root_in : Extent → HeldRoot → Root

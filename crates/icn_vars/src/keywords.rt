@@ -7,7 +7,7 @@ ghost use Rattle.icn_defs.specs.RowFacts.{word_holds};
 ghost use Rattle.icn_defs.specs.ReadAndAssign.{assigns_keyword};
 ghost use Rattle.icn_heap.specs.Extents.{IsLive, value_in};
 ghost use Rattle.icn_heap.specs.Heaps.{extent_of};
-ghost use Rattle.icn_value.specs.Values.{Subject as SubjectWord, Position as PositionWord, Random as RandomWord};
+ghost use Rattle.icn_value.specs.Values.{Subject as SubjectWord, Position as PositionWord, Random as RandomWord, ErrorCount as ErrorWord};
 ghost use Rattle.icn_vars.specs.Assignments.{IsError, RootAssigned};
 ghost use Rattle.icn_vars.specs.Stops.{IsLiveStop};
 ghost use Rattle.icn_vars.specs.Worlds.{KeepsItems, reach_of, setting_of, word_of};
@@ -42,6 +42,7 @@ pub fn assign_keyword<L: Locals>(
         KeywordVariable::Subject => assign_subject(w, l, val),
         KeywordVariable::Position => assign_position(w, l, val),
         KeywordVariable::Random => assign_random(w, l, val),
+        KeywordVariable::ErrorCount => assign_error(w, l, val),
     }
 }
 
@@ -120,7 +121,29 @@ fn assign_random<L: Locals>(w: &mut World, l: &L, val: Val) -> Result<bool, Stop
 {
     match to_integer(&w.heap, val) {
         Some(n) => {
-            w.random = (n.cast_unsigned() % (1 << 31)) as u32;
+            w.words.random = (n.cast_unsigned() % (1 << 31)) as u32;
+            Ok(true)
+        }
+        None => Err(Stop::Error(101, Some(val))),
+    }
+}
+
+// Assigns to `&error`.
+#[tactic(auto, using(crate::proofs::KeptItems::keeps_items_refl))]
+fn assign_error<L: Locals>(w: &mut World, l: &L, val: Val) -> Result<bool, Stop>
+    requires locals { All (IsLive (extent_of w.old.heap)) (L.items l.now) }
+    requires value { IsLive (extent_of w.old.heap) val }
+    ensures assigned { (outside : Outside) → RootAssigned (extent_of w.new.heap)
+        (λ refused. assigns_keyword refused ErrorWord (value_in (extent_of w.old.heap) val))
+        (setting_of outside w.old (L.items l.now)) (setting_of outside w.new (L.items l.now)) result }
+    ensures stops { IfErr result (IsLiveStop (extent_of w.new.heap)) }
+    ensures memory { IfErr result IsError }
+    ensures locals { All (IsLive (extent_of w.new.heap)) (L.items l.now) }
+    ensures kept { KeepsItems (reach_of w.old (L.items l.now)) (reach_of w.new (L.items l.now)) }
+{
+    match to_integer(&w.heap, val) {
+        Some(n) => {
+            w.words.error = n;
             Ok(true)
         }
         None => Err(Stop::Error(101, Some(val))),

@@ -4,6 +4,7 @@
 mod assigning;
 mod assignment;
 mod change_laws;
+mod errors;
 mod exchanging;
 mod keywords;
 mod locals;
@@ -14,6 +15,7 @@ mod roots;
 mod stop;
 mod texts;
 mod undoing;
+mod words;
 mod world;
 
 pub use assigning::assign;
@@ -21,6 +23,7 @@ pub use assignment::{Assignment, Exchange};
 pub use change_laws::{
     coexpressions_are_made, fields_are_assigned, results_are_counted, settings_stay,
 };
+pub use errors::ends_by;
 pub use exchanging::exchange;
 pub use keywords::place_of;
 pub use locals::Locals;
@@ -29,4 +32,5 @@ pub use outcome::{Halt, Outcome};
 pub use reading::deref;
 pub use stop::Stop;
 pub use undoing::{undo, undo_exchange};
+pub use words::{HeldError, Words};
 pub use world::World;

@@ -81,6 +81,7 @@ fn root_place(root: Root) -> u64
         Root::Keyword(KeywordVariable::Subject) => 0,
         Root::Keyword(KeywordVariable::Position) => 1,
         Root::Keyword(KeywordVariable::Random) => 2,
+        Root::Keyword(KeywordVariable::ErrorCount) => 3,
     }
 }
 

@@ -154,7 +154,8 @@ fn read_keyword(w: &World, word: KeywordVariable) -> Val
     match word {
         KeywordVariable::Subject => Val::Text(w.pair.subject),
         KeywordVariable::Position => position(w),
-        KeywordVariable::Random => Val::Integer(i64::from(w.random)),
+        KeywordVariable::Random => Val::Integer(i64::from(w.words.random)),
+        KeywordVariable::ErrorCount => Val::Integer(w.words.error),
     }
 }
 

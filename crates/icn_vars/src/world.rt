@@ -2,25 +2,26 @@
 ghost use Rattle.icn_heap.specs.Heaps.{extent_of};
 ghost use Rattle.icn_vars.specs.WorldFacts.{IsSoundWorld, IsSoundWorld-prop};
 
+use crate::words::Words;
 use icn_heap::{Heap, empty_text};
 use icn_value::{Pair, Span, Val};
 
-/// What a program has beside its stacks. What it holds is of its heap, the position is one of the subject, and `&random`
-/// is below 2^31.
+/// What a program has beside its stacks. What it holds is of its heap, the position is one of the subject, `&random`
+/// is below 2^31; the kept error has the number of an error, and its value is of the heap.
 #[derive(Drop)]
 pub struct World {
     /// Its texts and structures.
     pub heap: Heap,
     /// `&subject` and `&pos`.
     pub pair: Pair,
-    /// `&random`.
-    pub random: u32,
+    /// `&random`, `&error` and the error that is kept.
+    pub words: Words,
     /// The values of its globals.
     pub globals: Vec<Val>,
     /// The values of its statics.
     pub statics: Vec<Val>,
-    pub ghost sound: { IsSoundWorld (extent_of heap) pair random globals.items
-        statics.items } by { IsSoundWorld-prop (extent_of heap) pair random globals.items statics.items },
+    pub ghost sound: { IsSoundWorld (extent_of heap) pair words globals.items
+        statics.items } by { IsSoundWorld-prop (extent_of heap) pair words globals.items statics.items },
 }
 
 impl World {
@@ -33,7 +34,7 @@ impl World {
     ghost use Rattle.icn_heap.specs.Heaps.{heap_of};
     ghost use Rattle.icn_vars.specs.Worlds.{new_world, world_of};
 
-    /// The world of a heap, with these globals and statics, an empty subject, `&pos` 1 and `&random` 0. Of a heap in which nothing
+    /// The world of a heap, with these globals and statics, an empty subject, `&pos` 1, `&random` and `&error` 0, and no error kept. Of a heap in which nothing
     /// is made yet, and null statics, it is the world with which a run begins.
     #[tactic(auto, using(crate::proofs::StartWorlds::new_sound))]
     pub fn new(heap: Heap, globals: Vec<Val>, statics: Vec<Val>) -> World
@@ -55,7 +56,11 @@ impl World {
                 subject,
                 position: 1,
             },
-            random: 0,
+            words: Words {
+                random: 0,
+                error: 0,
+                kept: None,
+            },
             globals,
             statics,
         }

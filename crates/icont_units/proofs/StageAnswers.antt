@@ -37,7 +37,7 @@ rule_is : (a b : Rule) (p place : Place) → ◌≡◌ {A = Option (Rule × Plac
 rule_is a b p place e h = subst IsTreeRule (ap (λ (broken : Rule × Place). broken.0) (same_Some (a, p) (b, place) e)) h
 
 parse_rules : (outcome : Parsed) (rule : Rule) (place : Place) → broken_by outcome ≡ Some (rule, place) → IsTreeRule rule
-parse_rules NoProgram rule place e = rule_is _ rule _ place e tt
+parse_rules (NoProgram p) rule place e = rule_is _ rule _ place e tt
 parse_rules (TooHigh p) rule place e = rule_is _ rule _ place e tt
 parse_rules (Faulty (UnknownKeyword p)) rule place e = rule_is _ rule _ place e tt
 parse_rules (Faulty (NotInProfile p)) rule place e = rule_is _ rule _ place e tt

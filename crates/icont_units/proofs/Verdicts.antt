@@ -27,7 +27,7 @@ by_context [] file = Ok file
 by_context (fault ∷ faults) file = Err (fault.rule, fault.place)
 
 abbrev verdict : Parsed → Verdict
-verdict NoProgram = Err (S1, whole_file)
+verdict (NoProgram place) = Err (S1, place)
 verdict (TooHigh place) = Err (S2, place)
 verdict (Faulty (UnknownKeyword place)) = Err (S3, place)
 verdict (Faulty (NotInProfile place)) = Err (S4, place)
@@ -39,7 +39,7 @@ told : (a b : Rule × Place) → ◌≡◌ {A = Option (Rule × Place)} (Some a)
 told a b e = ap (λ broken. Err broken) (same_Some a b e)
 
 when_broken : (outcome : Parsed) (rule : Rule) (place : Place) → unparsed_by outcome ≡ Some (rule, place) → verdict outcome ≡ Err (rule, place)
-when_broken NoProgram rule place e = told _ _ e
+when_broken (NoProgram p) rule place e = told _ _ e
 when_broken (TooHigh p) rule place e = told _ _ e
 when_broken (Faulty (UnknownKeyword p)) rule place e = told _ _ e
 when_broken (Faulty (NotInProfile p)) rule place e = told _ _ e
@@ -82,7 +82,7 @@ by_faults tokens file is [] e = (_, is_file file is e)
 by_faults tokens file is (fault ∷ faults) e = (_, out_of_context file fault is (ap first_of e))
 
 by_outcome : (tokens : List Token) (outcome : Parsed) → IsOutcome tokens outcome → (v : Verdict) × TokensGive tokens v
-by_outcome tokens NoProgram is = (_, not_parsed NoProgram S1 whole_file is refl)
+by_outcome tokens (NoProgram place) is = (_, not_parsed (NoProgram place) S1 place is refl)
 by_outcome tokens (TooHigh place) is = (_, not_parsed (TooHigh place) S2 place is refl)
 by_outcome tokens (Faulty (UnknownKeyword place)) is = (_, not_parsed (Faulty (UnknownKeyword place)) S3 place is refl)
 by_outcome tokens (Faulty (NotInProfile place)) is = (_, not_parsed (Faulty (NotInProfile place)) S4 place is refl)

@@ -123,6 +123,10 @@ module _ (S : Scope) where
   found_code name (Some K.Source) h e = refl
   found_code name (Some K.Subject) h e = refl
   found_code name (Some K.Ucase) h e = refl
+  found_code name (Some K.Error) h e = refl
+  found_code name (Some K.ErrorNumber) h e = refl
+  found_code name (Some K.ErrorValue) h e = refl
+  found_code name (Some K.ErrorText) h e = refl
 
   among_code : (name : List ℕ) (b : Bool) → bytes_eq name (codes "fail") ≡ b
       → resolved_one S (keyword_by (keyword_among name keywords)) ≡ (if b then I.Efail else I.Keywd (unwrap_or (keyword_among name keywords) K.Null)) ∷ []

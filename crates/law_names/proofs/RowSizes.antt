@@ -7,7 +7,7 @@ use Rattle.icn_text.specs.declared.op.Op.{Op}
 use Rattle.icn_text.specs.declared.op.Op.TheVariants as Ops
 use Rattle.icn_text.specs.declared.func.Func.{Func}
 use Rattle.icn_text.specs.declared.func.Func.TheVariants as Funcs
-use Rattle.icn_value.specs.Values.{Value, Null, Integer, Text, Chars, Std, Procedure, ARecord, AList, ASet, ATable, ACoexp, Root, Global, Static, Local, Element, Field, Key, Keyword, KeywordVariable, Subject, Position, Random, Variable, Whole, Part, Item, Val, Var}
+use Rattle.icn_value.specs.Values.{Value, Null, Integer, Text, Chars, Std, Procedure, ARecord, AList, ASet, ATable, ACoexp, Root, Global, Static, Local, Element, Field, Key, Keyword, KeywordVariable, Subject, Position, Random, ErrorCount, Variable, Whole, Part, Item, Val, Var}
 use Rattle.icn_value.specs.Store.{Setting, Heap, Record, Names, having_position, having_heap, record_at, value_at}
 use Rattle.icn_defs.specs.Conversions.{group_of, integer_of, place_of, ValueGroup, Textual, Listed, Collected, Tabled, Recorded, Filed, Activated, Single}
 use Rattle.icn_defs.specs.Rows.{Row, Outcome, Fails, Gives, Suspends, Error, Ends, Residual, TextBytes, VariableBytes, ListItems, SetMembers, TableValues, TableKeys, RecordFields, InputLines, UndoAssign, UndoExchange, UndoPosition, Counting, Sequence, Balanced, Found, Among, Mover, Neither, Left, Right, check, present, number_or_error, passing, thing_or_failure, natural, costs_made, gives_value}
@@ -193,6 +193,7 @@ module _ (z : ℕ → ℕ) (b : List Record) where
       by_number None e = rw e (o_error z b 101 (Some value) a h)
       by_number (Some k) e = by_place k e (place_of k (length a.world.subject)) refl
   w_keyword refused Random value next a h r f = search (words, f)
+  w_keyword refused ErrorCount value next a h r f = search (words, f)
 
   w_root : (refused : Row) (root : Root) (value : Value) (next : Row) (a : Setting) → S z b a → ((s : Setting) → S z b s → O z b (refused s))
       → ((s : Setting) → S z b s → O z b (next s)) → O z b (assigns_root refused root value next a)
@@ -460,6 +461,7 @@ module _ (z : ℕ → ℕ) (b : List Record) where
   w_function names Funcs.Upto vs a h t = search rows depth 16
   w_function names Funcs.Write vs a h t = search rows depth 16
   w_function names Funcs.Writes vs a h t = search rows depth 16
+  w_function names Funcs.ErrorClear vs a h t = search rows depth 16
 
   w_again : (r : Residual) (a : Setting) → S z b a → O z b (again r a)
   w_again (TextBytes text place) a h = search rows depth 16

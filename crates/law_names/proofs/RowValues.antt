@@ -6,12 +6,12 @@ use Rattle.std.specs.Ordering.{is_lt}
 use Rattle.icn_structs.specs.Numbered.{NumberedList, item_at, items_with, after_first, with_left, with_right}
 use Rattle.icn_structs.specs.PairLists.{with_value_of}
 use Rattle.icn_value.specs.Values.{Value, Null, Integer, Text, Chars, Std, ARecord, AList, ASet, ATable, File, Element, Field, Key, Variable, Whole, Part, Item, Val, Var}
-use Rattle.icn_value.specs.Store.{Names, Table, Record, Setting, new_list, value_at}
+use Rattle.icn_value.specs.Store.{Names, Table, Record, KeptError, Setting, new_list, value_at}
 use Rattle.icn_defs.specs.Conversions.{same, has_value, with_member, sorted_in, sorted_onto, sort_list}
 use Rattle.icn_defs.specs.Rows.{Outcome, Residual}
 use Rattle.icn_defs.specs.Elements.{part_of}
 use Rattle.icn_defs.specs.Structures.{or_null}
-use Rattle.law_names.specs.NamedSettings.{ValueNamed, OptionNamed, VariableNamed, ItemBy, PairNamed, ListNamed, SetNamed, TableNamed, RecordNamed, SettingNamed, ResidualBy}
+use Rattle.law_names.specs.NamedSettings.{ValueNamed, OptionNamed, VariableNamed, ItemBy, PairNamed, ListNamed, SetNamed, TableNamed, RecordNamed, KeptNamed, SettingNamed, ResidualBy}
 use Rattle.law_names.specs.RowsNamed.{OutcomeNamed}
 use Rattle.law_names.proofs.EachOfList.{Each, all_of, each_of, none_is_not_some, each_map, each_get, each_append, each_replicate, each_take, each_drop, each_set}
 
@@ -63,6 +63,10 @@ pub record Tables (ns : Names) (xs : List Table) : Type 0 where
 pub record Records (ns : Names) (xs : List Record) : Type 0 where
   pub is : Each (RecordE ns) xs
 
+-- the same of an error that is kept
+pub record K (ns : Names) (o : Option KeptError) : Type 0 where
+  pub is : KeptNamed ns o
+
 -- the same of a whole setting
 pub record NamedSetting (ns : Names) (a : Setting) : Type 0 where
   pub lists : Lists ns a.world.heap.lists
@@ -71,6 +75,7 @@ pub record NamedSetting (ns : Names) (a : Setting) : Type 0 where
   pub records : Records ns a.world.heap.records
   pub globals : NamedValues ns a.world.globals
   pub statics : NamedValues ns a.world.statics
+  pub kept : K ns a.world.kept
   pub locals : NamedValues ns a.locals
 
 pub record NamedResidual (ns : Names) (r : Residual) : Type 0 where
@@ -375,9 +380,15 @@ module _ (ns : Names) where
   pub of_locals : (a : Setting) → NamedSetting ns a → NamedValues ns a.locals
   of_locals a h = h.locals
 
+  pub of_kept : (a : Setting) → NamedSetting ns a → K ns a.world.kept
+  of_kept a h = h.kept
+
+  pub k_none : K ns None
+  k_none = record { is = tt }
+
   pub setting : (a : Setting) → Lists ns a.world.heap.lists → Sets ns a.world.heap.sets → Tables ns a.world.heap.tables → Records ns a.world.heap.records
-      → NamedValues ns a.world.globals → NamedValues ns a.world.statics → NamedValues ns a.locals → NamedSetting ns a
-  setting a l s t r g u v = record { lists = l; sets = s; tables = t; records = r; globals = g; statics = u; locals = v }
+      → NamedValues ns a.world.globals → NamedValues ns a.world.statics → K ns a.world.kept → NamedValues ns a.locals → NamedSetting ns a
+  setting a l s t r g u k v = record { lists = l; sets = s; tables = t; records = r; globals = g; statics = u; kept = k; locals = v }
 
   -- Between both ways to say it
 
@@ -405,6 +416,7 @@ module _ (ns : Names) where
     };
     globals = record { is = each_of (ValueNamed ns) a.world.globals h.world.globals };
     statics = record { is = each_of (ValueNamed ns) a.world.statics h.world.statics };
+    kept = record { is = h.world.kept };
     locals = record { is = each_of (ValueNamed ns) a.locals h.locals };
   }
 
@@ -421,6 +433,7 @@ module _ (ns : Names) where
       };
       globals = all_of (ValueNamed ns) a.world.globals h.globals.is;
       statics = all_of (ValueNamed ns) a.world.statics h.statics.is;
+      kept = h.kept.is;
     };
     locals = all_of (ValueNamed ns) a.locals h.locals.is;
   }

@@ -4,13 +4,15 @@ use Rattle.std.specs.Prelude.{ℤ, pos, negsuc, Result, Ok, Err, unwrap_or, cond
 use Rattle.std.specs.List.{All}
 use Rattle.std.specs.Map.{lookup, remove_entry}
 use Rattle.icn_text.specs.declared.arithmetic.Arith.{Arith}
+use Rattle.icn_text.specs.declared.arithmetic.Arith.TheVariants as Ariths
 use Rattle.icn_text.specs.declared.op.Op.{Op}
 use Rattle.icn_text.specs.declared.op.Op.TheVariants as Ops
 use Rattle.icn_text.specs.declared.func.Func.{Func}
 use Rattle.icn_text.specs.declared.func.Func.TheVariants as Funcs
-use Rattle.icn_value.specs.Values.{Value, Null, Integer, Text, Chars, Std, Procedure, ARecord, AList, ASet, ATable, ACoexp, Root, Global, Static, Local, Element, Field, Key, Keyword, KeywordVariable, Subject, Position, Random, Variable, Whole, Part, Item, Val, Var}
+use Rattle.icn_value.specs.Values.{Value, Null, Integer, Text, Chars, Std, Procedure, ARecord, AList, ASet, ATable, ACoexp, Root, Global, Static, Local, Element, Field, Key, Keyword, KeywordVariable, Subject, Position, Random, ErrorCount, Variable, Whole, Part, Item, Val, Var}
 use Rattle.icn_value.specs.Store.{Setting, Heap, Names, having_position, having_heap, list_at, table_at, record_at, value_at}
 use Rattle.icn_defs.specs.Conversions.{same, group_of, integer_of, place_of, held_text, ValueGroup, Textual, Listed, Collected, Tabled, Recorded, Filed, Activated, Single}
+use Rattle.icn_defs.specs.RowFacts.{is_error_number}
 use Rattle.icn_defs.specs.Rows.{Row, Fails, Gives, Suspends, Error, Ends, Residual, TextBytes, VariableBytes, ListItems, SetMembers, TableValues, TableKeys, RecordFields, InputLines, UndoAssign, UndoExchange, UndoPosition, Counting, Sequence, Balanced, Found, Among, Mover, Neither, Left, Right, check, present, number_or_error, passing, thing_or_failure, natural, costs_made, arithmetic_error, gives_value}
 use Rattle.icn_defs.specs.ReadAndAssign.{the_value, the_values, the_variable, assigns_keyword, assigns_root, assigns_or, assigns_both, move_part, moved_by_left, moved_by_right, costs_unless, stores, reads, reads_root, root_value}
 use Rattle.icn_defs.specs.Arguments.{Keeper, SetKeeper, TableKeeper}
@@ -26,7 +28,7 @@ use Rattle.icn_defs.specs.Running.{text_values, words_row}
 use Rattle.law_names.specs.NamedSettings.{ValueNamed, PairNamed, ItemNamed, SettingNamed}
 use Rattle.law_names.specs.RowsNamed.{OutcomeNamed, IsThere, RowsKeepNames}
 use Rattle.law_names.proofs.EachOfList.{Each, all_of, each_of, some_injective}
-use Rattle.law_names.proofs.RowValues.{NamedValue, NamedVariable, NamedItem, NamedOptional, NamedValues, NamedPairs, Records, RecordE, NamedSetting, NamedResidual, NamedOutcome, optional_none, optional_some, value_if, value_null, value_integer, value_text, value_chars, value_file, value_record, value_list, value_set, value_table, variable_element, variable_field, variable_key, variable_part, item_val, item_var, values_nil, values_cons, values_append, values_set, values_take, values_drop, values_replicate, values_filter, values_after, values_with, values_or_null, values_member, values_members, values_left, values_right, values_sorted, pairs_sorted, values_pairs, value_at_index, value_got_there, value_key, value_numbered, pairs_stored, items_at, members_at, pairs_at, default_at, fields_at, lists_set, lists_more, sets_set, sets_more, tables_set, tables_more, records_set, records_more, record_there, of_lists, of_sets, of_tables, of_records, of_globals, of_statics, of_locals, setting, setting_in, setting_out}
+use Rattle.law_names.proofs.RowValues.{NamedValue, NamedVariable, NamedItem, NamedOptional, NamedValues, NamedPairs, Records, RecordE, NamedSetting, NamedResidual, NamedOutcome, optional_none, optional_some, value_if, value_null, value_integer, value_text, value_chars, value_file, value_record, value_list, value_set, value_table, variable_element, variable_field, variable_key, variable_part, item_val, item_var, values_nil, values_cons, values_append, values_set, values_take, values_drop, values_replicate, values_filter, values_after, values_with, values_or_null, values_member, values_members, values_left, values_right, values_sorted, pairs_sorted, values_pairs, value_at_index, value_got_there, value_key, value_numbered, pairs_stored, items_at, members_at, pairs_at, default_at, fields_at, lists_set, lists_more, sets_set, sets_more, tables_set, tables_more, records_set, records_more, record_there, of_lists, of_sets, of_tables, of_records, of_globals, of_statics, of_kept, k_none, of_locals, setting, setting_in, setting_out}
 
 module _ (ns : Names) where
   -- Ends
@@ -34,8 +36,8 @@ module _ (ns : Names) where
   item_named : (i : Item) → NamedItem ns i → ItemNamed ns i
   item_named i h = record { named = h.is }
 
-  o_error : (k : ℕ) (v : Option Value) (s : Setting) → NamedOptional ns v → NamedSetting ns s → NamedOutcome ns (Error k v s)
-  o_error k v s g h = record { is = (g.is, setting_out ns s h) }
+  o_error : (k : ℕ) (v : Option Value) (s : Setting) → is_error_number k ≡ true → NamedOptional ns v → NamedSetting ns s → NamedOutcome ns (Error k v s)
+  o_error k v s e g h = record { is = ((g.is, e), setting_out ns s h) }
 
   o_ends : (k : ℕ) (s : Setting) → NamedSetting ns s → NamedOutcome ns (Ends k s)
   o_ends k s h = record { is = setting_out ns s h }
@@ -102,20 +104,25 @@ module _ (ns : Names) where
 
   -- Words
 
-  w_check : (t : Bool) (k : ℕ) (v : Option Value) (next : Row) (a : Setting) → NamedSetting ns a → NamedOptional ns v → NamedOutcome ns (next a)
-      → NamedOutcome ns (check t k v next a)
-  w_check true k v next a h g f = f
-  w_check false k v next a h g f = o_error k v a g h
+  w_check : (t : Bool) (k : ℕ) (v : Option Value) (next : Row) (a : Setting) → is_error_number k ≡ true → NamedSetting ns a → NamedOptional ns v
+      → NamedOutcome ns (next a) → NamedOutcome ns (check t k v next a)
+  w_check true k v next a e h g f = f
+  w_check false k v next a e h g f = o_error k v a e g h
 
-  w_present : {A : Type 0} (o : Option A) (k : ℕ) (v : Option Value) (next : A → Row) (a : Setting) → NamedSetting ns a → NamedOptional ns v
-      → ((x : A) → o ≡ Some x → NamedOutcome ns (next x a)) → NamedOutcome ns (present o k v next a)
-  w_present (Some x) k v next a h g f = f x refl
-  w_present None k v next a h g f = o_error k v a g h
+  w_present : {A : Type 0} (o : Option A) (k : ℕ) (v : Option Value) (next : A → Row) (a : Setting) → is_error_number k ≡ true → NamedSetting ns a
+      → NamedOptional ns v → ((x : A) → o ≡ Some x → NamedOutcome ns (next x a)) → NamedOutcome ns (present o k v next a)
+  w_present (Some x) k v next a e h g f = f x refl
+  w_present None k v next a e h g f = o_error k v a e g h
+
+  arithmetic_known : (k : Arith) → is_error_number (arithmetic_error k) ≡ true
+  arithmetic_known Ariths.DivideByZero = refl
+  arithmetic_known Ariths.RemainderByZero = refl
+  arithmetic_known Ariths.Overflow = refl
 
   w_computed : (o : Result ℤ Arith) (next : ℤ → Row) (a : Setting) → NamedSetting ns a → ((x : ℤ) → NamedOutcome ns (next x a))
       → NamedOutcome ns (number_or_error o next a)
   w_computed (Ok x) next a h f = f x
-  w_computed (Err k) next a h f = o_error (arithmetic_error k) None a (optional_none ns) h
+  w_computed (Err k) next a h f = o_error (arithmetic_error k) None a (arithmetic_known k) (optional_none ns) h
 
   w_passing : (t : Bool) (next : Row) (a : Setting) → NamedSetting ns a → NamedOutcome ns (next a) → NamedOutcome ns (passing t next a)
   w_passing true next a h f = f
@@ -129,9 +136,9 @@ module _ (ns : Names) where
   w_natural : (k : ℤ) (v : Value) (next : ℕ → Row) (a : Setting) → NamedSetting ns a → NamedValue ns v → ((x : ℕ) → NamedOutcome ns (next x a))
       → NamedOutcome ns (natural k v next a)
   w_natural (pos k) v next a h g f = f k
-  w_natural (negsuc k) v next a h g f = o_error 205 (Some v) a (optional_some ns v g) h
+  w_natural (negsuc k) v next a h g f = o_error 205 (Some v) a refl (optional_some ns v g) h
 
-ruleset ends = (o_error, o_ends, o_gives, o_suspends, o_fails)
+ruleset ends = (refl, o_error, o_ends, o_gives, o_suspends, o_fails)
 
 ruleset residuals = (
   r_text,
@@ -217,6 +224,8 @@ ruleset settings = (
   of_records,
   of_globals,
   of_statics,
+  of_kept,
+  k_none,
   of_locals,
 )
 
@@ -263,10 +272,11 @@ module _ (ns : Names) where
   root_v a (Keyword Subject) v h e = same_v _ v (value_text ns a.world.subject) e
   root_v a (Keyword Position) v h e = same_v _ v (value_integer ns (pos a.world.position)) e
   root_v a (Keyword Random) v h e = same_v _ v (value_integer ns (pos a.world.random)) e
+  root_v a (Keyword ErrorCount) v h e = same_v _ v (value_integer ns a.world.error) e
 
   w_root : (root : Root) (next : Value → Row) (a : Setting) → NamedSetting ns a → ((v : Value) → NamedValue ns v → NamedOutcome ns (next v a))
       → NamedOutcome ns (reads_root root next a)
-  w_root root next a h f = w_present ns (root_value a root) 205 None next a h (optional_none ns) (λ v e. f v (root_v a root v h e))
+  w_root root next a h f = w_present ns (root_value a root) 205 None next a refl h (optional_none ns) (λ v e. f v (root_v a root v h e))
 
   w_reads : (x : Variable) (next : Value → Row) (a : Setting) → NamedSetting ns a → ((v : Value) → NamedValue ns v → NamedOutcome ns (next v a))
       → NamedOutcome ns (reads x next a)
@@ -287,7 +297,7 @@ module _ (ns : Names) where
 
   w_variable : (x : Item) (next : Variable → Row) (a : Setting) → NamedSetting ns a → NamedItem ns x
       → ((y : Variable) → NamedVariable ns y → NamedOutcome ns (next y a)) → NamedOutcome ns (the_variable x next a)
-  w_variable (Val v) next a h i f = o_error ns 111 (Some v) a (record { is = i.is }) h
+  w_variable (Val v) next a h i f = o_error ns 111 (Some v) a refl (record { is = i.is }) h
   w_variable (Var x) next a h i f = f x (record { is = i.is })
 
   -- Assigning
@@ -299,7 +309,16 @@ module _ (ns : Names) where
 
   having_place : (a : Setting) (place : ℕ) → NamedSetting ns a → NamedSetting ns (having_position place a)
   having_place a place h =
-      record { lists = h.lists; sets = h.sets; tables = h.tables; records = h.records; globals = h.globals; statics = h.statics; locals = h.locals }
+      record {
+        lists = h.lists;
+        sets = h.sets;
+        tables = h.tables;
+        records = h.records;
+        globals = h.globals;
+        statics = h.statics;
+        kept = h.kept;
+        locals = h.locals;
+      }
 
   w_keyword : (refused : Row) (word : KeywordVariable) (value : Value) (next : Row) (a : Setting) → NamedSetting ns a → NamedValue ns value
       → ((s : Setting) → NamedSetting ns s → NamedOutcome ns (refused s)) → ((s : Setting) → NamedSetting ns s → NamedOutcome ns (next s))
@@ -313,9 +332,10 @@ module _ (ns : Names) where
       by_place k e (Some place) g = rw e (rw g (f (having_position place a) (having_place a place h)))
 
       by_number : (o : Option ℤ) → integer_of value ≡ o → NamedOutcome ns (assigns_keyword refused Position value next a)
-      by_number None e = rw e (o_error ns 101 (Some value) a (optional_some ns value q) h)
+      by_number None e = rw e (o_error ns 101 (Some value) a refl (optional_some ns value q) h)
       by_number (Some k) e = by_place k e (place_of k (length a.world.subject)) refl
   w_keyword refused Random value next a h g r f = search (words, f)
+  w_keyword refused ErrorCount value next a h g r f = search (words, f)
 
   w_assigns_root : (refused : Row) (root : Root) (value : Value) (next : Row) (a : Setting) → NamedSetting ns a → NamedVariable ns (Whole root)
       → NamedValue ns value
@@ -427,7 +447,7 @@ module _ (ns : Names) where
 
   w_random_number : (v : Value) (k : ℤ) (a : Setting) → NamedSetting ns a → NamedValue ns v → NamedOutcome ns (random_number v k a)
   w_random_number v (pos k) a h p = search words depth 12
-  w_random_number v (negsuc k) a h p = o_error ns 205 (Some v) a (optional_some ns v p) h
+  w_random_number v (negsuc k) a h p = o_error ns 205 (Some v) a refl (optional_some ns v p) h
 
   w_random_by : (x : Item) (v : Value) (o : Option ℤ) (a : Setting) → NamedSetting ns a → NamedValue ns v → NamedItem ns x → NamedOutcome ns (random_by x v o a)
   w_random_by x v (Some k) a h p i = w_random_number v k a h p
@@ -528,7 +548,7 @@ module _ (ns : Names) where
   w_table_sorted names heap ps (pos (suc (suc zero))) v a h p g = search (words, w_pairs) depth 12
   w_table_sorted names heap ps (pos (suc (suc (suc zero)))) v a h p g = search words depth 12
   w_table_sorted names heap ps (pos (suc (suc (suc (suc zero))))) v a h p g = search words depth 12
-  w_table_sorted names heap ps k v a h p g = o_error ns 205 (Some v) a (optional_some ns v p) h
+  w_table_sorted names heap ps k v a h p g = o_error ns 205 (Some v) a refl (optional_some ns v p) h
 
   w_sorted : (names : Names) (v : Value) (k : ℤ) (w : Value) (g : ValueGroup) (a : Setting) → NamedSetting ns a → NamedValue ns v → NamedValue ns w
       → NamedOutcome ns (sorted_of names v k w g a)
@@ -647,6 +667,7 @@ module _ (ns : Names) where
   w_function names Funcs.Upto vs a h g t = search rows depth 16
   w_function names Funcs.Write vs a h g t = search rows depth 16
   w_function names Funcs.Writes vs a h g t = search rows depth 16
+  w_function names Funcs.ErrorClear vs a h g t = search rows depth 16
 
   w_again : (r : Residual) (a : Setting) → NamedSetting ns a → NamedResidual ns r → NamedOutcome ns (again r a)
   w_again (TextBytes text place) a h g = search rows depth 16

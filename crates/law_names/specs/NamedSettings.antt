@@ -1,9 +1,10 @@
 -- Settings whose values name only what has a name: each procedure value, and the kind of each record.
-use Rattle.std.specs.Prelude.{◌<◌, List, length, Option, None, Some}
+use Rattle.std.specs.Prelude.{◌<◌, ◌≡◌, ℕ, true, List, length, Option, None, Some}
 use Rattle.std.specs.List.{All}
 use Rattle.icn_structs.specs.Numbered.{NumberedList}
 use Rattle.icn_value.specs.Values.{Value, Null, Integer, Text, Chars, Std, Procedure, ARecord, AList, ASet, ATable, ACoexp, Root, Global, Static, Local, Element, Field, Key, Keyword, Variable, Whole, Part, Item, Val, Var}
-use Rattle.icn_value.specs.Store.{Table, Record, Heap, World, Setting, Names}
+use Rattle.icn_value.specs.Store.{Table, Record, Heap, KeptError, World, Setting, Names}
+use Rattle.icn_defs.specs.RowFacts.{is_error_number}
 use Rattle.icn_defs.specs.Rows.{Residual, TextBytes, VariableBytes, ListItems, SetMembers, TableValues, TableKeys, RecordFields, InputLines, UndoAssign, UndoExchange, UndoPosition, Counting, Sequence, Balanced, Found, Among}
 use Rattle.icn_convert.specs.ProgramNames.{name_count}
 
@@ -71,11 +72,21 @@ pub record HeapNamed (names : Names) (heap : Heap) : Type 0 where
   pub tables : All (TableNamed names) heap.tables
   pub records : All (RecordNamed names) heap.records
 
+-- the number is that of an error, and the value that it is about, if any, names what has a name
+abbrev pub ErrorNamed : Names → ℕ → Option Value → Type 0
+ErrorNamed names number offending = OptionNamed names offending × (is_error_number number ≡ true)
+
+-- the same of an error that is kept
+abbrev pub KeptNamed : Names → Option KeptError → Type 0
+KeptNamed names None = Unit {0}
+KeptNamed names (Some error) = ErrorNamed names error.number error.value
+
 -- what the values of a world name has a name
 pub record WorldNamed (names : Names) (world : World) : Type 0 where
   pub heap : HeapNamed names world.heap
   pub globals : All (ValueNamed names) world.globals
   pub statics : All (ValueNamed names) world.statics
+  pub kept : KeptNamed names world.kept
 
 -- what the values of a setting name has a name
 pub record SettingNamed (names : Names) (setting : Setting) : Type 0 where

@@ -12,16 +12,17 @@ use Rattle.icn_defs.specs.ReadAndAssign.{the_values}
 use Rattle.icn_defs.specs.Rows.{Row, Residual, Outcome, Fails, Gives, Suspends, Error, Ends}
 use Rattle.icn_defs.specs.Running.{words_row}
 use Rattle.icn_defs.specs.StepRows.{coexpression_row, list_row, record_row, text_row}
-use Rattle.law_names.specs.NamedSettings.{ItemNamed, OptionNamed, ResidualNamed, SettingNamed, ValueNamed}
+use Rattle.law_names.specs.NamedSettings.{ErrorNamed, ItemNamed, ResidualNamed, SettingNamed, ValueNamed}
 
 -- what a row comes to names only what has a name: what it gives and leaves, the value that an error is about, and
--- the setting after it
+-- the setting after it; and an error has the number of one
 abbrev pub OutcomeNamed : Names → Outcome → Type 0
 OutcomeNamed names (Fails seen) = SettingNamed names seen
 OutcomeNamed names (Gives item seen) = ItemNamed names item × SettingNamed names seen
 OutcomeNamed names (Suspends item rest seen) =
     ItemNamed names item × (ResidualNamed names rest × SettingNamed names seen)
-OutcomeNamed names (Error number offending seen) = OptionNamed names offending × SettingNamed names seen
+OutcomeNamed names (Error number offending seen) =
+    ErrorNamed names number offending × SettingNamed names seen
 OutcomeNamed names (Ends status seen) = SettingNamed names seen
 
 -- a value that is a record is one of the heap

@@ -12,6 +12,7 @@ use Rattle.icn_defs.specs.Arities.{arity}
 use Rattle.icn_defs.specs.Applying.{again}
 use Rattle.icn_defs.specs.Conversions.{integer_of}
 use Rattle.icn_defs.specs.Errors.{error_report}
+use Rattle.icn_run.proofs.Errors.{at_error}
 use Rattle.icn_defs.specs.Keywords.{keyword_item}
 use Rattle.icn_defs.specs.Rows.{Outcome, Fails, Gives, Suspends, Error, Ends}
 use Rattle.icn_defs.specs.Running.{Pair, Ending, Done, bound_report, Launch, Observation, words_row, number_of, after_steps}
@@ -46,8 +47,8 @@ module _ {H M : Type 0} (C : Calls H M) (P : Program) (b : Lasting) where
 
   -- Ends, turns and rows
 
-  errs : (n : ℕ) (v : Option Value) (st : Store H) → K st → StateHolds (S.errs n v st)
-  errs n v st k = b.put st.outside Errout (error_report st.names st.world.heap n v) k
+  errs : (n : ℕ) (v : Option Value) (m : M) (st : Store H) → K st → StateHolds (S.errs n v m st)
+  errs n v m st k = at_error StateHolds n v m st (b.put st.outside Errout (error_report st.names st.world.heap n v) k) k
 
   turn_if : (t : Bool) (st : Store H) (go : Store H → State H M) → K st → ((s : Store H) → K s → StateHolds (go s)) → StateHolds (S.turn_if t st go)
   turn_if true st go k f = f (record st { turns = suc st.turns }) k
@@ -59,7 +60,7 @@ module _ {H M : Type 0} (C : Calls H M) (P : Program) (b : Lasting) where
   valued : (o : Outcome) (m : M) (st : Store H) (go : Value → State H M) → K st → ((v : Value) → StateHolds (go v)) → StateHolds (S.with_given o m st go)
   valued (Gives (Val v) s) m st go k f = f v
   valued (Gives (Var x) s) m st go k f = k
-  valued (Error n v s) m st go k f = errs n v st k
+  valued (Error n v s) m st go k f = errs n v m st k
   valued (Fails s) m st go k f = k
   valued (Suspends x r s) m st go k f = k
   valued (Ends n s) m st go k f = k
@@ -68,7 +69,7 @@ module _ {H M : Type 0} (C : Calls H M) (P : Program) (b : Lasting) where
       → ((v : Value) (m : M) (s : Store H) → K s → StateHolds (go v m s)) → StateHolds (S.with_made C o m st go)
   made (Gives (Val v) s) m st go k l f = f v (C.set_locals s.locals m) (S.with_at s st) l
   made (Gives (Var x) s) m st go k l f = k
-  made (Error n v s) m st go k l f = errs n v (S.with_at s st) l
+  made (Error n v s) m st go k l f = errs n v (C.set_locals s.locals m) (S.with_at s st) l
   made (Fails s) m st go k l f = k
   made (Suspends x r s) m st go k l f = k
   made (Ends n s) m st go k l f = k
@@ -77,7 +78,7 @@ module _ {H M : Type 0} (C : Calls H M) (P : Program) (b : Lasting) where
   outcome (Fails s) m st l = l
   outcome (Gives x s) m st l = l
   outcome (Suspends x r s) m st l = l
-  outcome (Error n v s) m st l = errs n v (S.with_at s st) l
+  outcome (Error n v s) m st l = errs n v (C.set_locals s.locals m) (S.with_at s st) l
   outcome (Ends n s) m st l = l
 
   value : (x : Item) (m : M) (st : Store H) (go : Value → State H M) → K st → ((v : Value) → StateHolds (go v)) → StateHolds (S.with_value C x m st go)
@@ -157,9 +158,9 @@ module _ {H M : Type 0} (C : Calls H M) (P : Program) (b : Lasting) where
   refreshed_from None m st k = tt
 
   refreshed : (v : Value) (m : M) (st : Store H) → K st → StateHolds (S.refresh C v m st)
-  refreshed (ACoexp zero) m st k = errs 215 (Some (ACoexp zero)) st k
+  refreshed (ACoexp zero) m st k = errs 215 (Some (ACoexp zero)) m st k
   refreshed (ACoexp (suc n)) m st k = refreshed_from (slice_get st.coexps (suc n)) m st k
-  refreshed v m st k = errs 118 (Some v) st k
+  refreshed v m st k = errs 118 (Some v) m st k
 
   entered_if : (t : Bool) (u : Status H) (n : ℕ) (v : Value) (m : M) (st : Store H) → K st → StateHolds (S.entered_if C t u n v m st)
   entered_if t Exhausted n v m st k = k
@@ -168,7 +169,7 @@ module _ {H M : Type 0} (C : Calls H M) (P : Program) (b : Lasting) where
 
   activation : (v to : Value) (m : M) (st : Store H) → K st → StateHolds (S.activation C v to m st)
   activation v (ACoexp n) m st k = entered_if (n == st.active) (S.status_of n st) n v m st k
-  activation v to m st k = errs 118 (Some to) st k
+  activation v to m st k = errs 118 (Some to) m st k
 
   -- Procedures
 
@@ -181,7 +182,7 @@ module _ {H M : Type 0} (C : Calls H M) (P : Program) (b : Lasting) where
   called_if : (t : Bool) (n : ℕ) (entry : Procedure) (vs : List Value) (m : M) (st : Store H) → K st → StateHolds (S.called_if C t n entry vs m st)
   called_if true n entry vs m st k =
       collected entry.collects entry.parameters vs m st (λ parameters m st. S.enter_procedure C n entry parameters m st) k (λ vs m st k. k)
-  called_if false n entry vs m st k = errs 301 None st k
+  called_if false n entry vs m st k = errs 301 None m st k
 
   constructed : (n : ℕ) (entry : RecordType) (vs : List Value) (m : M) (st : Store H) → K st → StateHolds (S.construct_record C n entry vs m st)
   constructed n entry vs m st k = let fs = S.fill_nulls (length entry.fields) vs in
@@ -193,7 +194,7 @@ module _ {H M : Type 0} (C : Calls H M) (P : Program) (b : Lasting) where
 
   integer_called : (f : Value) (o : Option ℤ) (xs : List Item) (m : M) (st : Store H) → K st → StateHolds (S.integer_called C f o xs m st)
   integer_called f (Some n) xs m st k = pushed_or_fails (S.choose_item n xs) m st k
-  integer_called f None xs m st k = errs 106 (Some f) st k
+  integer_called f None xs m st k = errs 106 (Some f) m st k
 
   callee_called : (c : Callee) (n : ℕ) (xs : List Item) (m : M) (st : Store H) → K st → StateHolds (S.callee_called C c n xs m st)
   callee_called (IsProc entry) n xs m st k = values xs m st (λ arguments. S.call_procedure C n entry arguments m st) k
@@ -202,7 +203,7 @@ module _ {H M : Type 0} (C : Calls H M) (P : Program) (b : Lasting) where
       values xs m st (λ arguments. S.construct_record C kind entry arguments m st) k (λ vs. constructed kind entry vs m st k)
   callee_called (IsFunc func) n xs m st k =
       outcome (apply st.names (Function func) xs (S.here C m st)) m st (function_leaves b st.names func xs (S.here C m st) k)
-  callee_called IsNothing n xs m st k = errs 106 (Some (ProcedureValue n)) st k
+  callee_called IsNothing n xs m st k = errs 106 (Some (ProcedureValue n)) m st k
 
   invoked : (f : Value) (xs : List Item) (m : M) (st : Store H) → K st → StateHolds (S.invoke_value C P f xs m st)
   invoked (ProcedureValue n) xs m st k = callee_called (S.callee_of P n) n xs m st k
@@ -215,7 +216,7 @@ module _ {H M : Type 0} (C : Calls H M) (P : Program) (b : Lasting) where
   elements_called : (f from : Value) (m : M) (st : Store H) → K st → StateHolds (S.elements_called C P f from m st)
   elements_called f (AList n) m st k = invoked f (map S.plain (list_at st.world.heap n).items) m st k
   elements_called f (ARecord n) m st k = invoked f (map S.plain (record_at st.world.heap n).fields) m st k
-  elements_called f from m st k = errs 126 (Some from) st k
+  elements_called f from m st k = errs 126 (Some from) m st k
 
   applied : (xs : List Item) (m : M) (st : Store H) → K st → StateHolds (S.applied_to_elements C P xs m st)
   applied [] m st k = tt
@@ -226,11 +227,11 @@ module _ {H M : Type 0} (C : Calls H M) (P : Program) (b : Lasting) where
 
   field_taken : (o : Option ℕ) (n : ℕ) (m : M) (st : Store H) → K st → StateHolds (S.field_taken C o n m st)
   field_taken (Some place) n m st k = k
-  field_taken None n m st k = errs 207 (Some (ARecord n)) st k
+  field_taken None n m st k = errs 207 (Some (ARecord n)) m st k
 
   field_of : (field : ℕ) (v : Value) (m : M) (st : Store H) → K st → StateHolds (S.field_of C P field v m st)
   field_of field (ARecord n) m st k = field_taken (S.field_index P field (record_at st.world.heap n).kind) n m st k
-  field_of field v m st k = errs 107 (Some v) st k
+  field_of field v m st k = errs 107 (Some v) m st k
 
   result : (x : Item) (m : M) (st : Store H) (go : Item → State H M) → K st → ((x : Item) → StateHolds (go x)) → StateHolds (S.with_result C x m st go)
   result (Var (Whole (Local n))) m st go k f = value (Var (Whole (Local n))) m st (λ v. go (Val v)) k (λ v. f (Val v))
@@ -286,8 +287,8 @@ module _ {H M : Type 0} (C : Calls H M) (P : Program) (b : Lasting) where
   taken n m go f = parted (C.take n m) go f
 
   limited : (v : Value) (o : Option ℤ) (m : M) (st : Store H) → K st → StateHolds (S.limit_results C v o m st)
-  limited v None m st k = errs 101 (Some v) st k
-  limited v (Some (negsuc n)) m st k = errs 205 (Some v) st k
+  limited v None m st k = errs 101 (Some v) m st k
+  limited v (Some (negsuc n)) m st k = errs 205 (Some v) m st k
   limited v (Some (pos zero)) m st k = k
   limited v (Some (pos (suc n))) m st k = k
 
@@ -401,10 +402,10 @@ module _ {H M : Type 0} (C : Calls H M) (P : Program) (b : Lasting) where
   begun_if : (t : Bool) (n : ℕ) (entry : Procedure) (vs : List Value) (m : M) (st : Store H) → K st → StateHolds (S.begun_if C t n entry vs m st)
   begun_if true n entry vs m st k = collected entry.collects entry.parameters vs m st
       (λ parameters m st. running (C.begin n (parameters ++ replicate entry.locals Null) 0 m) st) k (λ vs m st k. k)
-  begun_if false n entry vs m st k = errs 301 None st k
+  begun_if false n entry vs m st k = errs 301 None m st k
 
   pub start_of : (lines : List (List ℕ)) (m : M) (st : Store H) (o : Option ℕ) → K st → StateHolds (S.start_of C P lines m st o)
-  start_of lines m st None k = errs 117 None st k
+  start_of lines m st None k = errs 117 None m st k
   start_of lines m st (Some main) k = found (slice_get P.procs main) (λ (entry : Procedure). S.with_made C (words_row lines (S.here C m st)) m st
       (λ list m st. S.begun_if C (nat_le 1 st.world.heap.bounds.levels) main entry (list ∷ []) m st))
       (λ entry. made (words_row lines (S.here C m st)) m st (λ list m st. S.begun_if C (nat_le 1 st.world.heap.bounds.levels) main entry (list ∷ []) m st) k

@@ -20,6 +20,7 @@ use Rattle.icn_defs.specs.Applying.{again}
 use Rattle.icn_defs.specs.Conversions.{integer_of, place_of as position_of}
 use Rattle.icn_defs.specs.Keywords.{keyword_item}
 use Rattle.icn_defs.specs.Errors.{error_report}
+use Rattle.icn_defs.proofs.OnErrors.{on_one}
 use Rattle.icn_defs.specs.Running.{Errored, AtBound, bound_report, Launch, Observation, words_row, number_of, after_steps}
 use Rattle.icn_defs.specs.StepRows.{Operation, Function, apply, value_row, list_row, text_row, record_row, coexpression_row}
 use Rattle.icn_meaning.specs.Program.{Program, Routine, Constructor, Callee, IsRoutine, IsKind, IsFunction, IsNothing, callee_of, index_of, routine_names}
@@ -57,7 +58,9 @@ module _ (b : Lasting) where
   ended e text st k = b.put st.outside Errout text k
 
   errs : (n : ℕ) (v : Option Value) (r : Choices) (st : Store) → K st → G (U.errs n v r st)
-  errs n v r st k = ended (Errored n) (error_report st.names st.world.heap n v) st k
+  errs n v r st k =
+      on_one G n v st.world (U.end_run (Errored n) (error_report st.names st.world.heap n v) st) (λ world. fail r (record st { world = world }))
+      (ended (Errored n) (error_report st.names st.world.heap n v) st k) k
 
   turn_if : (t : Bool) (st : Store) (go : Store → Evaluation) → K st → ((s : Store) → K s → G (go s)) → G (U.turn_if t st go)
   turn_if true st go k f = f (record st { turns = suc st.turns }) k

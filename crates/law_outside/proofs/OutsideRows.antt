@@ -9,7 +9,7 @@ use Rattle.icn_text.specs.declared.op.Op.{Op}
 use Rattle.icn_text.specs.declared.op.Op.TheVariants as Ops
 use Rattle.icn_text.specs.declared.func.Func.{Func}
 use Rattle.icn_text.specs.declared.func.Func.TheVariants as Funcs
-use Rattle.icn_value.specs.Values.{Value, Text, Integer, Std, File, Input, Output, Errout, Root, Global, Static, Local, Element, Field, Key, Keyword, KeywordVariable, Subject, Position, Random, Variable, Whole, Part, Item, Val, Var}
+use Rattle.icn_value.specs.Values.{Value, Text, Integer, Std, File, Input, Output, Errout, Root, Global, Static, Local, Element, Field, Key, Keyword, KeywordVariable, Subject, Position, Random, ErrorCount, Variable, Whole, Part, Item, Val, Var}
 use Rattle.icn_value.specs.Store.{Setting, Request, ALine, SomeBytes, Outside, with_reading, having_left, Heap, Names, having_position, having_heap}
 use Rattle.icn_defs.specs.Conversions.{integer_of, place_of, ValueGroup, Textual, Listed, Collected, Tabled, Recorded, Filed, Activated, Single}
 use Rattle.icn_defs.specs.Rows.{Row, costs_bytes, gives_value, ends, suspends, Outcome, Fails, Gives, Suspends, Error, Ends, Residual, TextBytes, VariableBytes, ListItems, SetMembers, TableValues, TableKeys, RecordFields, InputLines, UndoAssign, UndoExchange, UndoPosition, Counting, Sequence, Balanced, Found, Among, Mover, Neither, Left, Right, check, present, number_or_error, passing, thing_or_failure, natural, costs_made, gives_list}
@@ -131,6 +131,7 @@ k_keyword b refused Position value next a k r f = by_number (integer_of value) r
     by_number None e = rw e (record { is = k })
     by_number (Some n) e = by_place n e (place_of n (length a.world.subject)) refl
 k_keyword b refused Random value next a k r f = search (words, f)
+k_keyword b refused ErrorCount value next a k r f = search (words, f)
 
 local_set : (a : Setting) (b : Lasting) (place : ℕ) (value : Value) → Keeps b a → Keeps b (record a { locals = slice_set a.locals place value })
 local_set a b place value k = k
@@ -498,6 +499,7 @@ k_function b names Funcs.TypeOf vs a k = search rows depth 16
 k_function b names Funcs.Upto vs a k = search rows depth 16
 k_function b names Funcs.Write vs a k = k_write b vs a k
 k_function b names Funcs.Writes vs a k = k_writes b vs a k
+k_function b names Funcs.ErrorClear vs a k = search rows depth 16
 
 k_again : (b : Lasting) (r : Residual) (a : Setting) → Keeps b a → KI b (again r a)
 k_again b (TextBytes text place) a k = search rows depth 16

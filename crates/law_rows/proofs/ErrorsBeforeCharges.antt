@@ -7,7 +7,7 @@ use Rattle.icn_text.specs.declared.op.Op.{Op}
 use Rattle.icn_text.specs.declared.op.Op.TheVariants as Ops
 use Rattle.icn_text.specs.declared.func.Func.{Func}
 use Rattle.icn_text.specs.declared.func.Func.TheVariants as Funcs
-use Rattle.icn_value.specs.Values.{Value, Text, Root, Global, Static, Local, Element, Field, Key, Keyword, KeywordVariable, Subject, Position, Random, Variable, Whole, Part, Item, Val, Var}
+use Rattle.icn_value.specs.Values.{Value, Text, Root, Global, Static, Local, Element, Field, Key, Keyword, KeywordVariable, Subject, Position, Random, ErrorCount, Variable, Whole, Part, Item, Val, Var}
 use Rattle.icn_value.specs.Store.{Setting, Heap, Names, list_at, new_list, having_position}
 use Rattle.icn_defs.specs.Conversions.{text_of, form_of, text_made, held_text, integer_of, place_of, ValueGroup, Textual, Listed, Collected, Tabled, Recorded, Filed, Activated, Single}
 use Rattle.icn_defs.specs.Rows.{Row, Outcome, Fails, Gives, Suspends, Error, Ends, Residual, TextBytes, VariableBytes, ListItems, SetMembers, TableValues, TableKeys, RecordFields, InputLines, UndoAssign, UndoExchange, UndoPosition, Counting, Sequence, Balanced, Found, Among, check, present, number_or_error, passing, thing_or_failure, natural, costs_made, costs_text, costs_bytes, costs_cells}
@@ -195,6 +195,7 @@ c_keyword b refused Position value next r f = by_number (integer_of value) refl
     by_number None e = rw e (record { is = inr refl })
     by_number (Some n) e = by_place n e (place_of n (length b.world.subject)) refl
 c_keyword b refused Random value next r f = search (words, f)
+c_keyword b refused ErrorCount value next r f = search (words, f)
 
 c_root : (b : Setting) (refused : Row) (root : Root) (value : Value) (next : Row) → Clean b (refused b) → ((s : Setting) → Later (next s))
     → Clean b (assigns_root refused root value next b)
@@ -250,6 +251,7 @@ c_assigns b refused (Part (Key table key) place size) value next r f = search (w
 c_assigns b refused (Part (Keyword Subject) place size) value next r f = search (words, f) depth 12
 c_assigns b refused (Part (Keyword Position) place size) value next r f = search words depth 12
 c_assigns b refused (Part (Keyword Random) place size) value next r f = search words depth 12
+c_assigns b refused (Part (Keyword ErrorCount) place size) value next r f = search words depth 12
 
 -- Rows by what they take
 
@@ -461,6 +463,7 @@ c_function b names Funcs.TypeOf vs = search rows depth 16
 c_function b names Funcs.Upto vs = search rows depth 16
 c_function b names Funcs.Write vs = search rows depth 16
 c_function b names Funcs.Writes vs = search rows depth 16
+c_function b names Funcs.ErrorClear vs = search rows depth 16
 
 c_again : (b : Setting) (r : Residual) → undoes_exchange r ≡ false → Clean b (again r b)
 c_again b (TextBytes text place) e = search rows depth 16

@@ -7,7 +7,7 @@ use Rattle.icn_text.specs.declared.op.Op.{Op}
 use Rattle.icn_text.specs.declared.op.Op.TheVariants as Ops
 use Rattle.icn_text.specs.declared.func.Func.{Func}
 use Rattle.icn_text.specs.declared.func.Func.TheVariants as Funcs
-use Rattle.icn_value.specs.Values.{Value, Root, Global, Static, Local, Element, Field, Key, Keyword, KeywordVariable, Subject, Position, Random, Variable, Whole, Part, Item, Val, Var}
+use Rattle.icn_value.specs.Values.{Value, Root, Global, Static, Local, Element, Field, Key, Keyword, KeywordVariable, Subject, Position, Random, ErrorCount, Variable, Whole, Part, Item, Val, Var}
 use Rattle.icn_value.specs.Store.{Setting, Heap, Names, having_position, having_heap}
 use Rattle.icn_defs.specs.Conversions.{integer_of, place_of, ValueGroup, Textual, Listed, Collected, Tabled, Recorded, Filed, Activated, Single}
 use Rattle.icn_defs.specs.Rows.{Row, Outcome, Fails, Gives, Suspends, Error, Ends, Residual, TextBytes, VariableBytes, ListItems, SetMembers, TableValues, TableKeys, RecordFields, InputLines, UndoAssign, UndoExchange, UndoPosition, Counting, Sequence, Balanced, Found, Among, Mover, Neither, Left, Right, check, present, number_or_error, passing, thing_or_failure, natural, costs_made}
@@ -170,6 +170,7 @@ g_keyword b refused Position value next a k r f = by_number (integer_of value) r
     by_number None e = rw e (record { is = tt })
     by_number (Some n) e = by_place n e (place_of n (length a.world.subject)) refl
 g_keyword b refused Random value next a k r f = search (words, f)
+g_keyword b refused ErrorCount value next a k r f = search (words, f)
 
 g_root : (b : Setting) (refused : Row) (root : Root) (value : Value) (next : Row) (a : Setting) → HeapGrows b a
     → ((s : Setting) → HeapGrows b s → GI b (refused s))
@@ -431,6 +432,7 @@ g_function b names Funcs.TypeOf vs a k = search rows depth 16
 g_function b names Funcs.Upto vs a k = search rows depth 16
 g_function b names Funcs.Write vs a k = search rows depth 16
 g_function b names Funcs.Writes vs a k = search rows depth 16
+g_function b names Funcs.ErrorClear vs a k = search rows depth 16
 
 g_again : (b : Setting) (r : Residual) (a : Setting) → HeapGrows b a → GI b (again r a)
 g_again b (TextBytes text place) a k = search rows depth 16

@@ -1,16 +1,16 @@
 -- What is known grows, and all that has its shape keeps it.
-use Rattle.std.proofs.Common.{ℕ, ◌≤◌, Bool, List, Option, arith}
+use Rattle.std.proofs.Common.{ℕ, ◌≤◌, Bool, List, Option, None, Some, arith}
 use Rattle.icn_structs.specs.Numbered.{NumberedList}
 use Rattle.icn_code.specs.Codes.{Tables}
 use Rattle.icn_verify.specs.declared.shape.Level.{Level}
 use Rattle.icn_verify.specs.declared.shape.LevelKind.{LevelKind}
 use Rattle.icn_verify.specs.Shapes.{PlainShape}
 use Rattle.icn_value.specs.Values.{Value, Null, Integer, Text, Chars, Std, Procedure, ARecord, AList, ASet, ATable, ACoexp, Root, Global, Static, Local, Element, Field, Key, Keyword, Variable, Whole, Part, Item, Val, Var}
-use Rattle.icn_value.specs.Store.{Table, Record}
+use Rattle.icn_value.specs.Store.{Table, Record, KeptError}
 use Rattle.icn_defs.specs.Rows.{Residual, TextBytes, VariableBytes, ListItems, SetMembers, TableValues, TableKeys, RecordFields, InputLines, UndoAssign, UndoExchange, UndoPosition, Counting, Sequence, Balanced, Found, Among}
 use Rattle.icn_run.specs.Calls.{Alt, Op, Scan, Escan, Proc}
 use Rattle.icn_run.specs.Chains.{Label, fixed, flagged, Reason, because, scanning, Chain, chain, Suspensions, none, suspension, Outer, base, call, mark, limit, frame_of}
-use Rattle.law_safe.specs.Within.{Each, ValueWithin, RootWithin, VariableWithin, ItemWithin, PairWithin, ListWithin, TableWithin, RecordWithin, ResidualWithin}
+use Rattle.law_safe.specs.Within.{Each, ValueWithin, OptionWithin, KeptWithin, RootWithin, VariableWithin, ItemWithin, PairWithin, ListWithin, TableWithin, RecordWithin, ResidualWithin}
 use Rattle.law_safe.specs.Shaped.{Knowledge, IsOf, IsBefore, LabelOk, ReasonOk, level_shape, ChainOk, SuspsOk, OuterOk, FrameOk, LocalsOk, RelabelOk}
 use Rattle.law_safe.proofs.EachEntry.{each_map}
 
@@ -32,6 +32,14 @@ value_more n n' l (AList x) h = tt
 value_more n n' l (ASet x) h = tt
 value_more n n' l (ATable x) h = tt
 value_more n n' l (ACoexp x) h = omega (arith, h)
+
+pub option_more : (n n' : ℕ) → n ≤ n' → (v : Option Value) → OptionWithin n v → OptionWithin n' v
+option_more n n' l None h = tt
+option_more n n' l (Some v) h = value_more n n' l v h
+
+pub kept_more : (n n' : ℕ) → n ≤ n' → (e : Option KeptError) → KeptWithin n e → KeptWithin n' e
+kept_more n n' l None h = tt
+kept_more n n' l (Some e) h = option_more n n' l e.value h
 
 pub root_more : (n n' : ℕ) → n ≤ n' → (r : Root) → RootWithin n r → RootWithin n' r
 root_more n n' l (Global x) h = tt

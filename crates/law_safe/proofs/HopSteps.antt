@@ -16,7 +16,7 @@ use Rattle.law_safe.proofs.GrowingKnowledge.{grow_chain}
 use Rattle.law_safe.proofs.FrameCalls.{with_activation, grow_activation, here_create, set_locals_ok, locals_ok}
 use Rattle.law_safe.proofs.MarkCalls.{false_is_not_true, IfThere, begin_ok, Left, leave_ok, Back, WhyOk, resume_ok, DroppedOk, drop_ok, Swapped, swap_oldest_ok, swap_newest_ok}
 use Rattle.law_safe.proofs.ChangedStores.{grow_store, entered_set, set_status, set_activator, set_active, one_more, grow_one, memory_one, more_coexps}
-use Rattle.law_safe.proofs.InstructionParts.{linked_machine, LinkedState, Ok, Ready, ok_if, ok_fails, ok_runs, ok_push, here_within, ok_outcome, ok_turned, ok_turn, ready_pair}
+use Rattle.law_safe.proofs.InstructionParts.{linked_machine, LinkedState, Ok, Ready, ok_if, ok_errs, ok_fails, ok_runs, ok_push, here_within, ok_outcome, ok_turned, ok_turn, ready_pair}
 
 not_first : (n : ℕ) → n ≢ 0 → true ≡ not (is_main n)
 not_first zero d = absurd (d refl)
@@ -160,6 +160,7 @@ module _ (P : Program) (sh : ℕ → ℕ → Option PlainShape) (given : KeepsSh
         };
         globals = i.store.world.globals;
         statics = i.store.world.statics;
+        kept = i.store.world.kept;
       };
       coexps = i.store.coexps;
     };
@@ -215,16 +216,16 @@ module _ (P : Program) (sh : ℕ → ℕ → Option PlainShape) (given : KeepsSh
       → ValueWithin w.coexps value
       → ValueWithin w.coexps other → sh p m.address ≡ Some (with_more 1 S) → Good (activation linked_machine value other m st)
   activation_ok value (ACoexp n) w p S m st h g l e = if_entered (n == st.active) (status_of n st) n value w p S m st h g l e
-  activation_ok value Null w p S m st h g l e = tt
-  activation_ok value (Integer x) w p S m st h g l e = tt
-  activation_ok value (Text x) w p S m st h g l e = tt
-  activation_ok value (Chars x) w p S m st h g l e = tt
-  activation_ok value (Std x) w p S m st h g l e = tt
-  activation_ok value (ProcedureValue x) w p S m st h g l e = tt
-  activation_ok value (ARecord x) w p S m st h g l e = tt
-  activation_ok value (AList x) w p S m st h g l e = tt
-  activation_ok value (ASet x) w p S m st h g l e = tt
-  activation_ok value (ATable x) w p S m st h g l e = tt
+  activation_ok value Null w p S m st h g l e = ok_errs P sh given keep 118 (Some Null) w p S m st h l
+  activation_ok value (Integer x) w p S m st h g l e = ok_errs P sh given keep 118 (Some (Integer x)) w p S m st h l
+  activation_ok value (Text x) w p S m st h g l e = ok_errs P sh given keep 118 (Some (Text x)) w p S m st h l
+  activation_ok value (Chars x) w p S m st h g l e = ok_errs P sh given keep 118 (Some (Chars x)) w p S m st h l
+  activation_ok value (Std x) w p S m st h g l e = ok_errs P sh given keep 118 (Some (Std x)) w p S m st h l
+  activation_ok value (ProcedureValue x) w p S m st h g l e = ok_errs P sh given keep 118 (Some (ProcedureValue x)) w p S m st h l
+  activation_ok value (ARecord x) w p S m st h g l e = ok_errs P sh given keep 118 (Some (ARecord x)) w p S m st h l
+  activation_ok value (AList x) w p S m st h g l e = ok_errs P sh given keep 118 (Some (AList x)) w p S m st h l
+  activation_ok value (ASet x) w p S m st h g l e = ok_errs P sh given keep 118 (Some (ASet x)) w p S m st h l
+  activation_ok value (ATable x) w p S m st h g l e = ok_errs P sh given keep 118 (Some (ATable x)) w p S m st h l
 
   -- a new one is made
   created_ok : (o : Outcome) (values : List Value) (proc place : ℕ) (w : Knowledge) (p : ℕ) (S : PlainShape) (m : LinkedStack) (st : Store WaitingChain)
@@ -245,7 +246,12 @@ module _ (P : Program) (sh : ℕ → ℕ → Option PlainShape) (given : KeepsSh
       })
       (subst (ValueWithin (suc w.coexps)) (sym c.0) (omega arith)) e
   created_ok (Gives (Var v) seen) values proc place w p S m st h c g origin e = absurd c
-  created_ok (Error j v seen) values proc place w p S m st h c g origin e = tt
+  created_ok (Error j v seen) values proc place w p S m st h c g origin e =
+      let locals = locals_ok P sh w st.active p S m h.now in
+      ok_errs P sh given keep j v w p S (C.set_locals seen.locals m) (with_at seen st) (record {
+        now = set_locals_ok P sh seen.locals w st.active p S m h.now (subst (LocalsOk P sh w p) (sym c.2) locals);
+        store = record { world = c.1; coexps = h.store.coexps };
+      }) c.0
   created_ok (Fails seen) values proc place w p S m st h c g origin e = absurd c
   created_ok (Suspends item r seen) values proc place w p S m st h c g origin e = absurd c
   created_ok (Ends j seen) values proc place w p S m st h c g origin e = absurd c
@@ -260,7 +266,7 @@ module _ (P : Program) (sh : ℕ → ℕ → Option PlainShape) (given : KeepsSh
 
   pub refreshed_ok : (v : Value) (w : Knowledge) (p : ℕ) (S : PlainShape) (m : LinkedStack) (st : Store WaitingChain) → Set w p S m st → ValueWithin w.coexps v
       → sh p m.address ≡ Some (with_more 1 S) → Good (refresh linked_machine v m st)
-  refreshed_ok (ACoexp zero) w p S m st h g e = tt
+  refreshed_ok (ACoexp zero) w p S m st h g e = ok_errs P sh given keep 215 (Some (ACoexp zero)) w p S m st h g
   refreshed_ok (ACoexp (suc n)) w p S m st h g e =
       let count = h.store.coexps.count in
       let o = entry_there st.coexps (suc n) (omega (arith, g, count)) in
@@ -268,16 +274,16 @@ module _ (P : Program) (sh : ℕ → ℕ → Option PlainShape) (given : KeepsSh
       let d : suc n ≢ 0 = λ q. omega (arith, q) in
       subst (λ x. Good (refreshed_from linked_machine x m st)) (sym o.1)
       (coexp_made_ok o.0.values o.0.proc o.0.address w p S m st h (c.values d) (c.origin d) e)
-  refreshed_ok Null w p S m st h g e = tt
-  refreshed_ok (Integer x) w p S m st h g e = tt
-  refreshed_ok (Text x) w p S m st h g e = tt
-  refreshed_ok (Chars x) w p S m st h g e = tt
-  refreshed_ok (Std x) w p S m st h g e = tt
-  refreshed_ok (ProcedureValue x) w p S m st h g e = tt
-  refreshed_ok (ARecord x) w p S m st h g e = tt
-  refreshed_ok (AList x) w p S m st h g e = tt
-  refreshed_ok (ASet x) w p S m st h g e = tt
-  refreshed_ok (ATable x) w p S m st h g e = tt
+  refreshed_ok Null w p S m st h g e = ok_errs P sh given keep 118 (Some Null) w p S m st h g
+  refreshed_ok (Integer x) w p S m st h g e = ok_errs P sh given keep 118 (Some (Integer x)) w p S m st h g
+  refreshed_ok (Text x) w p S m st h g e = ok_errs P sh given keep 118 (Some (Text x)) w p S m st h g
+  refreshed_ok (Chars x) w p S m st h g e = ok_errs P sh given keep 118 (Some (Chars x)) w p S m st h g
+  refreshed_ok (Std x) w p S m st h g e = ok_errs P sh given keep 118 (Some (Std x)) w p S m st h g
+  refreshed_ok (ProcedureValue x) w p S m st h g e = ok_errs P sh given keep 118 (Some (ProcedureValue x)) w p S m st h g
+  refreshed_ok (ARecord x) w p S m st h g e = ok_errs P sh given keep 118 (Some (ARecord x)) w p S m st h g
+  refreshed_ok (AList x) w p S m st h g e = ok_errs P sh given keep 118 (Some (AList x)) w p S m st h g
+  refreshed_ok (ASet x) w p S m st h g e = ok_errs P sh given keep 118 (Some (ASet x)) w p S m st h g
+  refreshed_ok (ATable x) w p S m st h g e = ok_errs P sh given keep 118 (Some (ATable x)) w p S m st h g
 
   pub hop_ok : (w : Knowledge) (m : LinkedStack) (st : Store WaitingChain) → Idle w m st → Good (hop linked_machine P m st)
   hop_ok w m st i = ok_turned P sh given keep st (λ st. passed_failure linked_machine (activator_of st.active st) m st)

@@ -17,10 +17,12 @@ use Rattle.icn_run.specs.Calls as Cs
 use Rattle.icn_run.specs.Chains as C
 use Rattle.icn_run.specs.Chains.{Chain, LinkedStack, WaitingChain, linked_calls, with_chain}
 use Rattle.icn_run.specs.LinkedStep.{repeats_anywhere}
-use Rattle.icn_run.specs.Step.{Program, Store, State, running, failing, with_found, on_pair, turn_if, turn, here, with_world, with_at, with_given, with_made, with_value, with_values, push_item, outcome, list_made, with_pair, scans_left, with_popped, with_taken, unmark_then, fill_nulls, collect_rest, with_parameters, enter_procedure, called_if, call_procedure, construct_record, argument_at, choose_item, pushed_or_fails, integer_called, Callee, IsProc, IsRecord, IsFunc, IsNothing, func_callee, record_among, callee_among, callee_of, callee_called, invoke_value, invoked_with, plain, elements_called, applied_to_elements, field_index, field_taken, field_of}
+use Rattle.icn_run.specs.Step.{Program, Store, State, running, failing, with_found, on_pair, errs, turn_if, turn, here, with_world, with_at, with_given, with_made, with_value, with_values, push_item, outcome, list_made, with_pair, scans_left, with_popped, with_taken, unmark_then, fill_nulls, collect_rest, with_parameters, enter_procedure, called_if, call_procedure, construct_record, argument_at, choose_item, pushed_or_fails, integer_called, Callee, IsProc, IsRecord, IsFunc, IsNothing, func_callee, record_among, callee_among, callee_of, callee_called, invoke_value, invoked_with, plain, elements_called, applied_to_elements, field_index, field_taken, field_of}
 use Rattle.icn_defs.specs.Numbers.{func_of}
+use Rattle.icn_defs.specs.Errors.{with_kept}
+use Rattle.icn_run.proofs.Errors.{kept_in, at_error}
 use Rattle.law_stacks.proofs.RowsKeep.{rows_keep}
-use Rattle.law_safe.specs.Within.{Each, ValueWithin, ItemWithin, ListWithin, RecordWithin, WorldWithin, SettingWithin, OutcomeWithin, RowsStayWithin}
+use Rattle.law_safe.specs.Within.{Each, ValueWithin, OptionWithin, ItemWithin, ListWithin, RecordWithin, WorldWithin, SettingWithin, OutcomeWithin, RowsStayWithin}
 use Rattle.law_safe.specs.Shaped.{Knowledge, local_count, locals_in, LocalsOk, StoreOk, Now, Safe, KeepsShapes}
 use Rattle.law_safe.proofs.EachEntry.{each_append, each_replicate, each_take, each_drop, index_within, replicate_length}
 use Rattle.law_safe.proofs.FrameCalls.{with_activation, grow_activation, locals_ok, set_locals_ok, push_ok, pop_ok, take_ok}
@@ -148,21 +150,29 @@ module _ (P : Program) (sh : ℕ → ℕ → Option PlainShape) (given : KeepsSh
 
   -- Rows
 
-  valued_ok : (n : ℕ) (o : Outcome) (w : Knowledge) (p : ℕ) (S : PlainShape) (m : LinkedStack) (st : Store WaitingChain) (next : Value → LinkedState)
-      → Ready w p S m st
-      → OutcomeWithin n o → ((v : Value) → ValueWithin n v → Ok (next v)) → Ok (with_given o m st next)
-  valued_ok n (Gives (Val v) seen) w p S m st next h g f = f v g.0
-  valued_ok n (Gives (Var v) seen) w p S m st next h g f = ok_fails w p S m st h
-  valued_ok n (Error k v seen) w p S m st next h g f = tt
-  valued_ok n (Fails seen) w p S m st next h g f = ok_fails w p S m st h
-  valued_ok n (Suspends item r seen) w p S m st next h g f = ok_fails w p S m st h
-  valued_ok n (Ends k seen) w p S m st next h g f = ok_fails w p S m st h
+  pub ok_errs : (k : ℕ) (v : Option Value) (w : Knowledge) (p : ℕ) (S : PlainShape) (m : LinkedStack) (st : Store WaitingChain) → Ready w p S m st
+      → OptionWithin w.coexps v → Ok (errs k v m st)
+  ok_errs k v w p S m st h g = at_error Ok k v m st tt (ok_fails w p S m (kept_in k v st) (ready_world w p S m st (with_kept k v st.world) h (record {
+    heap = h.store.world.heap;
+    globals = h.store.world.globals;
+    statics = h.store.world.statics;
+    kept = g;
+  })))
+
+  valued_ok : (o : Outcome) (w : Knowledge) (p : ℕ) (S : PlainShape) (m : LinkedStack) (st : Store WaitingChain) (next : Value → LinkedState) → Ready w p S m st
+      → OutcomeWithin w.coexps o → ((v : Value) → ValueWithin w.coexps v → Ok (next v)) → Ok (with_given o m st next)
+  valued_ok (Gives (Val v) seen) w p S m st next h g f = f v g.0
+  valued_ok (Gives (Var v) seen) w p S m st next h g f = ok_fails w p S m st h
+  valued_ok (Error k v seen) w p S m st next h g f = ok_errs k v w p S m st h g.0
+  valued_ok (Fails seen) w p S m st next h g f = ok_fails w p S m st h
+  valued_ok (Suspends item r seen) w p S m st next h g f = ok_fails w p S m st h
+  valued_ok (Ends k seen) w p S m st next h g f = ok_fails w p S m st h
 
   pub ok_value : (item : Item) (w : Knowledge) (p : ℕ) (S : PlainShape) (m : LinkedStack) (st : Store WaitingChain) (next : Value → LinkedState)
       → Ready w p S m st
       → ItemWithin w.coexps item → ((v : Value) → ValueWithin w.coexps v → Ok (next v)) → Ok (with_value linked_machine item m st next)
   ok_value item w p S m st next h g f =
-      valued_ok w.coexps (value_row item (here linked_machine m st)) w p S m st next h
+      valued_ok (value_row item (here linked_machine m st)) w p S m st next h
       (keep.applied w.coexps st.names (Operation Ops.Dereference) (item ∷ []) (here linked_machine m st) (here_within w p S m st h) (g, tt)) f
 
   pub ok_values : (items : List Item) (w : Knowledge) (p : ℕ) (S : PlainShape) (m : LinkedStack) (st : Store WaitingChain) (next : List Value → LinkedState)
@@ -192,7 +202,8 @@ module _ (P : Program) (sh : ℕ → ℕ → Option PlainShape) (given : KeepsSh
       let x = ready_seen w p S m st seen h g.2 k in
       ok_push item w p S (C.suspend (Cs.Op r) (C.set_locals seen.locals m)) (with_at seen st)
       (record { now = suspend_op P sh r w st.active p S (C.set_locals seen.locals m) x.now g.1 e; store = x.store }) g.0 e
-  ok_outcome (Error j v seen) w p S m st h g k e = tt
+  ok_outcome (Error j v seen) w p S m st h g k e =
+      ok_errs j v w p S (C.set_locals seen.locals m) (with_at seen st) (ready_seen w p S m st seen h g.1 k) g.0
   ok_outcome (Ends j seen) w p S m st h g k e = tt
 
   -- what a row makes, after which the same shape stands
@@ -203,7 +214,8 @@ module _ (P : Program) (sh : ℕ → ℕ → Option PlainShape) (given : KeepsSh
       → Ok (with_made linked_machine o m st next)
   ok_made (Gives (Val v) seen) w p S m st next h g k f = f v (C.set_locals seen.locals m) (with_at seen st) g.0 (ready_seen w p S m st seen h g.1 k) refl
   ok_made (Gives (Var v) seen) w p S m st next h g k f = ok_fails w p S m st h
-  ok_made (Error j v seen) w p S m st next h g k f = tt
+  ok_made (Error j v seen) w p S m st next h g k f =
+      ok_errs j v w p S (C.set_locals seen.locals m) (with_at seen st) (ready_seen w p S m st seen h g.1 k) g.0
   ok_made (Fails seen) w p S m st next h g k f = ok_fails w p S m st h
   ok_made (Suspends item r seen) w p S m st next h g k f = ok_fails w p S m st h
   ok_made (Ends j seen) w p S m st next h g k f = ok_fails w p S m st h
@@ -290,7 +302,7 @@ module _ (P : Program) (sh : ℕ → ℕ → Option PlainShape) (given : KeepsSh
       → Each (ValueWithin w.coexps) vs
       → sh p m.address ≡ Some (with_more 1 S)
       → Ok (called_if linked_machine b n entry vs m st)
-  called_ok false n entry e vs w p S m st h g o = tt
+  called_ok false n entry e vs w p S m st h g o = ok_errs 301 None w p S m st h tt
   called_ok true n entry e vs w p S m st h g o =
       ok_parameters n entry e vs w p S m st (λ parameters m st. enter_procedure linked_machine n entry parameters m st) h g (λ ps a st' gp h' q.
       ok_runs (with_activation w n) n (start_shape false) (C.enter n (ps ++ replicate entry.locals Null) a) st'
@@ -319,7 +331,7 @@ module _ (P : Program) (sh : ℕ → ℕ → Option PlainShape) (given : KeepsSh
       ok_outcome (apply st.names (Function func) items (here linked_machine m st)) w p S m st h (keep.applied w.coexps
       st.names (Function func) items (here linked_machine m st) (here_within w p S m st h) g)
       (rows_keep.applied st.names (Function func) items (here linked_machine m st)) e
-  callee_ok IsNothing n i items w p S m st h g e = tt
+  callee_ok IsNothing n i items w p S m st h g e = ok_errs 106 (Some (ProcedureValue n)) w p S m st h tt
 
   pub ok_one : (o : Option Item) (w : Knowledge) (p : ℕ) (S : PlainShape) (m : LinkedStack) (st : Store WaitingChain) → Ready w p S m st
       → IfThere (ItemWithin w.coexps) o
@@ -328,42 +340,44 @@ module _ (P : Program) (sh : ℕ → ℕ → Option PlainShape) (given : KeepsSh
   ok_one None w p S m st h g e = ok_fails w p S m st h
 
   integer_ok : (callee : Value) (o : Option ℤ) (items : List Item) (w : Knowledge) (p : ℕ) (S : PlainShape) (m : LinkedStack) (st : Store WaitingChain)
-      → Ready w p S m st
+      → Ready w p S m st → ValueWithin w.coexps callee
       → Each (ItemWithin w.coexps) items → sh p m.address ≡ Some (with_more 1 S) → Ok (integer_called linked_machine callee o items m st)
-  integer_ok callee (Some n) items w p S m st h g e = ok_one (choose_item n items) w p S m st h (argument_within w.coexps (place_of n (length items)) items g) e
-  integer_ok callee None items w p S m st h g e = tt
+  integer_ok callee (Some n) items w p S m st h z g e =
+      ok_one (choose_item n items) w p S m st h (argument_within w.coexps (place_of n (length items)) items g) e
+  integer_ok callee None items w p S m st h z g e = ok_errs 106 (Some callee) w p S m st h z
 
   pub ok_invoked : (callee : Value) (items : List Item) (w : Knowledge) (p : ℕ) (S : PlainShape) (m : LinkedStack) (st : Store WaitingChain) → Ready w p S m st
-      → Each (ItemWithin w.coexps) items → sh p m.address ≡ Some (with_more 1 S) → Ok (invoke_value linked_machine P callee items m st)
-  ok_invoked (ProcedureValue n) items w p S m st h g e = callee_ok (callee_of P n) n (callee_in P.procs P.records n) items w p S m st h g e
-  ok_invoked Null items w p S m st h g e = tt
-  ok_invoked (Integer x) items w p S m st h g e = integer_ok (Integer x) (number_of (Integer x)) items w p S m st h g e
-  ok_invoked (Text x) items w p S m st h g e = integer_ok (Text x) (number_of (Text x)) items w p S m st h g e
-  ok_invoked (Chars x) items w p S m st h g e = tt
-  ok_invoked (Std x) items w p S m st h g e = tt
-  ok_invoked (ARecord x) items w p S m st h g e = tt
-  ok_invoked (AList x) items w p S m st h g e = tt
-  ok_invoked (ASet x) items w p S m st h g e = tt
-  ok_invoked (ATable x) items w p S m st h g e = tt
-  ok_invoked (ACoexp x) items w p S m st h g e = tt
+      → ValueWithin w.coexps callee → Each (ItemWithin w.coexps) items → sh p m.address ≡ Some (with_more 1 S)
+      → Ok (invoke_value linked_machine P callee items m st)
+  ok_invoked (ProcedureValue n) items w p S m st h z g e = callee_ok (callee_of P n) n (callee_in P.procs P.records n) items w p S m st h g e
+  ok_invoked Null items w p S m st h z g e = ok_errs 106 (Some Null) w p S m st h z
+  ok_invoked (Integer x) items w p S m st h z g e = integer_ok (Integer x) (number_of (Integer x)) items w p S m st h z g e
+  ok_invoked (Text x) items w p S m st h z g e = integer_ok (Text x) (number_of (Text x)) items w p S m st h z g e
+  ok_invoked (Chars x) items w p S m st h z g e = ok_errs 106 (Some (Chars x)) w p S m st h z
+  ok_invoked (Std x) items w p S m st h z g e = ok_errs 106 (Some (Std x)) w p S m st h z
+  ok_invoked (ARecord x) items w p S m st h z g e = ok_errs 106 (Some (ARecord x)) w p S m st h z
+  ok_invoked (AList x) items w p S m st h z g e = ok_errs 106 (Some (AList x)) w p S m st h z
+  ok_invoked (ASet x) items w p S m st h z g e = ok_errs 106 (Some (ASet x)) w p S m st h z
+  ok_invoked (ATable x) items w p S m st h z g e = ok_errs 106 (Some (ATable x)) w p S m st h z
+  ok_invoked (ACoexp x) items w p S m st h z g e = ok_errs 106 (Some (ACoexp x)) w p S m st h z
 
   pub ok_elements : (callee from : Value) (w : Knowledge) (p : ℕ) (S : PlainShape) (m : LinkedStack) (st : Store WaitingChain) → Ready w p S m st
-      → sh p m.address ≡ Some (with_more 1 S) → Ok (elements_called linked_machine P callee from m st)
-  ok_elements callee (AList n) w p S m st h e =
+      → ValueWithin w.coexps callee → ValueWithin w.coexps from → sh p m.address ≡ Some (with_more 1 S) → Ok (elements_called linked_machine P callee from m st)
+  ok_elements callee (AList n) w p S m st h z y e =
       let vs = (list_at st.world.heap n).items in
-      ok_invoked callee (map plain vs) w p S m st h (plain_within w.coexps vs (items_at w.coexps st.world.heap.lists n h.store.world.heap.lists)) e
-  ok_elements callee (ARecord n) w p S m st h e =
+      ok_invoked callee (map plain vs) w p S m st h z (plain_within w.coexps vs (items_at w.coexps st.world.heap.lists n h.store.world.heap.lists)) e
+  ok_elements callee (ARecord n) w p S m st h z y e =
       let vs = (record_at st.world.heap n).fields in
-      ok_invoked callee (map plain vs) w p S m st h (plain_within w.coexps vs (fields_at w.coexps st.world.heap.records n h.store.world.heap.records)) e
-  ok_elements callee Null w p S m st h e = tt
-  ok_elements callee (Integer x) w p S m st h e = tt
-  ok_elements callee (Text x) w p S m st h e = tt
-  ok_elements callee (Chars x) w p S m st h e = tt
-  ok_elements callee (Std x) w p S m st h e = tt
-  ok_elements callee (ProcedureValue x) w p S m st h e = tt
-  ok_elements callee (ASet x) w p S m st h e = tt
-  ok_elements callee (ATable x) w p S m st h e = tt
-  ok_elements callee (ACoexp x) w p S m st h e = tt
+      ok_invoked callee (map plain vs) w p S m st h z (plain_within w.coexps vs (fields_at w.coexps st.world.heap.records n h.store.world.heap.records)) e
+  ok_elements callee Null w p S m st h z y e = ok_errs 126 (Some Null) w p S m st h y
+  ok_elements callee (Integer x) w p S m st h z y e = ok_errs 126 (Some (Integer x)) w p S m st h y
+  ok_elements callee (Text x) w p S m st h z y e = ok_errs 126 (Some (Text x)) w p S m st h y
+  ok_elements callee (Chars x) w p S m st h z y e = ok_errs 126 (Some (Chars x)) w p S m st h y
+  ok_elements callee (Std x) w p S m st h z y e = ok_errs 126 (Some (Std x)) w p S m st h y
+  ok_elements callee (ProcedureValue x) w p S m st h z y e = ok_errs 126 (Some (ProcedureValue x)) w p S m st h y
+  ok_elements callee (ASet x) w p S m st h z y e = ok_errs 126 (Some (ASet x)) w p S m st h y
+  ok_elements callee (ATable x) w p S m st h z y e = ok_errs 126 (Some (ATable x)) w p S m st h y
+  ok_elements callee (ACoexp x) w p S m st h z y e = ok_errs 126 (Some (ACoexp x)) w p S m st h y
 
   pub ok_applied : (items : List Item) (w : Knowledge) (p : ℕ) (S : PlainShape) (m : LinkedStack) (st : Store WaitingChain) → Ready w p S m st
       → length items ≡ 2
@@ -372,33 +386,33 @@ module _ (P : Program) (sh : ℕ → ℕ → Option PlainShape) (given : KeepsSh
   ok_applied (x ∷ []) w p S m st h l g e = absurd (omega (arith, l))
   ok_applied (callee ∷ from ∷ []) w p S m st h l g e =
       ok_value callee w p S m st (λ callee. with_value linked_machine from m st (λ from. elements_called linked_machine P callee from m st)) h g.0 (λ v gv.
-      ok_value from w p S m st (λ from. elements_called linked_machine P v from m st) h g.1.0 (λ u gu. ok_elements v u w p S m st h e))
+      ok_value from w p S m st (λ from. elements_called linked_machine P v from m st) h g.1.0 (λ u gu. ok_elements v u w p S m st h gv gu e))
   ok_applied (x ∷ y ∷ z ∷ items) w p S m st h l g e = absurd (omega (arith, l))
 
   pub ok_invoked_with : (items : List Item) (k : ℕ) (w : Knowledge) (p : ℕ) (S : PlainShape) (m : LinkedStack) (st : Store WaitingChain) → Ready w p S m st
       → length items ≡ suc k → Each (ItemWithin w.coexps) items → sh p m.address ≡ Some (with_more 1 S) → Ok (invoked_with linked_machine P items m st)
   ok_invoked_with [] k w p S m st h l g e = absurd (omega (arith, l))
   ok_invoked_with (callee ∷ items) k w p S m st h l g e =
-      ok_value callee w p S m st (λ value. invoke_value linked_machine P value items m st) h g.0 (λ v z. ok_invoked v items w p S m st h g.1 e)
+      ok_value callee w p S m st (λ value. invoke_value linked_machine P value items m st) h g.0 (λ v z. ok_invoked v items w p S m st h z g.1 e)
 
   field_ok : (n : ℕ) (o : Option ℕ) (w : Knowledge) (p : ℕ) (S : PlainShape) (m : LinkedStack) (st : Store WaitingChain) → Ready w p S m st
       → sh p m.address ≡ Some (with_more 1 S) → Ok (field_taken linked_machine o n m st)
-  field_ok n None w p S m st h e = tt
+  field_ok n None w p S m st h e = ok_errs 207 (Some (ARecord n)) w p S m st h tt
   field_ok n (Some place) w p S m st h e = ok_push (Var (Whole (R.Field n place))) w p S m st h tt e
 
   pub ok_field : (k : ℕ) (v : Value) (w : Knowledge) (p : ℕ) (S : PlainShape) (m : LinkedStack) (st : Store WaitingChain) → Ready w p S m st
-      → sh p m.address ≡ Some (with_more 1 S) → Ok (field_of linked_machine P k v m st)
-  ok_field k (ARecord x) w p S m st h e = field_ok x (field_index P k (record_at st.world.heap x).kind) w p S m st h e
-  ok_field k Null w p S m st h e = tt
-  ok_field k (Integer x) w p S m st h e = tt
-  ok_field k (Text x) w p S m st h e = tt
-  ok_field k (Chars x) w p S m st h e = tt
-  ok_field k (Std x) w p S m st h e = tt
-  ok_field k (ProcedureValue x) w p S m st h e = tt
-  ok_field k (AList x) w p S m st h e = tt
-  ok_field k (ASet x) w p S m st h e = tt
-  ok_field k (ATable x) w p S m st h e = tt
-  ok_field k (ACoexp x) w p S m st h e = tt
+      → ValueWithin w.coexps v → sh p m.address ≡ Some (with_more 1 S) → Ok (field_of linked_machine P k v m st)
+  ok_field k (ARecord x) w p S m st h z e = field_ok x (field_index P k (record_at st.world.heap x).kind) w p S m st h e
+  ok_field k Null w p S m st h z e = ok_errs 107 (Some Null) w p S m st h z
+  ok_field k (Integer x) w p S m st h z e = ok_errs 107 (Some (Integer x)) w p S m st h z
+  ok_field k (Text x) w p S m st h z e = ok_errs 107 (Some (Text x)) w p S m st h z
+  ok_field k (Chars x) w p S m st h z e = ok_errs 107 (Some (Chars x)) w p S m st h z
+  ok_field k (Std x) w p S m st h z e = ok_errs 107 (Some (Std x)) w p S m st h z
+  ok_field k (ProcedureValue x) w p S m st h z e = ok_errs 107 (Some (ProcedureValue x)) w p S m st h z
+  ok_field k (AList x) w p S m st h z e = ok_errs 107 (Some (AList x)) w p S m st h z
+  ok_field k (ASet x) w p S m st h z e = ok_errs 107 (Some (ASet x)) w p S m st h z
+  ok_field k (ATable x) w p S m st h z e = ok_errs 107 (Some (ATable x)) w p S m st h z
+  ok_field k (ACoexp x) w p S m st h z e = ok_errs 107 (Some (ACoexp x)) w p S m st h z
 
   -- Operands and marks
 
@@ -425,7 +439,7 @@ module _ (P : Program) (sh : ℕ → ℕ → Option PlainShape) (given : KeepsSh
   pub ready_pair : (w : Knowledge) (p : ℕ) (S : PlainShape) (m : LinkedStack) (st : Store WaitingChain) (pair : Pair) → Ready w p S m st
       → Ready w p S m (with_pair pair st)
   ready_pair w p S m st pair h = ready_world w p S m st (record st.world { subject = pair.subject; position = pair.position }) h
-      (record { heap = h.store.world.heap; globals = h.store.world.globals; statics = h.store.world.statics })
+      (record { heap = h.store.world.heap; globals = h.store.world.globals; statics = h.store.world.statics; kept = h.store.world.kept })
 
   left_ok : (w : Knowledge) (p : ℕ) (S : PlainShape) (m : LinkedStack) (st : Store WaitingChain) (o : Option Pair) (next : Store WaitingChain → LinkedState)
       → Ready w p S m st

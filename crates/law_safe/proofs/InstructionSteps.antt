@@ -1,12 +1,14 @@
 -- Each instruction keeps all shaped.
 use Rattle.std.proofs.Common.{◌≡◌, ℕ, zero, suc, ◌+◌, ◌-◌, ◌<◌, ◌≤◌, Bool, true, false, List, [], ◌∷◌, length, Option, Some, None, refl, sym, ap, ◌∙◌, subst, arith}
-use Rattle.std.specs.Prelude.{slice_get, slice_set, slice_index_or, ℤ, pos, negsuc, ◌&&◌, not, is_some, unwrap_or, nat_lt, IfSome}
+use Rattle.std.specs.Prelude.{slice_get, slice_set, slice_index_or, ℤ, pos, negsuc, ◌&&◌, not, is_some, option_map, unwrap_or, nat_lt, IfSome}
 use Rattle.std.specs.Option.{option_map_or}
 use Rattle.std.proofs.lemmas.Bool.{ltb-true, ltb-false}
 use Rattle.icn_text.specs.declared.op.Op.{Op}
 use Rattle.icn_text.specs.declared.op.Op.TheVariants as Ops
 use Rattle.icn_text.specs.declared.keyword.Keyword.{Keyword}
 use Rattle.icn_text.specs.declared.keyword.Keyword.TheVariants as Keywords
+use Rattle.icn_value.specs.Store.{KeptError}
+use Rattle.icn_defs.specs.Keywords.{kept_number, kept_value, kept_text}
 use Rattle.icn_value.specs.Values.{Std, ASet, ATable, Element, Key, Keyword as KeywordRoot}
 use Rattle.icn_defs.specs.Arities.{arity}
 use Rattle.icn_code.specs.declared.instr.Instr.{Instr}
@@ -21,13 +23,13 @@ use Rattle.icn_run.specs.Chains as C
 use Rattle.icn_run.specs.Chains.{LinkedStack, WaitingChain, with_chain}
 use Rattle.icn_run.specs.Step.{Program, Store, running, on_pair, with_found, turn, here, with_value, with_values, push_item, list_made, with_made, pair_now, with_pair, with_exchange, maybe_exchanged, return_to, all_left, coexp_made, refresh, field_applied, field_of, invoked_with, applied_to_elements, activation_of, activation, with_result, standing_of, pushed_or_fails, activator_of, unmark_then, limit_results, limited_result, scan_opened, result_given, is_create_body, members_of, operate, initial_if, instruction, statics_before}
 use Rattle.law_stacks.proofs.RowsKeep.{rows_keep}
-use Rattle.law_safe.specs.Within.{Each, ItemWithin, RowsStayWithin}
+use Rattle.law_safe.specs.Within.{Each, ValueWithin, OptionWithin, KeptWithin, ItemWithin, RowsStayWithin}
 use Rattle.law_safe.specs.Shaped.{Knowledge, LabelTo, LocalsOk, StoreOk, KeepsShapes, InRange}
 use Rattle.law_safe.proofs.EachEntry.{entry_there, index_within, index_there}
 use Rattle.law_safe.proofs.FrameCalls.{with_flag, grow_flag, locals_ok, here_proc, here_create, mark_ok, limit_ok}
 use Rattle.law_safe.proofs.MarkCalls.{false_is_not_true, IfThere, outside_ok, below_ok, relabel_ok, suspend_alt, suspend_scan, suspend_escan, swap_oldest_ok, suspend_proc_ok, leave_ok, count_ok}
 use Rattle.law_safe.proofs.ChangedStores.{grow_store}
-use Rattle.law_safe.proofs.InstructionParts.{linked_machine, LinkedState, Ok, Ready, ok_if, ok_found, ok_fails, ok_runs, ok_push, here_within, ok_value, ok_values, ok_outcome, ok_made, ok_turn, ok_list, ok_one, ok_applied, ok_invoked_with, ok_field, ready_at, ok_popped, ok_taken, ready_pair, ok_unmarked}
+use Rattle.law_safe.proofs.InstructionParts.{linked_machine, LinkedState, Ok, Ready, ok_if, ok_found, ok_errs, ok_fails, ok_runs, ok_push, here_within, ok_value, ok_values, ok_outcome, ok_made, ok_turn, ok_list, ok_one, ok_applied, ok_invoked_with, ok_field, ready_at, ok_popped, ok_taken, ready_pair, ok_unmarked}
 use Rattle.law_safe.proofs.HopSteps.{exhausted_ok, result_ok, activation_ok, coexp_made_ok, refreshed_ok, ok_maybe, ok_exchanged, ok_returned, ok_all, proc_fails_ok}
 
 enough : (a n : ℕ) (b : Bool) → (not (nat_lt a n) && b) ≡ true → (n ≤ a) × (b ≡ true)
@@ -54,11 +56,31 @@ more_none S = let e : S.inner.operands + 0 ≡ S.inner.operands = omega arith in
 more_of_fewer : (n : ℕ) (S : PlainShape) → n ≤ S.inner.operands → with_more n (with_fewer n S) ≡ S
 more_of_fewer n S l = let e : S.inner.operands - n + n ≡ S.inner.operands = omega (arith, l) in ap (λ k. record S { inner = record S.inner { operands = k } }) e
 
-keyword_within : (n : ℕ) (s : Standing) (k : Keyword) → 0 < n → s.current < n → s.source < n → IfThere (ItemWithin n) (keyword_item s k)
-keyword_within n s Keywords.Current z c a = c
-keyword_within n s Keywords.Main z c a = z
-keyword_within n s Keywords.Source z c a = a
-keyword_within n s _ z c a = tt
+number_within : (n : ℕ) (e : Option KeptError) → IfThere (ItemWithin n) (kept_number e)
+number_within n None = tt
+number_within n (Some e) = tt
+
+item_within : (n : ℕ) (v : Option Value) → OptionWithin n v → IfThere (ItemWithin n) (option_map Val v)
+item_within n None h = tt
+item_within n (Some v) h = h
+
+kept_within : (n : ℕ) (e : Option KeptError) → KeptWithin n e → IfThere (ItemWithin n) (kept_value e)
+kept_within n None h = tt
+kept_within n (Some e) h = item_within n e.value h
+
+text_within : (n : ℕ) (e : Option KeptError) → IfThere (ItemWithin n) (kept_text e)
+text_within n None = tt
+text_within n (Some e) = tt
+
+keyword_within : (n : ℕ) (s : Standing) (k : Keyword) → 0 < n → s.current < n → s.source < n → KeptWithin n s.kept
+    → IfThere (ItemWithin n) (keyword_item s k)
+keyword_within n s Keywords.Current z c a e = c
+keyword_within n s Keywords.Main z c a e = z
+keyword_within n s Keywords.Source z c a e = a
+keyword_within n s Keywords.ErrorNumber z c a e = number_within n s.kept
+keyword_within n s Keywords.ErrorValue z c a e = kept_within n s.kept e
+keyword_within n s Keywords.ErrorText z c a e = text_within n s.kept
+keyword_within n s _ z c a e = tt
 
 module _ (P : Program) (sh : ℕ → ℕ → Option PlainShape) (given : KeepsShapes P sh) (keep : RowsStayWithin) where
   abbrev Good : LinkedState P sh given keep → Type 0
@@ -85,8 +107,8 @@ module _ (P : Program) (sh : ℕ → ℕ → Option PlainShape) (given : KeepsSh
       let other = index_within st.coexps a.coexp.activator o.coexp o.stands in
       let same : activator_of st.active st ≡ a.coexp.activator = ap (λ c. c.activator) (index_there st.coexps st.active a.coexp _ a.stands) in
       ok_one P sh given keep (keyword_item (standing_of linked_machine m st) k) w p S m st h
-      (keyword_within w.coexps (standing_of linked_machine m st) k (omega (arith, first, count)) (omega (arith, one, count))
-      (omega (arith, other, count, same))) e
+      (keyword_within w.coexps (standing_of linked_machine m st) k (omega (arith, first, count)) (omega (arith, one, count)) (omega (arith, other, count, same))
+      h.store.world.kept) e
 
   -- operations
   operated_ok : (op : Op) (items : List Item) (w : Knowledge) (p : ℕ) (S : PlainShape) (m : LinkedStack) (st : Store WaitingChain) → Set w p S m st
@@ -103,7 +125,7 @@ module _ (P : Program) (sh : ℕ → ℕ → Option PlainShape) (given : KeepsSh
       → Each (ItemWithin w.coexps) items → sh p m.address ≡ Some (with_more 1 S) → Good (field_applied linked_machine P k items m st)
   field_applied_ok k [] w p S m st h l g e = absurd (omega (arith, l))
   field_applied_ok k (item ∷ items) w p S m st h l g e =
-      ok_value P sh given keep item w p S m st (λ value. field_of linked_machine P k value m st) h g.0 (λ v gv. ok_field P sh given keep k v w p S m st h e)
+      ok_value P sh given keep item w p S m st (λ value. field_of linked_machine P k value m st) h g.0 (λ v gv. ok_field P sh given keep k v w p S m st h gv e)
 
   activation_of_ok : (items : List Item) (w : Knowledge) (p : ℕ) (S : PlainShape) (m : LinkedStack) (st : Store WaitingChain) → Set w p S m st
       → length items ≡ 2
@@ -118,11 +140,11 @@ module _ (P : Program) (sh : ℕ → ℕ → Option PlainShape) (given : KeepsSh
 
   -- limits
   limited_ok : (v : Value) (o : Option ℤ) (w : Knowledge) (p : ℕ) (S : PlainShape) (m : LinkedStack) (st : Store WaitingChain) → Set w p S m st
-      → sh p m.address ≡ Some (with_mark Levels.Limit S) → Good (limit_results linked_machine v o m st)
-  limited_ok v None w p S m st h e = tt
-  limited_ok v (Some (negsuc n)) w p S m st h e = tt
-  limited_ok v (Some (pos zero)) w p S m st h e = ok_fails P sh given keep w p S m st h
-  limited_ok v (Some (pos (suc n))) w p S m st h e = ok_runs P sh given keep w p (with_mark Levels.Limit S) (linked_machine.limit (suc n) m) st
+      → ValueWithin w.coexps v → sh p m.address ≡ Some (with_mark Levels.Limit S) → Good (limit_results linked_machine v o m st)
+  limited_ok v None w p S m st h g e = ok_errs P sh given keep 101 (Some v) w p S m st h g
+  limited_ok v (Some (negsuc n)) w p S m st h g e = ok_errs P sh given keep 205 (Some v) w p S m st h g
+  limited_ok v (Some (pos zero)) w p S m st h g e = ok_fails P sh given keep w p S m st h
+  limited_ok v (Some (pos (suc n))) w p S m st h g e = ok_runs P sh given keep w p (with_mark Levels.Limit S) (linked_machine.limit (suc n) m) st
       (record { now = limit_ok P sh n w st.active p S m h.now; store = h.store }) e
 
   -- the innermost mark is suspended with its level, and the result stands on what is outside
@@ -314,7 +336,7 @@ module _ (P : Program) (sh : ℕ → ℕ → Option PlainShape) (given : KeepsSh
         ok_value P sh given keep item w p (with_fewer 1 S) (with_chain c' m) st
         (λ value. limit_results linked_machine value (integer_of value) (with_chain c' m) st) r g
         (λ v gv.
-        limited_ok v (integer_of v) w p (with_fewer 1 S) (with_chain c' m) st r
+        limited_ok v (integer_of v) w p (with_fewer 1 S) (with_chain c' m) st r gv
         (on_next (with_more 0 (with_mark Levels.Limit (with_fewer 1 S))) on ∙ ap Some (more_none (with_mark Levels.Limit (with_fewer 1 S))))))
     instruction_ok Instrs.Lsusp fit on onward backward range =
         let f = enough S.inner.operands 1 (is_some (slice_get S.outer 0) && same_kind S.inner.kind Levels.Limit && is_ended S.inner) fit in
@@ -349,7 +371,7 @@ module _ (P : Program) (sh : ℕ → ℕ → Option PlainShape) (given : KeepsSh
         (λ value. with_made linked_machine (text_row value (here linked_machine (with_chain c' m) st)) (with_chain c' m) st (scan_opened linked_machine)) r g
         (λ v gv.
         ok_made P sh given keep (text_row v (here linked_machine (with_chain c' m) st)) w p (with_fewer 1 S) (with_chain c' m) st (scan_opened linked_machine) r
-        (keep.scanned w.coexps v (here linked_machine (with_chain c' m) st) (here_within P sh given keep w p (with_fewer 1 S) (with_chain c' m) st r))
+        (keep.scanned w.coexps v (here linked_machine (with_chain c' m) st) (here_within P sh given keep w p (with_fewer 1 S) (with_chain c' m) st r) gv)
         (rows_keep.scanned v (here linked_machine (with_chain c' m) st)) (λ v' a st' gv' r' e.
         scan_ok v' w p (with_fewer 1 S) a st' r'
         (ap (sh p) e ∙ on_next (with_more 0 (with_scan (with_fewer 1 S))) on ∙ ap Some (more_none (with_scan (with_fewer 1 S)))))))

@@ -13,6 +13,8 @@ use Rattle.icn_run.specs.LinkedStep.{repeats_anywhere}
 use Rattle.law_stacks.specs.SameStates.{IsMade}
 use Rattle.law_stacks.specs.SecondLaw.{LinkedStuck, FlatStuck}
 use Rattle.law_stacks.proofs.CellLists.{some_injective, none_is_not_some}
+use Rattle.icn_defs.proofs.OnErrors.{fatal_ends}
+use Rattle.icn_run.proofs.Errors.{at_end}
 use Rattle.law_stacks.proofs.RowsKeep.{rows_keep}
 use Rattle.law_stacks.proofs.SecondLaw.{agrees_everywhere, agrees_where_covered}
 use Rattle.law_safe.specs.Within.{Each, ValueWithin, SettingWithin, OutcomeWithin, RowsStayWithin}
@@ -106,7 +108,7 @@ module _ (P : Program) (sh : ℕ → ℕ → Option PlainShape) (given : KeepsSh
   made_starts (Gives (Val v) seen) m st next i g h f = f v (C.set_locals seen.locals m) (with_at seen st) g.0
       (record { memory = memory_none m h.memory _ seen.locals; store = record { world = g.1.world; coexps = h.store.coexps }; main = h.main })
   made_starts (Gives (Var v) seen) m st next i g h f = absurd i
-  made_starts (Error k v seen) m st next i g h f = tt
+  made_starts (Error k v seen) m st next i g h f = at_end Good k v (C.set_locals seen.locals m) (with_at seen st) i tt
   made_starts (Fails seen) m st next i g h f = absurd i
   made_starts (Suspends item r seen) m st next i g h f = absurd i
   made_starts (Ends k seen) m st next i g h f = absurd i
@@ -132,7 +134,7 @@ module _ (P : Program) (sh : ℕ → ℕ → Option PlainShape) (given : KeepsSh
 
   begun_ok : (b : Bool) (main : ℕ) (entry : Procedure) → slice_get P.procs main ≡ Some entry → main < length P.procs
       → (v : Value) (m : LinkedStack) (st : Store WaitingChain) → ValueWithin 1 v → Starts m st → Good (begun_if linked_machine b main entry (v ∷ []) m st)
-  begun_ok false main entry e l v m st g h = tt
+  begun_ok false main entry e l v m st g h = at_end Good 301 None m st (fatal_ends 301 st.world.error refl) tt
   begun_ok true main entry e l v m st g h = collected_starts entry.collects entry (given.collects main entry e) (v ∷ []) m st
       (λ parameters m st. running (linked_machine.begin main (parameters ++ replicate entry.locals Null) 0 m) st) (g, tt) h (λ ps a st' gp h'.
       let values = ps ++ replicate entry.locals Null in
@@ -146,7 +148,7 @@ module _ (P : Program) (sh : ℕ → ℕ → Option PlainShape) (given : KeepsSh
 
   start_ok : (words : List (List ℕ)) (m : LinkedStack) (st : Store WaitingChain) (o : Option ℕ) → main_of P ≡ o → Starts m st
       → Good (start_of linked_machine P words m st o)
-  start_ok words m st None e h = tt
+  start_ok words m st None e h = at_end Good 117 None m st (fatal_ends 117 st.world.error refl) tt
   start_ok words m st (Some main) e h =
       let l = tables_ok.main main e in
       let o = entry_there P.procs main l in
@@ -181,6 +183,7 @@ module _ (P : Program) (sh : ℕ → ℕ → Option PlainShape) (given : KeepsSh
         heap = record { lists = tt; sets = tt; tables = tt; records = tt; count = refl };
         globals = tables_ok.globals;
         statics = each_replicate (ValueWithin 1) (static_count P) Null tt;
+        kept = tt;
       };
       coexps = record { count = refl; each = main_each; waits = main_waits; there = main_entered; first = main_entered };
     };

@@ -1,18 +1,18 @@
 -- Lists, structures and settings whose values name no co-expression but one that is there.
-use Rattle.std.proofs.Common.{◌≡◌, ℕ, zero, suc, Bool, true, false, List, [], ◌∷◌, ◌++◌, length, Some, if◌then◌else◌}
+use Rattle.std.proofs.Common.{◌≡◌, ℕ, zero, suc, Bool, true, false, List, [], ◌∷◌, ◌++◌, length, Option, None, Some, if◌then◌else◌}
 use Rattle.std.specs.Prelude.{ℤ, pos, negsuc, slice_get, slice_set, unwrap_or, take, drop, filter, fold, replicate, flat_map, cond}
 use Rattle.std.specs.declared.cmp.Ordering.{Ordering}
 use Rattle.std.specs.Ordering.{is_lt}
 use Rattle.icn_structs.specs.Numbered.{NumberedList, item_at, items_with, after_first, with_left, with_right}
 use Rattle.icn_structs.specs.PairLists.{with_value_of}
 use Rattle.icn_value.specs.Values.{Value, Null, Integer, Text, Chars, Std, ARecord, AList, ASet, ATable, File, Element, Field, Key, Variable, Whole, Part, Item, Val, Var}
-use Rattle.icn_value.specs.Store.{Table, Record, Setting, new_list, value_at}
+use Rattle.icn_value.specs.Store.{Table, Record, KeptError, Setting, new_list, value_at}
 use Rattle.icn_defs.specs.Conversions.{same, has_value, with_member, sorted_in, sorted_onto, sort_list}
 use Rattle.icn_defs.specs.Rows.{Outcome, Residual}
 use Rattle.icn_defs.specs.Elements.{part_of}
 use Rattle.icn_defs.specs.Structures.{or_null}
 use Rattle.law_stacks.proofs.CellLists.{none_is_not_some}
-use Rattle.law_safe.specs.Within.{Each, ValueWithin, VariableWithin, ItemWithin, PairWithin, ListWithin, SetWithin, TableWithin, RecordWithin, SettingWithin, ResidualWithin, OutcomeWithin}
+use Rattle.law_safe.specs.Within.{Each, ValueWithin, OptionWithin, KeptWithin, VariableWithin, ItemWithin, PairWithin, ListWithin, SetWithin, TableWithin, RecordWithin, SettingWithin, ResidualWithin, OutcomeWithin}
 use Rattle.law_safe.proofs.EachEntry.{each_get, each_append, each_replicate, each_take, each_drop, each_set}
 
 -- Each fact as a record, so that it is found by its name
@@ -46,6 +46,14 @@ pub record Records (n : ℕ) (xs : List Record) : Type 0 where
 
 pub record Count (n : ℕ) (xs : List ℕ) : Type 0 where
   pub is : length xs ≡ n
+
+-- the value that an error is about
+pub record E (n : ℕ) (o : Option Value) : Type 0 where
+  pub is : OptionWithin n o
+
+-- an error that is kept
+pub record K (n : ℕ) (o : Option KeptError) : Type 0 where
+  pub is : KeptWithin n o
 
 pub record KnownSetting (n : ℕ) (a : Setting) : Type 0 where
   pub is : SettingWithin n a
@@ -85,6 +93,19 @@ module _ (n : ℕ) where
 
   pub value_table : (x : ℕ) → KnownValue n (ATable x)
   value_table x = record { is = tt }
+
+  pub v_if : (b : Bool) (x y : Value) → KnownValue n x → KnownValue n y → KnownValue n (if b then x else y)
+  v_if true x y h g = h
+  v_if false x y h g = g
+
+  pub e_none : E n None
+  e_none = record { is = tt }
+
+  pub e_some : (v : Value) → KnownValue n v → E n (Some v)
+  e_some v h = record { is = h.is }
+
+  pub k_none : K n None
+  k_none = record { is = tt }
 
   pub variable_element : (id : ℕ) (k : ℤ) → KnownVariable n (Whole (Element id k))
   variable_element id k = record { is = tt }
@@ -322,11 +343,15 @@ module _ (n : ℕ) where
   pub of_locals : (a : Setting) → KnownSetting n a → KnownValues n a.locals
   of_locals a h = record { is = h.is.locals }
 
+  pub of_kept : (a : Setting) → KnownSetting n a → K n a.world.kept
+  of_kept a h = record { is = h.is.world.kept }
+
   pub setting : (a : Setting) → Lists n a.world.heap.lists → Sets n a.world.heap.sets → Tables n a.world.heap.tables → Records n a.world.heap.records
-      → Count n a.world.heap.coexps → KnownValues n a.world.globals → KnownValues n a.world.statics → KnownValues n a.locals → KnownSetting n a
-  setting a l s t r c g u v = record {
+      → Count n a.world.heap.coexps → KnownValues n a.world.globals → KnownValues n a.world.statics → K n a.world.kept → KnownValues n a.locals
+      → KnownSetting n a
+  setting a l s t r c g u k v = record {
     is = record {
-      world = record { heap = record { lists = l.is; sets = s.is; tables = t.is; records = r.is; count = c.is }; globals = g.is; statics = u.is };
+      world = record { heap = record { lists = l.is; sets = s.is; tables = t.is; records = r.is; count = c.is }; globals = g.is; statics = u.is; kept = k.is };
       locals = v.is;
     };
   }

@@ -7,7 +7,7 @@ use Rattle.icn_text.specs.declared.op.Op.{Op}
 use Rattle.icn_text.specs.declared.op.Op.TheVariants as Ops
 use Rattle.icn_text.specs.declared.func.Func.{Func}
 use Rattle.icn_text.specs.declared.func.Func.TheVariants as Funcs
-use Rattle.icn_value.specs.Values.{Value, ACoexp, Root, Global, Static, Local, Element, Field, Key, Keyword, KeywordVariable, Subject, Position, Random, Variable, Whole, Part, Item, Val, Var}
+use Rattle.icn_value.specs.Values.{Value, ACoexp, Root, Global, Static, Local, Element, Field, Key, Keyword, KeywordVariable, Subject, Position, Random, ErrorCount, Variable, Whole, Part, Item, Val, Var}
 use Rattle.icn_value.specs.Store.{Setting, Heap, Names, having_position, having_heap, list_at, table_at, record_at}
 use Rattle.icn_defs.specs.Conversions.{same, integer_of, place_of, held_text, ValueGroup, Textual, Listed, Collected, Tabled, Recorded, Filed, Activated, Single}
 use Rattle.icn_defs.specs.Rows.{Row, Outcome, Fails, Gives, Suspends, Error, Ends, Residual, TextBytes, VariableBytes, ListItems, SetMembers, TableValues, TableKeys, RecordFields, InputLines, UndoAssign, UndoExchange, UndoPosition, Counting, Sequence, Balanced, Found, Among, Mover, Neither, Left, Right, check, present, number_or_error, passing, thing_or_failure, natural, costs_made}
@@ -26,14 +26,14 @@ use Rattle.icn_defs.specs.Running.{text_values}
 use Rattle.law_stacks.proofs.CellLists.{some_injective}
 use Rattle.law_safe.specs.Within.{Each, ValueWithin, ItemWithin, PairWithin, ListWithin, SetWithin, TableWithin, RecordWithin, SettingWithin, WorldWithin, OutcomeWithin, CreatedWithin, RowsStayWithin}
 use Rattle.law_safe.proofs.EachEntry.{more_length, each_map}
-use Rattle.law_safe.proofs.GrowingKnowledge.{list_more, values_more, table_more, record_more}
-use Rattle.law_safe.proofs.RowValues.{KnownValue, KnownVariable, KnownItem, KnownValues, KnownPairs, KnownSetting, KnownResidual, KnownOutcome, value_null, value_integer, value_text, value_chars, value_file, value_record, value_list, value_set, value_table, variable_element, variable_field, variable_key, variable_part, item_val, item_var, values_nil, values_cons, values_append, values_set, values_take, values_drop, values_replicate, values_filter, values_after, values_with, values_or_null, values_member, values_members, values_left, values_right, values_sorted, pairs_sorted, values_pairs, value_at_index, value_got_there, value_key, value_numbered, pairs_stored, items_at, members_at, pairs_at, default_at, fields_at, lists_set, lists_more, sets_set, sets_more, tables_set, tables_more, records_set, records_more, of_lists, of_sets, of_tables, of_records, of_count, of_globals, of_statics, of_locals, setting}
+use Rattle.law_safe.proofs.GrowingKnowledge.{list_more, values_more, kept_more, table_more, record_more}
+use Rattle.law_safe.proofs.RowValues.{KnownValue, KnownVariable, KnownItem, KnownValues, KnownPairs, E, K, KnownSetting, KnownResidual, KnownOutcome, v_if, e_none, e_some, k_none, value_null, value_integer, value_text, value_chars, value_file, value_record, value_list, value_set, value_table, variable_element, variable_field, variable_key, variable_part, item_val, item_var, values_nil, values_cons, values_append, values_set, values_take, values_drop, values_replicate, values_filter, values_after, values_with, values_or_null, values_member, values_members, values_left, values_right, values_sorted, pairs_sorted, values_pairs, value_at_index, value_got_there, value_key, value_numbered, pairs_stored, items_at, members_at, pairs_at, default_at, fields_at, lists_set, lists_more, sets_set, sets_more, tables_set, tables_more, records_set, records_more, of_lists, of_sets, of_tables, of_records, of_count, of_globals, of_statics, of_kept, of_locals, setting}
 
 module _ (n : ℕ) where
   -- Ends
 
-  o_error : (k : ℕ) (v : Option Value) (s : Setting) → KnownOutcome n (Error k v s)
-  o_error k v s = record { is = tt }
+  o_error : (k : ℕ) (v : Option Value) (s : Setting) → E n v → KnownSetting n s → KnownOutcome n (Error k v s)
+  o_error k v s e h = record { is = (e.is, h.is) }
 
   o_ends : (k : ℕ) (s : Setting) → KnownOutcome n (Ends k s)
   o_ends k s = record { is = tt }
@@ -100,18 +100,20 @@ module _ (n : ℕ) where
 
   -- Words
 
-  w_check : (t : Bool) (k : ℕ) (v : Option Value) (next : Row) (a : Setting) → KnownOutcome n (next a) → KnownOutcome n (check t k v next a)
-  w_check true k v next a f = f
-  w_check false k v next a f = record { is = tt }
+  w_check : (t : Bool) (k : ℕ) (v : Option Value) (next : Row) (a : Setting) → E n v → KnownSetting n a → KnownOutcome n (next a)
+      → KnownOutcome n (check t k v next a)
+  w_check true k v next a e h f = f
+  w_check false k v next a e h f = record { is = (e.is, h.is) }
 
-  w_present : {A : Type 0} (o : Option A) (k : ℕ) (v : Option Value) (next : A → Row) (a : Setting) → ((x : A) → o ≡ Some x → KnownOutcome n (next x a))
-      → KnownOutcome n (present o k v next a)
-  w_present (Some x) k v next a f = f x refl
-  w_present None k v next a f = record { is = tt }
+  w_present : {A : Type 0} (o : Option A) (k : ℕ) (v : Option Value) (next : A → Row) (a : Setting) → E n v → KnownSetting n a
+      → ((x : A) → o ≡ Some x → KnownOutcome n (next x a)) → KnownOutcome n (present o k v next a)
+  w_present (Some x) k v next a e h f = f x refl
+  w_present None k v next a e h f = record { is = (e.is, h.is) }
 
-  w_computed : (o : Result ℤ Arith) (next : ℤ → Row) (a : Setting) → ((x : ℤ) → KnownOutcome n (next x a)) → KnownOutcome n (number_or_error o next a)
-  w_computed (Ok x) next a f = f x
-  w_computed (Err k) next a f = record { is = tt }
+  w_computed : (o : Result ℤ Arith) (next : ℤ → Row) (a : Setting) → KnownSetting n a → ((x : ℤ) → KnownOutcome n (next x a))
+      → KnownOutcome n (number_or_error o next a)
+  w_computed (Ok x) next a h f = f x
+  w_computed (Err k) next a h f = record { is = (tt, h.is) }
 
   w_passing : (t : Bool) (next : Row) (a : Setting) → KnownSetting n a → KnownOutcome n (next a) → KnownOutcome n (passing t next a)
   w_passing true next a h f = f
@@ -122,9 +124,10 @@ module _ (n : ℕ) where
   w_found (Some x) next a h f = f x refl
   w_found None next a h f = record { is = h.is }
 
-  w_natural : (k : ℤ) (v : Value) (next : ℕ → Row) (a : Setting) → ((x : ℕ) → KnownOutcome n (next x a)) → KnownOutcome n (natural k v next a)
-  w_natural (pos k) v next a f = f k
-  w_natural (negsuc k) v next a f = record { is = tt }
+  w_natural : (k : ℤ) (v : Value) (next : ℕ → Row) (a : Setting) → KnownValue n v → KnownSetting n a → ((x : ℕ) → KnownOutcome n (next x a))
+      → KnownOutcome n (natural k v next a)
+  w_natural (pos k) v next a g h f = f k
+  w_natural (negsuc k) v next a g h f = record { is = (g.is, h.is) }
 
 ruleset ends = (o_error, o_ends, o_gives, o_suspends, o_fails)
 
@@ -160,6 +163,10 @@ ruleset values = (
   value_at_index,
   value_got_there,
   value_key,
+  v_if,
+  e_none,
+  e_some,
+  k_none,
   variable_element,
   variable_field,
   variable_key,
@@ -211,6 +218,7 @@ ruleset settings = (
   of_count,
   of_globals,
   of_statics,
+  of_kept,
   of_locals,
 )
 
@@ -257,10 +265,11 @@ module _ (n : ℕ) where
   root_v a (Keyword Subject) v h e = same_v _ v (value_text n a.world.subject) e
   root_v a (Keyword Position) v h e = same_v _ v (value_integer n (pos a.world.position)) e
   root_v a (Keyword Random) v h e = same_v _ v (value_integer n (pos a.world.random)) e
+  root_v a (Keyword ErrorCount) v h e = same_v _ v (value_integer n a.world.error) e
 
   w_root : (root : Root) (next : Value → Row) (a : Setting) → KnownSetting n a → ((v : Value) → KnownValue n v → KnownOutcome n (next v a))
       → KnownOutcome n (reads_root root next a)
-  w_root root next a h f = w_present n (root_value a root) 205 None next a (λ v e. f v (root_v a root v h e))
+  w_root root next a h f = w_present n (root_value a root) 205 None next a (e_none n) h (λ v e. f v (root_v a root v h e))
 
   w_reads : (x : Variable) (next : Value → Row) (a : Setting) → KnownSetting n a → ((v : Value) → KnownValue n v → KnownOutcome n (next v a))
       → KnownOutcome n (reads x next a)
@@ -279,10 +288,10 @@ module _ (n : ℕ) where
   w_values (x ∷ xs) next a h i f = w_value x (λ v. the_values xs (λ vs. next (v ∷ vs))) a h (record { is = i.0 })
       (λ v g. w_values xs (λ vs. next (v ∷ vs)) a h i.1 (λ vs q. f (v ∷ vs) (values_cons n v vs g q)))
 
-  w_variable : (x : Item) (next : Variable → Row) (a : Setting) → KnownItem n x → ((y : Variable) → KnownVariable n y → KnownOutcome n (next y a))
-      → KnownOutcome n (the_variable x next a)
-  w_variable (Val v) next a i f = record { is = tt }
-  w_variable (Var x) next a i f = f x (record { is = i.is })
+  w_variable : (x : Item) (next : Variable → Row) (a : Setting) → KnownSetting n a → KnownItem n x
+      → ((y : Variable) → KnownVariable n y → KnownOutcome n (next y a)) → KnownOutcome n (the_variable x next a)
+  w_variable (Val v) next a h i f = record { is = (i.is, h.is) }
+  w_variable (Var x) next a h i f = f x (record { is = i.is })
 
   -- Assigning
 
@@ -291,23 +300,27 @@ module _ (n : ℕ) where
       → KnownOutcome n (stores id key value next a)
   w_stores id key value next a h g q f = search (words, w_unless, pairs_stored, f) depth 12
 
-  w_keyword : (refused : Row) (word : KeywordVariable) (value : Value) (next : Row) (a : Setting) → KnownSetting n a
-      → ((s : Setting) → KnownSetting n s → KnownOutcome n (refused s))
-      → ((s : Setting) → KnownSetting n s → KnownOutcome n (next s)) → KnownOutcome n (assigns_keyword refused word value next a)
-  w_keyword refused Subject value next a h r f = search (words, w_made, f)
-  w_keyword refused Position value next a h r f = by_number (integer_of value) refl
+  w_keyword : (refused : Row) (word : KeywordVariable) (value : Value) (next : Row) (a : Setting) → KnownSetting n a → KnownValue n value
+      → ((s : Setting) → KnownSetting n s → KnownOutcome n (refused s)) → ((s : Setting) → KnownSetting n s → KnownOutcome n (next s))
+      → KnownOutcome n (assigns_keyword refused word value next a)
+  w_keyword refused Subject value next a h z r f = search (words, w_made, f)
+  w_keyword refused Position value next a h z r f = by_number (integer_of value) refl
     where
       by_place : (k : ℤ) → integer_of value ≡ Some k → (o : Option ℕ) → place_of k (length a.world.subject) ≡ o
           → KnownOutcome n (assigns_keyword refused Position value next a)
       by_place k e None g = rw e (rw g (r a h))
       by_place k e (Some place) g = rw e (rw g (f (having_position place a) (record {
-        is = record { world = record { heap = h.is.world.heap; globals = h.is.world.globals; statics = h.is.world.statics }; locals = h.is.locals };
+        is = record {
+          world = record { heap = h.is.world.heap; globals = h.is.world.globals; statics = h.is.world.statics; kept = h.is.world.kept };
+          locals = h.is.locals;
+        };
       })))
 
       by_number : (o : Option ℤ) → integer_of value ≡ o → KnownOutcome n (assigns_keyword refused Position value next a)
-      by_number None e = rw e (record { is = tt })
+      by_number None e = rw e (record { is = (z.is, h.is) })
       by_number (Some k) e = by_place k e (place_of k (length a.world.subject)) refl
-  w_keyword refused Random value next a h r f = search (words, f)
+  w_keyword refused Random value next a h z r f = search (words, f)
+  w_keyword refused ErrorCount value next a h z r f = search (words, f)
 
   w_assigns_root : (refused : Row) (root : Root) (value : Value) (next : Row) (a : Setting) → KnownSetting n a → KnownVariable n (Whole root)
       → KnownValue n value
@@ -319,7 +332,7 @@ module _ (n : ℕ) where
   w_assigns_root refused (Element id number) value next a h x g r f = search (words, f) depth 12
   w_assigns_root refused (Field id place) value next a h x g r f = search (words, f)
   w_assigns_root refused (Key table key) value next a h x g r f = w_stores table key value next a h (record { is = x.is }) g f
-  w_assigns_root refused (Keyword word) value next a h x g r f = w_keyword refused word value next a h r f
+  w_assigns_root refused (Keyword word) value next a h x g r f = w_keyword refused word value next a h g r f
 
   w_assigns : (refused : Row) (x : Variable) (value : Value) (next : Variable → Row) (a : Setting) → KnownSetting n a → KnownVariable n x → KnownValue n value
       → ((s : Setting) → KnownSetting n s → KnownOutcome n (refused s))
@@ -330,26 +343,26 @@ module _ (n : ℕ) where
       let part : (c d : ℕ) → KnownVariable n (Part root c d) = λ c d. record { is = x.is } in
       search (words, w_made, w_root, w_assigns_root, part, r, f) depth 14
 
-  w_moved : (old new : ℕ) (x : Variable) (next : Variable → Row) (a : Setting) → KnownVariable n x
+  w_moved : (old new : ℕ) (x : Variable) (next : Variable → Row) (a : Setting) → KnownSetting n a → KnownVariable n x
       → ((y : Variable) → KnownVariable n y → KnownOutcome n (next y a))
       → KnownOutcome n (move_part old new x next a)
-  w_moved old new (Whole root) next a x f = f (Whole root) x
-  w_moved old new (Part root place size) next a x f =
+  w_moved old new (Whole root) next a z x f = f (Whole root) x
+  w_moved old new (Part root place size) next a z x f =
       let part : (c d : ℕ) → KnownVariable n (Part root c d) = λ c d. record { is = x.is } in search (words, part, f)
 
-  w_moved_left : (m : Mover) (old new : ℕ) (x : Variable) (next : Variable → Row) (a : Setting) → KnownVariable n x
+  w_moved_left : (m : Mover) (old new : ℕ) (x : Variable) (next : Variable → Row) (a : Setting) → KnownSetting n a → KnownVariable n x
       → ((y : Variable) → KnownVariable n y → KnownOutcome n (next y a))
       → KnownOutcome n (moved_by_left m old new x next a)
-  w_moved_left Neither old new x next a h f = f x h
-  w_moved_left Left old new x next a h f = w_moved old new x next a h f
-  w_moved_left Right old new x next a h f = f x h
+  w_moved_left Neither old new x next a z h f = f x h
+  w_moved_left Left old new x next a z h f = w_moved old new x next a z h f
+  w_moved_left Right old new x next a z h f = f x h
 
-  w_moved_right : (m : Mover) (old new : ℕ) (x : Variable) (next : Variable → Row) (a : Setting) → KnownVariable n x
+  w_moved_right : (m : Mover) (old new : ℕ) (x : Variable) (next : Variable → Row) (a : Setting) → KnownSetting n a → KnownVariable n x
       → ((y : Variable) → KnownVariable n y → KnownOutcome n (next y a))
       → KnownOutcome n (moved_by_right m old new x next a)
-  w_moved_right Neither old new x next a h f = f x h
-  w_moved_right Left old new x next a h f = f x h
-  w_moved_right Right old new x next a h f = w_moved old new x next a h f
+  w_moved_right Neither old new x next a z h f = f x h
+  w_moved_right Left old new x next a z h f = f x h
+  w_moved_right Right old new x next a z h f = w_moved old new x next a z h f
 
   w_both : (refused : Row) (m : Mover) (x y : Variable) (v w : Value) (next : Variable × Variable → Row) (a : Setting) → KnownSetting n a → KnownVariable n x
       → KnownVariable n y → KnownValue n v → KnownValue n w
@@ -357,8 +370,8 @@ module _ (n : ℕ) where
       → ((p : Variable × Variable) (s : Setting) → KnownVariable n p.0 → KnownVariable n p.1 → KnownSetting n s → KnownOutcome n (next p s))
       → KnownOutcome n (assigns_both refused m x y v w next a)
   w_both refused m x y v w next a h gx gy gv gw r f =
-      w_assigns refused x v _ a h gx gv r (λ now s q z. w_moved_left m _ _ y _ s gy
-      (λ y' q'. w_assigns refused y' w _ s z q' gw r (λ now' s' u z'. w_moved_right m _ _ now _ s' q (λ x' u'. f (x', now') s' u' u z'))))
+      w_assigns refused x v _ a h gx gv r (λ now s q z. w_moved_left m _ _ y _ s z gy
+      (λ y' q'. w_assigns refused y' w _ s z q' gw r (λ now' s' u z'. w_moved_right m _ _ now _ s' z' q (λ x' u'. f (x', now') s' u' u z'))))
 
 ruleset changes = (words, w_made, w_unless, w_reads, w_value, w_variable, w_stores, pairs_stored)
 
@@ -370,9 +383,10 @@ module _ (n : ℕ) where
   w_count last step (Some k) a h = search words
 
   w_sets : (f : List Value → List Value → List Value) (g : Bool → Bool → Bool) (v w : Value) (o : Option (ℕ × ℕ)) (a : Setting) → KnownSetting n a
+      → KnownValue n v → KnownValue n w
       → ((xs ys : List Value) → KnownValues n xs → KnownValues n ys → KnownValues n (f xs ys)) → KnownOutcome n (sets_or_csets f g v w o a)
-  w_sets f g v w (Some ids) a h q = search (words, q) depth 12
-  w_sets f g v w None a h q = search words
+  w_sets f g v w (Some ids) a h gv gw q = search (words, q) depth 12
+  w_sets f g v w None a h gv gw q = search words
 
   -- the part of a text, or of the variable that holds it
   i_part_of : (x : Variable) (o : Option (List ℕ)) (text : List ℕ) (c d : ℕ) → KnownVariable n x → KnownItem n (part_item (option_map (λ t. x) o) text c d)
@@ -393,55 +407,55 @@ module _ (n : ℕ) where
   w_text_elements (Val u) v text a h i = search (words, w_made) depth 12
   w_text_elements (Var x) v text a h i = w_text_of x (held_text v) v text a h (record { is = i.is })
 
-  w_elements : (x : Item) (v : Value) (g : ValueGroup) (a : Setting) → KnownSetting n a → KnownItem n x → KnownOutcome n (elements_of x v g a)
-  w_elements x v (Textual text) a h i = w_text_elements x v text a h i
-  w_elements x v (Listed id) a h i = search words depth 12
-  w_elements x v (Collected id) a h i = search words depth 12
-  w_elements x v (Tabled id) a h i = search words depth 12
-  w_elements x v (Recorded id) a h i = search words depth 12
-  w_elements x v (Filed file) a h i = search words depth 12
-  w_elements x v (Activated id) a h i = search words depth 12
-  w_elements x v Single a h i = search words depth 12
+  w_elements : (x : Item) (v : Value) (g : ValueGroup) (a : Setting) → KnownSetting n a → KnownItem n x → KnownValue n v → KnownOutcome n (elements_of x v g a)
+  w_elements x v (Textual text) a h i gv = w_text_elements x v text a h i
+  w_elements x v (Listed id) a h i gv = search words depth 12
+  w_elements x v (Collected id) a h i gv = search words depth 12
+  w_elements x v (Tabled id) a h i gv = search words depth 12
+  w_elements x v (Recorded id) a h i gv = search words depth 12
+  w_elements x v (Filed file) a h i gv = search words depth 12
+  w_elements x v (Activated id) a h i gv = search words depth 12
+  w_elements x v Single a h i gv = search words depth 12
 
-  w_random_of : (x : Item) (v : Value) (g : ValueGroup) (a : Setting) → KnownSetting n a → KnownItem n x → KnownOutcome n (random_of x v g a)
-  w_random_of x v (Textual text) a h i = search (words, w_made, i_part) depth 12
-  w_random_of x v (Listed id) a h i = search words depth 12
-  w_random_of x v (Collected id) a h i = search words depth 12
-  w_random_of x v (Tabled id) a h i = search words depth 12
-  w_random_of x v (Recorded id) a h i = search words depth 12
-  w_random_of x v (Filed file) a h i = search words depth 12
-  w_random_of x v (Activated id) a h i = search words depth 12
-  w_random_of x v Single a h i = search words depth 12
+  w_random_of : (x : Item) (v : Value) (g : ValueGroup) (a : Setting) → KnownSetting n a → KnownItem n x → KnownValue n v → KnownOutcome n (random_of x v g a)
+  w_random_of x v (Textual text) a h i gv = search (words, w_made, i_part) depth 12
+  w_random_of x v (Listed id) a h i gv = search words depth 12
+  w_random_of x v (Collected id) a h i gv = search words depth 12
+  w_random_of x v (Tabled id) a h i gv = search words depth 12
+  w_random_of x v (Recorded id) a h i gv = search words depth 12
+  w_random_of x v (Filed file) a h i gv = search words depth 12
+  w_random_of x v (Activated id) a h i gv = search words depth 12
+  w_random_of x v Single a h i gv = search words depth 12
 
-  w_random_number : (v : Value) (k : ℤ) (a : Setting) → KnownSetting n a → KnownOutcome n (random_number v k a)
-  w_random_number v (pos k) a h = search words depth 12
-  w_random_number v (negsuc k) a h = record { is = tt }
+  w_random_number : (v : Value) (k : ℤ) (a : Setting) → KnownSetting n a → KnownValue n v → KnownOutcome n (random_number v k a)
+  w_random_number v (pos k) a h gv = search words depth 12
+  w_random_number v (negsuc k) a h gv = record { is = (gv.is, h.is) }
 
-  w_random_by : (x : Item) (v : Value) (o : Option ℤ) (a : Setting) → KnownSetting n a → KnownItem n x → KnownOutcome n (random_by x v o a)
-  w_random_by x v (Some k) a h i = w_random_number v k a h
-  w_random_by x v None a h i = search w_random_of
+  w_random_by : (x : Item) (v : Value) (o : Option ℤ) (a : Setting) → KnownSetting n a → KnownItem n x → KnownValue n v → KnownOutcome n (random_by x v o a)
+  w_random_by x v (Some k) a h i gv = w_random_number v k a h gv
+  w_random_by x v None a h i gv = search w_random_of
 
-  w_subscript : (x : Item) (v w : Value) (g : ValueGroup) (a : Setting) → KnownSetting n a → KnownItem n x → KnownValue n w
+  w_subscript : (x : Item) (v w : Value) (g : ValueGroup) (a : Setting) → KnownSetting n a → KnownItem n x → KnownValue n v → KnownValue n w
       → KnownOutcome n (subscript_of x v w g a)
-  w_subscript x v w (Textual text) a h i q = search (words, w_made, i_part) depth 12
-  w_subscript x v w (Listed id) a h i q = search words depth 12
-  w_subscript x v w (Collected id) a h i q = search words depth 12
-  w_subscript x v w (Tabled id) a h i q = search words depth 12
-  w_subscript x v w (Recorded id) a h i q = search words depth 12
-  w_subscript x v w (Filed file) a h i q = search words depth 12
-  w_subscript x v w (Activated id) a h i q = search words depth 12
-  w_subscript x v w Single a h i q = search words depth 12
+  w_subscript x v w (Textual text) a h i gv q = search (words, w_made, i_part) depth 12
+  w_subscript x v w (Listed id) a h i gv q = search words depth 12
+  w_subscript x v w (Collected id) a h i gv q = search words depth 12
+  w_subscript x v w (Tabled id) a h i gv q = search words depth 12
+  w_subscript x v w (Recorded id) a h i gv q = search words depth 12
+  w_subscript x v w (Filed file) a h i gv q = search words depth 12
+  w_subscript x v w (Activated id) a h i gv q = search words depth 12
+  w_subscript x v w Single a h i gv q = search words depth 12
 
-  w_section : (f : ℤ → ℤ → Result ℤ Arith) (x : Item) (v u w : Value) (g : ValueGroup) (a : Setting) → KnownSetting n a → KnownItem n x
-      → KnownOutcome n (section_of f x v u w g a)
-  w_section f x v u w (Textual text) a h i = search (words, w_made, i_part) depth 14
-  w_section f x v u w (Listed id) a h i = search words depth 14
-  w_section f x v u w (Collected id) a h i = search words depth 12
-  w_section f x v u w (Tabled id) a h i = search words depth 12
-  w_section f x v u w (Recorded id) a h i = search words depth 12
-  w_section f x v u w (Filed file) a h i = search words depth 12
-  w_section f x v u w (Activated id) a h i = search words depth 12
-  w_section f x v u w Single a h i = search words depth 12
+  w_section : (f : ℤ → ℤ → Result ℤ Arith) (x : Item) (v u w : Value) (g : ValueGroup) (a : Setting) → KnownSetting n a → KnownItem n x → KnownValue n v
+      → KnownValue n u → KnownValue n w → KnownOutcome n (section_of f x v u w g a)
+  w_section f x v u w (Textual text) a h i gv gu gw = search (words, w_made, i_part) depth 14
+  w_section f x v u w (Listed id) a h i gv gu gw = search words depth 14
+  w_section f x v u w (Collected id) a h i gv gu gw = search words depth 12
+  w_section f x v u w (Tabled id) a h i gv gu gw = search words depth 12
+  w_section f x v u w (Recorded id) a h i gv gu gw = search words depth 12
+  w_section f x v u w (Filed file) a h i gv gu gw = search words depth 12
+  w_section f x v u w (Activated id) a h i gv gu gw = search words depth 12
+  w_section f x v u w Single a h i gv gu gw = search words depth 12
 
   w_copy : (v : Value) (g : ValueGroup) (a : Setting) → KnownSetting n a → KnownValue n v → KnownOutcome n (copy_of v g a)
   w_copy v (Textual text) a h q = search words depth 12
@@ -453,9 +467,9 @@ module _ (n : ℕ) where
   w_copy v (Activated id) a h q = search words depth 12
   w_copy v Single a h q = search words depth 12
 
-  w_new_set : (v : Value) (o : Option ℕ) (a : Setting) → KnownSetting n a → KnownOutcome n (new_set_by v o a)
-  w_new_set v (Some id) a h = search words depth 12
-  w_new_set v None a h = search words depth 12
+  w_new_set : (v : Value) (o : Option ℕ) (a : Setting) → KnownSetting n a → KnownValue n v → KnownOutcome n (new_set_by v o a)
+  w_new_set v (Some id) a h gv = search words depth 12
+  w_new_set v None a h gv = search words depth 12
 
   w_inserts : (c : Keeper) (x y : Value) (next : Row) (a : Setting) → KnownSetting n a → KnownValue n x → KnownValue n y
       → ((s : Setting) → KnownSetting n s → KnownOutcome n (next s))
@@ -487,29 +501,34 @@ module _ (n : ℕ) where
       let others : KnownPairs n ps = record { is = g.is.1 } in
       search (words, w_pairs ps, f) depth 14
 
-  w_pieces : (vs : List Value) (next : List WriteArgument → Row) (a : Setting) → ((ps : List WriteArgument) → KnownOutcome n (next ps a))
-      → KnownOutcome n (pieces vs next a)
-  w_pieces [] next a f = f []
-  w_pieces (v ∷ vs) next a f = search (w_check, w_present, w_pieces vs, f)
+  w_pieces : (vs : List Value) (next : List WriteArgument → Row) (a : Setting) → KnownSetting n a → KnownValues n vs
+      → ((ps : List WriteArgument) → KnownOutcome n (next ps a)) → KnownOutcome n (pieces vs next a)
+  w_pieces [] next a h g f = f []
+  w_pieces (v ∷ vs) next a h g f =
+      let first : KnownValue n v = record { is = g.is.0 } in
+      let others : KnownValues n vs = record { is = g.is.1 } in
+      search (w_check, w_present, e_some, w_pieces vs, f)
 
 module _ (n : ℕ) where
   w_table_sorted : (names : Names) (heap : Heap) (ps : List (Value × Value)) (k : ℤ) (v : Value) (a : Setting) → KnownSetting n a → KnownPairs n ps
+      → KnownValue n v
       → KnownOutcome n (table_sorted names heap ps k v a)
-  w_table_sorted names heap ps (pos (suc zero)) v a h g = search (words, w_pairs) depth 12
-  w_table_sorted names heap ps (pos (suc (suc zero))) v a h g = search (words, w_pairs) depth 12
-  w_table_sorted names heap ps (pos (suc (suc (suc zero)))) v a h g = search words depth 12
-  w_table_sorted names heap ps (pos (suc (suc (suc (suc zero))))) v a h g = search words depth 12
-  w_table_sorted names heap ps k v a h g = record { is = tt }
+  w_table_sorted names heap ps (pos (suc zero)) v a h g gv = search (words, w_pairs) depth 12
+  w_table_sorted names heap ps (pos (suc (suc zero))) v a h g gv = search (words, w_pairs) depth 12
+  w_table_sorted names heap ps (pos (suc (suc (suc zero)))) v a h g gv = search words depth 12
+  w_table_sorted names heap ps (pos (suc (suc (suc (suc zero))))) v a h g gv = search words depth 12
+  w_table_sorted names heap ps k v a h g gv = record { is = (gv.is, h.is) }
 
-  w_sorted : (names : Names) (v : Value) (k : ℤ) (w : Value) (g : ValueGroup) (a : Setting) → KnownSetting n a → KnownOutcome n (sorted_of names v k w g a)
-  w_sorted names v k w (Textual text) a h = search words depth 12
-  w_sorted names v k w (Listed id) a h = search words depth 12
-  w_sorted names v k w (Collected id) a h = search words depth 12
-  w_sorted names v k w (Tabled id) a h = search (words, w_table_sorted) depth 12
-  w_sorted names v k w (Recorded id) a h = search words depth 12
-  w_sorted names v k w (Filed file) a h = search words depth 12
-  w_sorted names v k w (Activated id) a h = search words depth 12
-  w_sorted names v k w Single a h = search words depth 12
+  w_sorted : (names : Names) (v : Value) (k : ℤ) (w : Value) (g : ValueGroup) (a : Setting) → KnownSetting n a → KnownValue n v → KnownValue n w
+      → KnownOutcome n (sorted_of names v k w g a)
+  w_sorted names v k w (Textual text) a h gv gw = search words depth 12
+  w_sorted names v k w (Listed id) a h gv gw = search words depth 12
+  w_sorted names v k w (Collected id) a h gv gw = search words depth 12
+  w_sorted names v k w (Tabled id) a h gv gw = search (words, w_table_sorted) depth 12
+  w_sorted names v k w (Recorded id) a h gv gw = search words depth 12
+  w_sorted names v k w (Filed file) a h gv gw = search words depth 12
+  w_sorted names v k w (Activated id) a h gv gw = search words depth 12
+  w_sorted names v k w Single a h gv gw = search words depth 12
 
 ruleset rows = (
   changes,
@@ -631,6 +650,7 @@ module _ (n : ℕ) where
   w_function names Funcs.Upto vs a h g = search rows depth 16
   w_function names Funcs.Write vs a h g = search rows depth 16
   w_function names Funcs.Writes vs a h g = search rows depth 16
+  w_function names Funcs.ErrorClear vs a h g = search rows depth 16
 
   w_again : (r : Residual) (a : Setting) → KnownSetting n a → KnownResidual n r → KnownOutcome n (again r a)
   w_again (TextBytes text place) a h g = search rows depth 16
@@ -674,8 +694,8 @@ module _ (n : ℕ) where
   w_record : (kind : ℕ) (vs : List Value) (a : Setting) → KnownSetting n a → KnownValues n vs → KnownOutcome n (record_row kind vs a)
   w_record kind vs a h g = search rows depth 12
 
-  w_text : (v : Value) (a : Setting) → KnownSetting n a → KnownOutcome n (text_row v a)
-  w_text v a h = search rows depth 12
+  w_text : (v : Value) (a : Setting) → KnownSetting n a → KnownValue n v → KnownOutcome n (text_row v a)
+  w_text v a h gv = search rows depth 12
 
   w_words : (words : List (List ℕ)) (a : Setting) → KnownSetting n a → KnownOutcome n (words_row words a)
   w_words words a h = search (rows, vs_texts) depth 14
@@ -684,13 +704,14 @@ module _ (n : ℕ) where
   record Created (before : Setting) (o : Outcome) : Type 0 where
     is : CreatedWithin n before o
 
-  created_check : (before : Setting) (t : Bool) (k : ℕ) (v : Option Value) (next : Row) (a : Setting) → Created before (next a)
-      → Created before (check t k v next a)
-  created_check before true k v next a f = f
-  created_check before false k v next a f = record { is = tt }
+  created_check : (before : Setting) (t : Bool) (k : ℕ) (v : Option Value) (next : Row) (a : Setting) → CreatedWithin n before (Error k v a)
+      → Created before (next a) → Created before (check t k v next a)
+  created_check before true k v next a e f = f
+  created_check before false k v next a e f = record { is = e }
 
   w_created : (locals : ℕ) (a : Setting) → KnownSetting n a → Created a (coexpression_row locals a)
-  w_created locals a h = let done : Created a (Gives (Val (ACoexp (length a.world.heap.coexps))) after) = record { is = made } in search (created_check, done)
+  w_created locals a h = let done : Created a (Gives (Val (ACoexp (length a.world.heap.coexps))) after) = record { is = made } in
+      let refused : CreatedWithin n a (Error 307 None a) = (tt, h.is.world, refl) in search (created_check, refused, done)
     where
       l : n ≤ suc n
       l = omega arith
@@ -707,6 +728,7 @@ module _ (n : ℕ) where
         };
         globals = values_more n (suc n) l a.world.globals h.is.world.globals;
         statics = values_more n (suc n) l a.world.statics h.is.world.statics;
+        kept = kept_more n (suc n) l a.world.kept h.is.world.kept;
       }
 
       after : Setting
@@ -730,7 +752,7 @@ rows_stay_within = record {
   applied = applied_within;
   listed = λ n vs at h g. (w_list n vs at (record { is = h }) (record { is = g })).is;
   recorded = λ n kind vs at h g. (w_record n kind vs at (record { is = h }) (record { is = g })).is;
-  scanned = λ n v at h. (w_text n v at (record { is = h })).is;
+  scanned = λ n v at h g. (w_text n v at (record { is = h }) (record { is = g })).is;
   worded = λ n words at h. (w_words n words at (record { is = h })).is;
   created = λ n locals at h. (w_created n locals at (record { is = h })).is;
   resumed = λ n r at h g. (w_again n r at (record { is = h }) (record { is = g })).is;

@@ -1,8 +1,8 @@
 -- Values that name no co-expression but one that is there: the first of them are so many.
-use Rattle.std.specs.Prelude.{◌≡◌, ℕ, suc, ◌<◌, List, [], ◌∷◌, length}
+use Rattle.std.specs.Prelude.{◌≡◌, ℕ, suc, ◌<◌, List, [], ◌∷◌, length, Option, None, Some}
 use Rattle.icn_structs.specs.Numbered.{NumberedList}
 use Rattle.icn_value.specs.Values.{Value, ACoexp, Root, Key, Variable, Whole, Part, Item, Val, Var}
-use Rattle.icn_value.specs.Store.{Table, Record, Heap, World, Setting, Names}
+use Rattle.icn_value.specs.Store.{Table, Record, Heap, KeptError, World, Setting, Names}
 use Rattle.icn_defs.specs.Rows.{Residual, VariableBytes, UndoAssign, UndoExchange, Outcome, Fails, Gives, Suspends, Error, Ends}
 use Rattle.icn_defs.specs.Applying.{again}
 use Rattle.icn_defs.specs.StepRows.{OperationOrFunction, apply, list_row, record_row, text_row, coexpression_row}
@@ -16,6 +16,15 @@ Each Q (x ∷ xs) = Q x × Each Q xs
 abbrev pub ValueWithin : ℕ → Value → Type 0
 ValueWithin n (ACoexp k) = k < n
 ValueWithin n value = Unit {0}
+
+abbrev pub OptionWithin : ℕ → Option Value → Type 0
+OptionWithin n None = Unit {0}
+OptionWithin n (Some value) = ValueWithin n value
+
+-- the value that an error that is kept is about, if any
+abbrev pub KeptWithin : ℕ → Option KeptError → Type 0
+KeptWithin n None = Unit {0}
+KeptWithin n (Some error) = OptionWithin n error.value
 
 abbrev pub RootWithin : ℕ → Root → Type 0
 RootWithin n (Key table key) = ValueWithin n key
@@ -56,6 +65,7 @@ pub record WorldWithin (n : ℕ) (world : World) : Type 0 where
   pub heap : HeapWithin n world.heap
   pub globals : Each (ValueWithin n) world.globals
   pub statics : Each (ValueWithin n) world.statics
+  pub kept : KeptWithin n world.kept
 
 pub record SettingWithin (n : ℕ) (setting : Setting) : Type 0 where
   pub world : WorldWithin n setting.world
@@ -73,14 +83,15 @@ OutcomeWithin n (Fails seen) = SettingWithin n seen
 OutcomeWithin n (Gives item seen) = ItemWithin n item × SettingWithin n seen
 OutcomeWithin n (Suspends item residual seen) =
     ItemWithin n item × ResidualWithin n residual × SettingWithin n seen
-OutcomeWithin n (Error number value seen) = Unit {0}
+OutcomeWithin n (Error number value seen) = OptionWithin n value × SettingWithin n seen
 OutcomeWithin n (Ends status seen) = Unit {0}
 
--- one more co-expression was made, and nothing else changed of what values stand in
+-- one more co-expression was made, and nothing else changed of what values stand in; an error makes none
 abbrev pub CreatedWithin : ℕ → Setting → Outcome → Type 0
 CreatedWithin n before (Gives (Val value) seen) =
     (value ≡ ACoexp n) × WorldWithin (suc n) seen.world × (seen.locals ≡ before.locals)
-CreatedWithin n before (Error number value seen) = Unit {0}
+CreatedWithin n before (Error number value seen) =
+    OptionWithin n value × WorldWithin n seen.world × (seen.locals ≡ before.locals)
 CreatedWithin n before outcome = ⊥
 
 -- rows make no others
@@ -91,7 +102,7 @@ pub record RowsStayWithin : Type 0 where
       → OutcomeWithin n (list_row values at)
   pub recorded : (n kind : ℕ) (values : List Value) (at : Setting) → SettingWithin n at
       → Each (ValueWithin n) values → OutcomeWithin n (record_row kind values at)
-  pub scanned : (n : ℕ) (value : Value) (at : Setting) → SettingWithin n at
+  pub scanned : (n : ℕ) (value : Value) (at : Setting) → SettingWithin n at → ValueWithin n value
       → OutcomeWithin n (text_row value at)
   pub worded : (n : ℕ) (words : List (List ℕ)) (at : Setting) → SettingWithin n at
       → OutcomeWithin n (words_row words at)

@@ -91,9 +91,9 @@ module _ (G : Ground) where
       → OfChoices G.L first r s z o →
       Reaches G (MX.refresh v a k r st)
       (S.refresh (machine G) v (linked_of (chain xs s z o) p st) (store_of st ls))
-  on_refreshed {r = r'} (V.ACoexp zero) p st ls live e k r = errors_agree G r' 215 (Some (V.ACoexp zero)) st ls
+  on_refreshed {xs = xs} (V.ACoexp zero) p st ls live e k r = errors_agree G p xs 215 (Some (V.ACoexp zero)) st ls live r
   on_refreshed (V.ACoexp (suc n)) p st ls live e k r = refreshed_by p st ls live e (made_at live.1 n) k r
-  on_refreshed {r = r'} v p st ls live e k r = errors_agree G r' 118 (Some v) st ls
+  on_refreshed {xs = xs} v p st ls live e k r = errors_agree G p xs 118 (Some v) st ls live r
 
   -- an activation
   on_sent : {first : Bool} {k : Works} {r : Choices} {xs : List Item} {s : Suspensions} {z : List ℕ}
@@ -134,7 +134,7 @@ module _ (G : Ground) where
       (S.activation (machine G) v to (linked_of (chain xs s z o) p st) (store_of st ls))
   on_activate v (V.ACoexp c) p st ls live k r =
       sent_by (c == st.active) (S.is_main c) v c p st ls live (coexpression_at G live.1 c).status k r
-  on_activate {r = r'} v to p st ls live k r = errors_agree G r' 118 (Some to) st ls
+  on_activate {xs = xs} v to p st ls live k r = errors_agree G p xs 118 (Some to) st ls live r
 
   -- A procedure is called
 
@@ -214,7 +214,7 @@ module _ (G : Ground) where
       → OfChoices G.L first r s z o →
       Reaches G (MC.call_if b n routine vs (suc (level_in o)) a k r st)
       (S.called_if (machine G) b n entry vs (linked_of (chain xs s z o) p st) (store_of st ls))
-  call_by {r = r'} false n routine entry vs p st ls live e ep ec el stands k r = errors_agree G r' 301 None st ls
+  call_by {xs = xs} false n routine entry vs p st ls live e ep ec el stands k r = errors_agree G p xs 301 None st ls live r
   call_by {k = k'} {r = r'} {a = a} {xs = xs} {s = s} {z = z} {o = o} true n routine entry vs p st ls live e
       ep ec el stands k r =
       subst (λ b. Reaches G (MC.collect routine.collects n routine vs (suc (level_in o)) a k' r' st)
@@ -268,7 +268,7 @@ module _ (G : Ground) where
       (S.callee_called (machine G) (S.IsFunc f) n items (linked_of (chain xs s z o) p st) (store_of st ls)))
       (sym (same_activation G v)) (on_answer G
       (apply st.names (Function f) items (MT.setting_in (activation_in o) st)) st ls live k r)
-  on_callee {r = r'} n items p st ls live o_nothing v k r = errors_agree G r' 106 (Some (V.Procedure n)) st ls
+  on_callee {xs = xs} n items p st ls live o_nothing v k r = errors_agree G p xs 106 (Some (V.Procedure n)) st ls live r
 
   on_chosen : {first : Bool} {k : Works} {r : Choices} {xs : List Item} {s : Suspensions} {z : List ℕ}
       {o : Outer} (x : Option Item) (p : ℕ) (st : M.Store) (ls : List (S.Coexp WaitingChain))
@@ -290,7 +290,7 @@ module _ (G : Ground) where
       (S.pushed_or_fails (machine G) x (linked_of (chain xs s z o) p st) (store_of st ls)))
       (same_argument (place_of i (length items)) items)
       (on_chosen (MC.argument_at (place_of i (length items)) items) p st ls live k r)
-  on_choose {r = r'} None v items p st ls live k r = errors_agree G r' 106 (Some v) st ls
+  on_choose {xs = xs} None v items p st ls live k r = errors_agree G p xs 106 (Some v) st ls live r
 
   on_invoke : {first : Bool} {n' : Nest} {v : Surroundings} {k : Works} {r : Choices} {xs : List Item}
       {s : Suspensions} {z : List ℕ} {o : Outer} (f : Value) (items : List Item) (p : ℕ) (st : M.Store)
@@ -318,7 +318,7 @@ module _ (G : Ground) where
       subst (λ items. Reaches G (MC.invoke G.L.program f (MC.items vs) v' k' r' st)
       (S.invoke_value (machine G) (code_of G) f items (linked_of (chain xs s z o) p st) (store_of st ls)))
       (same_items vs) (on_invoke f (MC.items vs) p st ls live v k r)
-  on_spread {r = r'} f from p st ls live v k r = errors_agree G r' 126 (Some from) st ls
+  on_spread {xs = xs} f from p st ls live v k r = errors_agree G p xs 126 (Some from) st ls live r
 
   -- The operands that an instruction takes
 
@@ -401,7 +401,7 @@ module _ (G : Ground) where
       Reaches G (MC.field_at place x k r st)
       (S.field_taken (machine G) place x (linked_of (chain xs s z o) p st) (store_of st ls))
   on_field_at (Some n) x p st ls live k r = reached_already G (at_succeed live.0 live.1 k r)
-  on_field_at {r = r'} None x p st ls live k r = errors_agree G r' 207 (Some (V.ARecord x)) st ls
+  on_field_at {xs = xs} None x p st ls live k r = errors_agree G p xs 207 (Some (V.ARecord x)) st ls live r
 
   on_take : {first : Bool} {k : Works} {r : Choices} {xs : List Item} {s : Suspensions} {z : List ℕ}
       {o : Outer} (name : List ℕ) (field : ℕ) (x : Value) (p : ℕ) (st : M.Store)
@@ -416,7 +416,7 @@ module _ (G : Ground) where
       subst (λ place. Reaches G (MC.take_field G.L.program name (V.ARecord x) k' r' st)
       (S.field_taken (machine G) place x (linked_of (chain xs s z o) p st) (store_of st ls))) (e kind)
       (on_field_at (MP.index_of name (MC.fields_in (slice_get G.L.program.kinds kind))) x p st ls live k r)
-  on_take {r = r'} name field x p st ls e live k r = errors_agree G r' 107 (Some x) st ls
+  on_take {xs = xs} name field x p st ls e live k r = errors_agree G p xs 107 (Some x) st ls live r
 
   on_taking : {first : Bool} {n' : Nest} {v : Surroundings} {k : Works} {r : Choices} {xs : List Item}
       {s : Suspensions} {z : List ℕ} {o : Outer} (name : List ℕ) (field : ℕ) (items : List Item) (p : ℕ)

@@ -115,7 +115,7 @@ module _ (G : Ground) where
       Reaches G (MC.call_if b n routine vs 1 zero Nothing NoChoice st)
       (S.begun_if (machine G) b n entry vs (linked_of (chain [] none [] (base 0 0)) 0 st)
       (store_of st ls))
-  main_call false n routine entry vs st ls live c = errors_agree G NoChoice 301 None st ls
+  main_call false n routine entry vs st ls live c = errors_agree G 0 [] 301 None st ls live (r_end refl)
   main_call true n routine entry vs st ls live (o_routine ep ec el stands) =
       subst (λ b. Reaches G (MC.collect routine.collects n routine vs 1 zero Nothing NoChoice st)
       (S.collect_rest (machine G) b entry.parameters vs (linked_of (chain [] none [] (base 0 0)) 0 st)
@@ -130,7 +130,7 @@ module _ (G : Ground) where
       Reaches G (MM.main_at G.L.program m words st)
       (S.start_of (machine G) (code_of G) words (linked_of (chain [] none [] (base 0 0)) 0 st)
       (store_of st ls) m')
-  start_at words st ls live no_main = errors_agree G NoChoice 117 None st ls
+  start_at words st ls live no_main = errors_agree G 0 [] 117 None st ls live (r_end refl)
   start_at words st ls live (a_main {n = n} {routine = routine} {entry = entry} er el c) =
       subst (λ x. Reaches G (MM.main_in x n words st)
       (S.start_of (machine G) (code_of G) words (linked_of (chain [] none [] (base 0 0)) 0 st)

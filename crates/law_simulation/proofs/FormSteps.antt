@@ -6,7 +6,8 @@ use Rattle.icn_tree.specs.declared.tree.Place.{Place}
 use Rattle.icn_tree.specs.Trees as T
 use Rattle.icn_tree.specs.Trees.{Tree, Trees, NoTrees, More, elements_of}
 use Rattle.icn_value.specs.Values as V
-use Rattle.icn_value.specs.Values.{Item, Var}
+use Rattle.icn_value.specs.Values.{Value, Item, Val, Var}
+use Rattle.icn_value.specs.Store.{KeptError}
 use Rattle.icn_defs.specs.Keywords.{Standing, keyword_item}
 use Rattle.icn_meaning.specs.Program.{meaning_of}
 use Rattle.icn_meaning.specs.Contexts as M
@@ -98,8 +99,8 @@ compound_of : (place : Place) (d e : Tree) (es : Trees) (v : Surroundings) (k : 
 compound_of place T.Empty e es v k r st h = absurd (cc)
 compound_of place d e es v k r st h = refl
 
-abbrev a_standing : (level current source : ℕ) → Standing
-a_standing level current source = record { level = level; current = current; source = source }
+abbrev a_standing : (level current source : ℕ) → Option KeptError → Standing
+a_standing level current source kept = record { level = level; current = current; source = source; kept = kept }
 
 module _ (G : Ground) where
   weaken : {s : M.Evaluation} {l : LinkedState} {w w' : ℕ} → Follows G w s l → w ≤ w' → Follows G w' s l
@@ -140,11 +141,11 @@ module _ (G : Ground) where
       (follows_by_step G _ (steps_to_instruction G p _ st ls h refl)
       (let there = S.standing_of (machine G) (linked_of (chain xs s z o) (suc p) st) (store_of st ls) in
       subst (λ level. Reaches G (ME.item_or_failure
-      (keyword_item (a_standing level st.active (MX.activator_of st.active st)) word) k' r' st)
+      (keyword_item (a_standing level st.active (MX.activator_of st.active st) st.world.kept) word) k' r' st)
       (S.pushed_or_fails (machine G) (keyword_item there word) (linked_of (chain xs s z o) (suc p) st)
       (store_of st ls))) (sym (same_level G v))
       (subst (λ source. Reaches G (ME.item_or_failure
-      (keyword_item (a_standing (level_in o) st.active source) word) k' r' st)
+      (keyword_item (a_standing (level_in o) st.active source st.world.kept) word) k' r' st)
       (S.pushed_or_fails (machine G) (keyword_item there word) (linked_of (chain xs s z o) (suc p) st)
       (store_of st ls))) (sym (coexpression_at G live.1 st.active).activator)
       (on_keyword (keyword_item there word) (suc p) st ls live k r))))

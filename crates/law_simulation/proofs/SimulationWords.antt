@@ -9,6 +9,7 @@ use Rattle.icn_tree.specs.Trees.{Tree, Trees, NoTrees, More}
 use Rattle.icn_value.specs.Values.{Value, Integer, Text, Chars, Item, Val, Var, Whole, Static}
 use Rattle.icn_value.specs.Store.{Setting}
 use Rattle.icn_defs.specs.Errors.{error_report}
+use Rattle.icn_defs.proofs.OnErrors.{on_both}
 use Rattle.icn_defs.specs.Rows.{Outcome, Fails, Gives, Suspends, Error, Ends}
 use Rattle.icn_defs.specs.StepRows.{value_row}
 use Rattle.icn_meaning.specs.Contexts as M
@@ -16,6 +17,7 @@ use Rattle.icn_meaning.specs.Contexts.{Works, ◌and_then◌, Choices}
 use Rattle.icn_meaning.specs.Turns as MT
 use Rattle.icn_run.specs.Chains.{outer_of, proc_of, frame_of, fixed, flagged, Chain, chain, Suspensions, none, Outer, mark, WaitingChain, LinkedStack, push_mark}
 use Rattle.icn_run.specs.Step as S
+use Rattle.icn_run.specs.Step.{ended_by}
 use Rattle.law_stacks.specs.SameStates.{IsLacking, Opens as IsMark}
 use Rattle.law_stacks.proofs.CellLists.{some_injective}
 use Rattle.law_stacks.proofs.RenderedMarks.{Lacks}
@@ -266,14 +268,16 @@ module _ (G : Ground) where
   -- What an outcome becomes
 
   -- an error on both sides
-  pub errors_agree : (r : Choices) (n : ℕ) (v : Option Value) (st : M.Store) (ls : List (S.Coexp WaitingChain))
-      → Reaches G (MT.errs n v r st) (S.errs n v (store_of st ls))
-  errors_agree r n v st ls = let rel : Rel G.L (MT.errs n v r st) (S.errs n v (store_of st ls)) =
-      at_over {ending = M.Errored n} {st =
-      record st {
-        outside = record st.outside
-            { errors = st.outside.errors ++ error_report st.names st.world.heap n v };
-      }} in reached_already rel
+  pub errors_agree : {first : Bool} {r : Choices} {s : Suspensions} {z : List ℕ} {o : Outer} (p : ℕ) (xs : List Item)
+      (n : ℕ) (v : Option Value) (st : M.Store) (ls : List (S.Coexp WaitingChain))
+      → LiveCoexpressions G first st.active st.coexpressions ls → OfChoices G.L first r s z o
+      → Reaches G (MT.errs n v r st) (S.errs n v (linked_of (chain xs s z o) p st) (store_of st ls))
+  errors_agree {r = r} {s = s} {z = z} {o = o} p xs n v st ls live h =
+      on_both (λ a b. Reaches G a b) n v st.world
+      (MT.end_run (M.Errored n) (error_report st.names st.world.heap n v) st)
+      (λ world. M.fail r (record st { world = world })) (ended_by n v (store_of st ls))
+      (λ world. S.failing (linked_of (chain xs s z o) p st) (S.with_world world (store_of st ls)))
+      (reached_already at_over) (reached_already (at_fail live.0 live.1 h))
 
   pub on_answer : {first : Bool} {k : Works} {r : Choices} {p : ℕ} {xs : List Item} {s : Suspensions}
       {z : List ℕ} {o : Outer} (out : Outcome) (st : M.Store) (ls : List (S.Coexp WaitingChain))
@@ -283,7 +287,8 @@ module _ (G : Ground) where
   on_answer (Fails seen) st ls a k r = reached_already (at_fail a.0 a.1 r)
   on_answer (Gives x seen) st ls a k r = reached_already (at_succeed a.0 a.1 k r)
   on_answer (Suspends x m seen) st ls a k r = reached_already (at_succeed a.0 a.1 k (r_resume k r))
-  on_answer (Error n v seen) st ls a k r = reached_already at_over
+  on_answer {p = p} {xs = xs} {o = o} (Error n v seen) st ls a k r =
+      errors_agree p xs n v (MT.after (activation_in o) seen st) ls a r
   on_answer (Ends n seen) st ls a k r = reached_already at_over
 
   pub on_valued : {first : Bool} {r : Choices} {s : Suspensions} {z : List ℕ} {o : Outer} (p : ℕ)
@@ -295,7 +300,7 @@ module _ (G : Ground) where
   on_valued p xs (Gives (Val v) seen) st ls f g a r h = h v
   on_valued p xs (Gives (Var x) seen) st ls f g a r h = reached_already (at_fail a.0 a.1 r)
   on_valued p xs (Suspends x m seen) st ls f g a r h = reached_already (at_fail a.0 a.1 r)
-  on_valued {r = r} p xs (Error n v seen) st ls f g a r1 h = errors_agree r n v st ls
+  on_valued p xs (Error n v seen) st ls f g a r h = errors_agree p xs n v st ls a r
   on_valued p xs (Ends n seen) st ls f g a r h = reached_already (at_fail a.0 a.1 r)
 
   -- an item is dereferenced in the activation that runs
@@ -338,8 +343,8 @@ module _ (G : Ground) where
   made_by p xs (Gives (Val v) seen) st ls f g a r h = h v seen
   made_by p xs (Gives (Var x) seen) st ls f g a r h = reached_already (at_fail a.0 a.1 r)
   made_by p xs (Suspends x m seen) st ls f g a r h = reached_already (at_fail a.0 a.1 r)
-  made_by {r = r} {o = o} p xs (Error n v seen) st ls f g a r1 h =
-      errors_agree r n v (MT.after (activation_in o) seen st) ls
+  made_by {o = o} p xs (Error n v seen) st ls f g a r h =
+      errors_agree p xs n v (MT.after (activation_in o) seen st) ls a r
   made_by p xs (Ends n seen) st ls f g a r h = reached_already (at_fail a.0 a.1 r)
 
   pub on_made : {first : Bool} {r : Choices} {a : ℕ} {s : Suspensions} {z : List ℕ} {o : Outer} (p : ℕ)

@@ -98,8 +98,8 @@ module _ (G : Ground) where
   on_limit (Some (pos zero)) value p st ls live e h v k r = reached_already G (at_fail live.0 live.1 r)
   on_limit (Some (pos (suc n))) value p st ls live e h v k r =
       reached_already G (at_eval live.0 live.1 e (v_limit (m_plain v)) (k_count h r k) (r_limit r))
-  on_limit {r = r'} (Some (negsuc n)) value p st ls live e h v k r = errors_agree G r' 205 (Some value) st ls
-  on_limit {r = r'} None value p st ls live e h v k r = errors_agree G r' 101 (Some value) st ls
+  on_limit {xs = xs} (Some (negsuc n)) value p st ls live e h v k r = errors_agree G p xs 205 (Some value) st ls live r
+  on_limit {xs = xs} None value p st ls live e h v k r = errors_agree G p xs 101 (Some value) st ls live r
 
   on_count : {first : Bool} {k : Works} {r0 r : Choices} {c : ℕ} {xs : List Item} {s s' : Suspensions}
       {z : List ℕ} {o : Outer} (n : ℕ) (x : Item) (p : ℕ) (st : M.Store) (ls : List (S.Coexp WaitingChain))

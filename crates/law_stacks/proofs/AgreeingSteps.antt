@@ -10,8 +10,11 @@ use Rattle.icn_code.specs.declared.instr.Instr.TheVariants as I
 use Rattle.icn_code.specs.Codes.{Proc as Procedure, RecordType}
 use Rattle.icn_run.specs.Rows.{Value, Null, Integer, Text, Chars, Procedure as ProcedureValue, ARecord, AList, ACoexp, Static, Local, Whole, Part, Item, Val, Var, Setting, World, Outside, Outcome, Fails, Gives, Suspends, Error, Ends, integer_of, number_of, again, apply, keyword_item, value_row, list_row, text_row, record_row, coexpression_row, words_row, record_at, Operation, Function, Ending}
 use Rattle.icn_run.specs.Calls.{Pair, Why, Alt, Op as Operating, Scan, Escan, Proc, MarkDrop, NoMark, Goes, Repeats, Outside as WithoutLabel, Calls}
-use Rattle.icn_run.specs.Step.{Program, Launch, Status, Fresh, Active, Waiting, Exhausted, Coexp, Store, State, running, failing, hopping, over, stuck, with_found, on_pair, turn_if, turn, steps, step, here, with_world, with_at, with_given, with_made, with_value, with_values, push_item, outcome, list_made, instrs_of, statics_before, with_pair, pair_now, scans_left, with_exchange, maybe_exchanged, swapped_back, all_left, coexp_at, status_of, activator_of, with_status, with_activator, make_active, fail_by, passed_failure, begun_by, give_by, passed_value, hop, exhaust_active, counted_result, result_given, is_main, is_create_body, with_new, coexp_made, refreshed_from, refresh, entered_by, entered_if, activation, enter_procedure, fill_nulls, collect_rest, with_parameters, called_if, call_procedure, construct_record, choose_item, pushed_or_fails, integer_called, Callee, IsProc, IsRecord, IsFunc, IsNothing, callee_of, callee_called, invoke_value, invoked_with, elements_called, applied_to_elements, field_index, field_taken, field_of, with_result, return_to, proc_fails, without_mark, mark_dropped, resume_by, resumed_or_dropped, fails, members_of, standing_of, with_popped, with_taken, unmark_then, limit_results, limited_result, scan_opened, initial_if, initial_done, activation_of, operate, field_applied, instruction, instruction_at, begun_if, start_of, start, first_store, main_of}
+use Rattle.icn_run.specs.Step.{Program, Launch, Status, Fresh, Active, Waiting, Exhausted, Coexp, Store, State, running, failing, hopping, over, stuck, with_found, on_pair, turn_if, turn, steps, step, here, with_world, ended_by, errs, with_at, with_given, with_made, with_value, with_values, push_item, outcome, list_made, instrs_of, statics_before, with_pair, pair_now, scans_left, with_exchange, maybe_exchanged, swapped_back, all_left, coexp_at, status_of, activator_of, with_status, with_activator, make_active, fail_by, passed_failure, begun_by, give_by, passed_value, hop, exhaust_active, counted_result, result_given, is_main, is_create_body, with_new, coexp_made, refreshed_from, refresh, entered_by, entered_if, activation, enter_procedure, fill_nulls, collect_rest, with_parameters, called_if, call_procedure, construct_record, choose_item, pushed_or_fails, integer_called, Callee, IsProc, IsRecord, IsFunc, IsNothing, callee_of, callee_called, invoke_value, invoked_with, elements_called, applied_to_elements, field_index, field_taken, field_of, with_result, return_to, proc_fails, without_mark, mark_dropped, resume_by, resumed_or_dropped, fails, members_of, standing_of, with_popped, with_taken, unmark_then, limit_results, limited_result, scan_opened, initial_if, initial_done, activation_of, operate, field_applied, instruction, instruction_at, begun_if, start_of, start, first_store, main_of}
+use Rattle.icn_defs.specs.Errors.{ends_run}
 use Rattle.icn_defs.specs.KeptSizes.{KeepsIn}
+use Rattle.icn_defs.proofs.OnErrors.{on_both, fatal_ends}
+use Rattle.icn_run.proofs.Errors.{kept_in, at_end}
 use Rattle.law_stacks.specs.AgreeingMachines.{Both, Then, With, SameDropped, Agrees}
 use Rattle.law_stacks.specs.SameStates.{IsMade, IsLacking, mark_of, Opens, RowsKeep, SameStatus, SameCoexp, alike, Rests, lift, Ready, Same, same_running, same_failing, same_hopping, same_over, same_stuck, lost}
 use Rattle.law_stacks.proofs.LockSteps.{rest_map, rest_get, rest_set, rest_out, rest_more, rest_at, same_status, same_activator, status_set, activator_set}
@@ -130,12 +133,24 @@ module _ {K M K' M' : Type 0} (C' : Calls K' M') (C : Calls K M) (P : Program) (
   either_as : (b' b : Bool) (x' y' : State K' M') (x y : State K M) → b' ≡ b → SameAs x' x → SameAs y' y → SameAs (if b' then x' else y') (if b then x else y)
   either_as b' b x' y' x y e p q = subst (λ t. SameAs (if t then x' else y') (if b then x else y)) (sym e) (either b x' y' x y p q)
 
+  -- both runs end by the error, or both fail
+  w_errs : (n : ℕ) (v : Option Value) (m' : M') (m : M) (st : Store K) (ks' : List (Coexp K')) → Rd st.active m' m ks' st.coexps
+      → SameAs (errs n v m' (lift st ks')) (errs n v m st)
+  w_errs n v m' m st ks' h = on_both SameAs n v st.world (ended_by n v (lift st ks')) (λ world. failing m' (with_world world (lift st ks')))
+      (ended_by n v st) (λ world. failing m (with_world world st)) same_over (same_failing (kept_in n v st) ks' h)
+
+  -- both end by an error that no run survives
+  w_ended : (n : ℕ) (v : Option Value) (m' : M') (m : M) (st : Store K) (ks' : List (Coexp K')) → ends_run n st.world.error ≡ true
+      → SameAs (errs n v m' (lift st ks')) (errs n v m st)
+  w_ended n v m' m st ks' e =
+      at_end (λ s. SameAs s (errs n v m st)) n v m' (lift st ks') e (at_end (λ s. SameAs (ended_by n v (lift st ks')) s) n v m st e same_over)
+
   w_valued : (o : Outcome) (m' : M') (m : M) (st : Store K) (ks' : List (Coexp K')) → Rd st.active m' m ks' st.coexps
       → (n' : Value → State K' M') (n : Value → State K M) → ((v : Value) → SameAs (n' v) (n v))
       → SameAs (with_given o m' (lift st ks') n') (with_given o m st n)
   w_valued (Gives (Val v) seen) m' m st ks' h n' n f = f v
   w_valued (Gives (Var v) seen) m' m st ks' h n' n f = same_failing st ks' h
-  w_valued (Error k v seen) m' m st ks' h n' n f = same_over
+  w_valued (Error k v seen) m' m st ks' h n' n f = w_errs k v m' m st ks' h
   w_valued (Fails seen) m' m st ks' h n' n f = same_failing st ks' h
   w_valued (Suspends item r seen) m' m st ks' h n' n f = same_failing st ks' h
   w_valued (Ends k seen) m' m st ks' h n' n f = same_failing st ks' h
@@ -178,7 +193,7 @@ module _ {K M K' M' : Type 0} (C' : Calls K' M') (C : Calls K M) (P : Program) (
   o_outcome (Gives item seen) m' m st ks' k h = p_push item _ _ (with_at seen st) ks' (r_locals seen.locals st.active m' m ks' st.coexps k.locals h)
   o_outcome (Suspends item r seen) m' m st ks' k h =
       p_push item _ _ (with_at seen st) ks' (r_suspend (Operating r) st.active _ _ ks' st.coexps (r_locals seen.locals st.active m' m ks' st.coexps k.locals h))
-  o_outcome (Error n v seen) m' m st ks' k h = same_over
+  o_outcome (Error n v seen) m' m st ks' k h = w_errs n v _ _ (with_at seen st) ks' (r_locals seen.locals st.active m' m ks' st.coexps k.locals h)
   o_outcome (Ends n seen) m' m st ks' k h = same_over
 
   w_outcome : (f : Setting → Outcome) → ((at : Setting) → KeepsIn at (f at)) → (m' : M') (m : M) (st : Store K) (ks' : List (Coexp K'))
@@ -199,7 +214,8 @@ module _ {K M K' M' : Type 0} (C' : Calls K' M') (C : Calls K M) (P : Program) (
   o_made (Gives (Val v) seen) m' m st ks' k h n' n f =
       f v (C'.set_locals seen.locals m') (C.set_locals seen.locals m) seen (r_locals seen.locals st.active m' m ks' st.coexps k.locals h)
   o_made (Gives (Var v) seen) m' m st ks' k h n' n f = same_failing st ks' h
-  o_made (Error j v seen) m' m st ks' k h n' n f = same_over
+  o_made (Error j v seen) m' m st ks' k h n' n f =
+      w_errs j v _ _ (with_at seen st) ks' (r_locals seen.locals st.active m' m ks' st.coexps k.locals h)
   o_made (Fails seen) m' m st ks' k h n' n f = same_failing st ks' h
   o_made (Suspends item r seen) m' m st ks' k h n' n f = same_failing st ks' h
   o_made (Ends j seen) m' m st ks' k h n' n f = same_failing st ks' h
@@ -348,7 +364,7 @@ module _ {K M K' M' : Type 0} (C' : Calls K' M') (C : Calls K M) (P : Program) (
 
   c_refreshed : (v : Value) (m' : M') (m : M) (st : Store K) (ks' : List (Coexp K')) → Rd st.active m' m ks' st.coexps
       → SameAs (refresh C' v m' (lift st ks')) (refresh C v m st)
-  c_refreshed (ACoexp zero) m' m st ks' h = same_over
+  c_refreshed (ACoexp zero) m' m st ks' h = w_errs 215 (Some (ACoexp zero)) m' m st ks' h
   c_refreshed (ACoexp (suc n)) m' m st ks' h =
       from (slice_get ks' (suc n)) (slice_get st.coexps (suc n)) (rest_get (Others h.world st.active) ks' st.coexps (suc n) h.rests)
     where
@@ -358,7 +374,7 @@ module _ {K M K' M' : Type 0} (C' : Calls K' M') (C : Calls K M) (P : Program) (
       from None (Some c) b = absurd b
       from (Some c') None b = absurd b
       from (Some c') (Some c) (alike s' s a vs p q x) = c_made vs p q m' m st ks' h
-  c_refreshed _ m' m st ks' h = same_over
+  c_refreshed v m' m st ks' h = w_errs 118 (Some v) m' m st ks' h
 
   c_entered_by : (n : ℕ) (v : Value) (m' : M') (m : M) (st : Store K) (ks' : List (Coexp K')) → Rd st.active m' m ks' st.coexps
       → SameAs (entered_by C' n v m' (lift st ks')) (entered_by C n v m st)
@@ -397,7 +413,7 @@ module _ {K M K' M' : Type 0} (C' : Calls K' M') (C : Calls K M) (P : Program) (
       → SameAs (activation C' v other m' (lift st ks')) (activation C v other m st)
   c_activation v (ACoexp n) m' m st ks' h =
       c_entered_if (n == st.active) (Others h.world st.active n) _ _ (status_at (Others h.world st.active) n st ks' h.rests) n v m' m st ks' h
-  c_activation v _ m' m st ks' h = same_over
+  c_activation v other m' m st ks' h = w_errs 118 (Some other) m' m st ks' h
 
   c_activation_of : (items : List Item) (m' : M') (m : M) (st : Store K) (ks' : List (Coexp K')) → Rd st.active m' m ks' st.coexps
       → SameAs (activation_of C' items m' (lift st ks')) (activation_of C items m st)
@@ -414,7 +430,7 @@ module _ {K M K' M' : Type 0} (C' : Calls K' M') (C : Calls K M) (P : Program) (
 
   a_called_if : (b : Bool) (k : ℕ) (entry : Procedure) (vs : List Value) (m' : M') (m : M) (st : Store K) (ks' : List (Coexp K'))
       → Rd st.active m' m ks' st.coexps → SameAs (called_if C' b k entry vs m' (lift st ks')) (called_if C b k entry vs m st)
-  a_called_if false k entry vs m' m st ks' h = same_over
+  a_called_if false k entry vs m' m st ks' h = w_errs 301 None m' m st ks' h
   a_called_if true k entry vs m' m st ks' h = w_parameters entry vs m' m st ks' h (λ parameters m st. enter_procedure C' k entry parameters m st)
       (λ parameters m st. enter_procedure C k entry parameters m st)
       (λ ps a' a seen r. same_running (with_at seen st) ks' (r_enter k (ps ++ replicate entry.locals Null) st.active a' a ks' st.coexps r))
@@ -440,7 +456,7 @@ module _ {K M K' M' : Type 0} (C' : Calls K' M') (C : Calls K M) (P : Program) (
   a_integer : (v : Value) (o : Option ℤ) (items : List Item) (m' : M') (m : M) (st : Store K) (ks' : List (Coexp K')) → Rd st.active m' m ks' st.coexps
       → SameAs (integer_called C' v o items m' (lift st ks')) (integer_called C v o items m st)
   a_integer v (Some k) items m' m st ks' h = a_or_fails (choose_item k items) m' m st ks' h
-  a_integer v None items m' m st ks' h = same_over
+  a_integer v None items m' m st ks' h = w_errs 106 (Some v) m' m st ks' h
 
   a_callee : (c : Callee) (k : ℕ) (items : List Item) (m' : M') (m : M) (st : Store K) (ks' : List (Coexp K')) → Rd st.active m' m ks' st.coexps
       → SameAs (callee_called C' c k items m' (lift st ks')) (callee_called C c k items m st)
@@ -449,7 +465,7 @@ module _ {K M K' M' : Type 0} (C' : Calls K' M') (C : Calls K M) (P : Program) (
   a_callee (IsRecord kind entry) k items m' m st ks' h = w_values items m' m st ks' h (λ vs. construct_record C' kind entry vs m' (lift st ks'))
       (λ vs. construct_record C kind entry vs m st) (λ vs. a_constructed kind entry vs m' m st ks' h)
   a_callee (IsFunc func) k items m' m st ks' h = w_outcome (apply st.names (Function func) items) (keep.applied st.names (Function func) items) m' m st ks' h
-  a_callee IsNothing k items m' m st ks' h = same_over
+  a_callee IsNothing k items m' m st ks' h = w_errs 106 (Some (ProcedureValue k)) m' m st ks' h
 
   a_invoked : (v : Value) (items : List Item) (m' : M') (m : M) (st : Store K) (ks' : List (Coexp K')) → Rd st.active m' m ks' st.coexps
       → SameAs (invoke_value C' P v items m' (lift st ks')) (invoke_value C P v items m st)
@@ -466,7 +482,7 @@ module _ {K M K' M' : Type 0} (C' : Calls K' M') (C : Calls K M) (P : Program) (
       → SameAs (elements_called C' P v from m' (lift st ks')) (elements_called C P v from m st)
   a_elements v (AList n) m' m st ks' h = a_invoked v _ m' m st ks' h
   a_elements v (ARecord n) m' m st ks' h = a_invoked v _ m' m st ks' h
-  a_elements v _ m' m st ks' h = same_over
+  a_elements v from m' m st ks' h = w_errs 126 (Some from) m' m st ks' h
 
   a_applied : (items : List Item) (m' : M') (m : M) (st : Store K) (ks' : List (Coexp K')) → Rd st.active m' m ks' st.coexps
       → SameAs (applied_to_elements C' P items m' (lift st ks')) (applied_to_elements C P items m st)
@@ -481,13 +497,13 @@ module _ {K M K' M' : Type 0} (C' : Calls K' M') (C : Calls K M) (P : Program) (
 
   a_taken : (o : Option ℕ) (k : ℕ) (m' : M') (m : M) (st : Store K) (ks' : List (Coexp K')) → Rd st.active m' m ks' st.coexps
       → SameAs (field_taken C' o k m' (lift st ks')) (field_taken C o k m st)
-  a_taken None k m' m st ks' h = same_over
+  a_taken None k m' m st ks' h = w_errs 207 (Some (ARecord k)) m' m st ks' h
   a_taken (Some place) k m' m st ks' h = p_push _ m' m st ks' h
 
   a_field : (field : ℕ) (v : Value) (m' : M') (m : M) (st : Store K) (ks' : List (Coexp K')) → Rd st.active m' m ks' st.coexps
       → SameAs (field_of C' P field v m' (lift st ks')) (field_of C P field v m st)
   a_field field (ARecord k) m' m st ks' h = a_taken (field_index P field (record_at st.world.heap k).kind) k m' m st ks' h
-  a_field field _ m' m st ks' h = same_over
+  a_field field v m' m st ks' h = w_errs 107 (Some v) m' m st ks' h
 
   a_field_applied : (field : ℕ) (items : List Item) (m' : M') (m : M) (st : Store K) (ks' : List (Coexp K')) → Rd st.active m' m ks' st.coexps
       → SameAs (field_applied C' P field items m' (lift st ks')) (field_applied C P field items m st)
@@ -610,8 +626,8 @@ module _ {K M K' M' : Type 0} (C' : Calls K' M') (C : Calls K M) (P : Program) (
 
   l_limited : (v : Value) (o : Option ℤ) (m' : M') (m : M) (st : Store K) (ks' : List (Coexp K')) → Rd st.active m' m ks' st.coexps
       → SameAs (limit_results C' v o m' (lift st ks')) (limit_results C v o m st)
-  l_limited v None m' m st ks' h = same_over
-  l_limited v (Some (negsuc k)) m' m st ks' h = same_over
+  l_limited v None m' m st ks' h = w_errs 101 (Some v) m' m st ks' h
+  l_limited v (Some (negsuc k)) m' m st ks' h = w_errs 205 (Some v) m' m st ks' h
   l_limited v (Some (pos zero)) m' m st ks' h = same_failing st ks' h
   l_limited v (Some (pos (suc k))) m' m st ks' h = same_running st ks' (r_limit (suc k) st.active m' m ks' st.coexps h)
 
@@ -642,10 +658,11 @@ module _ {K M K' M' : Type 0} (C' : Calls K' M') (C : Calls K M) (P : Program) (
       → SameAs (pushed_or_fails C' (keyword_item (standing_of C' m' (lift st ks')) keyword) m' (lift st ks'))
       (pushed_or_fails C (keyword_item (standing_of C m st) keyword) m st)
   l_keyword keyword m' m st ks' h =
-      subst
-      (λ l. SameAs (pushed_or_fails C' (keyword_item (record { level = l; current = st.active; source = activator_of st.active (lift st ks') }) keyword) m'
+      subst (λ l. SameAs (pushed_or_fails C'
+      (keyword_item (record { level = l; current = st.active; source = activator_of st.active (lift st ks'); kept = st.world.kept }) keyword) m'
       (lift st ks')) (pushed_or_fails C (keyword_item (standing_of C m st) keyword) m st)) (sym (G.level h.world st.active m' m h.here))
-      (subst (λ n. SameAs (pushed_or_fails C' (keyword_item (record { level = C.level m; current = st.active; source = n }) keyword) m' (lift st ks'))
+      (subst (λ n.
+      SameAs (pushed_or_fails C' (keyword_item (record { level = C.level m; current = st.active; source = n; kept = st.world.kept }) keyword) m' (lift st ks'))
       (pushed_or_fails C (keyword_item (standing_of C m st) keyword) m st)) (sym (activator_eq (Others h.world st.active) st.active st ks' h.rests))
       (a_or_fails (keyword_item (standing_of C m st) keyword) m' m st ks' h))
 
@@ -977,7 +994,7 @@ module _ {K M K' M' : Type 0} (C' : Calls K' M') (C : Calls K M) (P : Program) (
     first_made (Gives (Val v) seen) m' m st ks' i k h n' n f =
         f v (C'.set_locals seen.locals m') (C.set_locals seen.locals m) seen (set seen.locals m' m k.locals h)
     first_made (Gives (Var v) seen) m' m st ks' i k h n' n f = absurd i
-    first_made (Error j v seen) m' m st ks' i k h n' n f = same_over
+    first_made (Error j v seen) m' m st ks' i k h n' n f = w_ended j v _ _ (with_at seen st) ks' i
     first_made (Fails seen) m' m st ks' i k h n' n f = absurd i
     first_made (Suspends item r seen) m' m st ks' i k h n' n f = absurd i
     first_made (Ends j seen) m' m st ks' i k h n' n f = absurd i
@@ -1001,7 +1018,7 @@ module _ {K M K' M' : Type 0} (C' : Calls K' M') (C : Calls K M) (P : Program) (
 
     s_begun_if : (b : Bool) (main : ℕ) (entry : Procedure) (vs : List Value) (m' : M') (m : M) (st : Store K) (ks' : List (Coexp K')) → Blank m' m
         → Rests (Others w st.active) ks' st.coexps → SameAs (begun_if C' b main entry vs m' (lift st ks')) (begun_if C b main entry vs m st)
-    s_begun_if false main entry vs m' m st ks' h r = same_over
+    s_begun_if false main entry vs m' m st ks' h r = w_ended 301 None m' m st ks' (fatal_ends 301 st.world.error refl)
     s_begun_if true main entry vs m' m st ks' h r = first_collected entry.collects entry.parameters vs m' m st ks' h
         (λ parameters m st. running (C'.begin main (parameters ++ replicate entry.locals Null) 0 m) st)
         (λ parameters m st. running (C.begin main (parameters ++ replicate entry.locals Null) 0 m) st)
@@ -1010,7 +1027,7 @@ module _ {K M K' M' : Type 0} (C' : Calls K' M') (C : Calls K M) (P : Program) (
 
     s_start : (words : List (List ℕ)) (m' : M') (m : M) (st : Store K) (ks' : List (Coexp K')) → Blank m' m → Rests (Others w st.active) ks' st.coexps
         → (o : Option ℕ) → SameAs (start_of C' P words m' (lift st ks') o) (start_of C P words m st o)
-    s_start words m' m st ks' h r None = same_over
+    s_start words m' m st ks' h r None = w_ended 117 None m' m st ks' (fatal_ends 117 st.world.error refl)
     s_start words m' m st ks' h r (Some main) = w_same (slice_get P.procs main)
         (λ (entry : Procedure). with_made C' (words_row words (here C' m' (lift st ks'))) m' (lift st ks')
         (λ list m st. begun_if C' (nat_le 1 st.world.heap.bounds.levels) main entry (list ∷ []) m st))

@@ -4,6 +4,8 @@ use Rattle.std.specs.Prelude.{slice_get, nat_le, ◌++◌, drop}
 use Rattle.icn_code.specs.declared.instr.Instr.{Instr}
 use Rattle.icn_code.specs.declared.instr.Instr.TheVariants as I
 use Rattle.icn_defs.specs.KeptSizes.{KeepsIn}
+use Rattle.icn_defs.proofs.OnErrors.{fatal_ends}
+use Rattle.icn_run.proofs.Errors.{at_end}
 use Rattle.icn_run.specs.Rows.{Value, Outcome, Fails, Gives, Suspends, Error, Ends as Ended, Val, Var, list_row, words_row}
 use Rattle.icn_code.specs.Codes.{Proc as Procedure}
 use Rattle.icn_run.specs.Calls.{Calls}
@@ -120,7 +122,7 @@ module _ {K M : Type 0} (C : Calls K M) (N : ℕ) (W : Weighs C N) (P : Program)
       → ((v : Value) (a : M) (st' : Store K) → Starts st' → Sound C N B W (next v a st')) → Sound C N B W (with_made C o m st next)
   s_made (Gives (Val v) seen) m st next i k h f = f v (C.set_locals seen.locals m) (with_at seen st) ((h.0.0, ap (λ b. b.turns) k.bounds ∙ h.0.1), h.1)
   s_made (Gives (Var v) seen) m st next i k h f = absurd i
-  s_made (Error j v seen) m st next i k h f = tt
+  s_made (Error j v seen) m st next i k h f = at_end (Sound C N B W) j v (C.set_locals seen.locals m) (with_at seen st) i tt
   s_made (Fails seen) m st next i k h f = absurd i
   s_made (Suspends item r seen) m st next i k h f = absurd i
   s_made (Ended j seen) m st next i k h f = absurd i
@@ -133,11 +135,11 @@ module _ {K M : Type 0} (C : Calls K M) (N : ℕ) (W : Weighs C N) (P : Program)
       (λ rest a st' h'. f (fill_nulls (k - 1) vs ++ rest ∷ []) a st' h')
 
   s_begun : (b : Bool) (main : ℕ) (entry : Procedure) (vs : List Value) (m : M) (st : Store K) → Starts st → Sound C N B W (begun_if C b main entry vs m st)
-  s_begun false main entry vs m st h = tt
+  s_begun false main entry vs m st h = at_end (Sound C N B W) 301 None m st (fatal_ends 301 st.world.error refl) tt
   s_begun true main entry vs m st h = s_collected entry.collects entry.parameters vs m st _ h (λ ps a st' h'. (W.begin main _ 0 a, h'.0, h'.1))
 
   pub start_sound : (words : List (List ℕ)) (m : M) (st : Store K) (o : Option ℕ) → Starts st → Sound C N B W (start_of C P words m st o)
-  start_sound words m st None h = tt
+  start_sound words m st None h = at_end (Sound C N B W) 117 None m st (fatal_ends 117 st.world.error refl) tt
   start_sound words m st (Some main) h = when_found (Sound C N B W) s_allowed (λ x. Unit {0}) (slice_get P.procs main) _ (there _) (λ entry _.
       s_made (words_row words (here C m st)) m st (λ list m st. begun_if C (nat_le 1 st.world.heap.bounds.levels) main entry (list ∷ []) m st)
       (rows_keep.words_made words (here C m st)) (rows_keep.worded words (here C m st)) h

@@ -10,8 +10,9 @@ use Rattle.icn_code.specs.declared.instr.Instr.TheVariants as I
 use Rattle.icn_code.specs.Codes.{Proc as Procedure}
 use Rattle.icn_run.specs.Rows.{Value, Null, Integer, Text, Chars, Procedure as ProcedureValue, ARecord, AList, ACoexp, Local, Field, Whole, Part, Item, Val, Var, Outcome, Fails, Gives, Suspends, Error, Ends, Operation, Function, apply, again, value_row, list_row, record_row, text_row, coexpression_row, integer_of, number_of, keyword_item, list_at, record_at}
 use Rattle.icn_run.specs.Calls.{Pair, Why, Alt, Op as Operating, Scan, Escan, Proc, MarkDrop, NoMark, Goes, Repeats, Outside as WithoutLabel, Calls}
-use Rattle.icn_run.specs.Step.{Program, Fresh, Coexp, Store, State, running, failing, with_found, on_pair, turn_if, turn, here, with_at, with_given, with_made, with_value, with_values, push_item, outcome, list_made, pair_now, with_pair, scans_left, with_exchange, maybe_exchanged, swapped_back, all_left, is_main, is_create_body, with_new, coexp_made, refreshed_from, refresh, fill_nulls, enter_procedure, collect_rest, called_if, call_procedure, construct_record, pushed_or_fails, integer_called, choose_item, Callee, IsProc, IsRecord, IsFunc, IsNothing, callee_of, callee_called, invoke_value, invoked_with, plain, elements_called, applied_to_elements, field_index, field_taken, field_of, field_applied, with_result, return_to, proc_fails, without_mark, mark_dropped, resume_by, resumed_or_dropped, standing_of, unmark_then, limit_results, limited_result, scan_opened, initial_if, operate, instruction}
-use Rattle.law_stacks.specs.OthersStay.{is_transfer, IsNew, IsMadeAgain, Adds, AddsNone, Stay, StayIn, is_no_mark, OthersStay}
+use Rattle.icn_run.specs.Step.{Program, Fresh, Coexp, Store, State, running, failing, hopping, over, stuck, with_found, on_pair, errs, turn_if, turn, here, with_at, with_given, with_made, with_value, with_values, push_item, outcome, list_made, pair_now, with_pair, scans_left, with_exchange, maybe_exchanged, swapped_back, all_left, is_main, is_create_body, with_new, coexp_made, refreshed_from, refresh, fill_nulls, enter_procedure, collect_rest, with_parameters, called_if, call_procedure, construct_record, pushed_or_fails, integer_called, choose_item, Callee, IsProc, IsRecord, IsFunc, IsNothing, callee_of, callee_called, invoke_value, invoked_with, plain, elements_called, applied_to_elements, field_index, field_taken, field_of, field_applied, with_result, finish_run, return_to, proc_fails, without_mark, mark_dropped, resume_by, resumed_or_dropped, fails, members_of, standing_of, with_popped, with_taken, unmark_then, limit_results, limited_result, scan_opened, initial_if, operate, statics_before, instruction, instruction_at, step}
+use Rattle.icn_run.proofs.Errors.{at_error}
+use Rattle.law_stacks.specs.OthersStay.{is_transfer, IsNew, IsMadeAgain, Adds, AddsNone, Stay, StayIn, is_no_mark, EndsBody, OthersStay}
 
 module _ {K M : Type 0} (C : Calls K M) (P : Program) (IsAdded : Coexp K → Type 0) (before : Store K) where
   abbrev Q : State K M → Type 0
@@ -33,10 +34,13 @@ module _ {K M : Type 0} (C : Calls K M) (P : Program) (IsAdded : Coexp K → Typ
   q_found None next f = tt
   q_found (Some x) next f = f x
 
+  q_errs : (n : ℕ) (v : Option Value) (m : M) (st : Store K) → Same st → Q (errs n v m st)
+  q_errs n v m st h = at_error Q n v m st tt (record { active = h.active; coexps = inl h.coexps })
+
   q_valued : (o : Outcome) (m : M) (st : Store K) (next : Value → State K M) → Same st → ((v : Value) → Q (next v)) → Q (with_given o m st next)
   q_valued (Gives (Val v) seen) m st next h f = f v
   q_valued (Gives (Var v) seen) m st next h f = stay st h
-  q_valued (Error k v seen) m st next h f = tt
+  q_valued (Error k v seen) m st next h f = q_errs k v m st h
   q_valued (Fails seen) m st next h f = stay st h
   q_valued (Suspends item r seen) m st next h f = stay st h
   q_valued (Ends k seen) m st next h f = stay st h
@@ -45,7 +49,7 @@ module _ {K M : Type 0} (C : Calls K M) (P : Program) (IsAdded : Coexp K → Typ
       → ((v : Value) (a : M) (st' : Store K) → Same st' → Q (next v a st')) → Q (with_made C o m st next)
   q_made (Gives (Val v) seen) m st next h f = f v (C.set_locals seen.locals m) (with_at seen st) (record { active = h.active; coexps = h.coexps })
   q_made (Gives (Var v) seen) m st next h f = stay st h
-  q_made (Error k v seen) m st next h f = tt
+  q_made (Error k v seen) m st next h f = q_errs k v (C.set_locals seen.locals m) (with_at seen st) (record { active = h.active; coexps = h.coexps })
   q_made (Fails seen) m st next h f = stay st h
   q_made (Suspends item r seen) m st next h f = stay st h
   q_made (Ends k seen) m st next h f = stay st h
@@ -63,7 +67,7 @@ module _ {K M : Type 0} (C : Calls K M) (P : Program) (IsAdded : Coexp K → Typ
   q_outcome (Fails seen) m st h = record { active = h.active; coexps = inl h.coexps }
   q_outcome (Gives item seen) m st h = record { active = h.active; coexps = inl h.coexps }
   q_outcome (Suspends item r seen) m st h = record { active = h.active; coexps = inl h.coexps }
-  q_outcome (Error k v seen) m st h = tt
+  q_outcome (Error k v seen) m st h = q_errs k v (C.set_locals seen.locals m) (with_at seen st) (record { active = h.active; coexps = h.coexps })
   q_outcome (Ends k seen) m st h = tt
 
   turn_by : (b : Bool) (st : Store K) (event : Store K → State K M) → Q (event (record st { turns = suc st.turns })) → Q (turn_if b st event)
@@ -89,7 +93,7 @@ module _ {K M : Type 0} (C : Calls K M) (P : Program) (IsAdded : Coexp K → Typ
   q_called : (b : Bool) (n : ℕ) (entry : Procedure) (vs : List Value) (m : M) (st : Store K) → Same st → Q (called_if C b n entry vs m st)
   q_called true n entry vs m st h =
       q_collected entry.collects entry.parameters vs m st (λ parameters m st. enter_procedure C n entry parameters m st) h (λ ps a st' h'. stay st' h')
-  q_called false n entry vs m st h = tt
+  q_called false n entry vs m st h = q_errs 301 None m st h
 
   q_callee : (c : Callee) (n : ℕ) (items : List Item) (m : M) (st : Store K) → Same st → Q (callee_called C c n items m st)
   q_callee (IsProc entry) n items m st h = q_values items m st (λ arguments. call_procedure C n entry arguments m st) h
@@ -97,7 +101,7 @@ module _ {K M : Type 0} (C : Calls K M) (P : Program) (IsAdded : Coexp K → Typ
   q_callee (IsRecord kind entry) n items m st h = q_values items m st (λ arguments. construct_record C kind entry arguments m st) h (λ vs. q_made
       (record_row kind (fill_nulls (length entry.fields) vs) (here C m st)) m st (λ value m st. push_item C (Val value) m st) h (λ v a st' h'. stay st' h'))
   q_callee (IsFunc func) n items m st h = q_outcome (apply st.names (Function func) items (here C m st)) m st h
-  q_callee IsNothing n items m st h = tt
+  q_callee IsNothing n items m st h = q_errs 106 (Some (ProcedureValue n)) m st h
 
   q_one : (o : Option Item) (m : M) (st : Store K) → Same st → Q (pushed_or_fails C o m st)
   q_one (Some item) m st h = stay st h
@@ -105,20 +109,20 @@ module _ {K M : Type 0} (C : Calls K M) (P : Program) (IsAdded : Coexp K → Typ
 
   q_integer : (callee : Value) (o : Option ℤ) (items : List Item) (m : M) (st : Store K) → Same st → Q (integer_called C callee o items m st)
   q_integer callee (Some k) items m st h = q_one (choose_item k items) m st h
-  q_integer callee None items m st h = tt
+  q_integer callee None items m st h = q_errs 106 (Some callee) m st h
 
   q_invoked : (callee : Value) (items : List Item) (m : M) (st : Store K) → Same st → Q (invoke_value C P callee items m st)
   q_invoked (ProcedureValue n) items m st h = q_callee (callee_of P n) n items m st h
   q_invoked Null items m st h = q_integer Null (number_of Null) items m st h
   q_invoked (Integer x) items m st h = q_integer (Integer x) (number_of (Integer x)) items m st h
   q_invoked (Text x) items m st h = q_integer (Text x) (number_of (Text x)) items m st h
-  q_invoked (Chars x) items m st h = tt
-  q_invoked (Std x) items m st h = tt
-  q_invoked (ARecord x) items m st h = tt
-  q_invoked (AList x) items m st h = tt
-  q_invoked (ASet x) items m st h = tt
-  q_invoked (ATable x) items m st h = tt
-  q_invoked (ACoexp x) items m st h = tt
+  q_invoked (Chars x) items m st h = q_errs 106 (Some (Chars x)) m st h
+  q_invoked (Std x) items m st h = q_errs 106 (Some (Std x)) m st h
+  q_invoked (ARecord x) items m st h = q_errs 106 (Some (ARecord x)) m st h
+  q_invoked (AList x) items m st h = q_errs 106 (Some (AList x)) m st h
+  q_invoked (ASet x) items m st h = q_errs 106 (Some (ASet x)) m st h
+  q_invoked (ATable x) items m st h = q_errs 106 (Some (ATable x)) m st h
+  q_invoked (ACoexp x) items m st h = q_errs 106 (Some (ACoexp x)) m st h
 
   q_invoked_with : (items : List Item) (m : M) (st : Store K) → Same st → Q (invoked_with C P items m st)
   q_invoked_with [] m st h = tt
@@ -127,7 +131,7 @@ module _ {K M : Type 0} (C : Calls K M) (P : Program) (IsAdded : Coexp K → Typ
   q_elements : (callee from : Value) (m : M) (st : Store K) → Same st → Q (elements_called C P callee from m st)
   q_elements callee (AList n) m st h = q_invoked callee (map plain (list_at st.world.heap n).items) m st h
   q_elements callee (ARecord n) m st h = q_invoked callee (map plain (record_at st.world.heap n).fields) m st h
-  q_elements callee _ m st h = tt
+  q_elements callee from m st h = q_errs 126 (Some from) m st h
 
   q_applied : (items : List Item) (m : M) (st : Store K) → Same st → Q (applied_to_elements C P items m st)
   q_applied [] m st h = tt
@@ -138,11 +142,11 @@ module _ {K M : Type 0} (C : Calls K M) (P : Program) (IsAdded : Coexp K → Typ
 
   q_taken_field : (o : Option ℕ) (n : ℕ) (m : M) (st : Store K) → Same st → Q (field_taken C o n m st)
   q_taken_field (Some place) n m st h = stay st h
-  q_taken_field None n m st h = tt
+  q_taken_field None n m st h = q_errs 207 (Some (ARecord n)) m st h
 
   q_field : (k : ℕ) (v : Value) (m : M) (st : Store K) → Same st → Q (field_of C P k v m st)
   q_field k (ARecord n) m st h = q_taken_field (field_index P k (record_at st.world.heap n).kind) n m st h
-  q_field k _ m st h = tt
+  q_field k v m st h = q_errs 107 (Some v) m st h
 
   q_field_applied : (k : ℕ) (items : List Item) (m : M) (st : Store K) → Same st → Q (field_applied C P k items m st)
   q_field_applied k [] m st h = tt
@@ -171,18 +175,18 @@ module _ {K M : Type 0} (C : Calls K M) (P : Program) (IsAdded : Coexp K → Typ
   q_refreshed_from n None m st e h added = tt
 
   q_refreshed : (v : Value) (m : M) (st : Store K) → Same st → AddsAgain → Q (refresh C v m st)
-  q_refreshed (ACoexp zero) m st h added = tt
+  q_refreshed (ACoexp zero) m st h added = q_errs 215 (Some (ACoexp zero)) m st h
   q_refreshed (ACoexp (suc n)) m st h added = q_refreshed_from (suc n) (slice_get st.coexps (suc n)) m st refl h added
-  q_refreshed Null m st h added = tt
-  q_refreshed (Integer x) m st h added = tt
-  q_refreshed (Text x) m st h added = tt
-  q_refreshed (Chars x) m st h added = tt
-  q_refreshed (Std x) m st h added = tt
-  q_refreshed (ProcedureValue x) m st h added = tt
-  q_refreshed (ARecord x) m st h added = tt
-  q_refreshed (AList x) m st h added = tt
-  q_refreshed (ASet x) m st h added = tt
-  q_refreshed (ATable x) m st h added = tt
+  q_refreshed Null m st h added = q_errs 118 (Some Null) m st h
+  q_refreshed (Integer x) m st h added = q_errs 118 (Some (Integer x)) m st h
+  q_refreshed (Text x) m st h added = q_errs 118 (Some (Text x)) m st h
+  q_refreshed (Chars x) m st h added = q_errs 118 (Some (Chars x)) m st h
+  q_refreshed (Std x) m st h added = q_errs 118 (Some (Std x)) m st h
+  q_refreshed (ProcedureValue x) m st h added = q_errs 118 (Some (ProcedureValue x)) m st h
+  q_refreshed (ARecord x) m st h added = q_errs 118 (Some (ARecord x)) m st h
+  q_refreshed (AList x) m st h added = q_errs 118 (Some (AList x)) m st h
+  q_refreshed (ASet x) m st h added = q_errs 118 (Some (ASet x)) m st h
+  q_refreshed (ATable x) m st h added = q_errs 118 (Some (ATable x)) m st h
 
   -- which one an instruction may add, at the place of the next one
   abbrev Allows : Instr → M → Type 0
@@ -204,8 +208,8 @@ module _ {K M : Type 0} (C : Calls K M) (P : Program) (IsAdded : Coexp K → Typ
       q_found (C.unmark m) (on_pair (λ outside pair. next outside (scans_left pair st))) (λ x. q_left x.1 st (next x.0) h (λ st' h'. f x.0 st' h'))
 
   q_limited : (v : Value) (o : Option ℤ) (m : M) (st : Store K) → Same st → Q (limit_results C v o m st)
-  q_limited v None m st h = tt
-  q_limited v (Some (negsuc k)) m st h = tt
+  q_limited v None m st h = q_errs 101 (Some v) m st h
+  q_limited v (Some (negsuc k)) m st h = q_errs 205 (Some v) m st h
   q_limited v (Some (pos zero)) m st h = stay st h
   q_limited v (Some (pos (suc k))) m st h = stay st h
 

@@ -1,9 +1,11 @@
 -- The rows keep how many locals, globals and statics there are, and the limits.
-use Rattle.std.proofs.Common.{ℕ, refl, Bool, true, false, List, Option}
+use Rattle.std.proofs.Common.{◌≡◌, ℕ, refl, Bool, true, false, List, Option}
 use Rattle.icn_value.specs.Values.{Value, Item, Val}
 use Rattle.icn_value.specs.Store.{Setting, Names}
 use Rattle.icn_defs.specs.Rows.{Row, Outcome, Gives, check}
+use Rattle.icn_defs.specs.Errors.{is_fatal}
 use Rattle.icn_defs.specs.KeptSizes.{KeepsSizes, KeepsIn}
+use Rattle.icn_defs.proofs.OnErrors.{fatal_ends}
 use Rattle.icn_defs.proofs.KeptSizes.{OutcomeKeepsSizes, words, operation_keeps, function_keeps, again_keeps, list_keeps}
 use Rattle.icn_run.specs.Rows.{Operation, Function, apply, list_row, record_row, coexpression_row, text_row, words_row}
 use Rattle.icn_defs.specs.StepRows.{OperationOrFunction}
@@ -31,9 +33,9 @@ words_in lines at k = search words
 record Makes (o : Outcome) : Type 0 where
   is : IsMade o
 
-m_check : (t : Bool) (n : ℕ) (v : Option Value) (next : Row) (a : Setting) → Makes (next a) → Makes (check t n v next a)
-m_check true n v next a f = f
-m_check false n v next a f = record { is = tt }
+m_check : (t : Bool) (n : ℕ) (v : Option Value) (next : Row) (a : Setting) → is_fatal n ≡ true → Makes (next a) → Makes (check t n v next a)
+m_check true n v next a e f = f
+m_check false n v next a e f = record { is = fatal_ends n a.world.error e }
 
 m_gives : (v : Value) (a : Setting) → Makes (Gives (Val v) a)
 m_gives v a = record { is = tt }

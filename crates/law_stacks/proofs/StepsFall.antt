@@ -10,8 +10,9 @@ use Rattle.icn_code.specs.Codes.{Proc as Procedure}
 use Rattle.icn_text.specs.declared.op.Op.{Op}
 use Rattle.icn_run.specs.Rows.{Value, Null, Integer, Text, Chars, Procedure as ProcedureValue, ARecord, AList, ACoexp, Local, Whole, Part, Item, Val, Var, Setting, Outside, Outcome, Fails, Gives, Suspends, Error, Ends, Operation, Function, Ending, apply, again, keyword_item, value_row, list_row, text_row, record_row, coexpression_row, integer_of, number_of, record_at}
 use Rattle.icn_run.specs.Calls.{Pair, Why, Alt, Op as Operating, Scan, Escan, Proc, MarkDrop, NoMark, Goes, Repeats, Outside as WithoutLabel, Calls}
-use Rattle.icn_run.specs.Step.{Program, Status, Fresh, Active, Waiting, Exhausted, Coexp, Store, State, running, failing, hopping, over, stuck, with_found, turn_if, turn, here, with_at, with_given, with_made, with_value, with_values, push_item, outcome, list_made, with_pair, pair_now, scans_left, with_exchange, maybe_exchanged, swapped_back, all_left, coexp_at, status_of, activator_of, with_status, with_activator, fail_by, passed_failure, give_by, passed_value, exhaust_active, counted_result, result_given, is_main, is_create_body, with_new, coexp_made, refreshed_from, refresh, entered_by, entered_if, activation, fill_nulls, collect_rest, called_if, choose_item, pushed_or_fails, integer_called, Callee, IsProc, IsRecord, IsFunc, IsNothing, callee_of, callee_called, invoke_value, invoked_with, elements_called, applied_to_elements, field_index, field_taken, field_of, with_result, return_to, without_mark, mark_dropped, resume_by, resumed_or_dropped, fails, members_of, standing_of, with_popped, with_taken, unmark_then, limit_results, limited_result, scan_opened, initial_if, activation_of, operate, field_applied, instruction}
+use Rattle.icn_run.specs.Step.{Program, Status, Fresh, Active, Waiting, Exhausted, Coexp, Store, State, running, failing, hopping, over, stuck, with_found, errs, turn_if, turn, here, with_at, with_given, with_made, with_value, with_values, push_item, outcome, list_made, with_pair, pair_now, scans_left, with_exchange, maybe_exchanged, swapped_back, all_left, coexp_at, status_of, activator_of, with_status, with_activator, fail_by, passed_failure, give_by, passed_value, exhaust_active, counted_result, result_given, is_main, is_create_body, with_new, coexp_made, refreshed_from, refresh, entered_by, entered_if, activation, fill_nulls, collect_rest, called_if, choose_item, pushed_or_fails, integer_called, Callee, IsProc, IsRecord, IsFunc, IsNothing, callee_of, callee_called, invoke_value, invoked_with, elements_called, applied_to_elements, field_index, field_taken, field_of, with_result, return_to, without_mark, mark_dropped, resume_by, resumed_or_dropped, fails, members_of, standing_of, with_popped, with_taken, unmark_then, limit_results, limited_result, scan_opened, initial_if, activation_of, operate, field_applied, instruction}
 use Rattle.icn_defs.specs.KeptSizes.{KeepsSizes, KeepsIn}
+use Rattle.icn_run.proofs.Errors.{kept_in, at_error}
 use Rattle.law_stacks.proofs.RowsKeep.{rows_keep}
 use Rattle.law_stacks.specs.Measure.{FitsStore, cost, worth, IfThere, Stays, Pays, Lightens, DropsWell, ResumesWell, Weighs, FitsStatus, FitAll, Fits, After, Later}
 
@@ -100,18 +101,21 @@ module _ {K M : Type 0} (C : Calls K M) (N : ℕ) (W : Weighs C N) (P : Program)
   a_push : (item : Item) (m : M) (st : Store K) → Ready m st → A (push_item C item m st)
   a_push item m st h = ((W.push item m h.0).fits, h.1, h.2)
 
+  a_errs : (j : ℕ) (v : Option Value) (m : M) (st : Store K) → Ready m st → A (errs j v m st)
+  a_errs j v m st h = at_error A j v m st tt h
+
   a_outcome : (o : Outcome) (m : M) (st : Store K) → KeepsIn (here C m st) o → Ready m st → A (outcome C o m st)
   a_outcome (Fails seen) m st k h = ((W.set_locals seen.locals m h.0).fits, after_row m st seen k h.1, h.2)
   a_outcome (Gives item seen) m st k h = ((W.push item _ (W.set_locals seen.locals m h.0).fits).fits, after_row m st seen k h.1, h.2)
   a_outcome (Suspends item r seen) m st k h =
       ((W.push item _ (W.suspend (Operating r) _ tt (W.set_locals seen.locals m h.0).fits).fits).fits, after_row m st seen k h.1, h.2)
-  a_outcome (Error j v seen) m st k h = tt
+  a_outcome (Error j v seen) m st k h = a_errs j v _ (with_at seen st) ((W.set_locals seen.locals m h.0).fits, after_row m st seen k h.1, h.2)
   a_outcome (Ends j seen) m st k h = tt
 
   a_valued : (o : Outcome) (m : M) (st : Store K) (next : Value → State K M) → Ready m st → ((v : Value) → A (next v)) → A (with_given o m st next)
   a_valued (Gives (Val v) seen) m st next h f = f v
   a_valued (Gives (Var v) seen) m st next h f = h
-  a_valued (Error j v seen) m st next h f = tt
+  a_valued (Error j v seen) m st next h f = a_errs j v m st h
   a_valued (Fails seen) m st next h f = h
   a_valued (Suspends item r seen) m st next h f = h
   a_valued (Ends j seen) m st next h f = h
@@ -131,7 +135,8 @@ module _ {K M : Type 0} (C : Calls K M) (N : ℕ) (W : Weighs C N) (P : Program)
   a_made (Gives (Val v) seen) m st next k h f =
       f v (C.set_locals seen.locals m) (with_at seen st) ((W.set_locals seen.locals m h.0).fits, after_row m st seen k h.1, h.2)
   a_made (Gives (Var v) seen) m st next k h f = h
-  a_made (Error j v seen) m st next k h f = tt
+  a_made (Error j v seen) m st next k h f =
+      a_errs j v _ (with_at seen st) ((W.set_locals seen.locals m h.0).fits, after_row m st seen k h.1, h.2)
   a_made (Fails seen) m st next k h f = h
   a_made (Suspends item r seen) m st next k h f = h
   a_made (Ends j seen) m st next k h f = h
@@ -197,9 +202,9 @@ module _ {K M : Type 0} (C : Calls K M) (N : ℕ) (W : Weighs C N) (P : Program)
   a_refreshed_from (Some c) m st h = a_new c.values c.proc c.address m st h
 
   a_refresh : (v : Value) (m : M) (st : Store K) → Ready m st → A (refresh C v m st)
-  a_refresh (ACoexp zero) m st h = tt
+  a_refresh (ACoexp zero) m st h = a_errs 215 (Some (ACoexp zero)) m st h
   a_refresh (ACoexp (suc k)) m st h = a_refreshed_from (slice_get st.coexps (suc k)) m st h
-  a_refresh _ m st h = tt
+  a_refresh v m st h = a_errs 118 (Some v) m st h
 
   a_entered : (k : ℕ) (v : Value) (m : M) (st : Store K) → Ready m st → A (entered_by C k v m st)
   a_entered k v m st h =
@@ -218,7 +223,7 @@ module _ {K M : Type 0} (C : Calls K M) (N : ℕ) (W : Weighs C N) (P : Program)
 
   a_activation : (v other : Value) (m : M) (st : Store K) → Ready m st → A (activation C v other m st)
   a_activation v (ACoexp k) m st h = a_entered_if (k == st.active) (status_of k st) k v m st h
-  a_activation v _ m st h = tt
+  a_activation v other m st h = a_errs 118 (Some other) m st h
 
   a_activation_of : (items : List Item) (m : M) (st : Store K) → Ready m st → A (activation_of C items m st)
   a_activation_of (x ∷ y ∷ []) m st h = a_value x m st _ h (λ v. a_value y m st _ h (λ w. a_activation v w m st h))
@@ -233,7 +238,7 @@ module _ {K M : Type 0} (C : Calls K M) (N : ℕ) (W : Weighs C N) (P : Program)
       (λ rest a st' h'. f (fill_nulls (k - 1) vs ++ rest ∷ []) a st' h')
 
   a_called_if : (b : Bool) (k : ℕ) (entry : Procedure) (vs : List Value) (m : M) (st : Store K) → Ready m st → A (called_if C b k entry vs m st)
-  a_called_if false k entry vs m st h = tt
+  a_called_if false k entry vs m st h = a_errs 301 None m st h
   a_called_if true k entry vs m st h = a_collected entry.collects entry.parameters vs m st _ h (λ ps a st' h'. (W.enter k _ a h'.0, h'.1, h'.2))
 
   a_callee : (c : Callee) (k : ℕ) (items : List Item) (m : M) (st : Store K) → Ready m st → A (callee_called C c k items m st)
@@ -243,7 +248,7 @@ module _ {K M : Type 0} (C : Calls K M) (N : ℕ) (W : Weighs C N) (P : Program)
       (rows_keep.recorded kind (fill_nulls (length entry.fields) vs) (here C m st)) h (λ v a st' h'. a_push (Val v) a st' h'))
   a_callee (IsFunc func) k items m st h =
       a_outcome (apply st.names (Function func) items (here C m st)) m st (rows_keep.applied st.names (Function func) items (here C m st)) h
-  a_callee IsNothing k items m st h = tt
+  a_callee IsNothing k items m st h = a_errs 106 (Some (ProcedureValue k)) m st h
 
   a_or_fails : (o : Option Item) (m : M) (st : Store K) → Ready m st → A (pushed_or_fails C o m st)
   a_or_fails (Some item) m st h = a_push item m st h
@@ -251,7 +256,7 @@ module _ {K M : Type 0} (C : Calls K M) (N : ℕ) (W : Weighs C N) (P : Program)
 
   a_integer : (v : Value) (o : Option ℤ) (items : List Item) (m : M) (st : Store K) → Ready m st → A (integer_called C v o items m st)
   a_integer v (Some k) items m st h = a_or_fails (choose_item k items) m st h
-  a_integer v None items m st h = tt
+  a_integer v None items m st h = a_errs 106 (Some v) m st h
 
   a_invoked : (v : Value) (items : List Item) (m : M) (st : Store K) → Ready m st → A (invoke_value C P v items m st)
   a_invoked (ProcedureValue k) items m st h = a_callee (callee_of P k) k items m st h
@@ -264,19 +269,19 @@ module _ {K M : Type 0} (C : Calls K M) (N : ℕ) (W : Weighs C N) (P : Program)
   a_elements : (v from : Value) (m : M) (st : Store K) → Ready m st → A (elements_called C P v from m st)
   a_elements v (AList k) m st h = a_invoked v _ m st h
   a_elements v (ARecord k) m st h = a_invoked v _ m st h
-  a_elements v _ m st h = tt
+  a_elements v from m st h = a_errs 126 (Some from) m st h
 
   a_applied : (items : List Item) (m : M) (st : Store K) → Ready m st → A (applied_to_elements C P items m st)
   a_applied (x ∷ y ∷ []) m st h = a_value x m st _ h (λ v. a_value y m st _ h (λ from. a_elements v from m st h))
   a_applied _ m st h = tt
 
   a_taken : (o : Option ℕ) (k : ℕ) (m : M) (st : Store K) → Ready m st → A (field_taken C o k m st)
-  a_taken None k m st h = tt
+  a_taken None k m st h = a_errs 207 (Some (ARecord k)) m st h
   a_taken (Some place) k m st h = a_push _ m st h
 
   a_field : (field : ℕ) (v : Value) (m : M) (st : Store K) → Ready m st → A (field_of C P field v m st)
   a_field field (ARecord k) m st h = a_taken (field_index P field (record_at st.world.heap k).kind) k m st h
-  a_field field _ m st h = tt
+  a_field field v m st h = a_errs 107 (Some v) m st h
 
   a_field_applied : (field : ℕ) (items : List Item) (m : M) (st : Store K) → Ready m st → A (field_applied C P field items m st)
   a_field_applied field [] m st h = tt
@@ -386,11 +391,14 @@ module _ {K M : Type 0} (C : Calls K M) (N : ℕ) (W : Weighs C N) (P : Program)
         → Lt (push_item C item a st)
     push_on k a item st s le g = go_on (0 + k) (C.push item a) st (andthen k 0 a (C.push item a) s (W.push item a s.fits)) (omega arith) g
 
+    lt_errs : (j : ℕ) (v : Option Value) (a : M) (st : Store K) → Stays W.Bounded C.address 0 fits.0 m a → Same st → Lt (errs j v a st)
+    lt_errs j v a st s g = at_error Lt j v a st tt (fail_on 0 a (kept_in j v st) s (omega arith) (record { fit = g.fit; turns = g.turns }))
+
     lt_valued : (o : Outcome) (a : M) (st : Store K) (next : Value → State K M) → Stays W.Bounded C.address 0 fits.0 m a → Same st → ((v : Value) → Lt (next v))
         → Lt (with_given o a st next)
     lt_valued (Gives (Val v) seen) a st next s g f = f v
     lt_valued (Gives (Var v) seen) a st next s g f = fail_on 0 a st s (omega arith) g
-    lt_valued (Error j v seen) a st next s g f = tt
+    lt_valued (Error j v seen) a st next s g f = lt_errs j v a st s g
     lt_valued (Fails seen) a st next s g f = fail_on 0 a st s (omega arith) g
     lt_valued (Suspends item r seen) a st next s g f = fail_on 0 a st s (omega arith) g
     lt_valued (Ends j seen) a st next s g f = fail_on 0 a st s (omega arith) g
@@ -405,7 +413,9 @@ module _ {K M : Type 0} (C : Calls K M) (N : ℕ) (W : Weighs C N) (P : Program)
         f v (C.set_locals seen.locals a) (with_at seen st) (then_same 0 a (C.set_locals seen.locals a) s (W.set_locals seen.locals a s.fits))
         (record { fit = (g.fit.0, ap (λ b. b.turns) k.bounds ∙ g.fit.1); turns = g.turns })
     lt_made (Gives (Var v) seen) a st next k s g f = fail_on 0 a st s (omega arith) g
-    lt_made (Error j v seen) a st next k s g f = tt
+    lt_made (Error j v seen) a st next k s g f =
+        lt_errs j v (C.set_locals seen.locals a) (with_at seen st) (then_same 0 a (C.set_locals seen.locals a) s (W.set_locals seen.locals a s.fits))
+        (record { fit = (g.fit.0, ap (λ b. b.turns) k.bounds ∙ g.fit.1); turns = g.turns })
     lt_made (Fails seen) a st next k s g f = fail_on 0 a st s (omega arith) g
     lt_made (Suspends item r seen) a st next k s g f = fail_on 0 a st s (omega arith) g
     lt_made (Ends j seen) a st next k s g f = fail_on 0 a st s (omega arith) g
@@ -457,8 +467,8 @@ module _ {K M : Type 0} (C : Calls K M) (N : ℕ) (W : Weighs C N) (P : Program)
     resulting_at a item st next s g f = f item
 
     l_limited : (a : M) (v : Value) (o : Option ℤ) (st : Store K) → Stays W.Bounded C.address 0 fits.0 m a → Same st → Lt (limit_results C v o a st)
-    l_limited a v None st s g = tt
-    l_limited a v (Some (negsuc k)) st s g = tt
+    l_limited a v None st s g = lt_errs 101 (Some v) a st s g
+    l_limited a v (Some (negsuc k)) st s g = lt_errs 205 (Some v) a st s g
     l_limited a v (Some (pos zero)) st s g = fail_on 0 a st s (omega arith) g
     l_limited a v (Some (pos (suc k))) st s g =
         go_on (1 + 0) (C.limit (suc k) a) st (andthen 0 1 a (C.limit (suc k) a) s (W.limit (suc k) a s.fits)) (omega arith) g

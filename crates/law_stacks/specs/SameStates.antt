@@ -1,10 +1,11 @@
 -- States of two machines that are the same, but for what their stacks are made of.
-use Rattle.std.specs.Prelude.{◌≡◌, ◌≢◌, ℕ, suc, List, [], ◌∷◌, Option, Some, None}
+use Rattle.std.specs.Prelude.{◌≡◌, ◌≢◌, ℕ, suc, true, List, [], ◌∷◌, Option, Some, None}
 use Rattle.icn_code.specs.declared.instr.Instr.{Instr}
 use Rattle.icn_code.specs.declared.instr.Instr.TheVariants as Instrs
 use Rattle.std.specs.Prelude.{slice_get}
 use Rattle.icn_run.specs.Rows.{Value, Item, Val, Setting, Names, Outside, Residual, Outcome, Gives, Error, apply, again, list_row, record_row, coexpression_row, text_row, words_row, Ending}
 use Rattle.icn_defs.specs.StepRows.{OperationOrFunction}
+use Rattle.icn_defs.specs.Errors.{ends_run}
 use Rattle.icn_defs.specs.KeptSizes.{KeepsIn}
 use Rattle.icn_run.specs.Calls.{Calls}
 use Rattle.icn_run.specs.Step.{Program, Status, Fresh, Active, Waiting, Exhausted, Coexp, Store, State, running, failing, hopping, over, stuck, instrs_of, instruction_at}
@@ -24,13 +25,13 @@ IsLacking C P Lacks (running m st) =
     (label : ℕ) × (instruction_at C P m ≡ Some (Instrs.Chfail label)) × Lacks (C.go (suc (C.address m)) m)
 IsLacking C P Lacks state = ⊥
 
--- it gives a value, or is an error
+-- it gives a value, or is an error that ends the run
 abbrev pub IsMade : Outcome → Type 0
 IsMade (Gives (Val value) seen) = Unit {0}
-IsMade (Error number value seen) = Unit {0}
+IsMade (Error number value seen) = ends_run number seen.world.error ≡ true
 IsMade outcome = ⊥
 
--- Rows keep the number of locals and the limits, and a list is made or an error.
+-- Rows keep the number of locals and the limits, and a list is made or an error that ends the run.
 pub record RowsKeep : Type 0 where
   pub applied : (names : Names) (what : OperationOrFunction) (items : List Item) (at : Setting)
       → KeepsIn at (apply names what items at)

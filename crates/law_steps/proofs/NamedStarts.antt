@@ -65,13 +65,14 @@ module _ (rows : RowsKeepNames) (P : Tables) where
       heap = record { lists = all_of _ [] tt; sets = all_of _ [] tt; tables = all_of _ [] tt; records = all_of _ [] tt };
       globals = all_of NamedValue (S.first_globals P) globals;
       statics = all_of NamedValue (replicate (S.static_count P) Null) (N.nulls rows P (S.static_count P));
+      kept = tt;
     };
     coexps = (record { status = tt; values = all_of NamedValue [] tt }, tt);
   }
 
   begun : (t : Bool) (n : ℕ) (entry : Procedure) (vs : List Value) (m : Frames) (st : Store Frames) → Each NamedValue vs → NamedStack m → N.K rows P st
       → N.G rows P (S.begun_if flat t n entry vs m st)
-  begun false n entry vs m st a h k = tt
+  begun false n entry vs m st a h k = N.erred rows P 301 None m st (tt, refl) h k
   begun true n entry vs m st a h k =
       N.collected rows P entry.collects entry.parameters vs m st
       (λ parameters m st. running (flats.begin n (parameters ++ replicate entry.locals Null) 0 m) st) a h k
@@ -82,7 +83,7 @@ module _ (rows : RowsKeepNames) (P : Tables) where
       ))
 
   started : (words : List (List ℕ)) (m : Frames) (st : Store Frames) (o : Option ℕ) → NamedStack m → N.K rows P st → N.G rows P (S.start_of flat P words m st o)
-  started words m st None h k = tt
+  started words m st None h k = N.erred rows P 117 None m st (tt, refl) h k
   started words m st (Some main) h k =
       N.any rows P (slice_get P.procs main) (λ entry. S.with_made flat (words_row words (S.here flat m st)) m st
       (λ list m st. S.begun_if flat (nat_le 1 st.world.heap.bounds.levels) main entry (list ∷ []) m st))
@@ -110,13 +111,13 @@ starts_named rows = λ P launch is.
 module _ (rows : RowsKeepSizes) (P : Tables) where
   begins : (t : Bool) (n : ℕ) (entry : Procedure) (vs : List Value) (m : Frames) (st : Store Frames) → Z.K rows P st
       → Z.G rows P (S.begun_if flat t n entry vs m st)
-  begins false n entry vs m st k = tt
+  begins false n entry vs m st k = Z.erred rows P 301 None m st k
   begins true n entry vs m st k =
       Z.collected rows P entry.collects entry.parameters vs m st
       (λ parameters m st. running (flats.begin n (parameters ++ replicate entry.locals Null) 0 m) st) k (λ vs m st k. k)
 
   starts : (words : List (List ℕ)) (m : Frames) (st : Store Frames) (o : Option ℕ) → Z.K rows P st → Z.G rows P (S.start_of flat P words m st o)
-  starts words m st None k = tt
+  starts words m st None k = Z.erred rows P 117 None m st k
   starts words m st (Some main) k =
       Z.found rows P (slice_get P.procs main) (λ entry. S.with_made flat (words_row words (S.here flat m st)) m st
       (λ list m st. S.begun_if flat (nat_le 1 st.world.heap.bounds.levels) main entry (list ∷ []) m st))

@@ -6,7 +6,7 @@ use Rattle.icn_text.specs.declared.op.Op.{Op}
 use Rattle.icn_text.specs.declared.op.Op.TheVariants as Ops
 use Rattle.icn_text.specs.declared.func.Func.{Func}
 use Rattle.icn_text.specs.declared.func.Func.TheVariants as Funcs
-use Rattle.icn_value.specs.Values.{Value, Root, Global, Static, Local, Element, Field, Key, Keyword, KeywordVariable, Subject, Position, Random, Variable, Whole, Part, Item, Val, Var}
+use Rattle.icn_value.specs.Values.{Value, Root, Global, Static, Local, Element, Field, Key, Keyword, KeywordVariable, Subject, Position, Random, ErrorCount, Variable, Whole, Part, Item, Val, Var}
 use Rattle.icn_value.specs.Limited.{Bounds}
 use Rattle.icn_value.specs.Store.{Setting, Heap, Names, having_position, having_heap, value_at}
 use Rattle.icn_defs.specs.Conversions.{group_of, integer_of, place_of, ValueGroup, Textual, Listed, Collected, Tabled, Recorded, Filed, Activated, Single}
@@ -142,6 +142,7 @@ module _ (b : Heap) where
       by_number None e = rw e (o_error b 101 (Some value) a h)
       by_number (Some k) e = by_place k e (place_of k (length a.world.subject)) refl
   w_keyword refused Random value next a h r f = search (words, f)
+  w_keyword refused ErrorCount value next a h r f = search (words, f)
 
   w_root : (refused : Row) (root : Root) (value : Value) (next : Row) (a : Setting) → S b a → ((s : Setting) → S b s → O b (refused s))
       → ((s : Setting) → S b s → O b (next s)) → O b (assigns_root refused root value next a)
@@ -394,6 +395,7 @@ module _ (b : Heap) where
   w_function names Funcs.Upto vs a h = search rows depth 16
   w_function names Funcs.Write vs a h = search rows depth 16
   w_function names Funcs.Writes vs a h = search rows depth 16
+  w_function names Funcs.ErrorClear vs a h = search rows depth 16
 
   w_again : (r : Residual) (a : Setting) → S b a → O b (again r a)
   w_again (TextBytes text place) a h = search rows depth 16

@@ -1,31 +1,32 @@
 -- A step of the run of a code leaves a state that names only what has a name.
 use Rattle.std.proofs.Common.{◌≡◌, ◌<◌, ℕ, zero, suc, ◌+◌, Bool, true, false, List, [], ◌∷◌, ◌++◌, length, Option, Some, None, refl, sym, ap, subst, arith}
-use Rattle.std.specs.Prelude.{ℤ, pos, negsuc, ◌-◌, ◌==◌, nat_lt, nat_le, drop, map, replicate, slice_get, slice_index_or, if◌then◌else◌}
+use Rattle.std.specs.Prelude.{ℤ, pos, negsuc, ◌-◌, ◌==◌, nat_lt, nat_le, drop, map, option_map, replicate, slice_get, slice_index_or, if◌then◌else◌}
 use Rattle.icn_text.specs.declared.func.Func.{Func}
 use Rattle.icn_text.specs.declared.op.Op.{Op}
 use Rattle.icn_text.specs.declared.op.Op.TheVariants as Ops
 use Rattle.icn_text.specs.declared.keyword.Keyword.{Keyword as AnyKeyword}
 use Rattle.icn_text.specs.declared.keyword.Keyword.TheVariants as Keywords
 use Rattle.icn_value.specs.Values.{Value, Null, Integer, Text, Chars, Std, Procedure as ProcedureValue, ARecord, AList, ASet, ATable, ACoexp, Global, Static, Local, Element, Field, Key, Keyword, Whole, Part, Item, Val, Var}
-use Rattle.icn_value.specs.Store.{Names, Setting}
+use Rattle.icn_value.specs.Store.{KeptError, Names, Setting}
 use Rattle.icn_code.specs.declared.instr.Instr.{Instr}
 use Rattle.icn_code.specs.declared.instr.Instr.TheVariants as I
 use Rattle.icn_code.specs.Codes.{Tables, Proc as Procedure, RecordType}
 use Rattle.icn_defs.specs.Arities.{arity}
 use Rattle.icn_defs.specs.Applying.{again}
 use Rattle.icn_defs.specs.Conversions.{integer_of}
-use Rattle.icn_defs.specs.Keywords.{Standing, keyword_item}
+use Rattle.icn_defs.specs.Keywords.{Standing, keyword_item, kept_number, kept_value, kept_text}
 use Rattle.icn_defs.specs.Numbers.{func_of}
 use Rattle.icn_defs.specs.Rows.{Row, Outcome, Fails, Gives, Suspends, Error, Ends}
 use Rattle.icn_defs.specs.Running.{Done, Pair, number_of}
 use Rattle.icn_defs.specs.StepRows.{Operation, Function, apply, value_row, list_row, text_row, record_row, coexpression_row}
-use Rattle.law_names.specs.NamedSettings.{ItemNamed, SettingNamed, ValueNamed, WorldNamed}
+use Rattle.law_names.specs.NamedSettings.{ErrorNamed, ItemNamed, KeptNamed, OptionNamed, SettingNamed, ValueNamed, WorldNamed}
 use Rattle.law_names.specs.RowsNamed.{OutcomeNamed, RowsKeepNames}
 use Rattle.icn_run.specs.Calls.{Why, Alt, Op as Operating, Scan, Escan, Proc, MarkDrop, NoMark, Goes, Repeats, Outside as WithoutLabel}
 use Rattle.icn_run.specs.Stacks as flats
 use Rattle.icn_run.specs.Stacks.{Frames, flat}
 use Rattle.icn_run.specs.Step as S
 use Rattle.icn_run.specs.Step.{Status, Fresh, Active, Waiting, Exhausted, Coexp, Store, State, running, failing, hopping, over, stuck, Callee, IsProc, IsRecord, IsFunc, IsNothing}
+use Rattle.icn_run.proofs.Errors.{at_error}
 use Rattle.law_steps.specs.StateNames.{CoexpNamed, StackNamed, StateNamed, StatusNamed, StoreNamed, WhyNamed}
 use Rattle.law_steps.specs.KeepingNames.{FunctionNamed, MayCall, StepsKeepNames}
 use Rattle.law_steps.proofs.CallsNamed as C
@@ -80,12 +81,22 @@ module _ (rows : RowsKeepNames) (P : Tables) where
   turn : (st : Store Frames) (go : Store Frames → State Frames Frames) → K st → ((s : Store Frames) → K s → G (go s)) → G (S.turn P st go)
   turn st go k f = turn_if (nat_lt st.turns st.world.heap.bounds.turns) st go k f
 
+  -- an error that is kept is about a value that names what has a name, and its number is that of an error
+  pub erred : (n : ℕ) (v : Option Value) (m : Frames) (st : Store Frames) → ErrorNamed ns n v → NamedStack m → K st → G (S.errs n v m st)
+  erred n v m st a h k = at_error G n v m st tt (
+    h,
+    record {
+      world = record { heap = k.world.heap; globals = k.world.globals; statics = k.world.statics; kept = a };
+      coexps = k.coexps;
+    },
+  )
+
   valued : (o : Outcome) (m : Frames) (st : Store Frames) (go : Value → State Frames Frames) → OutcomeNamed ns o → NamedStack m → K st
       → ((v : Value) → NamedValue v → G (go v))
       → G (S.with_given o m st go)
   valued (Gives (Val v) s) m st go n h k f = f v n.0.named
   valued (Gives (Var x) s) m st go n h k f = (h, k)
-  valued (Error e v s) m st go n h k f = tt
+  valued (Error e v s) m st go n h k f = erred e v m st n.0 h k
   valued (Fails s) m st go n h k f = (h, k)
   valued (Suspends x r s) m st go n h k f = (h, k)
   valued (Ends e s) m st go n h k f = (h, k)
@@ -94,7 +105,7 @@ module _ (rows : RowsKeepNames) (P : Tables) where
       → ((v : Value) (m : Frames) (s : Store Frames) → NamedValue v → NamedStack m → K s → G (go v m s)) → G (S.with_made flat o m st go)
   made (Gives (Val v) s) m st go n h k f = let at = placed m st s n.1 h k in f v (flats.set_locals s.locals m) (S.with_at s st) n.0.named at.0 at.1
   made (Gives (Var x) s) m st go n h k f = (h, k)
-  made (Error e v s) m st go n h k f = tt
+  made (Error e v s) m st go n h k f = let at = placed m st s n.1 h k in erred e v (flats.set_locals s.locals m) (S.with_at s st) n.0 at.0 at.1
   made (Fails s) m st go n h k f = (h, k)
   made (Suspends x r s) m st go n h k f = (h, k)
   made (Ends e s) m st go n h k f = (h, k)
@@ -105,7 +116,7 @@ module _ (rows : RowsKeepNames) (P : Tables) where
   outcome (Suspends x r s) m st n h k =
       let at = placed m st s n.1.1 h k in
       ((n.0, C.suspend ns (Operating r) (flats.set_locals s.locals m) n.1.0 at.0), at.1)
-  outcome (Error e v s) m st n h k = tt
+  outcome (Error e v s) m st n h k = let at = placed m st s n.1 h k in erred e v (flats.set_locals s.locals m) (S.with_at s st) n.0 at.0 at.1
   outcome (Ends e s) m st n h k = tt
 
   -- the first of some values
@@ -149,7 +160,8 @@ module _ (rows : RowsKeepNames) (P : Tables) where
   -- Scans
 
   with_pair : (pair : Pair) (st : Store Frames) → K st → K (S.with_pair pair st)
-  with_pair pair st k = record { world = record { heap = k.world.heap; globals = k.world.globals; statics = k.world.statics }; coexps = k.coexps }
+  with_pair pair st k =
+      record { world = record { heap = k.world.heap; globals = k.world.globals; statics = k.world.statics; kept = k.world.kept }; coexps = k.coexps }
 
   exchanged : (o : Option (Pair × Frames)) (go : Frames → Store Frames → State Frames Frames) (st : Store Frames) → IfThere (C.Swapped ns) o → K st
       → ((m : Frames) (s : Store Frames) → NamedStack m → K s → G (go m s)) → G (S.with_exchange o go st)
@@ -243,6 +255,7 @@ module _ (rows : RowsKeepNames) (P : Tables) where
       heap = record { lists = k.world.heap.lists; sets = k.world.heap.sets; tables = k.world.heap.tables; records = k.world.heap.records };
       globals = k.world.globals;
       statics = k.world.statics;
+      kept = k.world.kept;
     };
     coexps = k.coexps;
   }
@@ -270,19 +283,19 @@ module _ (rows : RowsKeepNames) (P : Tables) where
   refreshed_from (Some co) m st n h k = coexp_made co.values co.proc co.address m st (each_of NamedValue co.values n.values) h k
   refreshed_from None m st n h k = tt
 
-  refreshed : (v : Value) (m : Frames) (st : Store Frames) → NamedStack m → K st → G (S.refresh flat v m st)
-  refreshed (ACoexp zero) m st h k = tt
-  refreshed (ACoexp (suc n)) m st h k = refreshed_from (slice_get st.coexps (suc n)) m st (each_get (CoexpNamed ns) st.coexps (suc n) k.coexps) h k
-  refreshed Null m st h k = tt
-  refreshed (Integer n) m st h k = tt
-  refreshed (Text t) m st h k = tt
-  refreshed (Chars c) m st h k = tt
-  refreshed (Std f) m st h k = tt
-  refreshed (ProcedureValue n) m st h k = tt
-  refreshed (ARecord n) m st h k = tt
-  refreshed (AList n) m st h k = tt
-  refreshed (ASet n) m st h k = tt
-  refreshed (ATable n) m st h k = tt
+  refreshed : (v : Value) (m : Frames) (st : Store Frames) → NamedValue v → NamedStack m → K st → G (S.refresh flat v m st)
+  refreshed (ACoexp zero) m st a h k = erred 215 (Some (ACoexp zero)) m st (tt, refl) h k
+  refreshed (ACoexp (suc n)) m st a h k = refreshed_from (slice_get st.coexps (suc n)) m st (each_get (CoexpNamed ns) st.coexps (suc n) k.coexps) h k
+  refreshed Null m st a h k = erred 118 (Some Null) m st (a, refl) h k
+  refreshed (Integer n) m st a h k = erred 118 (Some (Integer n)) m st (a, refl) h k
+  refreshed (Text t) m st a h k = erred 118 (Some (Text t)) m st (a, refl) h k
+  refreshed (Chars c) m st a h k = erred 118 (Some (Chars c)) m st (a, refl) h k
+  refreshed (Std f) m st a h k = erred 118 (Some (Std f)) m st (a, refl) h k
+  refreshed (ProcedureValue n) m st a h k = erred 118 (Some (ProcedureValue n)) m st (a, refl) h k
+  refreshed (ARecord n) m st a h k = erred 118 (Some (ARecord n)) m st (a, refl) h k
+  refreshed (AList n) m st a h k = erred 118 (Some (AList n)) m st (a, refl) h k
+  refreshed (ASet n) m st a h k = erred 118 (Some (ASet n)) m st (a, refl) h k
+  refreshed (ATable n) m st a h k = erred 118 (Some (ATable n)) m st (a, refl) h k
 
   entered_by : (n : ℕ) (v : Value) (m : Frames) (st : Store Frames) → NamedValue v → NamedStack m → K st → G (S.entered_by flat n v m st)
   entered_by n v m st a h k = passed n v m (S.with_activator n st.active (S.with_status st.active (Waiting m) st)) a
@@ -298,18 +311,18 @@ module _ (rows : RowsKeepNames) (P : Tables) where
   entered_if false Active n v m st a h k = entered_by n v m st a h k
   entered_if false (Waiting b) n v m st a h k = entered_by n v m st a h k
 
-  activation : (v to : Value) (m : Frames) (st : Store Frames) → NamedValue v → NamedStack m → K st → G (S.activation flat v to m st)
-  activation v (ACoexp n) m st a h k = entered_if (n == st.active) (S.status_of n st) n v m st a h k
-  activation v Null m st a h k = tt
-  activation v (Integer n) m st a h k = tt
-  activation v (Text t) m st a h k = tt
-  activation v (Chars c) m st a h k = tt
-  activation v (Std f) m st a h k = tt
-  activation v (ProcedureValue n) m st a h k = tt
-  activation v (ARecord n) m st a h k = tt
-  activation v (AList n) m st a h k = tt
-  activation v (ASet n) m st a h k = tt
-  activation v (ATable n) m st a h k = tt
+  activation : (v to : Value) (m : Frames) (st : Store Frames) → NamedValue v → NamedValue to → NamedStack m → K st → G (S.activation flat v to m st)
+  activation v (ACoexp n) m st a b h k = entered_if (n == st.active) (S.status_of n st) n v m st a h k
+  activation v Null m st a b h k = erred 118 (Some Null) m st (b, refl) h k
+  activation v (Integer n) m st a b h k = erred 118 (Some (Integer n)) m st (b, refl) h k
+  activation v (Text t) m st a b h k = erred 118 (Some (Text t)) m st (b, refl) h k
+  activation v (Chars c) m st a b h k = erred 118 (Some (Chars c)) m st (b, refl) h k
+  activation v (Std f) m st a b h k = erred 118 (Some (Std f)) m st (b, refl) h k
+  activation v (ProcedureValue n) m st a b h k = erred 118 (Some (ProcedureValue n)) m st (b, refl) h k
+  activation v (ARecord n) m st a b h k = erred 118 (Some (ARecord n)) m st (b, refl) h k
+  activation v (AList n) m st a b h k = erred 118 (Some (AList n)) m st (b, refl) h k
+  activation v (ASet n) m st a b h k = erred 118 (Some (ASet n)) m st (b, refl) h k
+  activation v (ATable n) m st a b h k = erred 118 (Some (ATable n)) m st (b, refl) h k
 
   -- Procedures
 
@@ -337,7 +350,7 @@ module _ (rows : RowsKeepNames) (P : Tables) where
       → G (S.called_if flat t n entry vs m st)
   called_if true n entry vs m st a h k = collected entry.collects entry.parameters vs m st
       (λ parameters m st. S.enter_procedure flat n entry parameters m st) a h k (λ vs m st a h k. entered n entry vs m st a h k)
-  called_if false n entry vs m st a h k = tt
+  called_if false n entry vs m st a h k = erred 301 None m st (tt, refl) h k
 
   constructed : (n : ℕ) (entry : RecordType) (vs : List Value) (m : Frames) (st : Store Frames) → n < length ns.records → Each NamedValue vs → NamedStack m
       → K st
@@ -357,10 +370,10 @@ module _ (rows : RowsKeepNames) (P : Tables) where
   argument (Some zero) xs h = tt
   argument (Some (suc n)) xs h = each_get X xs n h
 
-  integer_called : (f : Value) (o : Option ℤ) (xs : List Item) (m : Frames) (st : Store Frames) → Each X xs → NamedStack m → K st
+  integer_called : (f : Value) (o : Option ℤ) (xs : List Item) (m : Frames) (st : Store Frames) → NamedValue f → Each X xs → NamedStack m → K st
       → G (S.integer_called flat f o xs m st)
-  integer_called f (Some n) xs m st a h k = pushed_or_fails (S.choose_item n xs) m st (argument _ xs a) h k
-  integer_called f None xs m st a h k = tt
+  integer_called f (Some n) xs m st b a h k = pushed_or_fails (S.choose_item n xs) m st (argument _ xs a) h k
+  integer_called f None xs m st b a h k = erred 106 (Some f) m st (b, refl) h k
 
   -- a callee that is a record is one of the tables
   abbrev Within : ℕ → Callee → Type 0
@@ -392,45 +405,45 @@ module _ (rows : RowsKeepNames) (P : Tables) where
 
   callee_called : (c : Callee) (n : ℕ) (xs : List Item) (m : Frames) (st : Store Frames) → Within (length P.records) c
       → ((func : Func) → c ≡ IsFunc func → OutcomeNamed ns (apply st.names (Function func) xs (S.here flat m st)))
-      → Each X xs → NamedStack m → K st → G (S.callee_called flat c n xs m st)
-  callee_called (IsProc entry) n xs m st w f a h k = values xs m st (λ arguments. S.call_procedure flat n entry arguments m st) a h k
+      → NamedValue (ProcedureValue n) → Each X xs → NamedStack m → K st → G (S.callee_called flat c n xs m st)
+  callee_called (IsProc entry) n xs m st w f b a h k = values xs m st (λ arguments. S.call_procedure flat n entry arguments m st) a h k
       (λ vs b. called_if (nat_le (suc (flats.level m)) st.world.heap.bounds.levels) n entry vs m st b h k)
-  callee_called (IsRecord kind entry) n xs m st w f a h k =
+  callee_called (IsRecord kind entry) n xs m st w f b a h k =
       values xs m st (λ arguments. S.construct_record flat kind entry arguments m st) a h k
       (λ vs b. constructed kind entry vs m st (subst (λ (j : ℕ). kind < j) (sym named_records) w) b h k)
-  callee_called (IsFunc func) n xs m st w f a h k = outcome (apply st.names (Function func) xs (S.here flat m st)) m st (f func refl) h k
-  callee_called IsNothing n xs m st w f a h k = tt
+  callee_called (IsFunc func) n xs m st w f b a h k = outcome (apply st.names (Function func) xs (S.here flat m st)) m st (f func refl) h k
+  callee_called IsNothing n xs m st w f b a h k = erred 106 (Some (ProcedureValue n)) m st (b, refl) h k
 
-  invoked : (f : Value) (xs : List Item) (m : Frames) (st : Store Frames) → FunctionNamed P f xs m st → Each X xs → NamedStack m → K st
+  invoked : (f : Value) (xs : List Item) (m : Frames) (st : Store Frames) → FunctionNamed P f xs m st → NamedValue f → Each X xs → NamedStack m → K st
       → G (S.invoke_value flat P f xs m st)
-  invoked (ProcedureValue n) xs m st f a h k = callee_called (S.callee_of P n) n xs m st (callees n P.procs P.records) (λ func e. f n func refl e) a h k
-  invoked Null xs m st f a h k = integer_called Null (number_of Null) xs m st a h k
-  invoked (Integer n) xs m st f a h k = integer_called (Integer n) (number_of (Integer n)) xs m st a h k
-  invoked (Text t) xs m st f a h k = integer_called (Text t) (number_of (Text t)) xs m st a h k
-  invoked (Chars c) xs m st f a h k = integer_called (Chars c) (number_of (Chars c)) xs m st a h k
-  invoked (Std c) xs m st f a h k = integer_called (Std c) (number_of (Std c)) xs m st a h k
-  invoked (ARecord n) xs m st f a h k = integer_called (ARecord n) (number_of (ARecord n)) xs m st a h k
-  invoked (AList n) xs m st f a h k = integer_called (AList n) (number_of (AList n)) xs m st a h k
-  invoked (ASet n) xs m st f a h k = integer_called (ASet n) (number_of (ASet n)) xs m st a h k
-  invoked (ATable n) xs m st f a h k = integer_called (ATable n) (number_of (ATable n)) xs m st a h k
-  invoked (ACoexp n) xs m st f a h k = integer_called (ACoexp n) (number_of (ACoexp n)) xs m st a h k
+  invoked (ProcedureValue n) xs m st f b a h k = callee_called (S.callee_of P n) n xs m st (callees n P.procs P.records) (λ func e. f n func refl e) b a h k
+  invoked Null xs m st f b a h k = integer_called Null (number_of Null) xs m st b a h k
+  invoked (Integer n) xs m st f b a h k = integer_called (Integer n) (number_of (Integer n)) xs m st b a h k
+  invoked (Text t) xs m st f b a h k = integer_called (Text t) (number_of (Text t)) xs m st b a h k
+  invoked (Chars c) xs m st f b a h k = integer_called (Chars c) (number_of (Chars c)) xs m st b a h k
+  invoked (Std c) xs m st f b a h k = integer_called (Std c) (number_of (Std c)) xs m st b a h k
+  invoked (ARecord n) xs m st f b a h k = integer_called (ARecord n) (number_of (ARecord n)) xs m st b a h k
+  invoked (AList n) xs m st f b a h k = integer_called (AList n) (number_of (AList n)) xs m st b a h k
+  invoked (ASet n) xs m st f b a h k = integer_called (ASet n) (number_of (ASet n)) xs m st b a h k
+  invoked (ATable n) xs m st f b a h k = integer_called (ATable n) (number_of (ATable n)) xs m st b a h k
+  invoked (ACoexp n) xs m st f b a h k = integer_called (ACoexp n) (number_of (ACoexp n)) xs m st b a h k
 
   field_taken : (o : Option ℕ) (n : ℕ) (m : Frames) (st : Store Frames) → NamedStack m → K st → G (S.field_taken flat o n m st)
   field_taken (Some place) n m st h k = ((record { named = tt }, h), k)
-  field_taken None n m st h k = tt
+  field_taken None n m st h k = erred 207 (Some (ARecord n)) m st (tt, refl) h k
 
-  field_of : (field : ℕ) (v : Value) (m : Frames) (st : Store Frames) → NamedStack m → K st → G (S.field_of flat P field v m st)
-  field_of field (ARecord n) m st h k = field_taken _ n m st h k
-  field_of field Null m st h k = tt
-  field_of field (Integer n) m st h k = tt
-  field_of field (Text t) m st h k = tt
-  field_of field (Chars c) m st h k = tt
-  field_of field (Std f) m st h k = tt
-  field_of field (ProcedureValue n) m st h k = tt
-  field_of field (AList n) m st h k = tt
-  field_of field (ASet n) m st h k = tt
-  field_of field (ATable n) m st h k = tt
-  field_of field (ACoexp n) m st h k = tt
+  field_of : (field : ℕ) (v : Value) (m : Frames) (st : Store Frames) → NamedValue v → NamedStack m → K st → G (S.field_of flat P field v m st)
+  field_of field (ARecord n) m st a h k = field_taken _ n m st h k
+  field_of field Null m st a h k = erred 107 (Some Null) m st (a, refl) h k
+  field_of field (Integer n) m st a h k = erred 107 (Some (Integer n)) m st (a, refl) h k
+  field_of field (Text t) m st a h k = erred 107 (Some (Text t)) m st (a, refl) h k
+  field_of field (Chars c) m st a h k = erred 107 (Some (Chars c)) m st (a, refl) h k
+  field_of field (Std f) m st a h k = erred 107 (Some (Std f)) m st (a, refl) h k
+  field_of field (ProcedureValue n) m st a h k = erred 107 (Some (ProcedureValue n)) m st (a, refl) h k
+  field_of field (AList n) m st a h k = erred 107 (Some (AList n)) m st (a, refl) h k
+  field_of field (ASet n) m st a h k = erred 107 (Some (ASet n)) m st (a, refl) h k
+  field_of field (ATable n) m st a h k = erred 107 (Some (ATable n)) m st (a, refl) h k
+  field_of field (ACoexp n) m st a h k = erred 107 (Some (ACoexp n)) m st (a, refl) h k
 
   result : (x : Item) (m : Frames) (st : Store Frames) (go : Item → State Frames Frames) → X x → NamedStack m → K st → ((x : Item) → X x → G (go x))
       → G (S.with_result flat x m st go)
@@ -505,11 +518,11 @@ module _ (rows : RowsKeepNames) (P : Tables) where
       → G (S.with_taken flat n m go)
   taken n m go h f = found (C.NamedAndStack ns (Each X)) (flats.take n m) (S.on_pair go) (C.take_items ns n m h) (λ x n. f x.0 x.1 n.0 n.1)
 
-  limited : (v : Value) (o : Option ℤ) (m : Frames) (st : Store Frames) → NamedStack m → K st → G (S.limit_results flat v o m st)
-  limited v None m st h k = tt
-  limited v (Some (negsuc n)) m st h k = tt
-  limited v (Some (pos zero)) m st h k = (h, k)
-  limited v (Some (pos (suc n))) m st h k = ((tt, h), k)
+  limited : (v : Value) (o : Option ℤ) (m : Frames) (st : Store Frames) → NamedValue v → NamedStack m → K st → G (S.limit_results flat v o m st)
+  limited v None m st a h k = erred 101 (Some v) m st (a, refl) h k
+  limited v (Some (negsuc n)) m st a h k = erred 205 (Some v) m st (a, refl) h k
+  limited v (Some (pos zero)) m st a h k = (h, k)
+  limited v (Some (pos (suc n))) m st a h k = ((tt, h), k)
 
   limited_result : (x : Item) (n : ℕ) (m : Frames) (st : Store Frames) → X x → NamedStack m → K st → G (S.limited_result flat x n m st)
   limited_result x zero m st a h k = unmarked m st (S.push_item flat x) h k (λ m s h k. ((a, h), k))
@@ -537,7 +550,7 @@ module _ (rows : RowsKeepNames) (P : Tables) where
   activation_of [] m st a h k = tt
   activation_of (x ∷ []) m st a h k = tt
   activation_of (x ∷ y ∷ []) m st a h k = value x m st (λ value. S.with_value flat y m st (λ other. S.activation flat value other m st)) a.0 h k
-      (λ v b. value y m st (λ other. S.activation flat v other m st) a.1.0 h k (λ to c. activation v to m st b h k))
+      (λ v b. value y m st (λ other. S.activation flat v other m st) a.1.0 h k (λ to c. activation v to m st b c h k))
   activation_of (x ∷ y ∷ z ∷ xs) m st a h k = tt
 
   operates : (op : Op) (xs : List Item) (m : Frames) (st : Store Frames) → Each X xs → NamedStack m → K st
@@ -546,28 +559,48 @@ module _ (rows : RowsKeepNames) (P : Tables) where
       outcome (apply st.names (Operation op) xs (S.here flat m st)) m st (rows.operations ns op xs (S.here flat m st) (here m st h k) (all_of X xs a)) h k
 
   field_applied : (field : ℕ) (xs : List Item) (m : Frames) (st : Store Frames) → Each X xs → NamedStack m → K st → G (S.field_applied flat P field xs m st)
-  field_applied field (x ∷ xs) m st a h k = value x m st (λ value. S.field_of flat P field value m st) a.0 h k (λ v b. field_of field v m st h k)
+  field_applied field (x ∷ xs) m st a h k = value x m st (λ value. S.field_of flat P field value m st) a.0 h k (λ v b. field_of field v m st b h k)
   field_applied field [] m st a h k = tt
 
-  keyword : (s : Standing) (w : AnyKeyword) → IfThere X (keyword_item s w)
-  keyword s Keywords.Ascii = plain _ tt
-  keyword s Keywords.Cset = plain _ tt
-  keyword s Keywords.Current = plain _ tt
-  keyword s Keywords.Digits = plain _ tt
-  keyword s Keywords.Errout = plain _ tt
-  keyword s Keywords.Fail = tt
-  keyword s Keywords.Input = plain _ tt
-  keyword s Keywords.Lcase = plain _ tt
-  keyword s Keywords.Letters = plain _ tt
-  keyword s Keywords.Level = plain _ tt
-  keyword s Keywords.Main = plain _ tt
-  keyword s Keywords.Null = plain _ tt
-  keyword s Keywords.Output = plain _ tt
-  keyword s Keywords.Pos = record { named = tt }
-  keyword s Keywords.Random = record { named = tt }
-  keyword s Keywords.Source = plain _ tt
-  keyword s Keywords.Subject = record { named = tt }
-  keyword s Keywords.Ucase = plain _ tt
+  number_named : (o : Option KeptError) → IfThere X (kept_number o)
+  number_named None = tt
+  number_named (Some error) = plain _ tt
+
+  option_named : (v : Option Value) → OptionNamed ns v → IfThere X (option_map Val v)
+  option_named None a = tt
+  option_named (Some v) a = plain v a
+
+  value_kept : (o : Option KeptError) → KeptNamed ns o → IfThere X (kept_value o)
+  value_kept None a = tt
+  value_kept (Some error) a = option_named error.value a.0
+
+  text_named : (o : Option KeptError) → IfThere X (kept_text o)
+  text_named None = tt
+  text_named (Some error) = plain _ tt
+
+  keyword : (s : Standing) (w : AnyKeyword) → KeptNamed ns s.kept → IfThere X (keyword_item s w)
+  keyword s Keywords.Ascii e = plain _ tt
+  keyword s Keywords.Cset e = plain _ tt
+  keyword s Keywords.Current e = plain _ tt
+  keyword s Keywords.Digits e = plain _ tt
+  keyword s Keywords.Errout e = plain _ tt
+  keyword s Keywords.Fail e = tt
+  keyword s Keywords.Input e = plain _ tt
+  keyword s Keywords.Lcase e = plain _ tt
+  keyword s Keywords.Letters e = plain _ tt
+  keyword s Keywords.Level e = plain _ tt
+  keyword s Keywords.Main e = plain _ tt
+  keyword s Keywords.Null e = plain _ tt
+  keyword s Keywords.Output e = plain _ tt
+  keyword s Keywords.Pos e = record { named = tt }
+  keyword s Keywords.Random e = record { named = tt }
+  keyword s Keywords.Source e = plain _ tt
+  keyword s Keywords.Subject e = record { named = tt }
+  keyword s Keywords.Ucase e = plain _ tt
+  keyword s Keywords.Error e = record { named = tt }
+  keyword s Keywords.ErrorNumber e = number_named s.kept
+  keyword s Keywords.ErrorValue e = value_kept s.kept e
+  keyword s Keywords.ErrorText e = text_named s.kept
 
   operated : (op : Op) (xs : List Item) (m : Frames) (st : Store Frames) → Each X xs → NamedStack m → K st → G (S.operate flat op xs m st)
   operated Ops.IsNull xs m st a h k = operates Ops.IsNull xs m st a h k
@@ -581,7 +614,7 @@ module _ (rows : RowsKeepNames) (P : Tables) where
   operated Ops.Random xs m st a h k = operates Ops.Random xs m st a h k
   operated Ops.TabMatch xs m st a h k = operates Ops.TabMatch xs m st a h k
   operated Ops.Refresh [] m st a h k = operates Ops.Refresh [] m st a h k
-  operated Ops.Refresh (x ∷ xs) m st a h k = value x m st (λ value. S.refresh flat value m st) a.0 h k (λ v b. refreshed v m st h k)
+  operated Ops.Refresh (x ∷ xs) m st a h k = value x m st (λ value. S.refresh flat value m st) a.0 h k (λ v b. refreshed v m st b h k)
   operated Ops.Add xs m st a h k = operates Ops.Add xs m st a h k
   operated Ops.Subtract xs m st a h k = operates Ops.Subtract xs m st a h k
   operated Ops.Multiply xs m st a h k = operates Ops.Multiply xs m st a h k
@@ -626,7 +659,8 @@ module _ (rows : RowsKeepNames) (P : Tables) where
   instruction (I.Local n) m st d h k = ((record { named = tt }, h), k)
   instruction (I.Static n) m st d h k = ((record { named = tt }, h), k)
   instruction (I.Global n) m st d h k = ((record { named = tt }, h), k)
-  instruction (I.Keywd word) m st d h k = pushed_or_fails (keyword_item (S.standing_of flat m st) word) m st (keyword (S.standing_of flat m st) word) h k
+  instruction (I.Keywd word) m st d h k =
+      pushed_or_fails (keyword_item (S.standing_of flat m st) word) m st (keyword (S.standing_of flat m st) word k.world.kept) h k
   instruction I.Pop m st d h k = popped m (λ item m. running m st) h (λ x m a h. (h, k))
   instruction I.Dup m st d h k = popped m (λ item below. S.push_item flat item m st) h (λ x b a g. ((a, h), k))
   instruction (I.Op op) m st d h k = taken (arity op) m (λ items m. S.turn P st (S.operate flat op items m)) h
@@ -649,7 +683,7 @@ module _ (rows : RowsKeepNames) (P : Tables) where
   instruction I.Esusp m st d h k = popped m (λ item m. S.with_found (flats.suspend_mark m) (λ m. S.push_item flat item m st)) h
       (λ x m a h. found NamedStack (flats.suspend_mark m) (λ m. S.push_item flat x m st) (C.suspend_mark ns m h) (λ m h. ((a, h), k)))
   instruction I.Limit m st d h k = popped m (λ item m. S.with_value flat item m st (λ value. S.limit_results flat value (integer_of value) m st)) h
-      (λ x m a h. value x m st (λ value. S.limit_results flat value (integer_of value) m st) a h k (λ v b. limited v (integer_of v) m st h k))
+      (λ x m a h. value x m st (λ value. S.limit_results flat value (integer_of value) m st) a h k (λ v b. limited v (integer_of v) m st b h k))
   instruction I.Lsusp m st d h k = popped m (λ item m. S.with_found (flats.count_down m) (S.on_pair (λ count m. S.limited_result flat item count m st))) h
       (λ x m a h.
       found (C.NamedAndStack ns (C.Counted ns)) (flats.count_down m) (S.on_pair (λ count m. S.limited_result flat x count m st)) (C.count_down ns m h)
@@ -723,6 +757,6 @@ steps_named rows = record {
   values = λ P xs m st go a h k f.
       state_out rows P _ (values rows P xs m st go (each_of (ItemNamed (S.all_names P)) xs a) (C.stack_in (S.all_names P) m h) (store_in rows P st k)
       (λ vs b. state_in rows P (go vs) (f vs (all_of (ValueNamed (S.all_names P)) vs b))));
-  called = λ P f xs m st n a h k.
-      state_out rows P _ (invoked rows P f xs m st n (each_of (ItemNamed (S.all_names P)) xs a) (C.stack_in (S.all_names P) m h) (store_in rows P st k));
+  called = λ P f xs m st n b a h k.
+      state_out rows P _ (invoked rows P f xs m st n b (each_of (ItemNamed (S.all_names P)) xs a) (C.stack_in (S.all_names P) m h) (store_in rows P st k));
 }

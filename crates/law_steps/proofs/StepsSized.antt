@@ -24,6 +24,7 @@ use Rattle.icn_run.specs.Stacks as flats
 use Rattle.icn_run.specs.Stacks.{Frames, flat}
 use Rattle.icn_run.specs.Step as S
 use Rattle.icn_run.specs.Step.{Status, Fresh, Active, Waiting, Exhausted, Coexp, Store, State, running, failing, hopping, over, stuck, Callee, IsProc, IsRecord, IsFunc, IsNothing}
+use Rattle.icn_run.proofs.Errors.{at_error}
 use Rattle.law_steps.specs.KeepingNames.{MayCall}
 use Rattle.law_steps.specs.KeepingSizes.{FunctionFits, OutcomeFits, StateFits, StepsKeepSizes, StoreFits, field_count}
 
@@ -51,10 +52,13 @@ module _ (rows : RowsKeepSizes) (P : Tables) where
 
   -- Rows
 
+  pub erred : (n : ℕ) (v : Option Value) (m : Frames) (st : Store Frames) → K st → G (S.errs n v m st)
+  erred n v m st k = at_error G n v m st tt k
+
   valued : (o : Outcome) (m : Frames) (st : Store Frames) (go : Value → State Frames Frames) → K st → ((v : Value) → G (go v)) → G (S.with_given o m st go)
   valued (Gives (Val v) s) m st go k f = f v
   valued (Gives (Var x) s) m st go k f = k
-  valued (Error e v s) m st go k f = tt
+  valued (Error e v s) m st go k f = erred e v m st k
   valued (Fails s) m st go k f = k
   valued (Suspends x r s) m st go k f = k
   valued (Ends e s) m st go k f = k
@@ -63,7 +67,7 @@ module _ (rows : RowsKeepSizes) (P : Tables) where
       → ((v : Value) (m : Frames) (s : Store Frames) → K s → G (go v m s)) → G (S.with_made flat o m st go)
   made (Gives (Val v) s) m st go n k f = f v (flats.set_locals s.locals m) (S.with_at s st) n
   made (Gives (Var x) s) m st go n k f = k
-  made (Error e v s) m st go n k f = tt
+  made (Error e v s) m st go n k f = erred e v (flats.set_locals s.locals m) (S.with_at s st) n
   made (Fails s) m st go n k f = k
   made (Suspends x r s) m st go n k f = k
   made (Ends e s) m st go n k f = k
@@ -72,7 +76,7 @@ module _ (rows : RowsKeepSizes) (P : Tables) where
   outcome (Fails s) m st n = n
   outcome (Gives x s) m st n = n
   outcome (Suspends x r s) m st n = n
-  outcome (Error e v s) m st n = tt
+  outcome (Error e v s) m st n = erred e v (flats.set_locals s.locals m) (S.with_at s st) n
   outcome (Ends e s) m st n = tt
 
   value : (x : Item) (m : Frames) (st : Store Frames) (go : Value → State Frames Frames) → K st → ((v : Value) → G (go v)) → G (S.with_value flat x m st go)
@@ -157,18 +161,18 @@ module _ (rows : RowsKeepSizes) (P : Tables) where
   refreshed_from None m st k = tt
 
   refreshed : (v : Value) (m : Frames) (st : Store Frames) → K st → G (S.refresh flat v m st)
-  refreshed (ACoexp zero) m st k = tt
+  refreshed (ACoexp zero) m st k = erred 215 (Some (ACoexp zero)) m st k
   refreshed (ACoexp (suc n)) m st k = refreshed_from (slice_get st.coexps (suc n)) m st k
-  refreshed Null m st k = tt
-  refreshed (Integer n) m st k = tt
-  refreshed (Text t) m st k = tt
-  refreshed (Chars c) m st k = tt
-  refreshed (Std f) m st k = tt
-  refreshed (ProcedureValue n) m st k = tt
-  refreshed (ARecord n) m st k = tt
-  refreshed (AList n) m st k = tt
-  refreshed (ASet n) m st k = tt
-  refreshed (ATable n) m st k = tt
+  refreshed Null m st k = erred 118 (Some Null) m st k
+  refreshed (Integer n) m st k = erred 118 (Some (Integer n)) m st k
+  refreshed (Text t) m st k = erred 118 (Some (Text t)) m st k
+  refreshed (Chars c) m st k = erred 118 (Some (Chars c)) m st k
+  refreshed (Std f) m st k = erred 118 (Some (Std f)) m st k
+  refreshed (ProcedureValue n) m st k = erred 118 (Some (ProcedureValue n)) m st k
+  refreshed (ARecord n) m st k = erred 118 (Some (ARecord n)) m st k
+  refreshed (AList n) m st k = erred 118 (Some (AList n)) m st k
+  refreshed (ASet n) m st k = erred 118 (Some (ASet n)) m st k
+  refreshed (ATable n) m st k = erred 118 (Some (ATable n)) m st k
 
   entered_if : (t : Bool) (u : Status Frames) (n : ℕ) (v : Value) (m : Frames) (st : Store Frames) → K st → G (S.entered_if flat t u n v m st)
   entered_if t Exhausted n v m st k = k
@@ -181,16 +185,16 @@ module _ (rows : RowsKeepSizes) (P : Tables) where
 
   activation : (v to : Value) (m : Frames) (st : Store Frames) → K st → G (S.activation flat v to m st)
   activation v (ACoexp n) m st k = entered_if (n == st.active) (S.status_of n st) n v m st k
-  activation v Null m st k = tt
-  activation v (Integer n) m st k = tt
-  activation v (Text t) m st k = tt
-  activation v (Chars c) m st k = tt
-  activation v (Std f) m st k = tt
-  activation v (ProcedureValue n) m st k = tt
-  activation v (ARecord n) m st k = tt
-  activation v (AList n) m st k = tt
-  activation v (ASet n) m st k = tt
-  activation v (ATable n) m st k = tt
+  activation v Null m st k = erred 118 (Some Null) m st k
+  activation v (Integer n) m st k = erred 118 (Some (Integer n)) m st k
+  activation v (Text t) m st k = erred 118 (Some (Text t)) m st k
+  activation v (Chars c) m st k = erred 118 (Some (Chars c)) m st k
+  activation v (Std f) m st k = erred 118 (Some (Std f)) m st k
+  activation v (ProcedureValue n) m st k = erred 118 (Some (ProcedureValue n)) m st k
+  activation v (ARecord n) m st k = erred 118 (Some (ARecord n)) m st k
+  activation v (AList n) m st k = erred 118 (Some (AList n)) m st k
+  activation v (ASet n) m st k = erred 118 (Some (ASet n)) m st k
+  activation v (ATable n) m st k = erred 118 (Some (ATable n)) m st k
 
   -- Procedures
 
@@ -203,7 +207,7 @@ module _ (rows : RowsKeepSizes) (P : Tables) where
   called_if : (t : Bool) (n : ℕ) (entry : Procedure) (vs : List Value) (m : Frames) (st : Store Frames) → K st → G (S.called_if flat t n entry vs m st)
   called_if true n entry vs m st k =
       collected entry.collects entry.parameters vs m st (λ parameters m st. S.enter_procedure flat n entry parameters m st) k (λ vs m st k. k)
-  called_if false n entry vs m st k = tt
+  called_if false n entry vs m st k = erred 301 None m st k
 
   filled_length : (n : ℕ) (vs : List Value) → length (S.fill_nulls n vs) ≡ n
   filled_length n vs = length-take-le n (vs ++ replicate n Null) (omega (arith, length-append vs (replicate n Null), length-replicate n Null))
@@ -244,7 +248,7 @@ module _ (rows : RowsKeepSizes) (P : Tables) where
 
   integer_called : (f : Value) (o : Option ℤ) (xs : List Item) (m : Frames) (st : Store Frames) → K st → G (S.integer_called flat f o xs m st)
   integer_called f (Some n) xs m st k = pushed_or_fails (S.choose_item n xs) m st k
-  integer_called f None xs m st k = tt
+  integer_called f None xs m st k = erred 106 (Some f) m st k
 
   callee_called : (c : Callee) (n : ℕ) (xs : List Item) (m : Frames) (st : Store Frames) → Within c
       → ((func : Func) → c ≡ IsFunc func → OutcomeFits P (apply st.names (Function func) xs (S.here flat m st)))
@@ -254,7 +258,7 @@ module _ (rows : RowsKeepSizes) (P : Tables) where
   callee_called (IsRecord kind entry) n xs m st w f k =
       values xs m st (λ arguments. S.construct_record flat kind entry arguments m st) k (λ vs. constructed kind entry vs m st w k)
   callee_called (IsFunc func) n xs m st w f k = outcome (apply st.names (Function func) xs (S.here flat m st)) m st (f func refl)
-  callee_called IsNothing n xs m st w f k = tt
+  callee_called IsNothing n xs m st w f k = erred 106 (Some (ProcedureValue n)) m st k
 
   invoked : (f : Value) (xs : List Item) (m : Frames) (st : Store Frames) → FunctionFits P f xs m st → K st → G (S.invoke_value flat P f xs m st)
   invoked (ProcedureValue n) xs m st f k = callee_called (S.callee_of P n) n xs m st (callees n P.procs) (λ func e. f n func refl e) k
@@ -271,20 +275,20 @@ module _ (rows : RowsKeepSizes) (P : Tables) where
 
   field_taken : (o : Option ℕ) (n : ℕ) (m : Frames) (st : Store Frames) → K st → G (S.field_taken flat o n m st)
   field_taken (Some place) n m st k = k
-  field_taken None n m st k = tt
+  field_taken None n m st k = erred 207 (Some (ARecord n)) m st k
 
   field_of : (field : ℕ) (v : Value) (m : Frames) (st : Store Frames) → K st → G (S.field_of flat P field v m st)
   field_of field (ARecord n) m st k = field_taken _ n m st k
-  field_of field Null m st k = tt
-  field_of field (Integer n) m st k = tt
-  field_of field (Text t) m st k = tt
-  field_of field (Chars c) m st k = tt
-  field_of field (Std f) m st k = tt
-  field_of field (ProcedureValue n) m st k = tt
-  field_of field (AList n) m st k = tt
-  field_of field (ASet n) m st k = tt
-  field_of field (ATable n) m st k = tt
-  field_of field (ACoexp n) m st k = tt
+  field_of field Null m st k = erred 107 (Some Null) m st k
+  field_of field (Integer n) m st k = erred 107 (Some (Integer n)) m st k
+  field_of field (Text t) m st k = erred 107 (Some (Text t)) m st k
+  field_of field (Chars c) m st k = erred 107 (Some (Chars c)) m st k
+  field_of field (Std f) m st k = erred 107 (Some (Std f)) m st k
+  field_of field (ProcedureValue n) m st k = erred 107 (Some (ProcedureValue n)) m st k
+  field_of field (AList n) m st k = erred 107 (Some (AList n)) m st k
+  field_of field (ASet n) m st k = erred 107 (Some (ASet n)) m st k
+  field_of field (ATable n) m st k = erred 107 (Some (ATable n)) m st k
+  field_of field (ACoexp n) m st k = erred 107 (Some (ACoexp n)) m st k
 
   result : (x : Item) (m : Frames) (st : Store Frames) (go : Item → State Frames Frames) → K st → ((x : Item) → G (go x)) → G (S.with_result flat x m st go)
   result (Val v) m st go k f = f (Val v)
@@ -351,8 +355,8 @@ module _ (rows : RowsKeepSizes) (P : Tables) where
   taken n m go f = found (flats.take n m) (S.on_pair go) (λ x. f x.0 x.1)
 
   limited : (v : Value) (o : Option ℤ) (m : Frames) (st : Store Frames) → K st → G (S.limit_results flat v o m st)
-  limited v None m st k = tt
-  limited v (Some (negsuc n)) m st k = tt
+  limited v None m st k = erred 101 (Some v) m st k
+  limited v (Some (negsuc n)) m st k = erred 205 (Some v) m st k
   limited v (Some (pos zero)) m st k = k
   limited v (Some (pos (suc n))) m st k = k
 

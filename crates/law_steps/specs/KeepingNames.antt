@@ -49,7 +49,7 @@ pub record StepsKeepNames : Type 0 where
       → StateNamed (all_names tables) (next values))
       → StateNamed (all_names tables) (with_values flat items m st next)
   pub called : (tables : Tables) (callee : Value) (items : List Item) (m : Frames) (st : Store Frames)
-      → FunctionNamed tables callee items m st
+      → FunctionNamed tables callee items m st → ValueNamed (all_names tables) callee
       → All (ItemNamed (all_names tables)) items → StackNamed (all_names tables) m
       → StoreNamed (all_names tables) st
       → StateNamed (all_names tables) (invoke_value flat tables callee items m st)

@@ -1,5 +1,5 @@
 -- Worlds that may be called with, as their globals, their statics and their texts become more.
-use Rattle.std.proofs.Common.{◌≡◌, refl, ℤ, Result, Ok, Err, subst, sym, arith, ℕ, zero, suc, ◌<◌, ◌≤◌, List, [], ◌∷◌, ◌++◌, length, map}
+use Rattle.std.proofs.Common.{◌≡◌, refl, ap, ℤ, Result, Ok, Err, subst, sym, arith, ℕ, zero, suc, ◌<◌, ◌≤◌, List, [], ◌∷◌, ◌++◌, length, map}
 use Rattle.std.specs.Prelude.{slice_index_or}
 use Rattle.std.specs.List.{All}
 use Rattle.std.proofs.lemmas.List.{map-append}
@@ -7,7 +7,7 @@ use Rattle.std.proofs.lemmas.List.Elements.{All-nil, All-cons, All-push}
 use Rattle.icn_value.specs.Limited.{Bounds}
 use Rattle.icn_value.specs.declared.val.Val.{Val as HeldVal}
 use Rattle.icn_value.specs.declared.val.Val.TheVariants.{Null as NullVal, Integer as IntegerVal}
-use Rattle.icn_value.specs.Store.{Names, Record, outside_of}
+use Rattle.icn_value.specs.Store.{Names, Record, World as StoreWorld, outside_of}
 use Rattle.icn_value.specs.Values.{Value, Null, Integer, Val}
 use Rattle.icn_heap.specs.declared.heap.Heap.{Heap as HeldHeap}
 use Rattle.icn_heap.specs.Extents.{Extent, IsLive, KeepsValues, value_in}
@@ -18,31 +18,32 @@ use Rattle.icn_defs.specs.Rows.{gives_value}
 use Rattle.icn_defs.specs.Structures.{new_record_of}
 use Rattle.law_names.specs.RowsNamed.{OutcomeNamed}
 use Rattle.law_names.proofs.RowsNamed.{rows_keep_names}
-use Rattle.law_names.specs.NamedSettings.{HeapNamed, ItemNamed, ResidualNamed, SettingNamed, ValueNamed}
+use Rattle.law_names.specs.NamedSettings.{HeapNamed, ItemNamed, KeptNamed, ResidualNamed, SettingNamed, ValueNamed}
 use Rattle.icn_value.specs.declared.item.Item.{Item as HeldItem}
 use Rattle.icn_value.specs.declared.residual.Residual.{Residual as HeldResidual}
 use Rattle.icn_vars.specs.declared.outcome.Outcome.{Outcome as HeldOutcome}
 use Rattle.icn_vars.specs.declared.outcome.Outcome.TheVariants.{Fails as HeldFails, Gives as HeldGives, Suspends as HeldSuspends}
 use Rattle.icn_vars.specs.declared.outcome.Halt.{Halt}
 use Rattle.icn_vars.specs.Outcomes.{IsLiveAnswer, IsLiveHalt, IsLiveOutcome, IsLiveResidual, residual_in}
-use Rattle.icn_vars.specs.Worlds.{IsLiveItem, Reach, item_in, reach_of, setting_of}
+use Rattle.icn_vars.specs.Worlds.{IsLiveItem, Reach, item_in, new_world, reach_of, setting_of, world_of}
 use Rattle.icn_vars.proofs.GrowingWorlds.{setting_over}
 use Rattle.icn_vars.specs.declared.world.World.{World}
 use Rattle.icn_apply.specs.NamesAfter.{AnswerNamed}
-use Rattle.test_values.proofs.NamedValues.{empty_named, values_more}
+use Rattle.test_values.proofs.NamedValues.{empty_named, kept_named, values_more}
 use Rattle.test_apply.specs.Ready.{ComesNamed, IsReadySetting, IsReadyAnswer}
 
 -- That all has a name
 
-pub new_ready : (names : Names) (world : World) (bounds : Bounds) (locals : List HeldVal) → heap_of world.heap ≡ empty_heap bounds → world.globals.items ≡ []
-    → world.statics.items ≡ [] → locals ≡ NullVal ∷ []
-    → IsReadySetting names world locals
-new_ready names world bounds locals heap globals statics is = record {
+pub new_ready : (names : Names) (world : World) (bounds : Bounds) (first : HeldHeap) (vals vals' locals : List HeldVal)
+    → heap_of world.heap ≡ empty_heap bounds → world.globals.items ≡ [] → world.statics.items ≡ [] → world_of world ≡ new_world first vals vals'
+    → locals ≡ NullVal ∷ [] → IsReadySetting names world locals
+new_ready names world bounds first vals vals' locals heap globals statics start is = record {
   named = record {
     world = record {
       heap = subst (HeapNamed names) (sym heap) (empty_named names bounds);
       globals = rw globals (All-nil (ValueNamed names));
       statics = rw statics (All-nil (ValueNamed names));
+      kept = subst (KeptNamed names) (sym (ap (λ (w : StoreWorld). w.kept) start)) tt;
     };
     locals = rw is (All-cons (ValueNamed names) Null [] tt (All-nil (ValueNamed names)));
   };
@@ -50,7 +51,8 @@ new_ready names world bounds locals heap globals statics is = record {
 }
 
 module _ (names : Names) where
-  module _ (old new : World) (locals : List HeldVal) (heap : new.heap ≡ old.heap) (ready : IsReadySetting names old locals) where
+  module _ (old new : World) (locals : List HeldVal) (heap : new.heap ≡ old.heap) (words : new.words ≡ old.words)
+      (ready : IsReadySetting names old locals) where
     pub static_ready : (val : HeldVal) → new.globals.items ≡ old.globals.items → new.statics.items ≡ old.statics.items ++ val ∷ []
         → ValueNamed names (value_in (extent_of old.heap) val) → IsReadySetting names new locals
     static_ready val globals statics is = record {
@@ -59,6 +61,7 @@ module _ (names : Names) where
           heap = rw heap ready.named.world.heap;
           globals = rw (heap, globals) ready.named.world.globals;
           statics = rw heap (values_more names (extent_of old.heap) old.statics.items new.statics.items val ready.named.world.statics is statics);
+          kept = rw (heap, words) ready.named.world.kept;
         };
         locals = rw heap ready.named.locals;
       };
@@ -73,6 +76,7 @@ module _ (names : Names) where
           heap = rw heap ready.named.world.heap;
           globals = rw heap (values_more names (extent_of old.heap) old.globals.items new.globals.items val ready.named.world.globals is globals);
           statics = rw (heap, statics) ready.named.world.statics;
+          kept = rw (heap, words) ready.named.world.kept;
         };
         locals = rw heap ready.named.locals;
       };
@@ -86,6 +90,7 @@ module _ (names : Names) where
           heap = rw heap ready.named.world.heap;
           globals = rw (heap, globals) ready.named.world.globals;
           statics = rw statics (All-nil (ValueNamed names));
+          kept = rw (heap, words) ready.named.world.kept;
         };
         locals = rw heap ready.named.locals;
       };
@@ -106,12 +111,13 @@ record_ready names old new locals kind fields val ready known named found =
 
 pub held_ready : (names : Names) (old : World) (heap : HeldHeap) (locals : List HeldVal) → IsReadySetting names old locals
     → KeepsValues (extent_of old.heap) (extent_of heap) → heap_of heap ≡ heap_of old.heap
-    → SettingNamed names (setting_over (outside_of []) heap old.pair old.random old.globals.items old.statics.items locals)
+    → SettingNamed names (setting_over (outside_of []) heap old.pair old.words old.globals.items old.statics.items locals)
 held_ready names old heap locals ready keeps same = record {
   world = record {
     heap = rw same ready.named.world.heap;
     globals = rw (values_kept keeps old.globals.items old.sound.live_globals) ready.named.world.globals;
     statics = rw (values_kept keeps old.statics.items old.sound.live_statics) ready.named.world.statics;
+    kept = kept_named names (extent_of old.heap) (extent_of heap) old.words.kept keeps old.sound.kept ready.named.world.kept;
   };
   locals = rw (values_kept keeps locals ready.live) ready.named.locals;
 }

@@ -8,7 +8,7 @@ ghost use Rattle.test_apply.specs.Ready.{IsReadySetting};
 
 use crate::worlds::{add_value, no_words, value_at};
 use icn_convert::Names;
-use icn_text::read_integer;
+use icn_text::{Func, read_integer};
 use icn_value::Val;
 use icn_vars::World;
 use std::alloc::AllocError;
@@ -82,7 +82,7 @@ fn procedure(digits: &[u8]) -> Val
 {
     match read_integer(digits) {
         Ok(n) => {
-            if 0 <= n && n < 51 {
+            if 0 <= n && n < Func::ALL.len() as i64 {
                 Val::Proc(n as u32)
             } else {
                 Val::Null

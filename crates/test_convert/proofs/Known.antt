@@ -19,7 +19,7 @@ use Rattle.icn_heap.specs.Heaps.{empty_heap}
 use Rattle.test_convert.specs.SomeNames.{some_names}
 
 -- a function by its number, behind the procedure and the records
-pub function_by : (number place : ℕ) (other : Func) (name : List ℕ) → number ≡ suc (suc (suc place)) → place < 51
+pub function_by : (number place : ℕ) (other : Func) (name : List ℕ) → number ≡ suc (suc (suc place)) → place < length functions
     → name ≡ func_name (get_or functions place other) → name ≡ procedure_name some_names number
 function_by number place other name is low named =
     rw is (named ∙ (sym (get_or-map func_name functions place other [] low) ∙ sym (unwrap_or-slice_get (map func_name functions) place [])))

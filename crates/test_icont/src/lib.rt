@@ -21,7 +21,11 @@ mod tests {
     const USAGE: &[u8] =
         b"usage: icont [-c] [-o name] [-n turns] [-g number] file ... [-x argument ...]\n";
 
-    const NO_PROGRAM: &[u8] = b"f.icn:0: S1 not a program\n";
+    const NO_PROGRAM: &[u8] = b"f.icn:1: S1 not a program\n";
+
+    const NO_PROGRAM_2: &[u8] = b"f.icn:2: S1 not a program\n";
+
+    const NO_PROGRAM_3: &[u8] = b"f.icn:3: S1 not a program\n";
 
     // A form that is left out, on a line of the named file.
     const LEFT_OUT_4: &[u8] = b"f.icn:4: S4 form not in this profile\n";
@@ -41,6 +45,18 @@ mod tests {
     ];
 
     const TWO: &[u8] = b"procedure main()\nwrite(\"a\")\nwrite(2)\nend\n";
+
+    // Counts the words of its input.
+    const WORD_COUNT: &[u8] =
+        b"procedure main()\nt := table(0)\nwhile line := read() do line ? while tab(upto(&letters)) do t[tab(many(&letters))] +:= 1\nevery write(k := key(t), \" \", t[k])\nend\n";
+
+    const LINE: &[u8] = b"to be or not to be\n";
+
+    const COUNTS: &[u8] = b"to 2\nbe 2\nor 1\nnot 1\n";
+
+    // Reads a line behind each that it writes.
+    const TWO_READINGS: &[u8] =
+        b"procedure main()\nwrite(\"a\"); read(); write(\"b\"); read()\nend\n";
 
     // Programs, with what they write.
     const PROGRAMS: [(&[u8], &[u8]); 46] = [
@@ -228,33 +244,50 @@ mod tests {
         (b"$include \"g.icn\"\n`\n", b"f.icn:2: L1 bad byte\n"),
     ];
 
-    // Texts that are no program.
-    const NO_PROGRAMS: [&[u8]; 20] = [
-        b"write",
-        b"procedure main()\nwrite(\"a\"\"b\")\nend\n",
-        b"procedure main()\nwrite(\"a\" 1)\nend\n",
-        b"procedure main()\nwrite(1 2)\nend\n",
-        b"procedure main()\nwrite(1;2)\nend\n",
-        b"procedure main()\nwrite(1x)\nend\n",
-        b"procedure main()\nwrite(1),write(2)\nend\n",
+    // Texts that are no program, with the line of the first declaration that is none.
+    const NO_PROGRAMS: [(&[u8], &[u8]); 24] = [
+        (b"write", NO_PROGRAM),
+        (b"procedure main()\nwrite(\"a\"\"b\")\nend\n", NO_PROGRAM),
+        (b"procedure main()\nwrite(\"a\" 1)\nend\n", NO_PROGRAM),
+        (b"procedure main()\nwrite(1 2)\nend\n", NO_PROGRAM),
+        (b"procedure main()\nwrite(1;2)\nend\n", NO_PROGRAM),
+        (b"procedure main()\nwrite(1x)\nend\n", NO_PROGRAM),
+        (b"procedure main()\nwrite(1),write(2)\nend\n", NO_PROGRAM),
         // a newline between two literals is a semicolon
-        b"procedure main()\nwrite(1\n2)\nend\n",
-        b"procedures main()\nwrite(\"hi\")\nend\n",
-        b"Procedure main()\nwrite(\"hi\")\nend\n",
-        b"proceduremain()\nwrite(\"hi\")\nend\n",
+        (b"procedure main()\nwrite(1\n2)\nend\n", NO_PROGRAM),
+        (b"procedures main()\nwrite(\"hi\")\nend\n", NO_PROGRAM),
+        (b"Procedure main()\nwrite(\"hi\")\nend\n", NO_PROGRAM),
+        (b"proceduremain()\nwrite(\"hi\")\nend\n", NO_PROGRAM),
         // a semicolon too few, or one too many
-        b"procedure main()write(\"hi\")\nend\n",
-        b"procedure main()\nwrite(\"hi\")end\n",
-        b"procedure main\n()\nwrite(\"hi\")\nend\n",
-        b";procedure main()\nwrite(\"hi\")\nend\n",
-        b"procedure main()\nwrite(\"hi\")\nend;",
+        (b"procedure main()write(\"hi\")\nend\n", NO_PROGRAM),
+        (b"procedure main()\nwrite(\"hi\")end\n", NO_PROGRAM),
+        (b"procedure main\n()\nwrite(\"hi\")\nend\n", NO_PROGRAM),
+        (b";procedure main()\nwrite(\"hi\")\nend\n", NO_PROGRAM),
+        (b"procedure main()\nwrite(\"hi\")\nend;", NO_PROGRAM),
         // no end
-        b"procedure main()\nwrite(\"hi\")\nendx\n",
-        b"procedure main()\nwrite(\"hi\")\n",
+        (b"procedure main()\nwrite(\"hi\")\nendx\n", NO_PROGRAM),
+        (b"procedure main()\nwrite(\"hi\")\n", NO_PROGRAM),
         // in the middle of a longer file
-        b"record r(a)\nprocedure p()\nwrite(1\nx := 2)\nend\nprocedure main()\nend\n",
+        (
+            b"record r(a)\nprocedure p()\nwrite(1\nx := 2)\nend\nprocedure main()\nend\n",
+            NO_PROGRAM_2,
+        ),
         // before all other rules
-        b"invocable all\nprocedure main()\nbreak\n&clock\nend\nend\n",
+        (
+            b"invocable all\nprocedure main()\nbreak\n&clock\nend\nend\n",
+            NO_PROGRAM_2,
+        ),
+        // the first of two; what stands before the first word of a declaration; a file that ends in one
+        (
+            b"procedure a()\nend\nrecord r(b\nprocedure main()\nif x then\nend\n",
+            NO_PROGRAM_3,
+        ),
+        (b"x\nprocedure main()\nend\n", NO_PROGRAM),
+        (b"procedure main()\nwrite(1)\n", NO_PROGRAM),
+        (
+            b"global g\nprocedure p()\nwrite(1\nx := 2)\nend\nprocedure main()\nend\n",
+            NO_PROGRAM_2,
+        ),
     ];
 
     // Texts with a form that this profile does not have, with the line of the refusal.
@@ -405,23 +438,42 @@ mod tests {
         errors: Vec<u8>,
         // Whether `f` is there, which is the one name that is written.
         image: bool,
+        // Whether each other file holds what it held.
+        kept: bool,
+        // What is left of the input.
+        left: Vec<u8>,
         // Whether each other file holds what it held, and the input is all there.
         untouched: bool,
     }
 
-    // The numbers of the calls that fail, for each object.
-    #[derive(Clone, Copy)]
-    struct ObjectFailures {
-        files: &'static [u64],
-        output: &'static [u64],
-        errors: &'static [u64],
+    // An object of the outside.
+    #[derive(Clone, Copy, Debug, PartialEq, Eq)]
+    enum HandedObject {
+        Files,
+        Input,
+        Output,
+        Errors,
     }
 
-    const NONE: ObjectFailures = ObjectFailures {
-        files: &[],
-        output: &[],
-        errors: &[],
-    };
+    // A call that fails, by its object and its number.
+    type FailingCall = (HandedObject, u64);
+
+    const NONE: &[FailingCall] = &[];
+
+    // The calls of this object that fail.
+    fn calls(
+        alloc: Global,
+        failing: &[FailingCall],
+        object: HandedObject,
+    ) -> Result<Vec<u64>, Fail> {
+        let mut numbers = Vec::new(alloc);
+        for (failed, number) in failing {
+            if *failed == object {
+                numbers.push(*number)?;
+            }
+        }
+        Ok(numbers)
+    }
 
     // A sink whose first put takes nothing, since it wants memory.
     #[derive(Drop)]
@@ -448,12 +500,23 @@ mod tests {
         }
     }
 
-    // Runs `icont` with these words, where `f.icn` holds this source.
+    // Runs `icont` with these words on a line of input, where `f.icn` holds this source.
     fn icont(
         alloc: Global,
         given: &[&str],
         source: &[u8],
-        failing: ObjectFailures,
+        failing: &[FailingCall],
+    ) -> Result<CommandResult, Fail> {
+        icont_on_input(alloc, given, source, b"input\n", failing)
+    }
+
+    // Runs `icont` with these words on this input, where `f.icn` holds this source.
+    fn icont_on_input(
+        alloc: Global,
+        given: &[&str],
+        source: &[u8],
+        lines: &[u8],
+        failing: &[FailingCall],
     ) -> Result<CommandResult, Fail> {
         let mut words = Vec::new(alloc);
         for word in given {
@@ -464,24 +527,34 @@ mod tests {
         for (name, bytes) in BESIDE {
             held.insert(String::from_str(alloc, name)?, bytes.to_vec(alloc)?)?;
         }
-        let mut files = MemFiles::new(alloc, held, failing.files.to_vec(alloc)?);
-        let mut input = MemSource::new(b"input\n".to_vec(alloc)?, Vec::new(alloc));
-        let mut out = MemSink::new(Vec::new(alloc), failing.output.to_vec(alloc)?);
-        let mut err = MemSink::new(Vec::new(alloc), failing.errors.to_vec(alloc)?);
+        let mut files = MemFiles::new(alloc, held, calls(alloc, failing, HandedObject::Files)?);
+        let mut input = MemSource::new(
+            lines.to_vec(alloc)?,
+            calls(alloc, failing, HandedObject::Input)?,
+        );
+        let mut out = MemSink::new(
+            Vec::new(alloc),
+            calls(alloc, failing, HandedObject::Output)?,
+        );
+        let mut err = MemSink::new(
+            Vec::new(alloc),
+            calls(alloc, failing, HandedObject::Errors)?,
+        );
         let answer = icont_main(alloc, &words, &mut files, &mut input, &mut out, &mut err);
         let same = match files.content().get("f.icn") {
             Some(bytes) => bytes.as_slice() == source,
             None => false,
         };
         let image = files.content().get("f").is_some();
+        let kept = same && files.content().len() == 7 + usize::from(image);
         Ok(CommandResult {
             answer,
             output: out.content().to_vec(alloc)?,
             errors: err.content().to_vec(alloc)?,
             image,
-            untouched: same
-                && files.content().len() == 7 + usize::from(image)
-                && input.content() == b"input\n".as_slice(),
+            kept,
+            left: input.content().to_vec(alloc)?,
+            untouched: kept && input.content() == lines,
         })
     }
 
@@ -542,8 +615,8 @@ mod tests {
     #[test]
     fn what_is_no_program_is_refused(rt: HostRuntime) -> Result<(), Fail> {
         let alloc = rt.alloc();
-        for source in NO_PROGRAMS {
-            refused(&rt, alloc, source, NO_PROGRAM)?;
+        for (source, errors) in NO_PROGRAMS {
+            refused(&rt, alloc, source, errors)?;
         }
         Ok(())
     }
@@ -781,84 +854,120 @@ mod tests {
         Ok(())
     }
 
-    // Each call of the file store fails in turn.
+    const COUNTING: (&[u8], &[u8]) = (WORD_COUNT, LINE);
+
+    const READING: (&[u8], &[u8]) = (TWO_READINGS, b"x\ny\n");
+
+    // Programs with their input, where the call of this number of this object fails: each call of each object in turn, and at last one
+    // that is not made. Behind it the answer, the output and what is left of the input.
+    const FAULTS: [((&[u8], &[u8]), HandedObject, u64, &str, &[u8], &[u8]); 13] = [
+        (COUNTING, HandedObject::Files, 0, "FileFault", b"", LINE),
+        (COUNTING, HandedObject::Files, 1, "FileFault", b"", LINE),
+        (COUNTING, HandedObject::Files, 2, "Ran(Done)", COUNTS, b""),
+        (COUNTING, HandedObject::Input, 0, "ReadFault", b"", LINE),
+        (COUNTING, HandedObject::Input, 1, "ReadFault", b"", b""),
+        (COUNTING, HandedObject::Input, 2, "Ran(Done)", COUNTS, b""),
+        (COUNTING, HandedObject::Output, 0, "WriteFault", b"", b""),
+        (
+            COUNTING,
+            HandedObject::Output,
+            1,
+            "WriteFault",
+            b"to 2\n",
+            b"",
+        ),
+        (
+            COUNTING,
+            HandedObject::Output,
+            2,
+            "WriteFault",
+            b"to 2\nbe 2\n",
+            b"",
+        ),
+        (
+            COUNTING,
+            HandedObject::Output,
+            3,
+            "WriteFault",
+            b"to 2\nbe 2\nor 1\n",
+            b"",
+        ),
+        (COUNTING, HandedObject::Output, 4, "Ran(Done)", COUNTS, b""),
+        (COUNTING, HandedObject::Errors, 0, "Ran(Done)", COUNTS, b""),
+        // what was written before the reading that fails is there
+        (
+            READING,
+            HandedObject::Input,
+            1,
+            "ReadFault",
+            b"a\nb\n",
+            b"y\n",
+        ),
+    ];
+
     #[test]
-    fn faults_are_answered(rt: HostRuntime) -> Result<(), Fail> {
+    fn each_fault_in_turn_is_answered(rt: HostRuntime) -> Result<(), Fail> {
         let alloc = rt.alloc();
-        let first = ObjectFailures {
-            files: &[0],
-            ..NONE
-        };
-        let first_and_line = ObjectFailures {
-            files: &[0],
-            errors: &[0],
-            ..NONE
-        };
-        let second = ObjectFailures {
-            files: &[1],
-            ..NONE
-        };
-        let second_and_line = ObjectFailures {
-            files: &[1],
-            errors: &[0],
-            ..NONE
-        };
-        let rows: [(&str, &[u8], ObjectFailures, &[u8]); 6] = [
-            ("f.icn", HI, second, b"file fault\n"),
-            ("f.icn", HI, second_and_line, b""),
-            ("f.icn", b"$include g.icn", second, b"file fault\n"),
-            ("f.icn", HI, first, b"file fault\n"),
-            ("no.icn", HI, first, b"file fault\n"),
-            ("f.icn", HI, first_and_line, b""),
-        ];
-        for (name, source, failing, errors) in rows {
-            let row = icont(alloc, &["icont", name, "-x"], source, failing)?;
-            assert_eq!(rt; name_of(&row.answer), "FileFault", "at {name}");
-            assert!(rt; row.output.is_empty());
-            assert_eq!(rt; row.errors.as_slice(), errors);
-            assert!(rt; row.untouched && !row.image);
+        for ((source, lines), object, number, answer, output, left) in FAULTS {
+            let words = ["icont", "f.icn", "-x"];
+            let row = icont_on_input(alloc, &words, source, lines, &[(object, number)])?;
+            let errors: &[u8] = match answer {
+                "FileFault" => b"file fault\n",
+                "ReadFault" => b"read fault\n",
+                _ => b"",
+            };
+            assert_eq!(rt; name_of(&row.answer), answer, "at {object:?} {number}");
+            assert_eq!(rt; row.output.as_slice(), output, "at {object:?} {number}");
+            assert_eq!(rt; row.errors.as_slice(), errors, "at {object:?} {number}");
+            assert_eq!(rt; row.left.as_slice(), left, "at {object:?} {number}");
+            assert!(rt; row.kept, "at {object:?} {number}");
+            assert_eq!(rt; row.image, answer != "FileFault", "at {object:?} {number}");
         }
         Ok(())
     }
 
-    // Each put fails in turn: the image is written before the run.
+    // Faults with an included file, one that is not there, or the line of an answer.
     #[test]
-    fn failed_puts_are_answered(rt: HostRuntime) -> Result<(), Fail> {
+    fn faults_are_answered(rt: HostRuntime) -> Result<(), Fail> {
         let alloc = rt.alloc();
-        let output = ObjectFailures {
-            output: &[0],
-            ..NONE
-        };
-        let second = ObjectFailures {
-            output: &[1],
-            ..NONE
-        };
-        let errors = ObjectFailures {
-            errors: &[0],
-            ..NONE
-        };
-        let later = ObjectFailures {
-            files: &[2],
-            output: &[1],
-            errors: &[1],
-        };
-        let rows: [(&str, &[u8], ObjectFailures, &str, &[u8], &[u8], bool); 8] = [
-            ("f.icn", TWO, second, "WriteFault", b"a\n", b"", true),
-            ("f.icn", HI, output, "WriteFault", b"", b"", true),
-            ("f.icn", HI, errors, "Ran(Done)", b"hi\n", b"", true),
-            ("f.icn", b"end", errors, "WriteFault", b"", b"", false),
-            ("no.icn", HI, errors, "WriteFault", b"", b"", false),
-            ("-z", HI, errors, "WriteFault", b"", b"", false),
-            ("f.icn", HI, later, "Ran(Done)", b"hi\n", b"", true),
-            ("f.icn", b"end", later, "Refused", b"", NO_PROGRAM, false),
+        let first: &[FailingCall] = &[(HandedObject::Files, 0)];
+        let first_and_line: &[FailingCall] = &[(HandedObject::Files, 0), (HandedObject::Errors, 0)];
+        let second: &[FailingCall] = &[(HandedObject::Files, 1)];
+        let second_and_line: &[FailingCall] = &[
+            (HandedObject::Files, 1),
+            (HandedObject::Errors, 0),
         ];
-        for (name, source, failing, answer, output, errors, written) in rows {
+        let line: &[FailingCall] = &[(HandedObject::Errors, 0)];
+        let later: &[FailingCall] = &[
+            (HandedObject::Files, 2),
+            (HandedObject::Output, 1),
+            (HandedObject::Errors, 1),
+        ];
+        let rows: [(&str, &[u8], &[FailingCall], &str, &[u8], &[u8]); 9] = [
+            (
+                "f.icn",
+                b"$include g.icn",
+                second,
+                "FileFault",
+                b"",
+                b"file fault\n",
+            ),
+            ("no.icn", HI, first, "FileFault", b"", b"file fault\n"),
+            ("f.icn", HI, first_and_line, "FileFault", b"", b""),
+            ("f.icn", HI, second_and_line, "FileFault", b"", b""),
+            ("f.icn", b"end", line, "WriteFault", b"", b""),
+            ("no.icn", HI, line, "WriteFault", b"", b""),
+            ("-z", HI, line, "WriteFault", b"", b""),
+            ("f.icn", HI, later, "Ran(Done)", b"hi\n", b""),
+            ("f.icn", b"end", later, "Refused", b"", NO_PROGRAM),
+        ];
+        for (name, source, failing, answer, output, errors) in rows {
             let row = icont(alloc, &["icont", name, "-x"], source, failing)?;
             assert_eq!(rt; name_of(&row.answer), answer, "at {name}");
             assert_eq!(rt; row.output.as_slice(), output);
             assert_eq!(rt; row.errors.as_slice(), errors);
             assert!(rt; row.untouched);
-            assert_eq!(rt; row.image, written);
+            assert_eq!(rt; row.image, answer == "Ran(Done)");
         }
         Ok(())
     }

@@ -595,6 +595,55 @@ mod tests {
         Ok(())
     }
 
+    // The answer to `iconx` on a file of these bytes, and whether that file, the input and the output are as before.
+    fn run_image(alloc: Global, image: &[u8]) -> Result<(Answer, bool), Fail> {
+        let words = words_of(alloc, &["hi"])?;
+        let mut held = BTreeMap::new(alloc);
+        held.insert(String::from_str(alloc, "hi")?, image.to_vec(alloc)?)?;
+        let mut files = MemFiles::new(alloc, held, Vec::new(alloc));
+        let mut input = MemSource::new(b"input\n".to_vec(alloc)?, Vec::new(alloc));
+        let mut out = MemSink::new(Vec::new(alloc), Vec::new(alloc));
+        let mut err = MemSink::new(Vec::new(alloc), Vec::new(alloc));
+        let answer = iconx_main(alloc, &words, &mut files, &mut input, &mut out, &mut err);
+        let same = match files.content().get("hi") {
+            Some(bytes) => bytes.as_slice() == image,
+            None => false,
+        };
+        let untouched = same
+            && files.content().len() == 1
+            && input.content() == b"input\n".as_slice()
+            && out.content().is_empty();
+        Ok((answer, untouched))
+    }
+
+    // The first image cut to each length, and with each byte set to 255.
+    #[test]
+    fn damaged_images_are_answered(rt: HostRuntime) -> Result<(), Fail> {
+        let alloc = rt.alloc();
+        for length in 0..72 {
+            let (answer, untouched) = run_image(alloc, &HI[..length])?;
+            let name = if length < 8 {
+                "BadImage(I1)"
+            } else {
+                "BadImage(I2)"
+            };
+            assert_eq!(rt; name_of(&answer), name, "at {length}");
+            assert!(rt; untouched, "at {length}");
+        }
+        for place in 0..72 {
+            let mut image = HI;
+            image[place] = 255;
+            let (answer, untouched) = run_image(alloc, &image)?;
+            let sound = match &answer {
+                Answer::BadImage(_) => untouched,
+                Answer::Ran(_) => true,
+                _ => false,
+            };
+            assert!(rt; sound, "at {place}");
+        }
+        Ok(())
+    }
+
     // Calls of which one fails: the files, the input, the output and the error output, by the number of the call.
     struct FailureCase {
         words: &'static [&'static str],

@@ -77,13 +77,30 @@ fn check_cells<K: Stack<u64> + Drop>(rt: &impl Abort, cells: &mut K) -> Result<(
     Ok(())
 }
 
+// Room for more cells than there may be is refused: the cells stay, and so does the room for the next ones.
+fn check_refusal<K: Stack<u64> + Drop>(rt: &impl Abort, cells: &mut K) -> Result<(), AllocError> {
+    cells.cut(0);
+    cells.reserve(3)?;
+    cells.push(1);
+    assert!(rt; cells.reserve(u64::MAX).is_err());
+    cells.push(2);
+    cells.push(3);
+    for want in [3, 2, 1] {
+        assert_eq!(rt; make_change(cells, StackChange::Pop)?, Some(want));
+    }
+    assert_eq!(rt; cells.len(), 0);
+    Ok(())
+}
+
 // A stack that has room for some cells takes these without an error.
 #[test]
 fn changes_cells(rt: HostRuntime) -> Result<(), Fail> {
     let mut cells: VecStack<u64> = VecStack::new(rt.alloc());
     check_cells(&rt, &mut cells)?;
+    check_refusal(&rt, &mut cells)?;
     let mut others: VecStack<u64> = Stack::empty(rt.alloc());
     check_cells(&rt, &mut others)?;
+    check_refusal(&rt, &mut others)?;
     Ok(())
 }
 

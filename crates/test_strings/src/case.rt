@@ -93,6 +93,7 @@ fn is_string_function(func: Func) -> bool
         Func::Upto => false,
         Func::Write => false,
         Func::Writes => false,
+        Func::ErrorClear => false,
     }
 }
 

@@ -161,5 +161,6 @@ fn is_of_structures(func: Func) -> bool
         Func::Upto => false,
         Func::Write => false,
         Func::Writes => false,
+        Func::ErrorClear => false,
     }
 }

@@ -1,5 +1,5 @@
 -- The names of the functions, by their numbers behind the one record.
-use Rattle.std.proofs.Common.{◌≡◌, ◌∙◌, sym, subst, ℕ, suc, ◌<◌, List, [], map, get_or}
+use Rattle.std.proofs.Common.{◌≡◌, ◌∙◌, sym, subst, ℕ, suc, ◌<◌, List, [], length, map, get_or}
 use Rattle.std.proofs.lemmas.List.{get_or-map}
 use Rattle.std.proofs.lemmas.Option.{unwrap_or-slice_get}
 use Rattle.icn_text.specs.declared.func.Func.{Func}
@@ -7,7 +7,7 @@ use Rattle.icn_text.specs.Funcs.{func_name}
 use Rattle.icn_defs.specs.Images.{functions, procedure_name}
 use Rattle.test_values.specs.OneRecord.{one_record}
 
-pub function_by : (number place : ℕ) (other : Func) (name : List ℕ) → number ≡ suc place → place < 51 → name ≡ func_name (get_or functions place other)
+pub function_by : (number place : ℕ) (other : Func) (name : List ℕ) → number ≡ suc place → place < length functions → name ≡ func_name (get_or functions place other)
     → name ≡ procedure_name one_record number
 function_by number place other name e low named =
     subst (λ n. name ≡ procedure_name one_record n) (sym e)

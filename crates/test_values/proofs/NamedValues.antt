@@ -1,16 +1,20 @@
 -- Values that have names, and those of an empty heap.
-use Rattle.std.proofs.Common.{◌≡◌, ℕ, zero, suc, List, [], ◌∷◌, ◌++◌, map}
+use Rattle.std.proofs.Common.{◌≡◌, refl, ap, ℕ, zero, suc, List, [], ◌∷◌, ◌++◌, map, Option, Some, None}
 use Rattle.std.specs.Prelude.{slice_index_or}
 use Rattle.std.specs.List.{All}
+use Rattle.std.specs.Option.{option_map}
 use Rattle.std.proofs.lemmas.List.{map-append}
 use Rattle.std.proofs.lemmas.List.Elements.{All-nil, All-push, All-head, All-tail}
 use Rattle.icn_value.specs.Limited.{Bounds}
 use Rattle.icn_value.specs.declared.val.Val.{Val}
 use Rattle.icn_value.specs.declared.val.Val.TheVariants.{Null}
-use Rattle.icn_value.specs.Store.{Names}
-use Rattle.icn_heap.specs.Extents.{Extent, IsLive, value_in}
+use Rattle.icn_value.specs.Values.{Value}
+use Rattle.icn_value.specs.Store.{KeptError, Names}
+use Rattle.icn_heap.specs.Extents.{Extent, IsLive, KeepsValues, value_in}
 use Rattle.icn_heap.specs.Heaps.{empty_heap}
-use Rattle.law_names.specs.NamedSettings.{HeapNamed, ListNamed, RecordNamed, SetNamed, TableNamed, ValueNamed}
+use Rattle.law_names.specs.NamedSettings.{HeapNamed, KeptNamed, ListNamed, RecordNamed, SetNamed, TableNamed, ValueNamed}
+use Rattle.icn_vars.specs.declared.words.HeldError.{HeldError}
+use Rattle.icn_vars.specs.Worlds.{kept_in}
 
 pub empty_named : (names : Names) (bounds : Bounds) → HeapNamed names (empty_heap bounds)
 empty_named names bounds =
@@ -21,6 +25,26 @@ pub values_more : (names : Names) (all : Extent) (vals items : List Val) (val : 
     → All (ValueNamed names) (map (value_in all) items)
 values_more names all vals items val are is same =
     rw same (rw (map-append (value_in all) vals (val ∷ [])) (All-push (ValueNamed names) (map (value_in all) vals) (value_in all val) are is))
+
+-- The error that is kept
+
+value_same : (old new : Extent) (value : Option Val) → KeepsValues old new → ((val : Val) → value ≡ Some val → IsLive old val)
+    → option_map (value_in new) value ≡ option_map (value_in old) value
+value_same old new None keeps live = refl
+value_same old new (Some val) keeps live = ap Some (keeps.value val (live val refl))
+
+kept_same : (old new : Extent) (kept : Option HeldError) → KeepsValues old new
+    → ((error : HeldError) (val : Val) → kept ≡ Some error → error.value ≡ Some val → IsLive old val) → kept_in new kept ≡ kept_in old kept
+kept_same old new None keeps live = refl
+kept_same old new (Some error) keeps live =
+    ap (λ (about : Option Value). let one : Option KeptError = Some (record { number = error.number; value = about }) in one)
+    (value_same old new error.value keeps (λ val is. live error val refl is))
+
+-- its value keeps its name as the heap grows
+pub kept_named : (names : Names) (old new : Extent) (kept : Option HeldError) → KeepsValues old new
+    → ((error : HeldError) (val : Val) → kept ≡ Some error → error.value ≡ Some val → IsLive old val)
+    → KeptNamed names (kept_in old kept) → KeptNamed names (kept_in new kept)
+kept_named names old new kept keeps live is = rw (kept_same old new kept keeps live) is
 
 -- A value by its place
 

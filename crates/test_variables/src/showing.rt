@@ -95,6 +95,7 @@ fn push_keyword(out: &mut String, word: KeywordVariable) -> Result<(), AllocErro
         KeywordVariable::Subject => out.push_str("&subject"),
         KeywordVariable::Position => out.push_str("&pos"),
         KeywordVariable::Random => out.push_str("&random"),
+        KeywordVariable::ErrorCount => out.push_str("&error"),
     }
 }
 

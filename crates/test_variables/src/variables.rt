@@ -115,6 +115,8 @@ fn keyword(name: &[u8]) -> Option<KeywordVariable> {
         Some(KeywordVariable::Position)
     } else if name == b"random".as_slice() {
         Some(KeywordVariable::Random)
+    } else if name == b"error".as_slice() {
+        Some(KeywordVariable::ErrorCount)
     } else {
         None
     }

@@ -11,7 +11,6 @@ use std::alloc::{AllocError, Global};
 use test_values::{Slots, add_global, add_static, new_world};
 
 // A world of which so many bytes of texts that are made, and so many cells beside those of its structures, may be charged.
-#[tactic(auto, using(icn_vars::proofs::GrowingWorlds::grows))]
 pub fn world(alloc: Global, strings: u64, cells: u64) -> Result<World, Full> {
     let mut w = new_world(alloc, strings.min(1000), cells.min(1000) + 8)?;
     for _ in 0..3 {

@@ -11,6 +11,18 @@ use Rattle.icn_apply.proofs.NamesStay.{applies_named, elsewhere, file_function_n
 use Rattle.icn_apply.proofs.SizesStay.{applies_sized, file_function_sized}
 use Rattle.icn_apply.proofs.functions.apply_function.Goals as goal
 
+pub returns-in-Errors-clause-applies : goal.returns-in-Errors-clause-applies
+returns-in-Errors-clause-applies g c =
+    rw (subst (λ (kind : FunctionGroup). IsOfKind kind c.args.func) c.in-Errors.is c.kind_of.ensures)
+    (c.apply_errorclear.ensures.applies (call_streams (g.I.Source.left c.args.input.now) (g.I.Source.faults c.args.input.now)
+    (g.O.Sink.state c.args.out.now) (g.E.Sink.state c.args.err.now)))
+
+pub returns-in-Errors-clause-named : goal.returns-in-Errors-clause-named
+returns-in-Errors-clause-named g c = c.apply_errorclear.ensures.named
+
+pub returns-in-Errors-clause-sized : goal.returns-in-Errors-clause-sized
+returns-in-Errors-clause-sized g c = c.apply_errorclear.ensures.sized
+
 pub first-requires-clause-function : goal.first-requires-clause-function
 first-requires-clause-function g c = subst (λ (kind : FunctionGroup). IsOfKind kind c.args.func) c.in-Files.is c.kind_of.ensures
 

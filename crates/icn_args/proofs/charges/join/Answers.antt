@@ -7,7 +7,7 @@ use Rattle.icn_args.proofs.charges.join.Goals as goal
 
 pub returns-in_err-join-clause-step : goal.returns-in_err-join-clause-step
 returns-in_err-join-clause-step g c =
-    charge_stops c.args.w.now.heap c.join.new.self c.args.w.now.pair c.args.w.now.random c.args.w.now.globals.items c.args.w.now.statics.items
+    charge_stops c.args.w.now.heap c.join.new.self c.args.w.now.pair c.args.w.now.words c.args.w.now.globals.items c.args.w.now.statics.items
     (g.L.Locals.items c.args.l.now) c.in_err-join.field-0.0 c.from_residual.result c.join.ensures.kept
     c.args.w.now.sound c.requires.locals
     (bytes_change (length (text_in (extent_of c.args.w.now.heap) c.args.a ++ text_in (extent_of c.args.w.now.heap) c.args.b))) c.in_err-join.ensures.unchanged
@@ -15,7 +15,7 @@ returns-in_err-join-clause-step g c =
 
 pub returns-clause-step : goal.returns-clause-step
 returns-clause-step g c =
-    change_passes c.args.w.now.heap c.join.new.self c.args.w.now.pair c.args.w.now.random c.args.w.now.globals.items c.args.w.now.statics.items
+    change_passes c.args.w.now.heap c.join.new.self c.args.w.now.pair c.args.w.now.words c.args.w.now.globals.items c.args.w.now.statics.items
     (g.L.Locals.items c.args.l.now) c.join.ensures.kept
     c.args.w.now.sound c.requires.locals
     (bytes_change (length (text_in (extent_of c.args.w.now.heap) c.args.a ++ text_in (extent_of c.args.w.now.heap) c.args.b))) c.in_ok-join.ensures.step

@@ -7,14 +7,14 @@ use Rattle.icn_args.proofs.charges.text_of.Goals as goal
 
 pub returns-in_err-span-clause-step : goal.returns-in_err-span-clause-step
 returns-in_err-span-clause-step g c =
-    charge_stops c.args.w.now.heap c.to_text.new.heap c.args.w.now.pair c.args.w.now.random c.args.w.now.globals.items c.args.w.now.statics.items
+    charge_stops c.args.w.now.heap c.to_text.new.heap c.args.w.now.pair c.args.w.now.words c.args.w.now.globals.items c.args.w.now.statics.items
     (g.L.Locals.items c.args.l.now) c.in_err-span.field-0.0 c.from_residual.result c.to_text.ensures.kept
     c.args.w.now.sound c.requires.locals
     (text_change (value_in (extent_of c.args.w.now.heap) c.args.val)) c.in_err-span.ensures.unchanged c.in_err-span.ensures.step c.from_residual.ensures.1
 
 pub returns-clause-step : goal.returns-clause-step
 returns-clause-step g c =
-    change_passes c.args.w.now.heap c.to_text.new.heap c.args.w.now.pair c.args.w.now.random c.args.w.now.globals.items c.args.w.now.statics.items
+    change_passes c.args.w.now.heap c.to_text.new.heap c.args.w.now.pair c.args.w.now.words c.args.w.now.globals.items c.args.w.now.statics.items
     (g.L.Locals.items c.args.l.now) c.to_text.ensures.kept
     c.args.w.now.sound c.requires.locals (text_change (value_in (extent_of c.args.w.now.heap) c.args.val)) c.in_ok-span.ensures.step
 

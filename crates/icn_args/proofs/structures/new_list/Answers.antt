@@ -18,7 +18,7 @@ pub returns-in_err-list_from-clause-found : goal.returns-in_err-list_from-clause
 returns-in_err-list_from-clause-found g c = λ outside.
     subst (λ (setting : Setting). IsFound (extent_of c.list_from.new.self) (new_list_of (map (value_in (extent_of c.args.w.now.heap)) c.args.items.now))
     (setting_of outside c.args.w.now (g.L.Locals.items c.args.l.now)) setting (value_in (extent_of c.list_from.new.self)) c.from_residual.result)
-    (heap_changed outside c.args.w.now.heap c.list_from.new.self c.args.w.now.pair c.args.w.now.random c.args.w.now.globals.items c.args.w.now.statics.items
+    (heap_changed outside c.args.w.now.heap c.list_from.new.self c.args.w.now.pair c.args.w.now.words c.args.w.now.globals.items c.args.w.now.statics.items
     (g.L.Locals.items c.args.l.now) c.list_from.ensures.kept c.in_err-list_from.ensures.unchanged c.args.w.now.sound c.requires.locals)
     (found_stops (extent_of c.list_from.new.self) (new_list_of (map (value_in (extent_of c.args.w.now.heap)) c.args.items.now))
     (setting_of outside c.args.w.now (g.L.Locals.items c.args.l.now)) (setting_of outside c.args.w.now (g.L.Locals.items c.args.l.now))
@@ -33,7 +33,7 @@ returns-clause-found g c = λ outside next.
     ∙ (ap (λ (value : Value). next value (having_heap (λ _. heap_of c.list_from.new.self) (setting_of outside c.args.w.now (g.L.Locals.items c.args.l.now))))
     (sym c.in_ok-list_from.ensures.value)
     ∙ ap (next (value_in (extent_of c.list_from.new.self) c.in_ok-list_from.field-0))
-    (heap_changed outside c.args.w.now.heap c.list_from.new.self c.args.w.now.pair c.args.w.now.random c.args.w.now.globals.items c.args.w.now.statics.items
+    (heap_changed outside c.args.w.now.heap c.list_from.new.self c.args.w.now.pair c.args.w.now.words c.args.w.now.globals.items c.args.w.now.statics.items
     (g.L.Locals.items c.args.l.now) c.list_from.ensures.kept refl c.args.w.now.sound c.requires.locals))
 
 pub returns-clause-kept : goal.returns-clause-kept

@@ -1,4 +1,4 @@
-use Rattle.std.proofs.Common.{◌≡◌, ◌∙◌, ◌+◌, ◌<◌, ◌^◌, ◌≤◌, ◌++◌, ℕ, suc, true, nat_le, [], Option, Some, length, map, replicate, sym, ap, subst, arith}
+use Rattle.std.proofs.Common.{◌≡◌, ◌∙◌, ◌+◌, ◌<◌, ◌^◌, ◌≤◌, ◌++◌, ℕ, suc, true, nat_le, [], Option, Some, length, map, replicate, sym, ap, subst, arith, rules}
 use Rattle.std.specs.Option.{option_map_or}
 use Rattle.std.proofs.lemmas.Option.{same_Some}
 use Rattle.icn_value.specs.Limited.{Bounds}
@@ -6,7 +6,7 @@ use Rattle.icn_value.specs.declared.val.Val.TheVariants.{Null}
 use Rattle.icn_heap.specs.Extents.{value_in}
 use Rattle.icn_heap.specs.Heaps.{extent_of, heap_of}
 use Rattle.icn_vars.specs.Stops.{halt_of}
-use Rattle.icn_vars.specs.Worlds.{reach_of, world_of}
+use Rattle.icn_vars.specs.Worlds.{Reach, reach_of, world_of}
 use Rattle.icn_run.specs.Stacks.{flat}
 use Rattle.icn_run.specs.Step.{call_procedure, running, with_world}
 use Rattle.icn_control.specs.StackAndWorld.{HaltsWith}
@@ -16,6 +16,8 @@ use Rattle.icn_frames.specs.Stacks.{FlatStack}
 use Rattle.icn_code.specs.Codes.{Proc, proc_of}
 use Rattle.icn_code.specs.CodeTables.{tables_of}
 use Rattle.icn_control.specs.LiveStacks.{IsLiveStack, variable_count, variables_of}
+use Rattle.icn_control.specs.TakenOperands.{KeepsCounts}
+use Rattle.icn_control.proofs.Halts.{unless_ended, unless_stopped}
 use Rattle.icn_control.proofs.KeptItems.{stack_stays}
 use Rattle.icn_control.proofs.LiveFrames.{live_enter}
 use Rattle.icn_control.proofs.StackAndWorldSteps.{match_halt}
@@ -41,6 +43,7 @@ returns-in_err-take_parameters-clause-step g c entry at st same =
     let w = c.args.world.now in
     let v = c.take_parameters.new.world in
     let m = c.args.frames.now.flat in
+    let k = c.take_parameters.new.frames.flat in
     let stop = c.in_err-take_parameters.field-0.0 in
     let here : Some (proc_of c.index-entry.result.now) ≡ Some entry
     = sym (entry_at proc_of c.args.code.now.procs.items c.args.number c.index-entry.result.now c.requires.there c.index-entry.ensures) ∙ at in
@@ -50,9 +53,27 @@ returns-in_err-take_parameters-clause-step g c entry at st same =
     match_halt c.from_residual.result (halt_of stop) _ _ c.from_residual.ensures.1
     (subst
     (λ (e : Proc). HaltsWith (call_procedure flat c.args.number e (map (value_in (extent_of w.heap)) c.args.vals.now.items) (stack_in (extent_of w.heap) m) st)
-    st v (halt_of stop))
+    st v (stack_in (extent_of v.heap) k) (halt_of stop))
     (same_Some _ _ here)
-    (called_halts w v m c.args.number (proc_of c.index-entry.result.now) c.args.vals.now.items stop more c.in_err-take_parameters.ensures.step st same))
+    (called_halts w v m k c.args.number (proc_of c.index-entry.result.now) c.args.vals.now.items stop more c.in_err-take_parameters.ensures.step
+    c.take_parameters.ensures.same st same))
+
+pub returns-in_err-take_parameters-clause-live : goal.returns-in_err-take_parameters-clause-live
+returns-in_err-take_parameters-clause-live g c k =
+    let t = tables_of c.args.code.now in
+    let old : Reach = reach_of c.args.world.now [] in
+    let new : Reach = reach_of c.take_parameters.new.world [] in
+    unless_ended c.from_residual.result (IsLiveStack t new c.take_parameters.new.frames.flat)
+    (subst (λ (x : FlatStack). IsLiveStack t new x) (sym c.take_parameters.ensures.same)
+    (stack_stays t old new c.args.frames.now.flat c.take_parameters.ensures.kept k))
+
+pub returns-in_err-take_parameters-clause-leaves : goal.returns-in_err-take_parameters-clause-leaves
+returns-in_err-take_parameters-clause-leaves g c = record {
+  kept = c.take_parameters.ensures.kept;
+  counts = unless_stopped (Unit {0}) c.from_residual.result c.in_err-take_parameters.field-0.0 (KeepsCounts c.args.world.now c.take_parameters.new.world)
+      c.from_residual.ensures.1 c.in_err-take_parameters.ensures.counts;
+  halt = search rules;
+}
 
 pub returns-in-Ok-clause-step : goal.returns-in-Ok-clause-step
 returns-in-Ok-clause-step g c entry at st same =

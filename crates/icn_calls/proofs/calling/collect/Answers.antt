@@ -7,9 +7,9 @@ use Rattle.icn_heap.specs.Extents.{IsLive, value_in}
 use Rattle.icn_heap.specs.Heaps.{extent_of}
 use Rattle.icn_vars.specs.declared.stop.Stop.TheVariants.{NoMemory}
 use Rattle.icn_vars.proofs.GrowingWorlds.{locals_grow}
-use Rattle.icn_control.specs.TakenOperands.{MakesValue}
+use Rattle.icn_control.specs.TakenOperands.{KeepsCounts, MakesValue}
 use Rattle.icn_control.proofs.OpenedScans.{match_stop}
-use Rattle.icn_calls.proofs.ParameterSteps.{collects, collects_not, length_values_for, live_drop, live_values_for}
+use Rattle.icn_calls.proofs.ParameterSteps.{collects, collects_not, length_values_for, live_drop, live_values_for, unless_lacking, unless_passed_on}
 use Rattle.icn_calls.proofs.calling.collect.Goals as goal
 
 pub list_of-requires-clause-vals : goal.list_of-requires-clause-vals
@@ -28,11 +28,22 @@ returns-in_err-list-clause-step g c st next same =
     match_stop c.from_residual.result c.in_err-list.field-0.0 _ _ c.from_residual.ensures.1
     (collects_not w v c.args.frames.now.flat c.args.count c.args.vals.now.items c.in_err-list.field-0.0 made_so st next same)
 
+pub returns-in_err-list-clause-counts : goal.returns-in_err-list-clause-counts
+returns-in_err-list-clause-counts g c =
+    unless_passed_on Val c.from_residual.result c.in_err-list.field-0.0 (KeepsCounts c.args.world.now c.list_of.new.world)
+    c.from_residual.ensures.1 c.in_err-list.ensures.counts
+
 pub returns-in_err-fit-clause-step : goal.returns-in_err-fit-clause-step
 returns-in_err-fit-clause-step g c st next same = match_stop c.from_residual-in_err-fit.result NoMemory _ _ c.from_residual-in_err-fit.ensures.1 tt
 
+pub returns-in_err-fit-clause-counts : goal.returns-in_err-fit-clause-counts
+returns-in_err-fit-clause-counts g c = unless_lacking c.from_residual-in_err-fit.result _ c.from_residual-in_err-fit.ensures.1
+
 pub returns-in_err-add-clause-step : goal.returns-in_err-add-clause-step
 returns-in_err-add-clause-step g c st next same = match_stop c.from_residual-in_err-add.result NoMemory _ _ c.from_residual-in_err-add.ensures.1 tt
+
+pub returns-in_err-add-clause-counts : goal.returns-in_err-add-clause-counts
+returns-in_err-add-clause-counts g c = unless_lacking c.from_residual-in_err-add.result _ c.from_residual-in_err-add.ensures.1
 
 pub returns-clause-live : goal.returns-clause-live
 returns-clause-live g c =

@@ -7,7 +7,7 @@ use Rattle.icn_vars.specs.Worlds.{reach_of}
 use Rattle.icn_vars.proofs.KeptItems.{keeps_items_refl}
 use Rattle.icn_control.proofs.OpenedScans.{match_stop}
 use Rattle.icn_calls.specs.Calling.{FindsParameters}
-use Rattle.icn_calls.proofs.ParameterSteps.{length_values_for, live_values_for, plain_result}
+use Rattle.icn_calls.proofs.ParameterSteps.{length_values_for, live_values_for, plain_result, unless_lacking}
 use Rattle.icn_calls.proofs.calling.take_parameters.Goals as goal
 
 pub returns-then-collects-clause-step : goal.returns-then-collects-clause-step
@@ -18,6 +18,9 @@ returns-then-collects-clause-step g c =
 
 pub returns-in_err-fit-clause-step : goal.returns-in_err-fit-clause-step
 returns-in_err-fit-clause-step g c st next same = match_stop c.from_residual.result NoMemory _ _ c.from_residual.ensures.1 tt
+
+pub returns-in_err-fit-clause-counts : goal.returns-in_err-fit-clause-counts
+returns-in_err-fit-clause-counts g c = unless_lacking c.from_residual.result _ c.from_residual.ensures.1
 
 pub returns-in_err-fit-clause-kept : goal.returns-in_err-fit-clause-kept
 returns-in_err-fit-clause-kept g c = keeps_items_refl (reach_of c.args.world.now [])

@@ -10,14 +10,14 @@ pub returns-in_err-charge_coexp-clause-row : goal.returns-in_err-charge_coexp-cl
 returns-in_err-charge_coexp-clause-row c = λ outside locals live.
     let w = c.args.world.now in
     at_stop c.from_residual.result (stop_of c.in_err-charge_coexp.field-0.0) _ _ c.from_residual.ensures.1
-    (refuses w.heap c.charge_coexp.new.self w.pair w.random w.globals.items w.statics.items c.charge_coexp.ensures.kept w.sound c.args.locals
+    (refuses w.heap c.charge_coexp.new.self w.pair w.words w.globals.items w.statics.items c.charge_coexp.ensures.kept w.sound c.args.locals
     c.in_err-charge_coexp.ensures.unchanged c.in_err-charge_coexp.field-0.0
     c.in_err-charge_coexp.ensures.step outside locals live)
 
 pub returns-clause-row : goal.returns-clause-row
 returns-clause-row c = λ outside locals live.
     let w = c.args.world.now in
-    makes w.heap c.charge_coexp.new.self w.pair w.random w.globals.items w.statics.items c.charge_coexp.ensures.kept w.sound c.args.locals
+    makes w.heap c.charge_coexp.new.self w.pair w.words w.globals.items w.statics.items c.charge_coexp.ensures.kept w.sound c.args.locals
     c.in_ok-charge_coexp.ensures.step outside locals live
 
 pub returns-clause-few : goal.returns-clause-few

@@ -1,20 +1,27 @@
-use Rattle.std.proofs.Common.{◌<◌, ◌^◌, ℕ, suc, [], Some, length, refl, sym, ap, ◌∙◌, subst, rules}
+use Rattle.std.proofs.Common.{◌≡◌, ◌<◌, ◌^◌, ℕ, suc, [], Some, length, refl, sym, ap, ◌∙◌, subst, rules}
 use Rattle.icn_value.specs.declared.val.Val.TheVariants.{Coexp as HeldCoexp}
+use Rattle.icn_value.specs.Store.{Heap}
+use Rattle.std.specs.Prelude.{slice_index}
 use Rattle.icn_heap.specs.Extents.{IsLive}
 use Rattle.icn_heap.specs.Heaps.{extent_of, heap_of}
+use Rattle.icn_vars.specs.Stops.{halt_of}
 use Rattle.icn_vars.specs.Worlds.{reach_of}
 use Rattle.icn_frames.specs.Stacks as held
 use Rattle.icn_frames.specs.Stacks.{FlatStack}
-use Rattle.icn_coexp.specs.Transfers.{CoexpTable}
+use Rattle.icn_coexp.specs.Transfers.{CoexpTable, with_stack}
 use Rattle.icn_run.specs.Step.{all_names}
+use Rattle.icn_control.specs.declared.machine.Machine.{Machine}
 use Rattle.icn_control.specs.LiveStacks.{IsLiveStack}
+use Rattle.icn_control.specs.Machines.{IsSoundMachine}
 use Rattle.icn_control.proofs.ActivationSteps.{copy_errs, copy_runs}
 use Rattle.icn_control.proofs.CountedSteps.{copied_active, copied_others, same_counts}
 use Rattle.icn_control.proofs.OperandValues.{live_locals}
-use Rattle.icn_control.proofs.Halts.{match_stopped, running_live}
+use Rattle.icn_control.proofs.Halts.{halt_has_stack, match_stopped, running_live, unless_ended}
+use Rattle.icn_control.proofs.KeptTables.{stacks_stay}
 use Rattle.icn_control.proofs.LiveTransfers.{copied_length, copied_live}
 use Rattle.icn_control.proofs.MachineSteps.{stacks_on}
 use Rattle.icn_control.proofs.RunningStacks.{copied_runs}
+use Rattle.icn_control.specs.StackViews.{stack_in}
 use Rattle.icn_control.proofs.coexpressions.make_again.Goals as goal
 
 pub returns-in_err-charge_coexp-clause-step : goal.returns-in_err-charge_coexp-clause-step
@@ -29,9 +36,50 @@ returns-in_err-charge_coexp-clause-step g c tables outside =
     match_stopped c.from_residual.result c.in_err-charge_coexp.field-0.0 _ _ c.from_residual.ensures.1 tt
     (λ number offending e.
     copy_errs t w v f c.args.id c.value_count-count.result number offending c.in_err-charge_coexp.field-0.0
-    (all_names tables) outside m.turns m.begun.items m.stacks.table (record m.stacks.table { running = Some f })
+    (all_names tables) outside m.turns m.begun.items m.stacks.table (record m.stacks.table { running = Some f }) (stack_in (extent_of v.heap) f)
     c.frames.ensures.running c.requires.other c.requires.there c.charge_coexp.ensures.kept live sound.stacks.coexps c.value_count-count.ensures
     (c.in_err-charge_coexp.ensures.row outside (held.locals f) (live_locals t (reach_of w []) f live)) e)
+
+pub returns-in_err-charge_coexp-clause-keeps : goal.returns-in_err-charge_coexp-clause-keeps
+returns-in_err-charge_coexp-clause-keeps g c = record {
+  sound = λ tables k. (
+      let m = c.args.m.now in
+      let v = c.charge_coexp.new.world in
+      let f : FlatStack = c.frames.result.now.flat in
+      let cs = (heap_of m.world.heap).coexps in
+      let ds = (heap_of v.heap).coexps in
+      let heap : heap_of v.heap ≡ heap_of m.world.heap = c.in_err-charge_coexp.ensures.unchanged in
+      let same : (n : ℕ) → slice_index ds n ≡ slice_index cs n = λ n. ap (λ (h : Heap). slice_index h.coexps n) heap in
+      let after : Machine g.row.K.Denot = record {
+        world = v;
+        stacks = with_stack m.stacks c.frames.result.now;
+        turns = m.turns;
+        begun = m.begun;
+        limits = m.limits;
+      } in
+      unless_ended c.from_residual.result (IsSoundMachine tables after) (record {
+        stacks = stacks_stay tables (reach_of m.world []) (reach_of v []) (record m.stacks.table { running = Some f }) c.charge_coexp.ensures.kept
+            (stacks_on tables (reach_of m.world []) m.stacks.table f f c.frames.ensures.running (λ l. l) k.stacks);
+        bounds = ap (λ (h : Heap). h.bounds) heap ∙ k.bounds;
+        counts = ap (λ (h : Heap). length h.coexps) heap ∙ k.counts;
+        counted = record {
+          results = same_counts m.turns m.stacks.table.active m.stacks.table.active cs ds same refl k.counted.results;
+          activators = k.counted.activators;
+        };
+      }));
+  halt = search rules;
+  limits = refl;
+  stack = (
+      let m = c.args.m.now in
+      let after : Machine g.row.K.Denot = record {
+        world = c.charge_coexp.new.world;
+        stacks = with_stack m.stacks c.frames.result.now;
+        turns = m.turns;
+        begun = m.begun;
+        limits = m.limits;
+      } in
+      halt_has_stack after c.from_residual.result (halt_of c.in_err-charge_coexp.field-0.0) c.from_residual.ensures.1 refl);
+}
 
 pub add_copy-requires-clause-few : goal.add_copy-requires-clause-few
 add_copy-requires-clause-few g c = subst (λ (n : ℕ). n < 2 ^ 32) c.requires.stands.sound.1.counts c.in_ok-charge_coexp.ensures.few

@@ -6,24 +6,26 @@ use Rattle.icn_control.specs.LiveStacks.{IsLiveStack}
 use Rattle.icn_control.specs.StackAndWorld.{natural_of}
 use Rattle.icn_control.proofs.LiveCalls.{live_pop, live_limit}
 use Rattle.icn_control.proofs.StackAndWorldSteps.{limit_err, limit_none, limit_below, limit_zero, limit_more}
+use Rattle.icn_control.proofs.Halts.{unless_ended}
 use Rattle.icn_control.proofs.limits.limit.Goals as goal
 
 pub returns-in_err-v-clause-step : goal.returns-in_err-v-clause-step
 returns-in_err-v-clause-step g c =
     limit_err c.from_residual.result c.args.world.now c.args.frames.now.flat c.pop-x.new.self.flat c.value_of.new.frames.flat c.pop-x.result
-    c.in_err-v.field-0.0 c.from_residual.ensures.1 c.pop-x.ensures.flat c.in_err-v.ensures.value
+    c.in_err-v.field-0.0 c.from_residual.ensures.1 c.pop-x.ensures.flat c.value_of.ensures.same c.in_err-v.ensures.value
 
 pub returns-in_default-clause-step : goal.returns-in_default-clause-step
 returns-in_default-clause-step g c =
-    limit_none c.args.world.now c.args.frames.now.flat c.pop-x.new.self.flat c.pop-x.result c.in_ok-v.v c.pop-x.ensures.flat c.in_ok-v.ensures.value
-    (sym c.in_default.is ∙ c.to_integer.ensures)
+    limit_none c.args.world.now c.args.frames.now.flat c.pop-x.new.self.flat c.value_of.new.frames.flat c.pop-x.result c.in_ok-v.v c.pop-x.ensures.flat
+    c.in_ok-v.ensures.value (sym c.in_default.is ∙ c.to_integer.ensures) c.value_of.ensures.same
 
 pub returns-in_default-count_of-clause-step : goal.returns-in_default-count_of-clause-step
 returns-in_default-count_of-clause-step g c =
     let fits : FitsSigned w64 c.in-Some.n = search rules in
-    limit_below c.args.world.now c.args.frames.now.flat c.pop-x.new.self.flat c.pop-x.result c.in_ok-v.v c.pop-x.ensures.flat c.in_ok-v.ensures.value
+    limit_below c.args.world.now c.args.frames.now.flat c.pop-x.new.self.flat c.value_of.new.frames.flat c.pop-x.result c.in_ok-v.v c.pop-x.ensures.flat
+    c.in_ok-v.ensures.value
     c.in-Some.n (sym c.in-Some.is ∙ c.to_integer.ensures)
-    (sym c.in_default-count_of.is ∙ c.count_of.ensures ∙ ap natural_of (to_z-of_z w64 c.in-Some.n fits))
+    (sym c.in_default-count_of.is ∙ c.count_of.ensures ∙ ap natural_of (to_z-of_z w64 c.in-Some.n fits)) c.value_of.ensures.same
 
 pub returns-then-count-eq0-clause-step : goal.returns-then-count-eq0-clause-step
 returns-then-count-eq0-clause-step g c =
@@ -32,6 +34,22 @@ returns-then-count-eq0-clause-step g c =
     c.in_ok-v.ensures.value c.in-Some.n (sym c.in-Some.is ∙ c.to_integer.ensures)
     c.in-Some-count_of.count
     (sym c.in-Some-count_of.is ∙ c.count_of.ensures ∙ ap natural_of (to_z-of_z w64 c.in-Some.n fits)) c.if-count-eq0.true c.value_of.ensures.same
+
+pub returns-in_err-v-clause-live : goal.returns-in_err-v-clause-live
+returns-in_err-v-clause-live g c t k =
+    unless_ended c.from_residual.result (IsLiveStack t (reach_of c.args.world.now []) c.value_of.new.frames.flat)
+    (subst (λ (x : FlatStack). IsLiveStack t (reach_of c.args.world.now []) x) (sym c.value_of.ensures.same)
+    (live_pop t (reach_of c.args.world.now []) c.args.frames.now.flat c.pop-x.new.self.flat c.pop-x.result c.pop-x.ensures.flat k).rest)
+
+pub returns-in_default-clause-live : goal.returns-in_default-clause-live
+returns-in_default-clause-live g c t k =
+    subst (λ (x : FlatStack). IsLiveStack t (reach_of c.args.world.now []) x) (sym c.value_of.ensures.same)
+    (live_pop t (reach_of c.args.world.now []) c.args.frames.now.flat c.pop-x.new.self.flat c.pop-x.result c.pop-x.ensures.flat k).rest
+
+pub returns-in_default-count_of-clause-live : goal.returns-in_default-count_of-clause-live
+returns-in_default-count_of-clause-live g c t k =
+    subst (λ (x : FlatStack). IsLiveStack t (reach_of c.args.world.now []) x) (sym c.value_of.ensures.same)
+    (live_pop t (reach_of c.args.world.now []) c.args.frames.now.flat c.pop-x.new.self.flat c.pop-x.result c.pop-x.ensures.flat k).rest
 
 pub returns-then-count-eq0-clause-live : goal.returns-then-count-eq0-clause-live
 returns-then-count-eq0-clause-live g c t k =

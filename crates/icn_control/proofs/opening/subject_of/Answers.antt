@@ -1,4 +1,4 @@
-use Rattle.std.proofs.Common.{[], Ok, Err}
+use Rattle.std.proofs.Common.{[], Ok, Err, refl}
 use Rattle.icn_value.specs.declared.val.Val.TheVariants.{Text as TextVal}
 use Rattle.icn_defs.specs.StepRows.{text_row}
 use Rattle.icn_heap.specs.Extents.{value_in}
@@ -7,7 +7,8 @@ use Rattle.icn_vars.proofs.KeptItems.{keeps_items_refl}
 use Rattle.icn_vars.specs.Stops.{IsLiveStop}
 use Rattle.icn_vars.specs.Worlds.{reach_of}
 use Rattle.icn_frames.specs.Stacks as held
-use Rattle.icn_control.specs.TakenOperands.{MakesValue}
+use Rattle.icn_control.specs.TakenOperands.{KeepsCounts, MakesValue}
+use Rattle.icn_control.proofs.Halts.{unless_found}
 use Rattle.icn_control.proofs.OperandValues.{live_locals}
 use Rattle.icn_control.proofs.OpenedScans.{match_stop, stop_live, text_counted, text_result, text_unfit}
 use Rattle.icn_control.proofs.TakenOperandSteps.{keeps_without_locals}
@@ -23,7 +24,12 @@ returns-in_err-check_text-clause-made g c =
     let row = text_row (value_in (extent_of w.heap) c.args.v) in
     match_stop c.from_residual.result c.in_err-check_text.field-0.0 (λ span. MakesValue row w m w (Ok (TextVal span)))
     (λ stop. MakesValue row w m w (Err stop)) c.from_residual.ensures.1
-    (text_unfit w m c.args.v c.in_err-check_text.field-0.0 (c.in_err-check_text.ensures.found (extent_of w.heap)))
+    (text_unfit c.requires.stack.0 w m c.args.v c.in_err-check_text.field-0.0 c.requires.stack.1 c.local_count.ensures.same
+    (c.in_err-check_text.ensures.found (extent_of w.heap)))
+
+pub returns-in_err-check_text-clause-counts : goal.returns-in_err-check_text-clause-counts
+returns-in_err-check_text-clause-counts g c = unless_found c.from_residual.result (KeepsCounts c.args.world.now c.args.world.now)
+    (record { bounds = refl; coexps = refl })
 
 pub text_of-requires-clause-locals : goal.text_of-requires-clause-locals
 text_of-requires-clause-locals g c = live_locals c.requires.stack.0 _ c.args.frames.now.flat c.requires.stack.1

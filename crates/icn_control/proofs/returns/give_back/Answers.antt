@@ -8,12 +8,19 @@ use Rattle.icn_control.proofs.LiveCells.{live_pair_at}
 use Rattle.icn_control.proofs.LiveCalls.{own_locals, live_pop}
 use Rattle.icn_control.proofs.LiveFrames.{live_leave}
 use Rattle.icn_control.proofs.ReturnSteps.{pret_err, pret_over, pret_runs, given_free}
+use Rattle.icn_control.proofs.Halts.{unless_ended}
 use Rattle.icn_control.proofs.returns.give_back.Goals as goal
 
 pub returns-in_err-r-clause-step : goal.returns-in_err-r-clause-step
 returns-in_err-r-clause-step g c =
     pret_err c.from_residual.result c.args.world.now c.args.frames.now.flat c.pop-x.new.self.flat c.result_of.new.frames.flat c.pop-x.result
-    c.in_err-r.field-0.0 c.from_residual.ensures.1 c.pop-x.ensures.flat c.in_err-r.ensures.value
+    c.in_err-r.field-0.0 c.from_residual.ensures.1 c.pop-x.ensures.flat c.result_of.ensures.same c.in_err-r.ensures.value
+
+pub returns-in_err-r-clause-live : goal.returns-in_err-r-clause-live
+returns-in_err-r-clause-live g c t k =
+    unless_ended c.from_residual.result (IsLiveStack t (reach_of c.args.world.now []) c.result_of.new.frames.flat)
+    (subst (λ (x : FlatStack). IsLiveStack t (reach_of c.args.world.now []) x) (sym c.result_of.ensures.same)
+    (live_pop t (reach_of c.args.world.now []) c.args.frames.now.flat c.pop-x.new.self.flat c.pop-x.result c.pop-x.ensures.flat k).rest)
 
 pub restore_pair-requires : goal.restore_pair-requires
 restore_pair-requires g c =

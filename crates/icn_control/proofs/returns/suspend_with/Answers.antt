@@ -4,13 +4,21 @@ use Rattle.icn_frames.specs.Stacks.{FlatStack}
 use Rattle.icn_control.specs.LiveStacks.{IsLiveStack}
 use Rattle.icn_control.proofs.StackSteps.{pushed_back}
 use Rattle.icn_control.proofs.ReturnSteps.{psusp_err, psusp_over, psusp_runs, suspended_free}
+use Rattle.icn_control.proofs.Halts.{unless_ended}
 use Rattle.icn_control.proofs.returns.suspend_with.Goals as goal
 
 pub returns-in_err-r-clause-step : goal.returns-in_err-r-clause-step
 returns-in_err-r-clause-step g c =
     psusp_err c.from_residual.result c.args.world.now c.args.frames.now.flat c.pop-x.new.self.flat c.put.new.frames.flat c.result_of.new.frames.flat
     c.pop-x.result c.in_err-r.field-0.0 c.from_residual.ensures.1 c.pop-x.ensures.flat
-    c.put.ensures.flat c.in_err-r.ensures.value
+    c.put.ensures.flat c.result_of.ensures.same c.in_err-r.ensures.value
+
+pub returns-in_err-r-clause-live : goal.returns-in_err-r-clause-live
+returns-in_err-r-clause-live g c t k =
+    let back : c.result_of.new.frames.flat ≡ c.args.frames.now.flat
+    = c.result_of.ensures.same ∙ c.put.ensures.flat ∙ pushed_back c.args.frames.now.flat c.pop-x.new.self.flat c.pop-x.result c.pop-x.ensures.flat in
+    unless_ended c.from_residual.result (IsLiveStack t (reach_of c.args.world.now []) c.result_of.new.frames.flat)
+    (subst (λ (x : FlatStack). IsLiveStack t (reach_of c.args.world.now []) x) (sym back) k)
 
 pub returns-then-is_base-clause-step : goal.returns-then-is_base-clause-step
 returns-then-is_base-clause-step g c =

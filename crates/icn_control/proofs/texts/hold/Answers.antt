@@ -16,4 +16,4 @@ returns-clause-kept c = record {
 pub returns-clause-world : goal.returns-clause-world
 returns-clause-world c =
     let w = c.args.world.now in
-    world_same w.heap c.hold.new.self w.pair w.random w.globals.items w.statics.items c.hold.ensures.kept c.hold.ensures.unchanged w.sound
+    world_same w.heap c.hold.new.self w.pair w.words w.globals.items w.statics.items c.hold.ensures.kept c.hold.ensures.unchanged w.sound

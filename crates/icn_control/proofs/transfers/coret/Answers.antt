@@ -1,25 +1,28 @@
 use Rattle.std.proofs.Common.{◌≡◌, ◌<◌, ◌≤◌, ◌+◌, ℕ, suc, true, false, nat_lt, [], List, Option, Some, IsSome, Fits, w64, rules, length, slice_index, slice_set, refl, sym, ap, ◌∙◌, subst, add-one, arith}
 use Rattle.std.proofs.lemmas.List.{length-set}
+use Rattle.std.specs.Option.{option_map}
 use Rattle.icn_value.specs.Limited.{Bounds}
 use Rattle.icn_value.specs.declared.val.Val.TheVariants as Vals
 use Rattle.icn_value.specs.Store.{Heap}
-use Rattle.icn_heap.specs.Extents.{IsLive}
+use Rattle.icn_heap.specs.Extents.{IsLive, value_in}
 use Rattle.icn_heap.specs.Heaps.{extent_of, heap_of}
+use Rattle.icn_vars.specs.Stops.{halt_of}
 use Rattle.icn_vars.specs.Worlds.{reach_of, world_of}
 use Rattle.icn_frames.specs.Stacks as held
 use Rattle.icn_frames.specs.Stacks.{FlatStack}
-use Rattle.icn_coexp.specs.Transfers.{CoexpTable, source}
+use Rattle.icn_coexp.specs.Transfers.{CoexpTable, source, with_stack}
 use Rattle.icn_run.specs.Stacks.{Frames, flat}
-use Rattle.icn_run.specs.Step.{State, Store, all_names, hopping, result_given, running}
+use Rattle.icn_run.specs.Step.{State, Store, all_names, hopping, result_given, running, errs}
 use Rattle.icn_control.specs.ResultCounts.{FitTurns}
-use Rattle.icn_control.specs.Machines.{AreLiveStacks, IsLiveRunning, running_of, store_in}
+use Rattle.icn_control.specs.declared.machine.Machine.{Machine}
+use Rattle.icn_control.specs.Machines.{AreLiveStacks, IsLiveRunning, IsSoundMachine, running_of, store_in}
 use Rattle.icn_control.specs.Operands.{having_result, with_top}
 use Rattle.icn_control.specs.StackViews.{stack_in}
 use Rattle.icn_control.proofs.ActivationSteps.{active_there, coret_bound, coret_goes, lands_hops, lands_runs, nat_lt_false, result_passes}
-use Rattle.icn_control.proofs.CountedSteps.{count_fits, give_active, give_others, result_fits}
+use Rattle.icn_control.proofs.CountedSteps.{count_fits, give_active, give_others, result_fits, turn_more}
 use Rattle.icn_control.proofs.CreateSteps.{beside_in}
 use Rattle.icn_control.proofs.ExhaustSteps.{nat_lt_true}
-use Rattle.icn_control.proofs.Halts.{match_stopped, value_of_some, value_error}
+use Rattle.icn_control.proofs.Halts.{halt_has_stack, match_stopped, unless_ended, value_of_some, value_error}
 use Rattle.icn_control.proofs.KeptTables.{stacks_stay}
 use Rattle.icn_control.proofs.LiveTransfers.{coexp_is_live, give_length, give_live}
 use Rattle.icn_control.proofs.MachineSteps.{stacks_on}
@@ -52,7 +55,9 @@ returns-in_err-v-clause-step g c tables outside =
     let m = c.args.m.now in
     let w = m.world in
     let f : FlatStack = c.frames.result.now.flat in
-    let st : Store Frames = store_in (all_names tables) outside (world_of w) (suc m.turns) m.begun.items (extent_of w.heap) m.stacks.table in
+    let n : FlatStack = c.take_value.new.frames.flat in
+    let at : ℕ → Store Frames = λ k. store_in (all_names tables) outside (world_of w) k m.begun.items (extent_of w.heap) m.stacks.table in
+    let st : Store Frames = at (suc m.turns) in
     let more : nat_lt m.turns (heap_of w.heap).bounds.turns ≡ true
     = ap (λ (x : Bounds). nat_lt m.turns x.turns) c.requires.stands.sound.1.bounds ∙ nat_lt_true m.turns m.limits.turns c.if-m.false in
     let state : State Frames Frames = with_top (stack_in (extent_of w.heap) f) st (λ value n. result_given flat value n st) in
@@ -60,7 +65,42 @@ returns-in_err-v-clause-step g c tables outside =
     (λ number offending e.
     coret_goes tables (all_names tables) outside w m.turns m.begun.items m.stacks.table f c.frames.ensures.running more
     (sym (ap held.is_base (ap running_of c.frames.ensures.running)) ∙ c.requires.base) c.requires.other
-    ∙ value_error state st w c.in_err-v.field-0.0 number offending (c.in_err-v.ensures.step st (λ value n. result_given flat value n st) refl) e)
+    ∙ value_error state st w (stack_in (extent_of w.heap) n) c.in_err-v.field-0.0 number offending
+    (c.in_err-v.ensures.step st (λ value n. result_given flat value n st) refl) e
+    ∙ ap (λ (k : ℕ). errs number (option_map (value_in (extent_of w.heap)) offending) (stack_in (extent_of w.heap) n) (at k)) (sym (add-one m.turns)))
+
+pub returns-in_err-v-clause-keeps : goal.returns-in_err-v-clause-keeps
+returns-in_err-v-clause-keeps g c = record {
+  sound = λ tables k. (
+      let m = c.args.m.now in
+      let after : Machine g.row.K.Denot = record {
+        world = m.world;
+        stacks = with_stack m.stacks c.take_value.new.frames;
+        turns = m.turns + 1;
+        begun = m.begun;
+        limits = m.limits;
+      } in
+      unless_ended c.from_residual.result (IsSoundMachine tables after) (record {
+        stacks = stacks_on tables (reach_of m.world []) m.stacks.table c.frames.result.now.flat c.take_value.new.frames.flat c.frames.ensures.running
+            (λ l. c.take_value.ensures.live tables l) k.stacks;
+        bounds = k.bounds;
+        counts = k.counts;
+        counted =
+            record { results = turn_more m.turns m.stacks.table.active (heap_of m.world.heap).coexps k.counted.results; activators = k.counted.activators };
+      }));
+  halt = search rules;
+  limits = refl;
+  stack = (
+      let m = c.args.m.now in
+      let after : Machine g.row.K.Denot = record {
+        world = m.world;
+        stacks = with_stack m.stacks c.take_value.new.frames;
+        turns = m.turns + 1;
+        begun = m.begun;
+        limits = m.limits;
+      } in
+      halt_has_stack after c.from_residual.result (halt_of c.in_err-v.field-0.0) c.from_residual.ensures.1 refl);
+}
 
 pub count_result-requires-clause-live : goal.count_result-requires-clause-live
 count_result-requires-clause-live g c =

@@ -9,5 +9,5 @@ use Rattle.icn_control.proofs.transfers.count_result.Goals as goal
 pub returns-clause-world : goal.returns-clause-world
 returns-clause-world c =
     let w = c.args.world.now in
-    sym (ap (λ (s : Setting). s.world) (heap_changed (outside_of []) w.heap c.count.new.self w.pair w.random w.globals.items w.statics.items []
+    sym (ap (λ (s : Setting). s.world) (heap_changed (outside_of []) w.heap c.count.new.self w.pair w.words w.globals.items w.statics.items []
     c.count.ensures.kept c.count.ensures.step w.sound (All-nil (IsLive (extent_of w.heap)))))

@@ -31,7 +31,7 @@ returns-in_err-first-clause-step g c =
     (TakesTwo c.args.world.now c.args.frames.now.flat c.value_of.new.frames.flat) c.from_residual.ensures.1
     (first_stops c.args.world.now c.args.frames.now.flat c.pop-upper.new.self.flat c.pop-lower.new.self.flat c.value_of.new.frames.flat c.pop-upper.result
     c.pop-lower.result c.in_err-first.field-0.0
-    c.pop-upper.ensures.flat c.pop-lower.ensures.flat c.in_err-first.ensures.value)
+    c.pop-upper.ensures.flat c.pop-lower.ensures.flat c.value_of.ensures.same c.in_err-first.ensures.value)
 
 pub returns-in_err-first-clause-live : goal.returns-in_err-first-clause-live
 returns-in_err-first-clause-live g c t k =
@@ -59,7 +59,7 @@ returns-in_err-second-clause-step g c =
     (TakesTwo c.args.world.now c.args.frames.now.flat c.value_of-2.new.frames.flat) c.from_residual-in_err-second.ensures.1
     (second_stops c.args.world.now c.args.frames.now.flat c.pop-upper.new.self.flat c.pop-lower.new.self.flat c.value_of-2.new.frames.flat c.pop-upper.result
     c.pop-lower.result c.in_ok-first.first c.in_err-second.field-0.0
-    c.pop-upper.ensures.flat c.pop-lower.ensures.flat c.in_ok-first.ensures.value
+    c.pop-upper.ensures.flat c.pop-lower.ensures.flat (c.value_of-2.ensures.same ∙ c.value_of.ensures.same) c.in_ok-first.ensures.value
     (finds_on c.args.world.now c.value_of.new.frames.flat c.pop-lower.new.self.flat c.pop-upper.result
     (Err c.in_err-second.field-0.0) c.value_of.ensures.same c.in_err-second.ensures.value))
 

@@ -4,6 +4,7 @@ use Rattle.icn_value.specs.declared.item.Item.TheVariants.{Val as HeldVal}
 use Rattle.icn_vars.specs.Worlds.{Reach, IsLiveItem, reach_of}
 use Rattle.icn_frames.specs.Stacks.{FlatStack, at_base, unmark}
 use Rattle.icn_control.specs.LiveStacks.{IsLiveStack, with_locals}
+use Rattle.icn_control.proofs.Halts.{unless_ended}
 use Rattle.icn_control.proofs.LiveCalls.{own_locals, live_pop, live_unmark, live_push}
 use Rattle.icn_control.proofs.StackAndWorldSteps.{eret_runs, eret_err}
 use Rattle.icn_instructions.proofs.LackSteps.{eret_operand, eret_mark}
@@ -27,7 +28,13 @@ value_of-requires-clause-item g c =
 pub returns-in_err-v-clause-step : goal.returns-in_err-v-clause-step
 returns-in_err-v-clause-step g c =
     eret_err c.from_residual.result c.args.world.now c.args.frames.now.flat c.pop-x.new.self.flat c.value_of.new.frames.flat c.pop-x.result
-    c.in_err-v.field-0.0 c.from_residual.ensures.1 c.pop-x.ensures.flat c.in_err-v.ensures.value
+    c.in_err-v.field-0.0 c.from_residual.ensures.1 c.pop-x.ensures.flat c.value_of.ensures.same c.in_err-v.ensures.value
+
+pub returns-in_err-v-clause-live : goal.returns-in_err-v-clause-live
+returns-in_err-v-clause-live g c t k =
+    unless_ended c.from_residual.result (IsLiveStack t (reach_of c.args.world.now []) c.value_of.new.frames.flat)
+    (subst (λ (x : FlatStack). IsLiveStack t (reach_of c.args.world.now []) x) (sym c.value_of.ensures.same)
+    (live_pop t (reach_of c.args.world.now []) c.args.frames.now.flat c.pop-x.new.self.flat c.pop-x.result c.pop-x.ensures.flat k).rest)
 
 pub unmark-pair-requires : goal.unmark-pair-requires
 unmark-pair-requires g c =

@@ -4,9 +4,12 @@ use Rattle.icn_vars.specs.Worlds.{reach_of}
 use Rattle.icn_vars.proofs.KeptItems.{keeps_items_refl}
 use Rattle.icn_code.specs.declared.instr.Instr.TheVariants as Instrs
 use Rattle.icn_code.specs.CodeTables.{tables_of}
+use Rattle.icn_control.specs.LiveStacks.{IsLiveStack}
 use Rattle.icn_control.specs.TakenOperands.{KeepsCounts}
+use Rattle.icn_control.specs.declared.machine.RunState.{RunState}
 use Rattle.icn_control.specs.declared.machine.RunState.TheVariants as RunStates
-use Rattle.icn_instructions.proofs.ArmSteps.{lacks_as, may_take, ok_has_memory, on_ok_always, comes_as}
+use Rattle.icn_control.proofs.Halts.{unless_ended, unless_handed}
+use Rattle.icn_instructions.proofs.ArmSteps.{lacks_as, may_take, ok_has_memory, comes_as}
 use Rattle.icn_instructions.proofs.GroupSteps.{no_other_world}
 use Rattle.icn_instructions.proofs.LackSteps.{pop_there, escan_scan, string_lacks}
 use Rattle.icn_instructions.proofs.LiftSteps.{heap_keeps, reach_keeps, seen_keeps}
@@ -158,9 +161,16 @@ returns-in-Ok-give_out-clause-no_memory g c =
 pub returns-in-Err-give_out-clause-leaves : goal.returns-in-Err-give_out-clause-leaves
 returns-in-Err-give_out-clause-leaves g c = record {
   kept = reach_keeps c.args.world.now c.give_out.new.world c.give_out.ensures.same.reach;
-  counts = search rules;
+  counts = unless_ended {A = RunState} (Err c.in-Err-give_out.halt) (KeepsCounts c.args.world.now c.give_out.new.world)
+      (heap_keeps c.args.world.now c.give_out.new.world c.give_out.ensures.same.heap);
   halt = c.in-Err-give_out.ensures.halt;
 }
+
+pub returns-in-Err-give_out-clause-live : goal.returns-in-Err-give_out-clause-live
+returns-in-Err-give_out-clause-live g c =
+    unless_handed (Unit {0}) RunState c.in-Err-give_out.halt
+    (IsLiveStack (tables_of c.args.code.now) (reach_of c.give_out.new.world []) c.give_out.new.frames.flat)
+    (c.in-Err-give_out.ensures.live (tables_of c.args.code.now) c.requires.live)
 
 pub returns-in-Err-give_out-clause-no_memory : goal.returns-in-Err-give_out-clause-no_memory
 returns-in-Err-give_out-clause-no_memory g c =
@@ -194,9 +204,16 @@ returns-in-Ok-open_scan-clause-no_memory g c =
 pub returns-in-Err-open_scan-clause-leaves : goal.returns-in-Err-open_scan-clause-leaves
 returns-in-Err-open_scan-clause-leaves g c = record {
   kept = c.open_scan.ensures.leaves.kept;
-  counts = search rules;
+  counts = unless_handed (Unit {0}) RunState c.in-Err-open_scan.halt (KeepsCounts c.args.world.now c.open_scan.new.world)
+      c.in-Err-open_scan.ensures.leaves.counts;
   halt = c.in-Err-open_scan.ensures.leaves.halt;
 }
+
+pub returns-in-Err-open_scan-clause-live : goal.returns-in-Err-open_scan-clause-live
+returns-in-Err-open_scan-clause-live g c =
+    unless_handed (Unit {0}) RunState c.in-Err-open_scan.halt
+    (IsLiveStack (tables_of c.args.code.now) (reach_of c.open_scan.new.world []) c.open_scan.new.frames.flat)
+    (c.in-Err-open_scan.ensures.live (tables_of c.args.code.now) c.requires.live)
 
 pub returns-in-Err-open_scan-clause-no_memory : goal.returns-in-Err-open_scan-clause-no_memory
 returns-in-Err-open_scan-clause-no_memory g c =
@@ -250,7 +267,7 @@ returns-in-Limit-clause-live g c =
 pub returns-in-Limit-clause-leaves : goal.returns-in-Limit-clause-leaves
 returns-in-Limit-clause-leaves g c = record {
   kept = keeps_items_refl (reach_of c.args.world.now []);
-  counts = on_ok_always c.limit.result (KeepsCounts c.args.world.now c.args.world.now) (record { bounds = refl; coexps = refl });
+  counts = unless_ended c.limit.result (KeepsCounts c.args.world.now c.args.world.now) (record { bounds = refl; coexps = refl });
   halt = c.limit.ensures.halt;
 }
 
@@ -271,7 +288,7 @@ pub returns-in-Psusp-clause-leaves : goal.returns-in-Psusp-clause-leaves
 returns-in-Psusp-clause-leaves g c = record {
   kept = reach_keeps c.args.world.now c.suspend_with.new.world c.suspend_with.ensures.same.reach;
   counts = (
-      on_ok_always c.suspend_with.result (KeepsCounts c.args.world.now c.suspend_with.new.world)
+      unless_ended c.suspend_with.result (KeepsCounts c.args.world.now c.suspend_with.new.world)
       (heap_keeps c.args.world.now c.suspend_with.new.world c.suspend_with.ensures.same.heap));
   halt = c.suspend_with.ensures.halt;
 }
@@ -293,7 +310,7 @@ pub returns-in-Pret-clause-leaves : goal.returns-in-Pret-clause-leaves
 returns-in-Pret-clause-leaves g c = record {
   kept = reach_keeps c.args.world.now c.give_back.new.world c.give_back.ensures.same.reach;
   counts = (
-      on_ok_always c.give_back.result (KeepsCounts c.args.world.now c.give_back.new.world)
+      unless_ended c.give_back.result (KeepsCounts c.args.world.now c.give_back.new.world)
       (heap_keeps c.args.world.now c.give_back.new.world c.give_back.ensures.same.heap));
   halt = c.give_back.ensures.halt;
 }

@@ -17,7 +17,7 @@ use Rattle.icn_control.proofs.LiteralSteps.{running_live}
 use Rattle.icn_control.proofs.MachineSteps.{stacks_on}
 use Rattle.icn_run.specs.InstructionNeeds.{HasCaseMark}
 use Rattle.icn_instructions.specs.Ranges.{IsInRange}
-use Rattle.icn_instructions.proofs.ArmSteps.{error_is_not_ok, on_ok_both}
+use Rattle.icn_instructions.proofs.ArmSteps.{error_is_not_ok, unless_both}
 use Rattle.icn_instructions.proofs.LiftSteps.{done_lacks, runs_as, stack_runs, world_comes, world_stack}
 use Rattle.icn_instructions.proofs.RangeSteps.{may_name}
 use Rattle.icn_instructions.proofs.instructions.do_instruction.Goals as goal
@@ -171,7 +171,7 @@ returns-in-World-clause-sound g c =
     let v = c.do_in_world.new.world in
     let after : Machine g.row.K.Denot
     = record { world = v; stacks = with_stack m.stacks c.do_in_world.new.frames; turns = m.turns; begun = m.begun; limits = m.limits } in
-    on_ok_both c.do_in_world.result (IsLiveStack (tables_of c.args.code.now) (reach_of v []) c.do_in_world.new.frames.flat) (KeepsCounts m.world v)
+    unless_both c.do_in_world.result (IsLiveStack (tables_of c.args.code.now) (reach_of v []) c.do_in_world.new.frames.flat) (KeepsCounts m.world v)
     (IsSoundMachine (tables_of c.args.code.now) after)
     (λ live counts. record {
       stacks = stacks_grow (tables_of c.args.code.now) m.world v m.stacks.table c.do_in_world.new.frames.flat c.do_in_world.ensures.leaves.kept live k.stacks;

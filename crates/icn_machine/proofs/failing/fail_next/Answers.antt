@@ -1,4 +1,4 @@
-use Rattle.std.proofs.Common.{◌≡◌, ◌∙◌, subst, [], IfOk, rules}
+use Rattle.std.proofs.Common.{◌≡◌, ◌∙◌, subst, [], rules}
 use Rattle.icn_value.specs.Store.{Names, Outside, outside_of}
 use Rattle.law_names.specs.NamedSettings.{WorldNamed}
 use Rattle.icn_vars.specs.Worlds.{world_of}
@@ -7,12 +7,12 @@ use Rattle.icn_run.specs.Calls.{Op as Operation}
 use Rattle.icn_run.specs.Stacks.{flat}
 use Rattle.icn_run.specs.Step.{all_names, resume_by, without_mark}
 use Rattle.law_steps.specs.StateNames.{StackNamed}
-use Rattle.icn_control.specs.Machines.{HasStack, IsSoundMachine, extent, stack_seen, store_seen}
+use Rattle.icn_control.specs.Machines.{extent, stack_seen, store_seen}
 use Rattle.icn_control.specs.declared.failing.AfterFailure.TheVariants as AfterFailures
-use Rattle.icn_control.specs.declared.machine.RunState.{RunState}
 use Rattle.icn_control.specs.declared.machine.RunState.TheVariants as RunStates
-use Rattle.icn_machine.specs.Stepping.{FailsFurther, IsReady}
-use Rattle.icn_machine.proofs.FailingSteps.{Lands, at_due, by_due, due_named, failed, failed_further, failed_kept, failed_performing, failed_quietly, if_both, if_on, if_so, kept_seen, lands_performing, lands_quietly, never_failed}
+use Rattle.icn_machine.specs.Stepping.{FailsFurther}
+use Rattle.icn_machine.proofs.FailingSteps.{Lands, at_due, by_due, due_named, failed, failed_further, failed_kept, failed_performing, failed_quietly, if_so, kept_seen, lands_performing, lands_quietly, never_failed, resumed_erring, resumed_performs, resumed_ready}
+use Rattle.icn_machine.proofs.SettleSteps.{left_known, settled_ready, settles_on}
 use Rattle.icn_machine.proofs.failing.fail_next.Goals as goal
 
 pub fail_once-requires-clause-stands : goal.fail_once-requires-clause-stands
@@ -31,8 +31,8 @@ begin_again-requires g c = record { bounds = (c.fail_once.ensures.sound c.requir
 pub reenter-requires-clause-bounds : goal.reenter-requires-clause-bounds
 reenter-requires-clause-bounds g c = (c.fail_once.ensures.sound c.requires.ready.0 c.requires.ready.1.1.sound).bounds
 
-pub resume-requires-clause-stands : goal.resume-requires-clause-stands
-resume-requires-clause-stands g c = record {
+pub resume-answer-requires-clause-stands : goal.resume-answer-requires-clause-stands
+resume-answer-requires-clause-stands g c = record {
   runs = c.fail_once.ensures.runs;
   sound = (c.requires.ready.0, c.fail_once.ensures.sound c.requires.ready.0 c.requires.ready.1.1.sound);
 }
@@ -49,11 +49,11 @@ end_failing-requires-clause-stands g c = record {
   sound = (c.requires.ready.0, c.fail_once.ensures.sound c.requires.ready.0 c.requires.ready.1.1.sound);
 }
 
-pub resume-requires-clause-rest : goal.resume-requires-clause-rest
-resume-requires-clause-rest g c = rw c.in-Resuming.is at c.fail_once.ensures.due
+pub resume-answer-requires-clause-rest : goal.resume-answer-requires-clause-rest
+resume-answer-requires-clause-rest g c = rw c.in-Resuming.is at c.fail_once.ensures.due
 
-pub resume-requires-clause-named : goal.resume-requires-clause-named
-resume-requires-clause-named g c = record {
+pub resume-answer-requires-clause-named : goal.resume-answer-requires-clause-named
+resume-answer-requires-clause-named g c = record {
   stack_named = (
       let tables = c.requires.ready.0 in
       let k = kept_seen tables c.args.m.now c.requires.ready.1.1.kept (outside_of []) in
@@ -65,8 +65,8 @@ resume-requires-clause-named g c = record {
       (c.fail_once.ensures.named.store (all_names tables) tables (outside_of []) k.named.1).world);
 }
 
-pub resume-requires-clause-rest_named : goal.resume-requires-clause-rest_named
-resume-requires-clause-rest_named g c =
+pub resume-answer-requires-clause-rest_named : goal.resume-answer-requires-clause-rest_named
+resume-answer-requires-clause-rest_named g c =
     let tables = c.requires.ready.0 in
     let k = kept_seen tables c.args.m.now c.requires.ready.1.1.kept (outside_of []) in
     due_named _ c.fail_once.new.m c.fail_once.result (AfterFailures.Resuming c.in-Resuming.rest) c.in-Resuming.is
@@ -234,54 +234,64 @@ returns-in-Leaving-clause-within g c = record {
   limits = c.end_failing.ensures.keeps.limits ∙ c.fail_once.ensures.limits;
 }
 
+pub settle-requires-clause-halt : goal.settle-requires-clause-halt
+settle-requires-clause-halt g c = c.resume-answer.ensures.keeps.halt
+
+pub settle-requires-clause-known : goal.settle-requires-clause-known
+settle-requires-clause-known g c = left_known (g.N.Names.known c.args.names.now) c.resume-answer.new.m c.resume-answer.result c.resume-answer.ensures.named
+
 pub returns-in-Resuming-clause-steps : goal.returns-in-Resuming-clause-steps
 returns-in-Resuming-clause-steps g c tables named ready =
-    failed_performing tables
+    let m = c.args.m.now in
+    let performs = resumed_performs tables
     (λ (o : Outside). resume_by flat tables (Operation (residual_in (extent c.fail_once.new.m) c.in-Resuming.rest)) (stack_seen c.fail_once.new.m)
     (store_seen tables o c.fail_once.new.m))
-    c.args.m.now _ c.resume.new.m _ c.resume.result
-    (λ o. at_due tables o (failed tables c.args.m.now o) c.fail_once.new.m c.fail_once.result (AfterFailures.Resuming c.in-Resuming.rest) c.in-Resuming.is
+    m _ c.resume-answer.new.m _ c.resume-answer.result
+    (λ o. at_due tables o (failed tables m o) c.fail_once.new.m c.fail_once.result (AfterFailures.Resuming c.in-Resuming.rest) c.in-Resuming.is
     (c.fail_once.ensures.step tables o))
-    (c.resume.ensures.step tables)
+    (c.resume-answer.ensures.step tables) in
+    failed_performing tables m _ c.settle.new.m _ c.settle.result
+    (settles_on tables (failed tables m) c.resume-answer.new.m c.settle.new.m _ _ c.resume-answer.result c.settle.result (c.settle.ensures.step tables)
+    c.settle.ensures.same performs)
 
 pub returns-in-Resuming-clause-ready : goal.returns-in-Resuming-clause-ready
 returns-in-Resuming-clause-ready g c tables named ready =
-    let lands : IfOk c.resume.result (Lands tables c.args.m.now c.resume.new.m)
-    = lands_performing tables
+    let m = c.args.m.now in
+    let k = c.resume-answer.new.m in
+    let performs = resumed_performs tables
     (λ (o : Outside). resume_by flat tables (Operation (residual_in (extent c.fail_once.new.m) c.in-Resuming.rest)) (stack_seen c.fail_once.new.m)
     (store_seen tables o c.fail_once.new.m))
-    c.args.m.now _ c.resume.new.m _ c.resume.result
-    (λ o. at_due tables o (failed tables c.args.m.now o) c.fail_once.new.m c.fail_once.result (AfterFailures.Resuming c.in-Resuming.rest) c.in-Resuming.is
+    m _ c.resume-answer.new.m _ c.resume-answer.result
+    (λ o. at_due tables o (failed tables m o) c.fail_once.new.m c.fail_once.result (AfterFailures.Resuming c.in-Resuming.rest) c.in-Resuming.is
     (c.fail_once.ensures.step tables o))
-    (c.resume.ensures.step tables) in
-    let kept : IfOk c.resume.result (λ (stage : RunState). HasStack c.resume.new.m stage × Lands tables c.args.m.now c.resume.new.m stage)
-    = if_both c.resume.result (HasStack c.resume.new.m) (Lands tables c.args.m.now c.resume.new.m) _ (λ stage p q. (p, q)) c.resume.ensures.keeps.stack lands in
-    if_on c.resume.result (IsSoundMachine tables c.resume.new.m)
-    (λ (stage : RunState). HasStack c.resume.new.m stage × Lands tables c.args.m.now c.resume.new.m stage) (IsReady tables c.resume.new.m)
-    (λ stage sound q.
-    record {
-      sound = sound;
-      stack = q.0;
-      kept = failed_kept tables c.steps_keep_names.ensures.kept c.steps_keep_sizes.ensures.kept c.args.m.now
-          c.resume.new.m stage ready.kept q.1;
-    })
-    (c.resume.ensures.keeps.sound tables (c.fail_once.ensures.sound tables ready.sound)) kept
+    (c.resume-answer.ensures.step tables) in
+    let sound = c.resume-answer.ensures.keeps.sound tables (c.fail_once.ensures.sound tables ready.sound) in
+    settled_ready tables k c.settle.new.m c.resume-answer.result c.settle.result
+    (resumed_ready tables c.steps_keep_names.ensures.kept c.steps_keep_sizes.ensures.kept m _ k _ c.resume-answer.result ready.kept performs sound
+    c.resume-answer.ensures.keeps.stack)
+    (resumed_erring tables c.steps_keep_names.ensures.kept c.steps_keep_sizes.ensures.kept m _ k _ c.resume-answer.result ready.kept performs sound
+    c.resume-answer.ensures.keeps.stack)
+    (c.settle.ensures.step tables) (c.settle.ensures.sound tables) c.settle.ensures.stack c.settle.ensures.same
 
 pub returns-in-Resuming-clause-further : goal.returns-in-Resuming-clause-further
 returns-in-Resuming-clause-further g c =
     let tables = c.requires.ready.0 in
-    if_so c.resume.result (Lands tables c.args.m.now c.resume.new.m) (FailsFurther c.args.m.now c.resume.new.m)
-    (λ stage q. failed_further tables c.args.m.now c.resume.new.m stage c.requires.ready.1.1.sound.bounds q)
-    (lands_performing tables
+    let m = c.args.m.now in
+    let performs = resumed_performs tables
     (λ (o : Outside). resume_by flat tables (Operation (residual_in (extent c.fail_once.new.m) c.in-Resuming.rest)) (stack_seen c.fail_once.new.m)
     (store_seen tables o c.fail_once.new.m))
-    c.args.m.now _ c.resume.new.m _ c.resume.result
-    (λ o. at_due tables o (failed tables c.args.m.now o) c.fail_once.new.m c.fail_once.result (AfterFailures.Resuming c.in-Resuming.rest) c.in-Resuming.is
+    m _ c.resume-answer.new.m _ c.resume-answer.result
+    (λ o. at_due tables o (failed tables m o) c.fail_once.new.m c.fail_once.result (AfterFailures.Resuming c.in-Resuming.rest) c.in-Resuming.is
     (c.fail_once.ensures.step tables o))
-    (c.resume.ensures.step tables))
+    (c.resume-answer.ensures.step tables) in
+    if_so c.settle.result (Lands tables m c.settle.new.m) (FailsFurther m c.settle.new.m)
+    (λ stage q. failed_further tables m c.settle.new.m stage c.requires.ready.1.1.sound.bounds q)
+    (lands_performing tables m _ c.settle.new.m _ c.settle.result
+    (settles_on tables (failed tables m) c.resume-answer.new.m c.settle.new.m _ _ c.resume-answer.result c.settle.result (c.settle.ensures.step tables)
+    c.settle.ensures.same performs))
 
 pub returns-in-Resuming-clause-within : goal.returns-in-Resuming-clause-within
 returns-in-Resuming-clause-within g c = record {
-  halt = c.resume.ensures.keeps.halt;
-  limits = c.resume.ensures.keeps.limits ∙ c.fail_once.ensures.limits;
+  halt = c.settle.ensures.within.halt;
+  limits = c.settle.ensures.within.limits ∙ c.resume-answer.ensures.keeps.limits ∙ c.fail_once.ensures.limits;
 }

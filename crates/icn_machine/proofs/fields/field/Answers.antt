@@ -16,12 +16,14 @@ use Rattle.icn_control.specs.Machines.{running_of}
 use Rattle.icn_control.specs.declared.machine.Machine.{Machine}
 use Rattle.icn_control.specs.declared.machine.RunState.TheVariants as RunStates
 use Rattle.icn_control.proofs.ExhaustSteps.{nat_lt_true}
+use Rattle.icn_control.proofs.Halts.{halt_has_stack}
 use Rattle.icn_control.proofs.ListSteps.{nat_lt_false}
 use Rattle.icn_control.proofs.LiteralSteps.{running_live}
 use Rattle.icn_control.proofs.LiveCalls.{live_pop}
 use Rattle.icn_control.proofs.MachineSteps.{stacks_on}
 use Rattle.icn_control.proofs.StackAndWorldSteps.{match_halt}
-use Rattle.icn_machine.proofs.OperandCalls.{bound_comes, not_going, one_taken, operands_come, sound_after}
+use Rattle.icn_machine.proofs.LoopSteps.{if_err_known}
+use Rattle.icn_machine.proofs.OperandCalls.{bound_comes, erred_sound, not_going, one_taken, operands_come, sound_after}
 use Rattle.icn_machine.proofs.fields.field.Goals as goal
 
 pub pop-item-requires : goal.pop-item-requires
@@ -91,6 +93,24 @@ returns-in_err-push_field-clause-step g c =
     more (keeps_items_refl (reach_of m.world [])) c.requires.stands.sound.1.stacks
     (add-one m.turns) refl refl (not_going c.from_residual.result c.in_err-push_field.field-0.0 c.from_residual.ensures.1)
     (λ st same. match_halt c.from_residual.result c.in_err-push_field.field-0.0 _ _ c.from_residual.ensures.1 (c.in_err-push_field.ensures.step st same))
+
+pub returns-in_err-push_field-clause-keeps : goal.returns-in_err-push_field-clause-keeps
+returns-in_err-push_field-clause-keeps g c = record {
+  sound = λ tables k. (
+      let m = c.args.m.now in
+      let after : Machine g.row.K.Denot
+      = record { world = m.world; stacks = with_stack m.stacks c.push_field.new.frames; turns = m.turns + 1; begun = m.begun; limits = m.limits } in
+      let live = running_live tables (reach_of m.world []) m.stacks.table c.frames.result.now.flat c.frames.ensures.running k.stacks in
+      let back = live_pop tables (reach_of m.world []) c.frames.result.now.flat c.pop-item.new.self.flat c.pop-item.result c.pop-item.ensures.flat live in
+      let here : IsLiveStack tables (reach_of m.world []) c.frames-2.result.now.flat
+      = subst (λ (x : FlatStack). IsLiveStack tables (reach_of m.world []) x) (same_Some _ _ c.frames-2.ensures.running) back.rest in
+      erred_sound m after tables c.push_field.new.frames.flat c.from_residual.result c.in_err-push_field.field-0.0 c.from_residual.ensures.1
+      refl refl refl (keeps_items_refl (reach_of m.world [])) (c.in_err-push_field.ensures.live tables here) (record { bounds = refl; coexps = refl }) k);
+  halt = if_err_known c.from_residual.result c.in_err-push_field.field-0.0 _ c.from_residual.ensures.1 c.in_err-push_field.ensures.halt;
+  limits = refl;
+  stack = halt_has_stack (record c.args.m.now { stacks = with_stack c.args.m.now.stacks c.push_field.new.frames; turns = c.args.m.now.turns + 1 })
+      c.from_residual.result c.in_err-push_field.field-0.0 c.from_residual.ensures.1 refl;
+}
 
 pub returns-clause-step : goal.returns-clause-step
 returns-clause-step g c =

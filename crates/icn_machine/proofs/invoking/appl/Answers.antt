@@ -4,14 +4,15 @@ use Rattle.std.specs.List.{All}
 use Rattle.std.proofs.lemmas.List.Elements.{All-head, All-tail}
 use Rattle.icn_value.specs.Limited.{Bounds}
 use Rattle.icn_heap.specs.Heaps.{extent_of, heap_of}
-use Rattle.icn_vars.specs.Worlds.{Reach, IsLiveItem, reach_of}
+use Rattle.law_names.specs.NamedSettings.{ItemNamed}
+use Rattle.icn_vars.specs.Worlds.{Reach, IsLiveItem, item_in, reach_of}
 use Rattle.icn_frames.specs.Stacks as held
 use Rattle.icn_frames.specs.Stacks.{FlatStack}
 use Rattle.icn_coexp.specs.Transfers.{with_stack}
 use Rattle.icn_code.specs.CodeTables.{tables_of}
 use Rattle.icn_code.specs.declared.instr.Instr.TheVariants as Instrs
 use Rattle.icn_run.specs.Stacks.{flat}
-use Rattle.icn_run.specs.Step.{all_names, applied_to_elements}
+use Rattle.icn_run.specs.Step.{applied_to_elements}
 use Rattle.law_steps.specs.StateNames.{StackNamed}
 use Rattle.icn_control.specs.LiveStacks.{IsLiveStack, with_locals}
 use Rattle.icn_control.specs.Machines.{IsSoundMachine, running_of}
@@ -23,7 +24,8 @@ use Rattle.icn_control.proofs.ListSteps.{nat_lt_false}
 use Rattle.icn_control.proofs.LiteralSteps.{running_live}
 use Rattle.icn_control.proofs.MachineSteps.{stacks_on}
 use Rattle.icn_control.proofs.TakenOperandSteps.{live_taken}
-use Rattle.icn_machine.proofs.OperandCalls.{both_on, bound_performs, going_has_stack, operands_perform, sound_after, store_left, taken_named}
+use Rattle.icn_machine.proofs.PerformEvents.{unless_both}
+use Rattle.icn_machine.proofs.OperandCalls.{bound_performs, coexps_left, going_has_stack, operands_perform, sound_after, taken_named}
 use Rattle.icn_machine.proofs.invoking.appl.Goals as goal
 
 pub take_two-two-requires : goal.take_two-two-requires
@@ -68,8 +70,8 @@ returns-then-m-clause-named g c =
       c.requires.named.world_named,
     )
 
-pub returns-then-m-clause-store_named : goal.returns-then-m-clause-store_named
-returns-then-m-clause-store_named g c outside h = record { world = h.world; coexps = h.coexps }
+pub returns-then-m-clause-coexps_named : goal.returns-then-m-clause-coexps_named
+returns-then-m-clause-coexps_named g c h = h
 
 pub call_with_elements-requires-clause-bounds : goal.call_with_elements-requires-clause-bounds
 call_with_elements-requires-clause-bounds g c = c.requires.stands.sound.1.bounds
@@ -121,6 +123,27 @@ call_with_elements-requires-clause-from g c =
     (λ (x : FlatStack). All (IsLiveItem (with_locals (held.local_count x) (reach_of m.world []))) (c.take_two-two.result.0 ∷ c.take_two-two.result.1 ∷ []))
     (same_Some _ _ c.frames-2.ensures.running) rest.items_live))
 
+pub call_with_elements-requires-clause-callee_named : goal.call_with_elements-requires-clause-callee_named
+call_with_elements-requires-clause-callee_named g c =
+    let m = c.args.m.now in
+    let names = g.N.Names.known c.args.names.now in
+    let all = extent_of m.world.heap in
+    let both = taken_named names all 2 c.frames.result.now.flat c.take_two-two.new.frames.flat (c.take_two-two.result.0 ∷ c.take_two-two.result.1 ∷ [])
+    c.take_two-two.ensures
+    (subst (λ (o : Option FlatStack). StackNamed names (stack_in all (running_of o))) c.frames.ensures.running c.requires.named.stack_named) in
+    All-head (ItemNamed names) (item_in all c.take_two-two.result.0) (item_in all c.take_two-two.result.1 ∷ []) both.0
+
+pub call_with_elements-requires-clause-from_named : goal.call_with_elements-requires-clause-from_named
+call_with_elements-requires-clause-from_named g c =
+    let m = c.args.m.now in
+    let names = g.N.Names.known c.args.names.now in
+    let all = extent_of m.world.heap in
+    let both = taken_named names all 2 c.frames.result.now.flat c.take_two-two.new.frames.flat (c.take_two-two.result.0 ∷ c.take_two-two.result.1 ∷ [])
+    c.take_two-two.ensures
+    (subst (λ (o : Option FlatStack). StackNamed names (stack_in all (running_of o))) c.frames.ensures.running c.requires.named.stack_named) in
+    All-head (ItemNamed names) (item_in all c.take_two-two.result.1) []
+    (All-tail (ItemNamed names) (item_in all c.take_two-two.result.0) (item_in all c.take_two-two.result.1 ∷ []) both.0)
+
 pub returns-clause-step : goal.returns-clause-step
 returns-clause-step g c =
     let m = c.args.m.now in
@@ -160,7 +183,7 @@ returns-clause-sound g c k =
     (c.take_two-two.result.0 ∷ c.take_two-two.result.1 ∷ []) c.take_two-two.ensures live in
     let here : IsLiveStack t (reach_of m.world []) c.frames-2.result.now.flat
     = subst (λ (x : FlatStack). IsLiveStack t (reach_of m.world []) x) (same_Some _ _ c.frames-2.ensures.running) rest.rest in
-    both_on c.call_with_elements.result (IsLiveStack t (reach_of c.call_with_elements.new.world []) c.call_with_elements.new.frames.flat)
+    unless_both c.call_with_elements.result (IsLiveStack t (reach_of c.call_with_elements.new.world []) c.call_with_elements.new.frames.flat)
     (KeepsCounts m.world c.call_with_elements.new.world) (IsSoundMachine t after)
     (c.call_with_elements.ensures.live here) c.call_with_elements.ensures.leaves.counts
     (λ l counts. sound_after m after t c.call_with_elements.new.frames.flat refl refl refl c.call_with_elements.ensures.leaves.kept l counts k)
@@ -178,10 +201,9 @@ returns-clause-stack g c =
     } in
     going_has_stack after c.call_with_elements.result c.call_with_elements.ensures.going refl
 
-pub returns-clause-store_named : goal.returns-clause-store_named
-returns-clause-store_named g c outside h =
+pub returns-clause-coexps_named : goal.returns-clause-coexps_named
+returns-clause-coexps_named g c h =
     let m = c.args.m.now in
-    let names = g.N.Names.known c.args.names.now in
-    store_left c.requires.stands.sound.0 names (all_names (tables_of c.args.code.now)) outside m.world c.call_with_elements.new.world m.turns (m.turns + 1)
-    m.begun.items m.stacks.table c.call_with_elements.new.frames.flat c.call_with_elements.result
-    c.call_with_elements.ensures.leaves.kept c.requires.stands.sound.1.stacks c.call_with_elements.ensures.named h
+    coexps_left c.requires.stands.sound.0
+    (g.N.Names.known c.args.names.now) m.world c.call_with_elements.new.world m.stacks.table c.call_with_elements.new.frames.flat
+    c.call_with_elements.ensures.leaves.kept c.requires.stands.sound.1.stacks h

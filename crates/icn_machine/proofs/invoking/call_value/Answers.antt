@@ -49,7 +49,8 @@ returns-in-None-clause-named g c =
     call_named c.steps_keep_names.ensures.kept (tables_of c.args.code.now) (g.N.Names.known c.args.names.now) w c.invoke.new.world c.args.frames.now.flat
     c.invoke.new.frames.flat c.args.callee (map (item_in (extent_of w.heap)) c.args.items.now)
     c.invoke.result c.requires.known
-    (sym c.function_of.ensures.function ∙ c.in-None.is) c.requires.given.items_named c.requires.here.stack_named c.requires.here.world_named
+    (sym c.function_of.ensures.function ∙ c.in-None.is) c.requires.callee_named c.requires.given.items_named c.requires.here.stack_named
+    c.requires.here.world_named
     c.invoke.ensures.step c.invoke.ensures.going
 
 pub returns-in-None-clause-sized : goal.returns-in-None-clause-sized

@@ -12,7 +12,7 @@ use Rattle.icn_coexp.specs.Transfers.{with_stack}
 use Rattle.icn_code.specs.CodeTables.{tables_of}
 use Rattle.icn_code.specs.declared.instr.Instr.TheVariants as Instrs
 use Rattle.icn_run.specs.Stacks.{flat}
-use Rattle.icn_run.specs.Step.{all_names, invoked_with}
+use Rattle.icn_run.specs.Step.{invoked_with}
 use Rattle.law_steps.specs.StateNames.{StackNamed}
 use Rattle.icn_control.specs.LiveStacks.{IsLiveStack, with_locals}
 use Rattle.icn_control.specs.Machines.{IsSoundMachine, does, running_of}
@@ -24,7 +24,8 @@ use Rattle.icn_control.proofs.ListSteps.{nat_lt_false}
 use Rattle.icn_control.proofs.LiteralSteps.{running_live}
 use Rattle.icn_control.proofs.MachineSteps.{stacks_on}
 use Rattle.icn_control.proofs.TakenOperandSteps.{live_taken}
-use Rattle.icn_machine.proofs.OperandCalls.{both_on, bound_performs, going_has_stack, lacks_memory, operands_perform, sound_after, store_left, taken_length, taken_named}
+use Rattle.icn_machine.proofs.PerformEvents.{unless_both}
+use Rattle.icn_machine.proofs.OperandCalls.{bound_performs, coexps_left, going_has_stack, lacks_memory, operands_perform, sound_after, taken_length, taken_named}
 use Rattle.icn_machine.proofs.invoking.invoke.Goals as goal
 
 pub take_operands-requires : goal.take_operands-requires
@@ -80,8 +81,8 @@ returns-then-m-clause-named g c =
       c.requires.named.world_named,
     )
 
-pub returns-then-m-clause-store_named : goal.returns-then-m-clause-store_named
-returns-then-m-clause-store_named g c outside h = record { world = h.world; coexps = h.coexps }
+pub returns-then-m-clause-coexps_named : goal.returns-then-m-clause-coexps_named
+returns-then-m-clause-coexps_named g c h = h
 
 pub call_first-requires-clause-some : goal.call_first-requires-clause-some
 call_first-requires-clause-some g c =
@@ -183,7 +184,8 @@ returns-clause-sound g c k =
     c.take_operands.new.items.items c.in-Ok.ensures.taken live in
     let here : IsLiveStack t (reach_of m.world []) c.frames-2.result.now.flat
     = subst (λ (x : FlatStack). IsLiveStack t (reach_of m.world []) x) (same_Some _ _ c.frames-2.ensures.running) rest.rest in
-    both_on c.call_first.result (IsLiveStack t (reach_of c.call_first.new.world []) c.call_first.new.frames.flat) (KeepsCounts m.world c.call_first.new.world)
+    unless_both c.call_first.result (IsLiveStack t (reach_of c.call_first.new.world []) c.call_first.new.frames.flat)
+    (KeepsCounts m.world c.call_first.new.world)
     (IsSoundMachine t after)
     (c.call_first.ensures.live here) c.call_first.ensures.leaves.counts
     (λ l counts. sound_after m after t c.call_first.new.frames.flat refl refl refl c.call_first.ensures.leaves.kept l counts k)
@@ -201,11 +203,8 @@ returns-clause-stack g c =
     } in
     going_has_stack after c.call_first.result c.call_first.ensures.going refl
 
-pub returns-clause-store_named : goal.returns-clause-store_named
-returns-clause-store_named g c outside h =
+pub returns-clause-coexps_named : goal.returns-clause-coexps_named
+returns-clause-coexps_named g c h =
     let m = c.args.m.now in
-    let names = g.N.Names.known c.args.names.now in
-    store_left c.requires.stands.sound.0 names (all_names (tables_of c.args.code.now)) outside m.world c.call_first.new.world m.turns
-    (m.turns + 1) m.begun.items
-    m.stacks.table c.call_first.new.frames.flat c.call_first.result
-    c.call_first.ensures.leaves.kept c.requires.stands.sound.1.stacks c.call_first.ensures.named h
+    coexps_left c.requires.stands.sound.0 (g.N.Names.known c.args.names.now) m.world c.call_first.new.world m.stacks.table c.call_first.new.frames.flat
+    c.call_first.ensures.leaves.kept c.requires.stands.sound.1.stacks h

@@ -18,7 +18,8 @@ use Rattle.icn_control.proofs.ListSteps.{nat_lt_false, turn_bound}
 use Rattle.icn_control.proofs.LiteralSteps.{running_live}
 use Rattle.icn_control.proofs.MachineSteps.{stacks_on}
 use Rattle.icn_control.proofs.TakenOperandSteps.{live_taken}
-use Rattle.icn_machine.proofs.OperateSteps.{on_ok_both, has_stack, named_running, named_taken, op_is, operates, performs_idle, performs_on, performs_still, sound_after, taken_as, taken_count}
+use Rattle.icn_machine.proofs.PerformEvents.{unless_both}
+use Rattle.icn_machine.proofs.OperateSteps.{has_stack, named_running, named_taken, op_is, operates, performs_idle, performs_on, performs_still, sound_after, taken_as, taken_count}
 use Rattle.icn_machine.proofs.operations.operate.Goals as goal
 
 pub returns-in_default-clause-step : goal.returns-in_default-clause-step
@@ -164,7 +165,7 @@ returns-clause-keeps g c = record {
       let live = (live_taken tables reach c.arity.result f k items taken (running_live tables reach m.stacks.table f c.frames.ensures.running s.stacks)).rest in
       let after : Machine g.row.K.Denot
       = record { world = c.perform.new.world; stacks = with_stack m.stacks c.perform.new.frames; turns = m.turns + 1; begun = m.begun; limits = m.limits } in
-      on_ok_both c.perform.result _ _ _ (c.perform.ensures.live tables live) c.perform.ensures.leaves.counts
+      unless_both c.perform.result _ _ _ (c.perform.ensures.live tables live) c.perform.ensures.leaves.counts
       (λ l counts. sound_after m after tables c.perform.new.frames.flat c.perform.ensures.leaves.kept refl refl refl s l counts));
   halt = search rules;
   limits = refl;

@@ -10,7 +10,8 @@ use Rattle.icn_control.specs.declared.machine.Machine.{Machine}
 use Rattle.icn_control.proofs.ExhaustSteps.{nat_lt_true}
 use Rattle.icn_control.proofs.ListSteps.{nat_lt_false, turn_bound}
 use Rattle.icn_control.proofs.LiteralSteps.{running_live}
-use Rattle.icn_machine.proofs.OperateSteps.{on_ok_both, has_stack, named_running, performs_on, performs_still, rest_running, resumes, sound_after}
+use Rattle.icn_machine.proofs.PerformEvents.{unless_both}
+use Rattle.icn_machine.proofs.OperateSteps.{has_stack, named_running, performs_on, performs_still, rest_running, resumes, sound_after}
 use Rattle.icn_machine.proofs.operations.resume.Goals as goal
 
 pub returns-then-m-clause-step : goal.returns-then-m-clause-step
@@ -82,7 +83,7 @@ returns-clause-keeps g c = record {
         limits = m.limits;
       } in
       let live = running_live tables (reach_of m.world []) m.stacks.table c.frames.result.now.flat c.frames.ensures.running s.stacks in
-      on_ok_both c.perform_again.result _ _ _ (c.perform_again.ensures.live tables live) c.perform_again.ensures.leaves.counts
+      unless_both c.perform_again.result _ _ _ (c.perform_again.ensures.live tables live) c.perform_again.ensures.leaves.counts
       (λ l counts. sound_after m after tables c.perform_again.new.frames.flat c.perform_again.ensures.leaves.kept refl refl refl s l counts));
   halt = search rules;
   limits = refl;

@@ -6,28 +6,44 @@ use Rattle.icn_vars.specs.Outcomes.{residual_in}
 use Rattle.icn_vars.specs.Worlds.{reach_of, setting_of}
 use Rattle.icn_frames.specs.Stacks as flat
 use Rattle.law_steps.proofs.RowCounts.{rows_keep_counts}
-use Rattle.icn_machine.proofs.PerformSteps.{counts_after, given_row, halt_live, kept_after, named_with, names_left, outcome_live, performs_err, performs_lack, stack_live}
+use Rattle.icn_control.proofs.Halts.{unless_ended}
+use Rattle.icn_machine.proofs.PerformSteps.{counts_after, counts_halted, given_row, halt_live, halted_row, kept_after, named_with, names_halted, outcome_live, performs_lack, sizes_halted, stack_live}
 use Rattle.icn_machine.proofs.performing.perform_again.Goals as goal
 
 pub returns-in_err-outcome-clause-row : goal.returns-in_err-outcome-clause-row
 returns-in_err-outcome-clause-row g c =
-    let k = c.again_in.new.frames.flat in
-    performs_err c.from_residual.result c.args.world.now c.again_in.new.world c.args.frames.now.flat k k _ _ _ c.in_err-outcome.field-0.0
-    c.from_residual.ensures.1 c.in_err-outcome.ensures.applies
+    halted_row c.requires.here.stack.0 c.from_residual.result c.args.world.now c.again_in.new.world c.args.frames.now.flat c.again_in.new.frames.flat _ _ _
+    c.in_err-outcome.field-0.0 c.from_residual.ensures.1 c.in_err-outcome.ensures.applies c.in_err-outcome.ensures.stack c.requires.here.stack.1
+
+pub returns-in_err-outcome-clause-live : goal.returns-in_err-outcome-clause-live
+returns-in_err-outcome-clause-live g c tables live =
+    unless_ended c.from_residual.result _
+    (stack_live tables c.args.world.now c.again_in.new.world c.args.frames.now.flat c.again_in.new.frames.flat _ _ _ _ c.in_err-outcome.ensures.applies
+    c.in_err-outcome.ensures.stack live)
 
 pub returns-in_err-outcome-clause-leaves : goal.returns-in_err-outcome-clause-leaves
 returns-in_err-outcome-clause-leaves g c = record {
   kept = kept_after c.args.world.now c.again_in.new.world c.args.frames.now.flat c.again_in.new.frames.flat _ _ _ _ c.in_err-outcome.ensures.applies;
-  counts = search rules;
+  counts =
+      counts_halted c.from_residual.result c.args.world.now c.again_in.new.world c.args.frames.now.flat c.again_in.new.frames.flat _ _ _
+      c.in_err-outcome.field-0.0 c.from_residual.ensures.1
+      (rows_keep_counts.resumed (residual_in (extent_of c.args.world.now.heap) c.args.rest))
+      c.in_err-outcome.ensures.applies;
   halt = (
       halt_live c.from_residual.result c.args.world.now c.again_in.new.world c.args.frames.now.flat c.again_in.new.frames.flat _ _ _
       c.in_err-outcome.field-0.0 c.from_residual.ensures.1 c.in_err-outcome.ensures.applies);
 }
 
+pub returns-in_err-outcome-clause-sized : goal.returns-in_err-outcome-clause-sized
+returns-in_err-outcome-clause-sized g c =
+    sizes_halted c.from_residual.result c.args.world.now c.again_in.new.world c.in_err-outcome.field-0.0 c.from_residual.ensures.1
+    c.in_err-outcome.ensures.sized
+
 pub returns-in_err-outcome-clause-named : goal.returns-in_err-outcome-clause-named
 returns-in_err-outcome-clause-named g c =
-    names_left c.from_residual.result (g.N.Names.known c.args.names.now) c.again_in.new.world c.again_in.new.frames.flat c.in_err-outcome.field-0.0
-    c.from_residual.ensures.1
+    names_halted c.requires.here.stack.0 c.from_residual.result (g.N.Names.known c.args.names.now) c.args.world.now c.again_in.new.world
+    c.args.frames.now.flat c.again_in.new.frames.flat _ _ _ c.in_err-outcome.field-0.0 c.from_residual.ensures.1 c.in_err-outcome.ensures.applies
+    c.in_err-outcome.ensures.stack c.requires.here.stack.1 c.requires.here.stack_named c.in_err-outcome.ensures.named
 
 pub returns-in-Ok-clause-row : goal.returns-in-Ok-clause-row
 returns-in-Ok-clause-row g c =

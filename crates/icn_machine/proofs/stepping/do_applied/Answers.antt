@@ -5,9 +5,9 @@ use Rattle.icn_code.specs.declared.instr.Instr.{Instr}
 use Rattle.icn_code.specs.declared.instr.Instr.TheVariants as Instrs
 use Rattle.icn_control.specs.Machines.{does}
 use Rattle.icn_control.specs.Machines.{ComesTo}
-use Rattle.icn_machine.proofs.AdvanceSteps.{quietly_performs}
+use Rattle.icn_machine.proofs.PerformEvents.{comes_performs}
 use Rattle.icn_machine.proofs.DoingSteps.{applied_performs, calls_as}
-use Rattle.icn_machine.proofs.NextSteps.{appl_operands, applied_is, called_ready, done_ready, field_operand, invoke_operands, lands_by, lands_quietly_by, names_as, no_other, no_refresh, op_operands, world_names_as}
+use Rattle.icn_machine.proofs.NextSteps.{appl_operands, applied_is, called_keeps, comes_by, comes_quietly, done_keeps, erring_after, field_operand, invoke_operands, ready_after, names_as, no_other, no_refresh, op_operands, world_names_as}
 use Rattle.icn_machine.proofs.stepping.do_applied.Goals as goal
 
 pub operate-requires-clause-stands : goal.operate-requires-clause-stands
@@ -83,11 +83,22 @@ returns-in-Op-clause-step g c =
 
 pub returns-in-Op-clause-ready : goal.returns-in-Op-clause-ready
 returns-in-Op-clause-ready g c =
-    done_ready (tables_of c.args.code.now) c.steps_keep_names.ensures.kept c.steps_keep_sizes.ensures.kept c.args.m.now c.operate.new.m c.args.instr
-    c.operate.result (calls_as c.args.instr (Instrs.Op c.in-Op.op) c.in-Op.is (λ h. h)) c.requires.doing
-    (lands_by (tables_of c.args.code.now) (λ o. does (tables_of c.args.code.now) o c.args.instr
-    c.args.m.now) _ c.operate.new.m _ c.operate.result (applied_performs (tables_of c.args.code.now) c.args.m.now c.operate.new.m c.args.instr
-    (Instrs.Op c.in-Op.op) _ _ c.operate.result c.in-Op.is (c.operate.ensures.step (tables_of c.args.code.now) (sym c.requires.known))))
+    ready_after (tables_of c.args.code.now) (λ o. does (tables_of c.args.code.now) o c.args.instr c.args.m.now) c.operate.new.m c.operate.result
+    (done_keeps (tables_of c.args.code.now) c.steps_keep_names.ensures.kept c.steps_keep_sizes.ensures.kept c.args.m.now c.operate.new.m c.args.instr
+    c.operate.result (calls_as c.args.instr (Instrs.Op c.in-Op.op) c.in-Op.is (λ h. h)) c.requires.doing)
+    (comes_by (tables_of c.args.code.now) (λ o. does (tables_of c.args.code.now) o c.args.instr c.args.m.now) _ c.operate.new.m _ c.operate.result
+    (applied_performs (tables_of c.args.code.now) c.args.m.now c.operate.new.m c.args.instr (Instrs.Op c.in-Op.op) _ _ c.operate.result c.in-Op.is
+    (c.operate.ensures.step (tables_of c.args.code.now) (sym c.requires.known))))
+    (c.operate.ensures.keeps.sound (tables_of c.args.code.now) c.requires.doing.sound) c.operate.ensures.keeps.stack
+
+pub returns-in-Op-clause-erring : goal.returns-in-Op-clause-erring
+returns-in-Op-clause-erring g c =
+    erring_after (tables_of c.args.code.now) (λ o. does (tables_of c.args.code.now) o c.args.instr c.args.m.now) c.operate.new.m c.operate.result
+    (done_keeps (tables_of c.args.code.now) c.steps_keep_names.ensures.kept c.steps_keep_sizes.ensures.kept c.args.m.now c.operate.new.m c.args.instr
+    c.operate.result (calls_as c.args.instr (Instrs.Op c.in-Op.op) c.in-Op.is (λ h. h)) c.requires.doing)
+    (comes_by (tables_of c.args.code.now) (λ o. does (tables_of c.args.code.now) o c.args.instr c.args.m.now) _ c.operate.new.m _ c.operate.result
+    (applied_performs (tables_of c.args.code.now) c.args.m.now c.operate.new.m c.args.instr (Instrs.Op c.in-Op.op) _ _ c.operate.result c.in-Op.is
+    (c.operate.ensures.step (tables_of c.args.code.now) (sym c.requires.known))))
     (c.operate.ensures.keeps.sound (tables_of c.args.code.now) c.requires.doing.sound) c.operate.ensures.keeps.stack
 
 pub returns-in-Op-clause-within : goal.returns-in-Op-clause-within
@@ -100,17 +111,29 @@ pub returns-in-Field-clause-step : goal.returns-in-Field-clause-step
 returns-in-Field-clause-step g c =
     applied_performs (tables_of c.args.code.now) c.args.m.now c.field.new.m c.args.instr (Instrs.Field c.in-Field.place) _ _ c.field.result
     c.in-Field.is
-    (quietly_performs (tables_of c.args.code.now) (λ o. does (tables_of c.args.code.now) o (Instrs.Field c.in-Field.place) c.args.m.now) c.field.new.m
+    (comes_performs (tables_of c.args.code.now) (λ o. does (tables_of c.args.code.now) o (Instrs.Field c.in-Field.place) c.args.m.now) c.field.new.m
     _ c.field.result c.field.ensures.step)
 
 pub returns-in-Field-clause-ready : goal.returns-in-Field-clause-ready
 returns-in-Field-clause-ready g c =
-    done_ready (tables_of c.args.code.now) c.steps_keep_names.ensures.kept c.steps_keep_sizes.ensures.kept c.args.m.now c.field.new.m c.args.instr
-    c.field.result (calls_as c.args.instr (Instrs.Field c.in-Field.place) c.in-Field.is (λ h. h)) c.requires.doing
-    (lands_quietly_by (tables_of c.args.code.now) (λ o. does (tables_of c.args.code.now) o c.args.instr
-    c.args.m.now) c.field.new.m c.field.result (λ o.
-    subst (λ (x : Instr). ComesTo (tables_of c.args.code.now) o (does (tables_of c.args.code.now) o x c.args.m.now) c.field.new.m c.field.result)
-    (sym c.in-Field.is) (c.field.ensures.step o)))
+    ready_after (tables_of c.args.code.now) (λ o. does (tables_of c.args.code.now) o c.args.instr c.args.m.now) c.field.new.m c.field.result
+    (done_keeps (tables_of c.args.code.now) c.steps_keep_names.ensures.kept c.steps_keep_sizes.ensures.kept c.args.m.now c.field.new.m c.args.instr
+    c.field.result (calls_as c.args.instr (Instrs.Field c.in-Field.place) c.in-Field.is (λ h. h)) c.requires.doing)
+    (comes_quietly (tables_of c.args.code.now) (λ o. does (tables_of c.args.code.now) o c.args.instr c.args.m.now) c.field.new.m c.field.result
+    (λ o. subst (λ (x : Instr). ComesTo (tables_of c.args.code.now) o (does (tables_of c.args.code.now) o x c.args.m.now) c.field.new.m c.field.result)
+    (sym c.in-Field.is)
+    (c.field.ensures.step o)))
+    (c.field.ensures.keeps.sound (tables_of c.args.code.now) c.requires.doing.sound) c.field.ensures.keeps.stack
+
+pub returns-in-Field-clause-erring : goal.returns-in-Field-clause-erring
+returns-in-Field-clause-erring g c =
+    erring_after (tables_of c.args.code.now) (λ o. does (tables_of c.args.code.now) o c.args.instr c.args.m.now) c.field.new.m c.field.result
+    (done_keeps (tables_of c.args.code.now) c.steps_keep_names.ensures.kept c.steps_keep_sizes.ensures.kept c.args.m.now c.field.new.m c.args.instr
+    c.field.result (calls_as c.args.instr (Instrs.Field c.in-Field.place) c.in-Field.is (λ h. h)) c.requires.doing)
+    (comes_quietly (tables_of c.args.code.now) (λ o. does (tables_of c.args.code.now) o c.args.instr c.args.m.now) c.field.new.m c.field.result
+    (λ o. subst (λ (x : Instr). ComesTo (tables_of c.args.code.now) o (does (tables_of c.args.code.now) o x c.args.m.now) c.field.new.m c.field.result)
+    (sym c.in-Field.is)
+    (c.field.ensures.step o)))
     (c.field.ensures.keeps.sound (tables_of c.args.code.now) c.requires.doing.sound) c.field.ensures.keeps.stack
 
 pub returns-in-Field-clause-within : goal.returns-in-Field-clause-within
@@ -126,11 +149,25 @@ returns-in-Invoke-clause-step g c =
 
 pub returns-in-Invoke-clause-ready : goal.returns-in-Invoke-clause-ready
 returns-in-Invoke-clause-ready g c =
-    called_ready _ (tables_of c.args.code.now) c.args.m.now c.invoke.new.m c.args.instr (Instrs.Invoke c.in-Invoke.count) c.invoke.result
-    c.requires.known c.in-Invoke.is c.requires.doing
-    (lands_by (tables_of c.args.code.now) (λ o. does (tables_of c.args.code.now) o (Instrs.Invoke c.in-Invoke.count) c.args.m.now) _ c.invoke.new.m _
-    c.invoke.result c.invoke.ensures.step)
-    (c.invoke.ensures.sound c.requires.doing.sound) c.invoke.ensures.stack c.invoke.ensures.named c.invoke.ensures.store_named c.invoke.ensures.sized
+    ready_after (tables_of c.args.code.now)
+    (λ o. does (tables_of c.args.code.now) o (Instrs.Invoke c.in-Invoke.count) c.args.m.now) c.invoke.new.m c.invoke.result
+    (called_keeps _ (tables_of c.args.code.now) c.args.m.now c.invoke.new.m c.args.instr
+    (Instrs.Invoke c.in-Invoke.count) c.invoke.result c.requires.known c.in-Invoke.is
+    c.requires.doing c.invoke.ensures.named c.invoke.ensures.coexps_named c.invoke.ensures.sized)
+    (comes_by (tables_of c.args.code.now)
+    (λ o. does (tables_of c.args.code.now) o (Instrs.Invoke c.in-Invoke.count) c.args.m.now) _ c.invoke.new.m _ c.invoke.result c.invoke.ensures.step)
+    (c.invoke.ensures.sound c.requires.doing.sound) c.invoke.ensures.stack
+
+pub returns-in-Invoke-clause-erring : goal.returns-in-Invoke-clause-erring
+returns-in-Invoke-clause-erring g c =
+    erring_after (tables_of c.args.code.now)
+    (λ o. does (tables_of c.args.code.now) o (Instrs.Invoke c.in-Invoke.count) c.args.m.now) c.invoke.new.m c.invoke.result
+    (called_keeps _ (tables_of c.args.code.now) c.args.m.now c.invoke.new.m c.args.instr
+    (Instrs.Invoke c.in-Invoke.count) c.invoke.result c.requires.known c.in-Invoke.is
+    c.requires.doing c.invoke.ensures.named c.invoke.ensures.coexps_named c.invoke.ensures.sized)
+    (comes_by (tables_of c.args.code.now)
+    (λ o. does (tables_of c.args.code.now) o (Instrs.Invoke c.in-Invoke.count) c.args.m.now) _ c.invoke.new.m _ c.invoke.result c.invoke.ensures.step)
+    (c.invoke.ensures.sound c.requires.doing.sound) c.invoke.ensures.stack
 
 pub returns-in-Invoke-clause-within : goal.returns-in-Invoke-clause-within
 returns-in-Invoke-clause-within g c = record {
@@ -144,10 +181,19 @@ returns-in-Appl-clause-step g c =
 
 pub returns-in-Appl-clause-ready : goal.returns-in-Appl-clause-ready
 returns-in-Appl-clause-ready g c =
-    called_ready _ (tables_of c.args.code.now) c.args.m.now c.appl.new.m c.args.instr Instrs.Appl c.appl.result c.requires.known c.in-Appl.is
-    c.requires.doing
-    (lands_by (tables_of c.args.code.now) (λ o. does (tables_of c.args.code.now) o Instrs.Appl c.args.m.now) _ c.appl.new.m _ c.appl.result c.appl.ensures.step)
-    (c.appl.ensures.sound c.requires.doing.sound) c.appl.ensures.stack c.appl.ensures.named c.appl.ensures.store_named c.appl.ensures.sized
+    ready_after (tables_of c.args.code.now) (λ o. does (tables_of c.args.code.now) o Instrs.Appl c.args.m.now) c.appl.new.m c.appl.result
+    (called_keeps _ (tables_of c.args.code.now) c.args.m.now c.appl.new.m c.args.instr Instrs.Appl c.appl.result c.requires.known c.in-Appl.is
+    c.requires.doing c.appl.ensures.named c.appl.ensures.coexps_named c.appl.ensures.sized)
+    (comes_by (tables_of c.args.code.now) (λ o. does (tables_of c.args.code.now) o Instrs.Appl c.args.m.now) _ c.appl.new.m _ c.appl.result c.appl.ensures.step)
+    (c.appl.ensures.sound c.requires.doing.sound) c.appl.ensures.stack
+
+pub returns-in-Appl-clause-erring : goal.returns-in-Appl-clause-erring
+returns-in-Appl-clause-erring g c =
+    erring_after (tables_of c.args.code.now) (λ o. does (tables_of c.args.code.now) o Instrs.Appl c.args.m.now) c.appl.new.m c.appl.result
+    (called_keeps _ (tables_of c.args.code.now) c.args.m.now c.appl.new.m c.args.instr Instrs.Appl c.appl.result c.requires.known c.in-Appl.is
+    c.requires.doing c.appl.ensures.named c.appl.ensures.coexps_named c.appl.ensures.sized)
+    (comes_by (tables_of c.args.code.now) (λ o. does (tables_of c.args.code.now) o Instrs.Appl c.args.m.now) _ c.appl.new.m _ c.appl.result c.appl.ensures.step)
+    (c.appl.ensures.sound c.requires.doing.sound) c.appl.ensures.stack
 
 pub returns-in-Appl-clause-within : goal.returns-in-Appl-clause-within
 returns-in-Appl-clause-within g c = record {

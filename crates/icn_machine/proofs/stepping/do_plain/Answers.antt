@@ -3,7 +3,7 @@ use Rattle.icn_value.specs.Store.{outside_of}
 use Rattle.icn_code.specs.CodeTables.{tables_of}
 use Rattle.icn_control.specs.Machines.{does}
 use Rattle.icn_machine.proofs.DoingSteps.{whole_done}
-use Rattle.icn_machine.proofs.NextSteps.{applied_kind, calls_none, done_ready, lands_quietly_by}
+use Rattle.icn_machine.proofs.NextSteps.{applied_kind, calls_none, comes_quietly, done_keeps, erring_after, ready_after}
 use Rattle.icn_machine.proofs.stepping.do_plain.Goals as goal
 
 pub do_instruction-requires-clause-kind : goal.do_instruction-requires-clause-kind
@@ -32,9 +32,19 @@ returns-clause-step g c = c.do_instruction.ensures.step
 
 pub returns-clause-ready : goal.returns-clause-ready
 returns-clause-ready g c =
-    done_ready (tables_of c.args.code.now) c.steps_keep_names.ensures.kept c.steps_keep_sizes.ensures.kept c.args.m.now c.do_instruction.new.m
-    c.args.instr c.do_instruction.result (calls_none c.args.instr c.requires.applied) c.requires.doing
-    (lands_quietly_by (tables_of c.args.code.now) (λ o. does (tables_of c.args.code.now) o c.args.instr c.args.m.now) c.do_instruction.new.m
+    ready_after (tables_of c.args.code.now) (λ o. does (tables_of c.args.code.now) o c.args.instr c.args.m.now) c.do_instruction.new.m c.do_instruction.result
+    (done_keeps (tables_of c.args.code.now) c.steps_keep_names.ensures.kept c.steps_keep_sizes.ensures.kept c.args.m.now c.do_instruction.new.m
+    c.args.instr c.do_instruction.result (calls_none c.args.instr c.requires.applied) c.requires.doing)
+    (comes_quietly (tables_of c.args.code.now) (λ o. does (tables_of c.args.code.now) o c.args.instr c.args.m.now) c.do_instruction.new.m
+    c.do_instruction.result c.do_instruction.ensures.step)
+    c.do_instruction.ensures.sound c.do_instruction.ensures.stack
+
+pub returns-clause-erring : goal.returns-clause-erring
+returns-clause-erring g c =
+    erring_after (tables_of c.args.code.now) (λ o. does (tables_of c.args.code.now) o c.args.instr c.args.m.now) c.do_instruction.new.m c.do_instruction.result
+    (done_keeps (tables_of c.args.code.now) c.steps_keep_names.ensures.kept c.steps_keep_sizes.ensures.kept c.args.m.now c.do_instruction.new.m
+    c.args.instr c.do_instruction.result (calls_none c.args.instr c.requires.applied) c.requires.doing)
+    (comes_quietly (tables_of c.args.code.now) (λ o. does (tables_of c.args.code.now) o c.args.instr c.args.m.now) c.do_instruction.new.m
     c.do_instruction.result c.do_instruction.ensures.step)
     c.do_instruction.ensures.sound c.do_instruction.ensures.stack
 

@@ -20,7 +20,7 @@ returns-in_err-intersection-clause-found g c = λ outside.
     subst (λ (setting : Setting). IsFound (extent_of c.intersection.new.self)
     (new_set_of (intersection (set_at (heap_of c.args.w.now.heap) c.args.first) (set_at (heap_of c.args.w.now.heap) c.args.second)))
     (setting_of outside c.args.w.now (g.L.Locals.items c.args.l.now)) setting (value_in (extent_of c.intersection.new.self)) c.from_residual.result)
-    (heap_changed outside c.args.w.now.heap c.intersection.new.self c.args.w.now.pair c.args.w.now.random c.args.w.now.globals.items c.args.w.now.statics.items
+    (heap_changed outside c.args.w.now.heap c.intersection.new.self c.args.w.now.pair c.args.w.now.words c.args.w.now.globals.items c.args.w.now.statics.items
     (g.L.Locals.items c.args.l.now) c.intersection.ensures.kept c.in_err-intersection.ensures.unchanged c.args.w.now.sound c.requires.locals)
     (found_stops (extent_of c.intersection.new.self)
     (new_set_of (intersection (set_at (heap_of c.args.w.now.heap) c.args.first) (set_at (heap_of c.args.w.now.heap) c.args.second)))
@@ -37,7 +37,7 @@ returns-clause-found g c = λ outside.
     ∙ (ap (λ (value : Value). next value (having_heap (λ _. heap_of c.intersection.new.self) (setting_of outside c.args.w.now (g.L.Locals.items c.args.l.now))))
     (sym c.in_ok-intersection.ensures.value)
     ∙ ap (next (value_in (extent_of c.intersection.new.self) c.in_ok-intersection.field-0))
-    (heap_changed outside c.args.w.now.heap c.intersection.new.self c.args.w.now.pair c.args.w.now.random c.args.w.now.globals.items c.args.w.now.statics.items
+    (heap_changed outside c.args.w.now.heap c.intersection.new.self c.args.w.now.pair c.args.w.now.words c.args.w.now.globals.items c.args.w.now.statics.items
     (g.L.Locals.items c.args.l.now) c.intersection.ensures.kept refl c.args.w.now.sound c.requires.locals))
 
 pub returns-clause-kept : goal.returns-clause-kept

@@ -20,7 +20,7 @@ returns-in_err-union-clause-found g c = λ outside.
     subst (λ (setting : Setting). IsFound (extent_of c.union.new.self) (new_set_of ((set_at (heap_of c.args.w.now.heap) c.args.first)
     ++ difference (set_at (heap_of c.args.w.now.heap) c.args.second) (set_at (heap_of c.args.w.now.heap) c.args.first)))
     (setting_of outside c.args.w.now (g.L.Locals.items c.args.l.now)) setting (value_in (extent_of c.union.new.self)) c.from_residual.result)
-    (heap_changed outside c.args.w.now.heap c.union.new.self c.args.w.now.pair c.args.w.now.random c.args.w.now.globals.items c.args.w.now.statics.items
+    (heap_changed outside c.args.w.now.heap c.union.new.self c.args.w.now.pair c.args.w.now.words c.args.w.now.globals.items c.args.w.now.statics.items
     (g.L.Locals.items c.args.l.now) c.union.ensures.kept c.in_err-union.ensures.unchanged c.args.w.now.sound c.requires.locals)
     (found_stops (extent_of c.union.new.self) (new_set_of ((set_at (heap_of c.args.w.now.heap) c.args.first)
     ++ difference (set_at (heap_of c.args.w.now.heap) c.args.second) (set_at (heap_of c.args.w.now.heap) c.args.first)))
@@ -38,7 +38,7 @@ returns-clause-found g c = λ outside.
     ∙ (ap (λ (value : Value). next value (having_heap (λ _. heap_of c.union.new.self) (setting_of outside c.args.w.now (g.L.Locals.items c.args.l.now))))
     (sym c.in_ok-union.ensures.value)
     ∙ ap (next (value_in (extent_of c.union.new.self) c.in_ok-union.field-0))
-    (heap_changed outside c.args.w.now.heap c.union.new.self c.args.w.now.pair c.args.w.now.random c.args.w.now.globals.items c.args.w.now.statics.items
+    (heap_changed outside c.args.w.now.heap c.union.new.self c.args.w.now.pair c.args.w.now.words c.args.w.now.globals.items c.args.w.now.statics.items
     (g.L.Locals.items c.args.l.now) c.union.ensures.kept refl c.args.w.now.sound c.requires.locals))
 
 pub returns-clause-kept : goal.returns-clause-kept

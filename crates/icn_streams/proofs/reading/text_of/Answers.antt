@@ -9,7 +9,7 @@ use Rattle.icn_streams.proofs.reading.text_of.Goals as goal
 pub returns-in_err-build-clause-step : goal.returns-in_err-build-clause-step
 returns-in_err-build-clause-step g c = λ outside.
     stopped c.from_residual.result _ _ (stop_of c.in_err-build.field-0.0) c.from_residual.ensures.1
-    (change_stops c.args.w.now.heap c.build.new.self c.args.w.now.pair c.args.w.now.random c.args.w.now.globals.items c.args.w.now.statics.items
+    (change_stops c.args.w.now.heap c.build.new.self c.args.w.now.pair c.args.w.now.words c.args.w.now.globals.items c.args.w.now.statics.items
     (g.L.Locals.items c.args.l.now)
     c.build.ensures.kept c.args.w.now.sound c.requires.locals
     (bytes_change (length c.args.bytes.now)) c.in_err-build.ensures.unchanged c.in_err-build.field-0.0 c.in_err-build.ensures.step
@@ -17,7 +17,7 @@ returns-in_err-build-clause-step g c = λ outside.
 
 pub returns-clause-step : goal.returns-clause-step
 returns-clause-step g c = λ outside.
-    change_passes c.args.w.now.heap c.build.new.self c.args.w.now.pair c.args.w.now.random c.args.w.now.globals.items c.args.w.now.statics.items
+    change_passes c.args.w.now.heap c.build.new.self c.args.w.now.pair c.args.w.now.words c.args.w.now.globals.items c.args.w.now.statics.items
     (g.L.Locals.items c.args.l.now)
     c.build.ensures.kept c.args.w.now.sound c.requires.locals (bytes_change (length c.args.bytes.now)) c.in_ok-build.ensures.step outside
 

@@ -7,7 +7,7 @@ use Rattle.icn_strfn.proofs.endings.hold_text.Goals as goal
 
 pub returns-clause-row : goal.returns-clause-row
 returns-clause-row g c = λ outside.
-    rw c.text.ensures (holds_text outside c.args.w.now.heap c.hold.new.self c.args.w.now.pair c.args.w.now.random c.args.w.now.globals.items
+    rw c.text.ensures (holds_text outside c.args.w.now.heap c.hold.new.self c.args.w.now.pair c.args.w.now.words c.args.w.now.globals.items
     c.args.w.now.statics.items (g.L.Locals.items c.args.l.now)
     c.args.bytes.now (text_in (extent_of c.hold.new.self) c.in_ok-span.span) c.hold.ensures.kept c.hold.ensures.unchanged c.args.w.now.sound c.requires
     c.in_ok-span.ensures.bytes)

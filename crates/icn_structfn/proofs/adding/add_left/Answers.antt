@@ -21,7 +21,7 @@ returns-in_err-push_each-clause-step g c outside =
 
 pub returns-clause-step : goal.returns-clause-step
 returns-clause-step g c =
-    elements_added with_left c.args.list c.args.w.now.heap c.push_each.new.heap c.args.w.now.pair c.args.w.now.random c.args.w.now.globals.items
+    elements_added with_left c.args.list c.args.w.now.heap c.push_each.new.heap c.args.w.now.pair c.args.w.now.words c.args.w.now.globals.items
     c.args.w.now.statics.items (g.L.Locals.items c.args.l.now) c.push_each.ensures.kept
     c.args.w.now.sound c.requires.locals (map (value_in (extent_of c.args.w.now.heap)) c.args.vals.now)
     (rw (length-map c.args.vals.now (value_in (extent_of c.args.w.now.heap))) c.in_ok-room_for_cells.ensures.answer) c.in_ok-push_each.ensures.step

@@ -12,7 +12,7 @@ use Rattle.icn_structfn.proofs.ends.pull.Goals as goal
 
 pub returns-in-Some-clause-row : goal.returns-in-Some-clause-row
 returns-in-Some-clause-row g c =
-    element_taken c.args.w.now.heap c.pull.new.self c.args.w.now.pair c.args.w.now.random c.args.w.now.globals.items c.args.w.now.statics.items
+    element_taken c.args.w.now.heap c.pull.new.self c.args.w.now.pair c.args.w.now.words c.args.w.now.globals.items c.args.w.now.statics.items
     (g.L.Locals.items c.args.l.now) c.pull.ensures.kept
     c.args.w.now.sound c.requires.locals rightmost without_right (arg (map (value_in (extent_of c.args.w.now.heap)) c.args.args.now) 0) c.in-List.id
     (sym (c.arg-list.ensures.value (extent_of c.args.w.now.heap)) ∙ ap (value_in (extent_of c.args.w.now.heap)) c.in-List.is)
@@ -20,7 +20,7 @@ returns-in-Some-clause-row g c =
 
 pub returns-in-None-clause-row : goal.returns-in-None-clause-row
 returns-in-None-clause-row g c =
-    none_taken c.args.w.now.heap c.pull.new.self c.args.w.now.pair c.args.w.now.random c.args.w.now.globals.items c.args.w.now.statics.items
+    none_taken c.args.w.now.heap c.pull.new.self c.args.w.now.pair c.args.w.now.words c.args.w.now.globals.items c.args.w.now.statics.items
     (g.L.Locals.items c.args.l.now) c.pull.ensures.kept
     c.args.w.now.sound c.requires.locals rightmost without_right (arg (map (value_in (extent_of c.args.w.now.heap)) c.args.args.now) 0) c.in-List.id
     (sym (c.arg-list.ensures.value (extent_of c.args.w.now.heap)) ∙ ap (value_in (extent_of c.args.w.now.heap)) c.in-List.is)

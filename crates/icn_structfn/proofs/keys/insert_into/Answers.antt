@@ -24,9 +24,9 @@ returns-in_err-add-in-Set-clause-step g c outside =
     (value_in (extent_of c.args.w.now.heap) c.args.key) (value_in (extent_of c.args.w.now.heap) c.args.val)) c.in-Set.is in
     subst
     (λ part. IsPassed (extent_of c.add.new.self) part (setting_of outside c.args.w.now (g.L.Locals.items c.args.l.now)) (setting_over outside c.add.new.self
-    c.args.w.now.pair c.args.w.now.random c.args.w.now.globals.items c.args.w.now.statics.items (g.L.Locals.items c.args.l.now)) c.from_residual.result)
+    c.args.w.now.pair c.args.w.now.words c.args.w.now.globals.items c.args.w.now.statics.items (g.L.Locals.items c.args.l.now)) c.from_residual.result)
     (sym is)
-    (not_charged c.args.w.now.heap c.add.new.self c.args.w.now.pair c.args.w.now.random c.args.w.now.globals.items c.args.w.now.statics.items
+    (not_charged c.args.w.now.heap c.add.new.self c.args.w.now.pair c.args.w.now.words c.args.w.now.globals.items c.args.w.now.statics.items
     (g.L.Locals.items c.args.l.now) c.add.ensures.kept
     c.args.w.now.sound c.requires.locals
     (unless_change (has_value (set_at (heap_of c.args.w.now.heap) c.in-Set.set) (value_in (extent_of c.args.w.now.heap) c.args.key)))
@@ -38,7 +38,7 @@ pub returns-in_ok-add-in-Set-clause-step : goal.returns-in_ok-add-in-Set-clause-
 returns-in_ok-add-in-Set-clause-step g c outside next =
     ap (λ kept. inserts_in (value_in (extent_of c.args.w.now.heap) kept) (value_in (extent_of c.args.w.now.heap) c.args.key)
     (value_in (extent_of c.args.w.now.heap) c.args.val) next (setting_of outside c.args.w.now (g.L.Locals.items c.args.l.now))) c.in-Set.is
-    ∙ charged c.args.w.now.heap c.add.new.self c.args.w.now.pair c.args.w.now.random c.args.w.now.globals.items c.args.w.now.statics.items
+    ∙ charged c.args.w.now.heap c.add.new.self c.args.w.now.pair c.args.w.now.words c.args.w.now.globals.items c.args.w.now.statics.items
     (g.L.Locals.items c.args.l.now) c.add.ensures.kept
     c.args.w.now.sound c.requires.locals
     (unless_change (has_value (set_at (heap_of c.args.w.now.heap) c.in-Set.set) (value_in (extent_of c.args.w.now.heap) c.args.key)))
@@ -64,9 +64,9 @@ returns-in_err-store-in-Table-clause-step g c outside =
     (value_in (extent_of c.args.w.now.heap) c.args.val) = ap (λ kept. inserts_in (value_in (extent_of c.args.w.now.heap) kept)
     (value_in (extent_of c.args.w.now.heap) c.args.key) (value_in (extent_of c.args.w.now.heap) c.args.val)) c.in-Table.is in
     subst (λ part. IsPassed (extent_of c.store.new.self) part (setting_of outside c.args.w.now (g.L.Locals.items c.args.l.now))
-    (setting_over outside c.store.new.self c.args.w.now.pair c.args.w.now.random c.args.w.now.globals.items c.args.w.now.statics.items
+    (setting_over outside c.store.new.self c.args.w.now.pair c.args.w.now.words c.args.w.now.globals.items c.args.w.now.statics.items
     (g.L.Locals.items c.args.l.now)) c.from_residual-in_err-store-in-Table.result) (sym is)
-    (not_charged c.args.w.now.heap c.store.new.self c.args.w.now.pair c.args.w.now.random c.args.w.now.globals.items c.args.w.now.statics.items
+    (not_charged c.args.w.now.heap c.store.new.self c.args.w.now.pair c.args.w.now.words c.args.w.now.globals.items c.args.w.now.statics.items
     (g.L.Locals.items c.args.l.now) c.store.ensures.kept
     c.args.w.now.sound c.requires.locals
     (unless_change (is_some (value_at_key (heap_of c.args.w.now.heap) c.in-Table.table (value_in (extent_of c.args.w.now.heap) c.args.key))))
@@ -81,7 +81,7 @@ pub returns-in_ok-store-in-Table-clause-step : goal.returns-in_ok-store-in-Table
 returns-in_ok-store-in-Table-clause-step g c outside next =
     ap (λ kept. inserts_in (value_in (extent_of c.args.w.now.heap) kept) (value_in (extent_of c.args.w.now.heap) c.args.key)
     (value_in (extent_of c.args.w.now.heap) c.args.val) next (setting_of outside c.args.w.now (g.L.Locals.items c.args.l.now))) c.in-Table.is
-    ∙ charged c.args.w.now.heap c.store.new.self c.args.w.now.pair c.args.w.now.random c.args.w.now.globals.items c.args.w.now.statics.items
+    ∙ charged c.args.w.now.heap c.store.new.self c.args.w.now.pair c.args.w.now.words c.args.w.now.globals.items c.args.w.now.statics.items
     (g.L.Locals.items c.args.l.now) c.store.ensures.kept
     c.args.w.now.sound c.requires.locals
     (unless_change (is_some (value_at_key (heap_of c.args.w.now.heap) c.in-Table.table (value_in (extent_of c.args.w.now.heap) c.args.key))))

@@ -8,7 +8,7 @@ use Rattle.icn_structfn.proofs.making.filled_list.Goals as goal
 
 pub returns-in_err-make_list-clause-found : goal.returns-in_err-make_list-clause-found
 returns-in_err-make_list-clause-found g c =
-    structure_refused c.args.w.now.heap c.make_list.new.self c.args.w.now.pair c.args.w.now.random c.args.w.now.globals.items c.args.w.now.statics.items
+    structure_refused c.args.w.now.heap c.make_list.new.self c.args.w.now.pair c.args.w.now.words c.args.w.now.globals.items c.args.w.now.statics.items
     (g.L.Locals.items c.args.l.now) c.make_list.ensures.kept
     c.args.w.now.sound c.requires.locals (1 + length (replicate c.args.count (value_in (extent_of c.args.w.now.heap) c.args.fill)))
     (having_list (replicate c.args.count (value_in (extent_of c.args.w.now.heap) c.args.fill))) list_number
@@ -17,7 +17,7 @@ returns-in_err-make_list-clause-found g c =
 
 pub returns-clause-found : goal.returns-clause-found
 returns-clause-found g c =
-    structure_made c.args.w.now.heap c.make_list.new.self c.args.w.now.pair c.args.w.now.random c.args.w.now.globals.items c.args.w.now.statics.items
+    structure_made c.args.w.now.heap c.make_list.new.self c.args.w.now.pair c.args.w.now.words c.args.w.now.globals.items c.args.w.now.statics.items
     (g.L.Locals.items c.args.l.now) c.make_list.ensures.kept
     c.args.w.now.sound c.requires.locals (1 + length (replicate c.args.count (value_in (extent_of c.args.w.now.heap) c.args.fill)))
     (having_list (replicate c.args.count (value_in (extent_of c.args.w.now.heap) c.args.fill))) list_number

@@ -7,7 +7,7 @@ use Rattle.icn_structfn.proofs.making.new_record.Goals as goal
 
 pub returns-in_err-make_rec-clause-found : goal.returns-in_err-make_rec-clause-found
 returns-in_err-make_rec-clause-found g c =
-    structure_refused c.args.w.now.heap c.make_rec.new.self c.args.w.now.pair c.args.w.now.random c.args.w.now.globals.items c.args.w.now.statics.items
+    structure_refused c.args.w.now.heap c.make_rec.new.self c.args.w.now.pair c.args.w.now.words c.args.w.now.globals.items c.args.w.now.statics.items
     (g.L.Locals.items c.args.l.now) c.make_rec.ensures.kept
     c.args.w.now.sound c.requires.locals (1 + length (map (value_in (extent_of c.args.w.now.heap)) c.args.fields.now))
     (having_record c.args.kind (map (value_in (extent_of c.args.w.now.heap)) c.args.fields.now)) record_number
@@ -16,7 +16,7 @@ returns-in_err-make_rec-clause-found g c =
 
 pub returns-clause-found : goal.returns-clause-found
 returns-clause-found g c =
-    structure_made c.args.w.now.heap c.make_rec.new.self c.args.w.now.pair c.args.w.now.random c.args.w.now.globals.items c.args.w.now.statics.items
+    structure_made c.args.w.now.heap c.make_rec.new.self c.args.w.now.pair c.args.w.now.words c.args.w.now.globals.items c.args.w.now.statics.items
     (g.L.Locals.items c.args.l.now) c.make_rec.ensures.kept
     c.args.w.now.sound c.requires.locals (1 + length (map (value_in (extent_of c.args.w.now.heap)) c.args.fields.now))
     (having_record c.args.kind (map (value_in (extent_of c.args.w.now.heap)) c.args.fields.now)) record_number

@@ -9,7 +9,7 @@ use Rattle.icn_structfn.proofs.making.new_set.Goals as goal
 
 pub returns-in_err-set_from-clause-found : goal.returns-in_err-set_from-clause-found
 returns-in_err-set_from-clause-found g c =
-    structure_refused c.args.w.now.heap c.set_from.new.self c.args.w.now.pair c.args.w.now.random c.args.w.now.globals.items c.args.w.now.statics.items
+    structure_refused c.args.w.now.heap c.set_from.new.self c.args.w.now.pair c.args.w.now.words c.args.w.now.globals.items c.args.w.now.statics.items
     (g.L.Locals.items c.args.l.now) c.set_from.ensures.kept
     c.args.w.now.sound c.requires.locals (1 + length (fold with_member [] (map (value_in (extent_of c.args.w.now.heap)) c.args.vals.now)))
     (having_members (fold with_member [] (map (value_in (extent_of c.args.w.now.heap)) c.args.vals.now))) set_number
@@ -18,7 +18,7 @@ returns-in_err-set_from-clause-found g c =
 
 pub returns-clause-found : goal.returns-clause-found
 returns-clause-found g c =
-    structure_made c.args.w.now.heap c.set_from.new.self c.args.w.now.pair c.args.w.now.random c.args.w.now.globals.items c.args.w.now.statics.items
+    structure_made c.args.w.now.heap c.set_from.new.self c.args.w.now.pair c.args.w.now.words c.args.w.now.globals.items c.args.w.now.statics.items
     (g.L.Locals.items c.args.l.now) c.set_from.ensures.kept
     c.args.w.now.sound c.requires.locals (1 + length (fold with_member [] (map (value_in (extent_of c.args.w.now.heap)) c.args.vals.now)))
     (having_members (fold with_member [] (map (value_in (extent_of c.args.w.now.heap)) c.args.vals.now))) set_number

@@ -8,7 +8,7 @@ use Rattle.icn_structfn.proofs.making.new_table.Goals as goal
 
 pub returns-in_err-make_table-clause-found : goal.returns-in_err-make_table-clause-found
 returns-in_err-make_table-clause-found g c =
-    structure_refused c.args.w.now.heap c.make_table.new.self c.args.w.now.pair c.args.w.now.random c.args.w.now.globals.items c.args.w.now.statics.items
+    structure_refused c.args.w.now.heap c.make_table.new.self c.args.w.now.pair c.args.w.now.words c.args.w.now.globals.items c.args.w.now.statics.items
     (g.L.Locals.items c.args.l.now) c.make_table.ensures.kept
     c.args.w.now.sound c.requires.locals 1 (having_table (value_in (extent_of c.args.w.now.heap) c.args.default)) table_number
     (value_in (extent_of c.make_table.new.self)) c.in_err-make_table.field-0.0 c.from_residual.result c.in_err-make_table.ensures.unchanged
@@ -16,7 +16,7 @@ returns-in_err-make_table-clause-found g c =
 
 pub returns-clause-found : goal.returns-clause-found
 returns-clause-found g c =
-    structure_made c.args.w.now.heap c.make_table.new.self c.args.w.now.pair c.args.w.now.random c.args.w.now.globals.items c.args.w.now.statics.items
+    structure_made c.args.w.now.heap c.make_table.new.self c.args.w.now.pair c.args.w.now.words c.args.w.now.globals.items c.args.w.now.statics.items
     (g.L.Locals.items c.args.l.now) c.make_table.ensures.kept
     c.args.w.now.sound c.requires.locals 1 (having_table (value_in (extent_of c.args.w.now.heap) c.args.default)) table_number
     (tables_stay (heap_of c.args.w.now.heap))

@@ -9,7 +9,7 @@ use Rattle.icn_structfn.proofs.making.set_like.Goals as goal
 
 pub returns-in_err-copy_set-clause-found : goal.returns-in_err-copy_set-clause-found
 returns-in_err-copy_set-clause-found g c =
-    structure_refused c.args.w.now.heap c.copy_set.new.self c.args.w.now.pair c.args.w.now.random c.args.w.now.globals.items c.args.w.now.statics.items
+    structure_refused c.args.w.now.heap c.copy_set.new.self c.args.w.now.pair c.args.w.now.words c.args.w.now.globals.items c.args.w.now.statics.items
     (g.L.Locals.items c.args.l.now) c.copy_set.ensures.kept
     c.args.w.now.sound c.requires.locals (1 + length (set_at (heap_of c.args.w.now.heap) c.args.set))
     (having_members (set_at (heap_of c.args.w.now.heap) c.args.set)) set_number
@@ -18,7 +18,7 @@ returns-in_err-copy_set-clause-found g c =
 
 pub returns-clause-found : goal.returns-clause-found
 returns-clause-found g c =
-    structure_made c.args.w.now.heap c.copy_set.new.self c.args.w.now.pair c.args.w.now.random c.args.w.now.globals.items c.args.w.now.statics.items
+    structure_made c.args.w.now.heap c.copy_set.new.self c.args.w.now.pair c.args.w.now.words c.args.w.now.globals.items c.args.w.now.statics.items
     (g.L.Locals.items c.args.l.now) c.copy_set.ensures.kept
     c.args.w.now.sound c.requires.locals (1 + length (set_at (heap_of c.args.w.now.heap) c.args.set))
     (having_members (set_at (heap_of c.args.w.now.heap) c.args.set)) set_number

@@ -8,3 +8,6 @@ returns-in-Position-clause-assigned g c = rw c.in-Position.is c.assign_position.
 
 pub returns-in-Random-clause-assigned : goal.returns-in-Random-clause-assigned
 returns-in-Random-clause-assigned g c = rw c.in-Random.is c.assign_random.ensures.assigned
+
+pub returns-in-ErrorCount-clause-assigned : goal.returns-in-ErrorCount-clause-assigned
+returns-in-ErrorCount-clause-assigned g c = rw c.in-ErrorCount.is c.assign_error.ensures.assigned

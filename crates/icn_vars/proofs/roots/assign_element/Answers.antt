@@ -9,7 +9,7 @@ use Rattle.icn_vars.proofs.roots.assign_element.Goals as goal
 pub returns-then-set_item-clause-assigned : goal.returns-then-set_item-clause-assigned
 returns-then-set_item-clause-assigned g c = λ outside.
     let same = to_z-of_z w64 c.args.number c.ranges.number in
-    element_assigned outside c.args.w.now.heap c.set_item.new.self c.args.w.now.pair c.args.w.now.random c.args.w.now.globals.items c.args.w.now.statics.items
+    element_assigned outside c.args.w.now.heap c.set_item.new.self c.args.w.now.pair c.args.w.now.words c.args.w.now.globals.items c.args.w.now.statics.items
     (g.L.Locals.items c.args.l.now) c.set_item.ensures.kept c.args.w.now.sound c.requires.locals c.args.list c.args.number
     (value_in (extent_of c.args.w.now.heap) c.args.val)
     (rw same at (sym c.set_item.ensures.found ∙ c.if-set_item.true)) (rw same at c.set_item.ensures.step)
@@ -17,7 +17,7 @@ returns-then-set_item-clause-assigned g c = λ outside.
 pub returns-else-set_item-clause-assigned : goal.returns-else-set_item-clause-assigned
 returns-else-set_item-clause-assigned g c = λ outside.
     let same = to_z-of_z w64 c.args.number c.ranges.number in
-    element_missing outside c.args.w.now.heap c.set_item.new.self c.args.w.now.pair c.args.w.now.random c.args.w.now.globals.items c.args.w.now.statics.items
+    element_missing outside c.args.w.now.heap c.set_item.new.self c.args.w.now.pair c.args.w.now.words c.args.w.now.globals.items c.args.w.now.statics.items
     (g.L.Locals.items c.args.l.now) c.set_item.ensures.kept c.args.w.now.sound c.requires.locals c.args.list (extent_of c.set_item.new.self) c.args.number
     (value_in (extent_of c.args.w.now.heap) c.args.val)
     (rw same at (sym c.set_item.ensures.found ∙ c.if-set_item.false)) (rw same at c.set_item.ensures.step)

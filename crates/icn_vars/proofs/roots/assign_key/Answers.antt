@@ -16,16 +16,16 @@ pub returns-in_err-store-clause-assigned : goal.returns-in_err-store-clause-assi
 returns-in_err-store-clause-assigned g c = λ outside.
     root_err (extent_of c.store.new.self) (λ refused. assigns_root refused (Key c.args.table (value_in (extent_of c.args.w.now.heap) c.args.key))
     (value_in (extent_of c.args.w.now.heap) c.args.val)) (setting_of outside c.args.w.now (g.L.Locals.items c.args.l.now)) (setting_over outside
-    c.store.new.self c.args.w.now.pair c.args.w.now.random c.args.w.now.globals.items c.args.w.now.statics.items (g.L.Locals.items c.args.l.now))
+    c.store.new.self c.args.w.now.pair c.args.w.now.words c.args.w.now.globals.items c.args.w.now.statics.items (g.L.Locals.items c.args.l.now))
     (stop_of c.in_err-store.field-0.0) c.from_residual.result c.from_residual.ensures.1
-    (key_stops outside c.args.w.now.heap c.store.new.self c.args.w.now.pair c.args.w.now.random c.args.w.now.globals.items c.args.w.now.statics.items
+    (key_stops outside c.args.w.now.heap c.store.new.self c.args.w.now.pair c.args.w.now.words c.args.w.now.globals.items c.args.w.now.statics.items
     (g.L.Locals.items c.args.l.now) c.store.ensures.kept c.args.w.now.sound c.requires.locals
     (extent_of c.store.new.self) c.args.table (value_in (extent_of c.args.w.now.heap) c.args.key)
     (value_in (extent_of c.args.w.now.heap) c.args.val) c.in_err-store.field-0.0 c.in_err-store.ensures.unchanged c.in_err-store.ensures.step)
 
 pub returns-clause-assigned : goal.returns-clause-assigned
 returns-clause-assigned g c = λ outside.
-    key_assigned outside c.args.w.now.heap c.store.new.self c.args.w.now.pair c.args.w.now.random c.args.w.now.globals.items c.args.w.now.statics.items
+    key_assigned outside c.args.w.now.heap c.store.new.self c.args.w.now.pair c.args.w.now.words c.args.w.now.globals.items c.args.w.now.statics.items
     (g.L.Locals.items c.args.l.now) c.store.ensures.kept c.args.w.now.sound c.requires.locals c.args.table (value_in (extent_of c.args.w.now.heap) c.args.key)
     (value_in (extent_of c.args.w.now.heap) c.args.val) c.in_ok-store.ensures.step
 

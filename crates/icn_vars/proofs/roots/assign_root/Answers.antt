@@ -16,18 +16,18 @@ set_field-requires-clause-there g c =
 
 pub returns-in-Global-clause-assigned : goal.returns-in-Global-clause-assigned
 returns-in-Global-clause-assigned g c =
-    rw c.in-Global.is (λ outside. global_assigned outside c.args.w.now.heap c.args.w.now.pair c.args.w.now.random c.args.w.now.globals.items
+    rw c.in-Global.is (λ outside. global_assigned outside c.args.w.now.heap c.args.w.now.pair c.args.w.now.words c.args.w.now.globals.items
     c.args.w.now.statics.items (g.L.Locals.items c.args.l.now) c.in-Global.place c.args.val)
 
 pub returns-in-Static-clause-assigned : goal.returns-in-Static-clause-assigned
 returns-in-Static-clause-assigned g c =
-    rw c.in-Static.is (λ outside. static_assigned outside c.args.w.now.heap c.args.w.now.pair c.args.w.now.random c.args.w.now.globals.items
+    rw c.in-Static.is (λ outside. static_assigned outside c.args.w.now.heap c.args.w.now.pair c.args.w.now.words c.args.w.now.globals.items
     c.args.w.now.statics.items (g.L.Locals.items c.args.l.now) c.in-Static.place c.args.val)
 
 pub returns-in-Local-clause-assigned : goal.returns-in-Local-clause-assigned
 returns-in-Local-clause-assigned g c =
     let put = rw c.from.ensures at c.set.ensures in
-    rw c.in-Local.is (λ outside. local_assigned outside c.args.w.now.heap c.args.w.now.pair c.args.w.now.random c.args.w.now.globals.items
+    rw c.in-Local.is (λ outside. local_assigned outside c.args.w.now.heap c.args.w.now.pair c.args.w.now.words c.args.w.now.globals.items
     c.args.w.now.statics.items (g.L.Locals.items c.args.l.now) c.in-Local.place c.args.val (g.L.Locals.items c.set.new.self) put)
 
 pub returns-in-Element-clause-assigned : goal.returns-in-Element-clause-assigned
@@ -38,7 +38,7 @@ returns-in-Element-clause-assigned g c =
 
 pub returns-in-Field-clause-assigned : goal.returns-in-Field-clause-assigned
 returns-in-Field-clause-assigned g c =
-    rw c.in-Field.is (λ outside. field_assigned outside c.args.w.now.heap c.set_field.new.self c.args.w.now.pair c.args.w.now.random c.args.w.now.globals.items
+    rw c.in-Field.is (λ outside. field_assigned outside c.args.w.now.heap c.set_field.new.self c.args.w.now.pair c.args.w.now.words c.args.w.now.globals.items
     c.args.w.now.statics.items (g.L.Locals.items c.args.l.now) c.set_field.ensures.kept c.args.w.now.sound c.requires.locals c.in-Field.rec c.in-Field.place
     (value_in (extent_of c.args.w.now.heap) c.args.val) c.set_field.ensures.step)
 

@@ -18,9 +18,9 @@ returns-in_err-build-clause-passes g c = λ outside.
     ∙ ap (λ new. with_part (text_in (extent_of c.args.w.now.heap) c.args.whole) c.args.place c.args.len new) c.bytes-2.ensures)) in
     stopped_part (extent_of c.build.new.self) (costs_bytes (length (with_part (text_in (extent_of c.args.w.now.heap) c.args.whole) c.args.place c.args.len
     (text_in (extent_of c.args.w.now.heap) c.args.new)))) (setting_of outside c.args.w.now (g.L.Locals.items c.args.l.now)) (setting_over outside
-    c.build.new.self c.args.w.now.pair c.args.w.now.random c.args.w.now.globals.items c.args.w.now.statics.items (g.L.Locals.items c.args.l.now))
+    c.build.new.self c.args.w.now.pair c.args.w.now.words c.args.w.now.globals.items c.args.w.now.statics.items (g.L.Locals.items c.args.l.now))
     (stop_of c.in_err-build.field-0.0) c.from_residual-in_err-build.result c.from_residual-in_err-build.ensures.1
-    (change_stops c.args.w.now.heap c.build.new.self c.args.w.now.pair c.args.w.now.random c.args.w.now.globals.items c.args.w.now.statics.items
+    (change_stops c.args.w.now.heap c.build.new.self c.args.w.now.pair c.args.w.now.words c.args.w.now.globals.items c.args.w.now.statics.items
     (g.L.Locals.items c.args.l.now) c.build.ensures.kept c.args.w.now.sound c.requires.locals (bytes_change
     (length (with_part (text_in (extent_of c.args.w.now.heap) c.args.whole) c.args.place c.args.len (text_in (extent_of c.args.w.now.heap) c.args.new))))
     c.in_err-build.ensures.unchanged c.in_err-build.field-0.0
@@ -33,7 +33,7 @@ returns-clause-passes g c = λ outside.
     ≡ (with_part (text_in (extent_of c.args.w.now.heap) c.args.whole) c.args.place c.args.len (text_in (extent_of c.args.w.now.heap) c.args.new)) =
     c.deref.ensures.value ∙ (c.in_ok-bytes.ensures ∙ (ap (λ whole. with_part whole c.args.place c.args.len c.bytes-2.result.now) c.bytes.ensures
     ∙ ap (λ new. with_part (text_in (extent_of c.args.w.now.heap) c.args.whole) c.args.place c.args.len new) c.bytes-2.ensures)) in
-    change_passes c.args.w.now.heap c.build.new.self c.args.w.now.pair c.args.w.now.random c.args.w.now.globals.items c.args.w.now.statics.items
+    change_passes c.args.w.now.heap c.build.new.self c.args.w.now.pair c.args.w.now.words c.args.w.now.globals.items c.args.w.now.statics.items
     (g.L.Locals.items c.args.l.now) c.build.ensures.kept c.args.w.now.sound c.requires.locals (bytes_change
     (length (with_part (text_in (extent_of c.args.w.now.heap) c.args.whole) c.args.place c.args.len (text_in (extent_of c.args.w.now.heap) c.args.new))))
     (subst (λ bytes. charged_strings (heap_of c.args.w.now.heap) (length bytes) ≡ Ok (heap_of c.build.new.self)) same c.in_ok-build.ensures.step) outside

@@ -2,7 +2,7 @@
 ghost use Rattle.std.specs.Prelude.{◌≡◌};
 ghost use Rattle.icn_defs.specs.Errors.{error_text};
 
-// The text of an error by its number; of a number that is none, nothing.
+/// The text of an error by its number; of a number that is none, nothing. It takes no memory.
 pub fn error_text(number: u16) -> &'static [u8]
     ensures { result.now ≡ error_text number }
 {
