@@ -6,7 +6,7 @@ SOURCES = $(shell find crates -type f -not -path '*/out/*' -not -path '*/data/*'
 # Where the programs and their pages go. The shell takes no ~ in quotes for a home.
 ROOM = $(DESTDIR)$(if $(filter ~/%,$(firstword $(PREFIX))),$(patsubst ~/%,$(HOME)/%,$(PREFIX)),$(PREFIX))
 
-.PHONY: all test install uninstall run clean
+.PHONY: all test statuses install uninstall run clean
 
 all: $(PROGRAMS:%=bin/%)
 
@@ -27,6 +27,10 @@ test:
 	python3 tools/links.py
 	python3 tools/reading.py --check
 	.ci/run
+
+# The built programs, once for each status, with both outputs told apart.
+statuses: all
+	python3 tools/statuses.py bin/icont bin/iconx
 
 install: all
 	install -d "$(ROOM)/bin" "$(ROOM)/share/man/man1"

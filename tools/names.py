@@ -18,7 +18,7 @@ NAME = r"[^\s(){}\[\];,.:\"`«»@]+"
 HEAD = re.compile(rf"^\s*(?:(?:abbrev|unfoldable|opaque|pub|record|data|ruleset) )*({NAME})(?= )", re.M)
 FIELDS = re.compile(r"^\s+(?:pub )?((?:[^\s(){}:]+ )+): ", re.M)
 USE = re.compile(r"^\s*(?:pub |ghost )*use (Rattle\.[^\s;{]+?)(?:\.\{([^}]*)\}|(?: as [^\s;]+)?;?$)", re.M)
-MADE = ("declared", "contracts", "Goals", "Given", "TheImpl", "TheLaws", "Tests", "TheVariants", "TheConstants")
+MADE = ("declared", "contracts", "Goals", "Given", "TheImpl", "TheLaws", "Tests", "TheVariants", "TheConstants", "Statement", "Code")
 
 
 def texts():

@@ -16,6 +16,7 @@ ALLOWED = {
     "Cell": VIEW,
     "Coexp": "of the run, and as the machine holds it",
     "Completes": BOTH,
+    "Draft": "what is written and not in its place yet: a file, and the code of a procedure",
     "EndsByFault": BOTH,
     "Frames": VIEW,
     "Heap": VIEW,
@@ -31,6 +32,7 @@ ALLOWED = {
     "PrefixForm": "what a prefix operator is, in the code that translates and in the translation of the proof",
     "Registers": VIEW,
     "Residual": VIEW,
+    "Standing": "what there is: for a keyword as it is read, and under a name of a file system",
     "Status": MODEL,
     "Store": MODEL,
     "Why": VIEW,
@@ -38,10 +40,10 @@ ALLOWED = {
     "World": VIEW,
 }
 
-CODE = re.compile(r"^[ \t]*(?:pub(?:\([a-z]+\))? )?(?:struct|enum|trait|type) ([A-Z]\w*)", re.M)
+CODE = re.compile(r"^[ \t]*(?:pub(?:\([a-z]+\))? )?(?:struct|enum|trait|type(?=[^;:]*=)) ([A-Z]\w*)", re.M)
 SPEC = re.compile(r"^(?:pub )?(?:record|data) ([A-Z]\w*)", re.M)
-# a type of an `impl` is none of its own: `type Item = ..` of an iterator
-IMPL = re.compile(r"^(?:unsafe )?impl\b.*?^\}", re.M | re.S)
+# a type of an `impl` is none of its own: `type Item = ..` of an iterator; nor is one that a trait asks for
+IMPL = re.compile(r"^([ \t]*)(?:unsafe )?impl\b.*?^\1\}", re.M | re.S)
 
 
 def types(path):

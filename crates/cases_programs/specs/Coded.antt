@@ -7,12 +7,12 @@ use Rattle.icn_code.specs.Codes.{Tables}
 use Rattle.icn_meaning.specs.Program.{joined_declarations}
 use Rattle.law_simulation.specs.JoinedFiles.{sets_of, code_with}
 
--- the bit of a member in the byte of this number
+-- the bit of a member in the word of this number
 abbrev pub bit_in : ℕ → ℕ → ℕ
-bit_in i member = if member / 8 == i then 2 ^ (member % 8) else 0
+bit_in i member = if member / 64 == i then 2 ^ (member % 64) else 0
 
 abbrev pub cset_of : List ℕ → Cset
-cset_of members = record { bits = map (λ i. sum_by (bit_in i) members) (range_with_len 0 32) }
+cset_of members = record { words = map (λ i. sum_by (bit_in i) members) (range_with_len 0 4) }
 
 -- the tables of a program's files
 abbrev pub tables_of : List (List Declaration) → Tables

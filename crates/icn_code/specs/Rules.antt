@@ -22,8 +22,13 @@ is_byte b = nat_lt b 256
 abbrev pub is_string : List ℕ → Bool
 is_string bytes = is_count (length bytes) && list_all is_byte bytes
 
+-- 64 bits
+abbrev pub is_word : ℕ → Bool
+is_word w = nat_lt w (2 ^ 64)
+
+-- four words
 abbrev pub is_cset : Cset → Bool
-is_cset cset = (length cset.bits == 32) && list_all is_byte cset.bits
+is_cset cset = (length cset.words == 4) && list_all is_word cset.words
 
 -- an integer has 64 bits
 abbrev pub is_integer : ℤ → Bool

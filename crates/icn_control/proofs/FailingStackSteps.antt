@@ -13,6 +13,7 @@ use Rattle.icn_vars.specs.Worlds.{world_of}
 use Rattle.icn_vars.specs.Outcomes.{residual_in}
 use Rattle.icn_frames.specs.declared.layout.Why.{Why}
 use Rattle.icn_frames.specs.declared.layout.Why.TheVariants.{Alt, Op, Scan, Escan, Proc}
+use Rattle.icn_frames.specs.Newest.{IsHeldBy}
 use Rattle.icn_frames.specs.Stacks as held
 use Rattle.icn_frames.specs.Stacks.{FlatStack}
 use Rattle.law_frames.specs.ReadStacks.{why_read, resumed_read, swapped_read}
@@ -75,6 +76,13 @@ pair_up why reason n r =
 
 pub resumed_as : (m n : FlatStack) (why reason : Why) → held.resume m ≡ Some (why, n) → why ≡ reason → held.resume m ≡ Some (reason, n)
 resumed_as m n why reason e r = e ∙ pair_up why reason n r
+
+-- a suspension that is resumed without its reason
+pub came_back : (m n : FlatStack) (why : Why) → IsHeldBy why m → ((reason : Why) (rest : FlatStack) → held.resume m ≡ Some (reason, rest) → n ≡ rest)
+    → held.resume m ≡ Some (why, n)
+came_back m n why by back =
+    let F : FlatStack → Option (Why × FlatStack) = λ x. Some (why, x) in
+    by.1 ∙ ap F (sym (back why by.0 by.1))
 
 falls_by : (all : Extent) (m n : FlatStack) (why : Why) → held.resume m ≡ Some (why, n) → (tables : Tables) (st : Store Frames)
     → fails flat tables (stack_in all m) st ≡ resume_by flat tables (why_read (reading_of all) why) (stack_in all n) st

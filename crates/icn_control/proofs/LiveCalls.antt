@@ -1,5 +1,5 @@
 -- What each call of a stack leaves is of the world.
-use Rattle.std.proofs.Common.{◌≡◌, ℕ, suc, ◌-◌, ◌<◌, ◌≤◌, List, [], ◌∷◌, length, drop, Option, Some, None, refl, sym, ap, ◌∙◌, subst, arith}
+use Rattle.std.proofs.Common.{◌≡◌, ℕ, suc, ◌-◌, ◌<◌, ◌≤◌, List, [], ◌∷◌, length, drop, Option, Some, None, IsSome, refl, sym, ap, ◌∙◌, subst, arith}
 use Rattle.std.proofs.lemmas.Option.{same_Some}
 use Rattle.icn_frames.specs.Heights.{cell_at, cut}
 use Rattle.icn_value.specs.declared.item.Item.{Item}
@@ -66,6 +66,16 @@ live_pop t reach m n item e k = by_cells m.cells e k.root k.cells
     by_cells (Mark label changed r ∷ s) q root l = cc
     by_cells (Limit count r ∷ s) q root l = cc
     by_cells (Suspension why r place ∷ s) q root l = cc
+
+-- an operand that is dropped leaves a stack of the world
+pub live_dropped : (t : Tables) (reach : Reach) (m n : FlatStack) → IsSome (pop m) → ((x : Item) (rest : FlatStack) → pop m ≡ Some (x, rest) → n ≡ rest)
+    → IsLiveStack t reach m → IsLiveStack t reach n
+live_dropped t reach m n there left k = by_popped (pop m) refl there
+  where
+    by_popped : (o : Option (Item × FlatStack)) → pop m ≡ o → IsSome o → IsLiveStack t reach n
+    by_popped (Some popped) e q =
+        subst (λ (x : FlatStack). IsLiveStack t reach x) (sym (left popped.0 popped.1 e)) (live_pop t reach m popped.1 popped.0 e k).rest
+    by_popped None e q = cc
 
 -- an operand that is taken and put back twice
 pub live_twice : (t : Tables) (reach : Reach) (m n k l : FlatStack) (item : Item) → pop m ≡ Some (item, n) → k ≡ push item n → l ≡ push item k
@@ -246,3 +256,12 @@ pub live_esusp : (t : Tables) (reach : Reach) (m k n : FlatStack) (item : Item) 
 live_esusp t reach m k n item e f live =
     let popped = live_pop t reach m k item e live in
     live_given t reach k n item f popped.rest popped.item_live
+
+-- the operand on top that is pushed once more leaves a stack of the world
+pub live_once_more : (t : Tables) (reach : Reach) (m k n : FlatStack) (item : Item) → pop m ≡ Some (item, k) → n ≡ push item m → IsLiveStack t reach m
+    → IsLiveStack t reach n
+live_once_more t reach m k n item e p live =
+    let popped = live_pop t reach m k item e live in
+    subst (λ (x : FlatStack). IsLiveStack t reach x) (sym p)
+    (live_push t reach m item live
+    (subst (λ (c : ℕ). IsLiveItem (with_locals c reach) item) (sym (pop_owner m k item e live.root)) popped.item_live))

@@ -1,27 +1,31 @@
 -- What each instruction that touches a stack alone does, by the calls of the stack.
-use Rattle.std.proofs.Common.{◌≡◌, ℕ, zero, suc, ◌<◌, List, [], ◌∷◌, Option, Some, None, IsSome, refl, sym, ap, ◌∙◌, subst, arith}
+use Rattle.std.proofs.Common.{◌≡◌, ℕ, ℤ, zero, suc, ◌+◌, ◌<◌, List, [], ◌∷◌, slice_get, true, Option, Some, None, IsSome, is_some, refl, sym, ap, ◌∙◌, subst, arith}
 use Rattle.std.proofs.lemmas.Option.{same_Some}
 use Rattle.std.specs.Option.{option_map}
-use Rattle.icn_value.specs.declared.val.Val.TheVariants.{Null}
+use Rattle.icn_value.specs.declared.val.Val.TheVariants.{Null, Integer as HeldInteger}
 use Rattle.icn_value.specs.declared.item.Item.{Item}
-use Rattle.icn_value.specs.declared.item.Item.TheVariants.{Val as HeldVal}
+use Rattle.icn_value.specs.declared.item.Item.TheVariants.{Val as HeldVal, Var as HeldVar}
+use Rattle.icn_value.specs.declared.item.Root.TheVariants.{Global as HeldGlobal, Local as HeldLocal, Static as HeldStatic}
+use Rattle.icn_value.specs.declared.item.VarRef.TheVariants.{Whole as HeldWhole}
 use Rattle.icn_value.specs.declared.item.Pair.{Pair}
 use Rattle.icn_heap.specs.Extents.{Extent}
 use Rattle.icn_frames.specs.declared.layout.Cell.{Cell}
 use Rattle.icn_frames.specs.declared.layout.Cell.TheVariants.{Base, Call, Local, Mark, Limit, Suspension, Operand}
+use Rattle.icn_frames.specs.declared.slots.StackSlot.{StackSlot}
+use Rattle.icn_frames.specs.Slots.{plain_operand}
 use Rattle.icn_frames.specs.Stacks as held
 use Rattle.icn_frames.specs.Stacks.{FlatStack}
 use Rattle.law_frames.specs.ReadStacks.{popped_read, counted_read, unmarked_read}
-use Rattle.law_frames.proofs.CallsRead.{pop_read, below_read, relabel_read, count_down_read}
+use Rattle.law_frames.proofs.CallsRead.{pop_read, proc_read, below_read, relabel_read, count_down_read}
 use Rattle.law_frames.proofs.ScansRead.{unmark_read, suspend_mark_read}
 use Rattle.icn_code.specs.declared.instr.Instr.TheVariants as Instrs
 use Rattle.icn_code.specs.Codes.{Tables}
 use Rattle.icn_run.specs.Rows as rows
 use Rattle.icn_run.specs.Calls as calls
 use Rattle.icn_run.specs.Stacks.{Frames, flat}
-use Rattle.icn_run.specs.Step.{State, Store, running, with_found, on_pair, push_item, scans_left, limited_result}
+use Rattle.icn_run.specs.Step.{State, Store, running, with_found, on_pair, push_item, scans_left, limited_result, statics_before}
 use Rattle.icn_control.proofs.LiveCalls.{given_split}
-use Rattle.icn_control.specs.StackViews.{stack_in, reading_of, maybe_pair_in, GoesOn, GoesOnLeaving}
+use Rattle.icn_control.specs.StackViews.{stack_in, reading_of, maybe_pair_in, GoesOn, GoesOnIn, GoesOnLeaving, instruction_state}
 
 -- an instruction goes on with a stack
 abbrev on : Store Frames → Frames → State Frames Frames
@@ -32,6 +36,27 @@ on_stack all st m = running (stack_in all m) st
 
 pub null_runs : (m n : FlatStack) → n ≡ held.push (HeldVal Null) m → GoesOn Instrs.Pnull m n
 null_runs m n e all tables st = ap (on_stack all st) (sym e)
+
+-- variables that are pushed
+
+pub local_runs : (m n : FlatStack) (k : ℕ) → n ≡ held.push (HeldVar (HeldWhole (HeldLocal k))) m → GoesOn (Instrs.Local k) m n
+local_runs m n k e all tables st = ap (on_stack all st) (sym e)
+
+pub global_runs : (m n : FlatStack) (k : ℕ) → n ≡ held.push (HeldVar (HeldWhole (HeldGlobal k))) m → GoesOn (Instrs.Global k) m n
+global_runs m n k e all tables st = ap (on_stack all st) (sym e)
+
+pub static_runs : (m n : FlatStack) (tables : Tables) (first k : ℕ) → first ≡ statics_before tables (held.proc m)
+    → n ≡ held.push (HeldVar (HeldWhole (HeldStatic (first + k)))) m → GoesOnIn tables (Instrs.Static k) m n
+static_runs m n tables first k is e all st =
+    ap (λ (x : ℕ). push_item flat (rows.Var (rows.Whole (rows.Static (statics_before tables x + k)))) (stack_in all m) st) (proc_read (reading_of all) m)
+    ∙ ap (λ (x : ℕ). push_item flat (rows.Var (rows.Whole (rows.Static (x + k)))) (stack_in all m) st) (sym is)
+    ∙ ap (on_stack all st) (sym e)
+
+pub integer_runs : (m n : FlatStack) (tables : Tables) (k : ℕ) (i : ℤ) → slice_get tables.integers k ≡ Some i
+    → n ≡ held.push (HeldVal (HeldInteger i)) m → GoesOnIn tables (Instrs.Int k) m n
+integer_runs m n tables k i there e all st =
+    ap (λ (o : Option ℤ). with_found o (λ x. push_item flat (rows.Val (rows.Integer x)) (stack_in all m) st)) there
+    ∙ ap (on_stack all st) (sym e)
 
 -- what is taken off a stack, with the rest of the instruction
 pub popped_runs : (m n : FlatStack) (item : Item) → held.pop m ≡ Some (item, n) → (all : Extent) (next : rows.Item → Frames → State Frames Frames)
@@ -52,6 +77,49 @@ pushed_back m n item e = by_cells m.cells e
     by_cells (Mark label changed r ∷ s) q = cc
     by_cells (Limit count r ∷ s) q = cc
     by_cells (Suspension why r place ∷ s) q = cc
+
+-- an operand beside whose slot nothing is kept
+pub record PlainTop (m : FlatStack) (slot : StackSlot) : Type 0 where
+  pub item : Item
+  pub rest : FlatStack
+  pub tells : plain_operand slot ≡ Some item
+  pub pops : held.pop m ≡ Some (item, rest)
+
+-- the slot of the top operand tells it
+abbrev pub TellsTop : FlatStack → StackSlot → Type 0
+TellsTop m slot = (x : Item) (rest : FlatStack) → held.pop m ≡ Some (x, rest) → (y : Item) → plain_operand slot ≡ Some y → x ≡ y
+
+top_told : (m : FlatStack) (slot : StackSlot) (popped : Item × FlatStack) (o : Option Item) → plain_operand slot ≡ o → is_some o ≡ true
+    → held.pop m ≡ Some popped → TellsTop m slot → PlainTop m slot
+top_told m slot popped (Some y) f plain e top = record {
+  item = popped.0;
+  rest = popped.1;
+  tells = f ∙ ap (λ (x : Item). Some x) (sym (top popped.0 popped.1 e y f));
+  pops = e;
+}
+top_told m slot popped None f plain e top = cc
+
+pub plain_top : (m : FlatStack) (slot : StackSlot) → IsSome (held.pop m) → is_some (plain_operand slot) ≡ true → TellsTop m slot → PlainTop m slot
+plain_top m slot there plain top = by_popped (held.pop m) refl there
+  where
+    by_popped : (o : Option (Item × FlatStack)) → held.pop m ≡ o → IsSome o → PlainTop m slot
+    by_popped (Some popped) e q = top_told m slot popped (plain_operand slot) refl plain e top
+    by_popped None e q = cc
+
+-- the operand on top once more
+pub twice_runs : (m k n : FlatStack) (item : Item) → held.pop m ≡ Some (item, k) → n ≡ held.push item m → GoesOn Instrs.Dup m n
+twice_runs m k n item e p all tables st =
+    popped_runs m k item e all (λ x w. push_item flat x (stack_in all m) st) ∙ ap (on_stack all st) (sym p)
+
+-- the operand that is dropped
+pub dropped_runs : (m n : FlatStack) → IsSome (held.pop m) → ((x : Item) (rest : FlatStack) → held.pop m ≡ Some (x, rest) → n ≡ rest)
+    → GoesOn Instrs.Pop m n
+dropped_runs m n there left all tables st = by_popped (held.pop m) refl there
+  where
+    by_popped : (o : Option (Item × FlatStack)) → held.pop m ≡ o → IsSome o → instruction_state all tables Instrs.Pop m st ≡ running (stack_in all n) st
+    by_popped (Some popped) e q =
+        popped_runs m popped.1 popped.0 e all (λ x w. running w st) ∙ ap (on_stack all st) (sym (left popped.0 popped.1 e))
+    by_popped None e q = cc
 
 pub relabel_runs : (m n : FlatStack) (label : ℕ) → held.relabel label m ≡ Some n → GoesOn (Instrs.Chfail label) m n
 relabel_runs m n label e all tables st =

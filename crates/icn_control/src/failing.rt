@@ -16,7 +16,7 @@ ghost use Rattle.icn_control.specs.Soundness.{KeepsHeap};
 
 use crate::scans::swap_pairs;
 use crate::world::set_pair;
-use icn_frames::{Cell, Frames, Stack, Why};
+use icn_frames::{Cell, Frames, NewestKind, Stack, Why};
 use icn_value::Residual;
 use icn_vars::World;
 
@@ -40,6 +40,39 @@ pub enum AfterFailure {
 /// One step of failing: the newest suspension of the innermost mark comes back, and where there is none the mark is dropped.
 /// It takes no memory.
 pub fn fall<K: Stack<Cell> + Drop>(frames: &mut Frames<K>, world: &mut World) -> AfterFailure
+    requires live { (tables : Tables) × IsLiveStack tables (reach_of world.old []) frames.old.flat }
+    requires goes_on { (tables : Tables) × ((st : Store FramesRead)
+        × (fails calls tables (stack_in (extent_of world.old.heap) frames.old.flat) st ≢ stuck)) }
+    ensures step { (tables : Tables) (st : Store FramesRead) → st.world ≡ world_of world.old
+        → FallsTo tables (fails calls tables (stack_in (extent_of world.old.heap) frames.old.flat) st) st
+        world.new frames.new.flat result }
+    ensures live { (tables : Tables) → IsLiveStack tables (reach_of world.old []) frames.old.flat
+        → IsLiveStack tables (reach_of world.new []) frames.new.flat }
+    ensures due { IsLiveDue (reach_of world.new []) frames.new.flat result }
+    ensures less { FallsBelow frames.old.flat frames.new.flat result }
+    ensures named { FallsNamed (extent_of world.old.heap) frames.old.flat frames.new.flat result }
+    ensures world_named { (names : Names) → WorldNamed names (world_of world.old)
+        → WorldNamed names (world_of world.new) }
+    ensures same { KeepsHeap world.old world.new }
+{
+    match frames.newest_kind() {
+        NewestKind::Nothing => drop_failed(frames),
+        NewestKind::Alt => {
+            frames.resume_newest();
+            AfterFailure::Failing
+        }
+        NewestKind::Proc => {
+            frames.resume_newest();
+            AfterFailure::Reentering
+        }
+        NewestKind::Count => fall_by_why(frames, world),
+        NewestKind::Escan => fall_by_why(frames, world),
+        NewestKind::Other => fall_by_why(frames, world),
+    }
+}
+
+// The same by what was suspended.
+fn fall_by_why<K: Stack<Cell> + Drop>(frames: &mut Frames<K>, world: &mut World) -> AfterFailure
     requires live { (tables : Tables) × IsLiveStack tables (reach_of world.old []) frames.old.flat }
     requires goes_on { (tables : Tables) × ((st : Store FramesRead)
         × (fails calls tables (stack_in (extent_of world.old.heap) frames.old.flat) st ≢ stuck)) }

@@ -43,7 +43,7 @@ pub use machine::{Machine, RunState};
 pub use marks::{lsusp, unmark};
 pub use on_stack::{
     change_label, drop_mark, drop_operand, duplicate, give_limited, give_suspended, go_to,
-    open_mark, push_below, push_null, put,
+    open_mark, push_below, push_null, put, put_slot,
 };
 pub use opening::open_scan;
 pub use operands::take_operands;

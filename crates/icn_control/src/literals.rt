@@ -11,7 +11,7 @@ ghost use Rattle.icn_control.specs.StackViews.{GoesOn, GoesOnIn};
 
 use icn_code::Code;
 use icn_frames::{Cell, Frames, Stack};
-use icn_value::{Cset, Item, Root, Val, VarRef};
+use icn_value::{Cset, Item, Val};
 use std::alloc::AllocError;
 
 /// Pushes an integer of the code, by its index, which must be there.
@@ -26,7 +26,7 @@ pub fn push_integer<K: Stack<Cell> + Drop>(
     ensures live { OnOk result (StaysLive frames.old.flat frames.new.flat) }
 {
     let n = code.integers[index as usize];
-    frames.push(Item::Val(Val::Integer(n)))?;
+    frames.push_plain(Cell::ValInteger(n))?;
     Ok(())
 }
 
@@ -39,7 +39,7 @@ pub fn push_local<K: Stack<Cell> + Drop>(
     ensures step { OnOk result (GoesOn (Instrs.Local index) frames.old.flat frames.new.flat) }
     ensures live { OnOk result (StaysLive frames.old.flat frames.new.flat) }
 {
-    frames.push(Item::Var(VarRef::Whole(Root::Local(index))))?;
+    frames.push_plain(Cell::VarLocal(index))?;
     Ok(())
 }
 
@@ -52,7 +52,7 @@ pub fn push_global<K: Stack<Cell> + Drop>(
     ensures live { OnOk result ((tables : Tables) (reach : Reach) → index < reach.globals
         → IsLiveStack tables reach frames.old.flat → IsLiveStack tables reach frames.new.flat) }
 {
-    frames.push(Item::Var(VarRef::Whole(Root::Global(index))))?;
+    frames.push_plain(Cell::VarGlobal(index))?;
     Ok(())
 }
 
@@ -85,7 +85,7 @@ pub fn push_static<K: Stack<Cell> + Drop>(
     ensures live { OnOk result ((tables : Tables) (reach : Reach) → first + index < reach.statics
         → IsLiveStack tables reach frames.old.flat → IsLiveStack tables reach frames.new.flat) }
 {
-    frames.push(Item::Var(VarRef::Whole(Root::Static(first + index))))?;
+    frames.push_plain(Cell::VarStatic(first + index))?;
     Ok(())
 }
 

@@ -1,14 +1,16 @@
 // The instructions that touch nothing but the stack that runs.
-ghost use Rattle.std.specs.Prelude.{◌≡◌, ◌+◌, ◌<◌, ◌≤◌, false, IsSome, IfSome, OnOk, IfOk, is_none};
+ghost use Rattle.std.specs.Prelude.{◌≡◌, ◌+◌, ◌<◌, ◌≤◌, false, Some, IsSome, IfSome, OnOk, IfOk, is_none};
+ghost use Rattle.icn_value.specs.declared.item.Item.{Item};
 ghost use Rattle.icn_value.specs.declared.item.Item.TheVariants.{Val as HeldVal};
 ghost use Rattle.icn_value.specs.declared.val.Val.TheVariants.{Null};
 ghost use Rattle.icn_code.specs.declared.instr.Instr.TheVariants as Instrs;
+ghost use Rattle.icn_frames.specs.Slots.{plain_operand};
 ghost use Rattle.icn_frames.specs.Stacks as flat;
 ghost use Rattle.icn_control.specs.LiveStacks.{MaybeStaysLive, StaysLive};
 ghost use Rattle.icn_control.specs.StackViews.{GoesOn, GoesOnLeaving, mark_of};
 
-use icn_frames::{Cell, Frames, Stack, Why};
-use icn_value::{Item, Pair, Val};
+use icn_frames::{Cell, Frames, Stack, Why, is_plain_operand};
+use icn_value::{Item, Pair};
 use std::alloc::AllocError;
 
 /// Pushes null.
@@ -16,7 +18,7 @@ pub fn push_null<K: Stack<Cell> + Drop>(frames: &mut Frames<K>) -> Result<(), Al
     ensures step { OnOk result (GoesOn Instrs.Pnull frames.old.flat frames.new.flat) }
     ensures live { OnOk result (StaysLive frames.old.flat frames.new.flat) }
 {
-    frames.push(Item::Val(Val::Null))?;
+    frames.push_plain(Cell::ValNull)?;
     Ok(())
 }
 
@@ -26,7 +28,7 @@ pub fn drop_operand<K: Stack<Cell> + Drop>(frames: &mut Frames<K>)
     ensures step { GoesOn Instrs.Pop frames.old.flat frames.new.flat }
     ensures live { StaysLive frames.old.flat frames.new.flat }
 {
-    frames.pop();
+    frames.drop_top();
 }
 
 /// Pushes the top operand, which must be there, once more.
@@ -36,6 +38,11 @@ pub fn duplicate<K: Stack<Cell> + Drop>(frames: &mut Frames<K>) -> Result<(), Al
     ensures live { OnOk result (StaysLive frames.old.flat frames.new.flat) }
 {
     frames.reserve(1)?;
+    let slot = frames.top();
+    if is_plain_operand(slot) {
+        put_slot(frames, slot);
+        return Ok(());
+    }
     let x = frames.pop();
     put(frames, x);
     put(frames, x);
@@ -135,6 +142,20 @@ pub fn put<K: Stack<Cell> + Drop>(frames: &mut Frames<K>, x: Item)
     ensures spare { frames.old.spare ≤ frames.new.spare + 1 }
 {
     match frames.push(x) {
+        Ok(()) => {}
+        Err(_) => unreachable!(),
+    }
+}
+
+/// Puts an operand on a stack that has room for it, by its slot, beside which nothing may be kept. It takes no memory.
+#[inline(always)]
+pub fn put_slot<K: Stack<Cell> + Drop>(frames: &mut Frames<K>, slot: Cell)
+    requires room { 0 < frames.old.spare }
+    requires plain { IsSome (plain_operand slot) }
+    ensures flat { (x : Item) → plain_operand slot ≡ Some x → frames.new.flat ≡ flat.push x frames.old.flat }
+    ensures spare { frames.old.spare ≤ frames.new.spare + 1 }
+{
+    match frames.push_plain(slot) {
         Ok(()) => {}
         Err(_) => unreachable!(),
     }

@@ -2,7 +2,6 @@ pub mod OpNumbers
 pub mod FuncNumbers
 pub mod KeywordNumbers
 pub mod FoundFacts
-pub mod KeptSizes
 pub mod OneObservation
 pub mod Interruptions
 pub mod OnErrors

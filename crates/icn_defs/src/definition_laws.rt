@@ -1,11 +1,8 @@
 // Laws of the tables.
 ghost use Rattle.std.specs.Prelude.{◌≡◌, ℕ, List, Some};
-ghost use Rattle.icn_defs.specs.Applying.{again, function_row, operation_row};
 ghost use Rattle.icn_defs.specs.InputOutput.{put_on};
 ghost use Rattle.icn_defs.specs.Interruptions.{BreaksRun, BreaksRunReading, Ends, IsOutsideOf, Streams, after_reading};
-ghost use Rattle.icn_defs.specs.KeptSizes.{KeepsIn};
 ghost use Rattle.icn_defs.specs.Numbers.{func_of, keyword_of, op_of};
-ghost use Rattle.icn_defs.specs.Rows.{Residual};
 ghost use Rattle.icn_defs.specs.Running.{Observation};
 ghost use Rattle.icn_text.specs.Funcs.{func_number};
 ghost use Rattle.icn_text.specs.Keywords.{keyword_number};
@@ -13,8 +10,8 @@ ghost use Rattle.icn_text.specs.Ops.{op_number};
 ghost use Rattle.icn_text.specs.declared.func.Func.{Func};
 ghost use Rattle.icn_text.specs.declared.keyword.Keyword.{Keyword};
 ghost use Rattle.icn_text.specs.declared.op.Op.{Op};
-ghost use Rattle.icn_value.specs.Store.{Request, Names, Outside, Setting, outside_of};
-ghost use Rattle.icn_value.specs.Values.{File, Item};
+ghost use Rattle.icn_value.specs.Store.{Request, Outside, outside_of};
+ghost use Rattle.icn_value.specs.Values.{File};
 
 /// The number of an operation, a function or a keyword leads back to it, and what a number leads to has that number.
 pub fn numbers_lead_back()
@@ -25,16 +22,6 @@ pub fn numbers_lead_back()
     ensures func_numbers { (n : ℕ) (func : Func) → func_of n ≡ Some func → func_number func ≡ n }
     ensures keyword_numbers { (n : ℕ) (keyword : Keyword) → keyword_of n ≡ Some keyword
         → keyword_number keyword ≡ n }
-{}
-
-/// Where an operation, a function or a resumption goes on, there are as many locals of the activation at hand, globals and statics as before,
-/// and the limits are the same.
-pub fn rows_keep()
-    ensures operations { (op : Op) (items : List Item) (at : Setting)
-        → KeepsIn at (operation_row op items at) }
-    ensures functions { (names : Names) (func : Func) (items : List Item) (at : Setting)
-        → KeepsIn at (function_row names func items at) }
-    ensures resumed { (residual : Residual) (at : Setting) → KeepsIn at (again residual at) }
 {}
 
 /// A run that ended, and one that a failed reading broke off, left first parts of what it puts and takes, as every run that was broken off. A

@@ -4,14 +4,13 @@ use Rattle.std.proofs.lemmas.List.{length-map, take-append-drop}
 use Rattle.std.proofs.lemmas.Bool.Decides.{nat_tests}
 use Rattle.icn_frames.specs.Heights.{cut, cell_at, with_copy}
 use Rattle.icn_frames.specs.declared.layout.Registers.{Registers}
-use Rattle.icn_value.specs.declared.item.Item.{Item}
 use Rattle.icn_frames.specs.declared.layout.Why.{Why}
 use Rattle.icn_frames.specs.declared.layout.Why.TheVariants.{Alt, Op, Scan, Escan, Proc}
 use Rattle.icn_frames.specs.declared.layout.Cell.{Cell}
 use Rattle.icn_frames.specs.declared.layout.Cell.TheVariants.{Base, Call, Local, Mark, Limit, Suspension, Operand}
-use Rattle.icn_frames.specs.Stacks.{FlatStack, copy_up, with_given, given_to, suspend, suspend_mark, suspend_mark_from, suspend_onto, suspend_proc, suspend_proc_from, older_scan, scan_of, scan_by}
+use Rattle.icn_frames.specs.Stacks.{FlatStack, copy_up, suspend, suspend_mark, suspend_mark_from, suspend_onto, suspend_proc, suspend_proc_from, older_scan, scan_of, scan_by}
 use Rattle.icn_frames.specs.StackInvariant.{CellKind, AMark, ASuspension, shape, IsMarked, IsScan, bottom, bottom_from, count_of, KindAt, MayBeAt, MarkOr, RegistersLead, Sound}
-use Rattle.icn_frames.proofs.SoundStacks.{cell_at_top, leads_above, bottom_on, maybe_on, map_drop, sound_suspend, sound_push, copied_is, cut_at, base_within, at_height, shape_at}
+use Rattle.icn_frames.proofs.SoundStacks.{cell_at_top, leads_above, bottom_on, maybe_on, map_drop, sound_suspend, copied_is, cut_at, base_within, at_height, shape_at}
 use Rattle.icn_frames.proofs.CellFacts.{sound_cut, within_cells, kind_of_cell}
 
 -- what a lower part leads to, the whole leads to
@@ -41,33 +40,29 @@ cut_all s = let e : length s - length s ≡ 0 = omega arith in ap (λ (n : ℕ).
 
 -- the code's cells are the definition's
 
-pub hung_is : (x : Cell) (s s' : List Cell) (r0 : Registers) (from to : ℕ) (given : Option Item) → Sound (cut to s) r0 → to ≤ length s
+pub hung_is : (x : Cell) (s s' : List Cell) (r0 : Registers) (from to : ℕ) → Sound (cut to s) r0 → to ≤ length s
     → from ≡ bottom (map shape s) r0
-    → s' ≡ with_given given (with_copy from to (x ∷ s)) → s' ≡ with_given given (copy_up (cut to s) (x ∷ s))
-hung_is x s s' r0 from to given t h e n =
-    n ∙ ap (with_given given) (copied_is x s (cut to s) r0 from to t h refl (e ∙ bottom_lower s to r0 t.stands.leads))
+    → s' ≡ with_copy from to (x ∷ s) → s' ≡ copy_up (cut to s) (x ∷ s)
+hung_is x s s' r0 from to t h e n = n ∙ copied_is x s (cut to s) r0 from to t h refl (e ∙ bottom_lower s to r0 t.stands.leads)
 
-pub sound_given : (given : Option Item) (s : List Cell) (r : Registers) → Sound s r → Sound (with_given given s) r
-sound_given None s r t = t
-sound_given (Some x) s r t = sound_push x s r t
-
-pub sound_hung : (why : Why) (s s' : List Cell) (r r0 : Registers) (place n from to : ℕ) (given : Option Item) (scan : Option ℕ)
+pub sound_hung : (why : Why) (s s' : List Cell) (r r0 : Registers) (place n from to : ℕ) (scan : Option ℕ)
     → Sound s r → Sound (cut to s) r0 → to ≤ length s → from ≡ bottom (map shape s) r0 → n ≡ length s + 1
     → MayBeAt IsScan (map shape (Suspension why r place ∷ s)) scan
-    → s' ≡ with_given given (with_copy from to (Suspension why r place ∷ s)) → Sound s' (record r0 { newest = Some n; scan = scan })
-sound_hung why s s' r r0 place n from to given scan t u h e m k b =
-    subst (λ (w : List Cell). Sound w (record r0 { newest = Some n; scan = scan })) (sym (hung_is (Suspension why r place) s s' r0 from to given u h e b))
-    (sound_given given (copy_up (cut to s) (Suspension why r place ∷ s)) (record r0 { newest = Some n; scan = scan })
-    (sound_suspend why s (cut to s) r r0 place n scan to t refl u (m ∙ add-one (length s)) k))
+    → s' ≡ with_copy from to (Suspension why r place ∷ s) → Sound s' (record r0 { newest = Some n; scan = scan })
+sound_hung why s s' r r0 place n from to scan t u h e m k b =
+    subst (λ (w : List Cell). Sound w (record r0 { newest = Some n; scan = scan })) (sym (hung_is (Suspension why r place) s s' r0 from to u h e b))
+    (sound_suspend why s (cut to s) r r0 place n scan to t refl u (m ∙ add-one (length s)) k)
 
 pub scan_lower : (why : Why) (s : List Cell) (to place : ℕ) (r r0 : Registers) → Sound (cut to s) r0
     → MayBeAt IsScan (map shape (Suspension why r place ∷ s)) r0.scan
 scan_lower why s to place r r0 t = maybe_on IsScan (shape (Suspension why r place)) (map shape s) r0.scan (leads_lower s to r0 t.stands.leads).scan
 
-pub given_is : (given : Option Item) (cells s' : List Cell) (r : Registers) (place : ℕ) → s' ≡ with_given given cells
-    → given_to given (Some (record { cells = cells; registers = r; address = place })) ≡ Some (record { cells = s'; registers = r; address = place })
-given_is None cells s' r place e = let F : List Cell → Option FlatStack = λ w. Some (record { cells = w; registers = r; address = place }) in ap F (sym e)
-given_is (Some x) cells s' r place e = let F : List Cell → Option FlatStack = λ w. Some (record { cells = w; registers = r; address = place }) in ap F (sym e)
+abbrev stack_of : List Cell → Registers → ℕ → Option FlatStack
+stack_of cells r place = Some (record { cells = cells; registers = r; address = place })
+
+-- the code's cells for the definition's
+same_cells : (cells s' : List Cell) (r : Registers) (place : ℕ) → s' ≡ cells → stack_of cells r place ≡ stack_of s' r place
+same_cells cells s' r place e = ap (λ (w : List Cell). stack_of w r place) (sym e)
 
 -- a mark
 
@@ -88,72 +83,72 @@ marked_kind s r x t e k =
     let a : MarkOr (r.mark == r.base) (Some (shape x)) = kind_of_cell (MarkOr (r.mark == r.base)) s r.mark x t.stands.leads.mark k in
     subst (λ (b : Bool). MarkOr b (Some (shape x))) e a
 
-pub suspend_mark_is : (m : FlatStack) (x : Cell) (s' : List Cell) (r0 : Registers) (n from : ℕ) (given : Option Item) → Sound m.cells m.registers
+pub suspend_mark_is : (m : FlatStack) (x : Cell) (s' : List Cell) (r0 : Registers) (n from : ℕ) → Sound m.cells m.registers
     → cell_at (m.registers.mark - 1 + 1) m.cells ≡ Some x → shape x ≡ AMark r0 → Sound (cut (m.registers.mark - 1) m.cells) r0
     → from ≡ bottom (map shape m.cells) r0 → n ≡ length m.cells + 1
-    → s' ≡ with_given given (with_copy from (m.registers.mark - 1) (Suspension Alt m.registers m.address ∷ m.cells))
-    → given_to given (suspend_mark m) ≡ Some (record { cells = s'; registers = record r0 { newest = Some n }; address = m.address })
-suspend_mark_is m x s' r0 n from given t k e u f h b =
+    → s' ≡ with_copy from (m.registers.mark - 1) (Suspension Alt m.registers m.address ∷ m.cells)
+    → suspend_mark m ≡ Some (record { cells = s'; registers = record r0 { newest = Some n }; address = m.address })
+suspend_mark_is m x s' r0 n from t k e u f h b =
     let h1 : 1 ≤ m.registers.mark = t.stands.leads.mark.from in
     let h2 : m.registers.mark ≤ length m.cells = within_cells m.cells m.registers.mark t.stands.leads.mark.to in
     let h3 : m.registers.mark - 1 ≤ length m.cells = omega arith in
-    let F : ℕ → Option FlatStack = λ w. given_to given (Some (record {
+    let F : ℕ → Option FlatStack = λ w. Some (record {
       cells = copy_up (cut (m.registers.mark - 1) m.cells) (Suspension Alt m.registers m.address ∷ m.cells);
       registers = record r0 { newest = Some w };
       address = m.address;
-    })) in
-    ap (λ (w : List Cell). given_to given (suspend_mark_from m w)) (cut_at m.cells m.registers.mark x h1 h2 k)
-    ∙ ap (given_to given) (mark_suspended_is m x (cut (m.registers.mark - 1) m.cells) r0 e)
+    }) in
+    ap (λ (w : List Cell). suspend_mark_from m w) (cut_at m.cells m.registers.mark x h1 h2 k)
+    ∙ mark_suspended_is m x (cut (m.registers.mark - 1) m.cells) r0 e
     ∙ ap F (sym (h ∙ add-one (length m.cells)))
-    ∙ given_is given (copy_up (cut (m.registers.mark - 1) m.cells) (Suspension Alt m.registers m.address ∷ m.cells)) s'
+    ∙ same_cells (copy_up (cut (m.registers.mark - 1) m.cells) (Suspension Alt m.registers m.address ∷ m.cells)) s'
     (record r0 { newest = Some n }) m.address
-    (hung_is (Suspension Alt m.registers m.address) m.cells s' r0 from (m.registers.mark - 1) given u h3 f b)
+    (hung_is (Suspension Alt m.registers m.address) m.cells s' r0 from (m.registers.mark - 1) u h3 f b)
 
 -- a procedure
 
-pub suspend_proc_is : (m : FlatStack) (proc locals level place : ℕ) (s' : List Cell) (r0 : Registers) (n from : ℕ) (given : Option Item)
+pub suspend_proc_is : (m : FlatStack) (proc locals level place : ℕ) (s' : List Cell) (r0 : Registers) (n from : ℕ)
     → Sound m.cells m.registers
     → cell_at (m.registers.base - 1 + 1) m.cells ≡ Some (Call proc locals level r0 place) → Sound (cut (m.registers.base - 1) m.cells) r0
     → from ≡ bottom (map shape m.cells) r0 → n ≡ length m.cells + 1
-    → s' ≡ with_given given (with_copy from (m.registers.base - 1) (Suspension Proc m.registers m.address ∷ m.cells))
-    → given_to given (suspend_proc m) ≡ Some (record { cells = s'; registers = record r0 { newest = Some n }; address = place })
-suspend_proc_is m proc locals level place s' r0 n from given t k u f h b =
+    → s' ≡ with_copy from (m.registers.base - 1) (Suspension Proc m.registers m.address ∷ m.cells)
+    → suspend_proc m ≡ Some (record { cells = s'; registers = record r0 { newest = Some n }; address = place })
+suspend_proc_is m proc locals level place s' r0 n from t k u f h b =
     let h1 : 1 ≤ m.registers.base = t.stands.leads.base.from in
     let h2 : m.registers.base ≤ length m.cells = within_cells m.cells m.registers.base (base_within (map shape m.cells) m.registers.base t.stands.leads.base) in
     let h3 : m.registers.base - 1 ≤ length m.cells = omega arith in
-    let F : ℕ → Option FlatStack = λ w. given_to given (Some (record {
+    let F : ℕ → Option FlatStack = λ w. Some (record {
       cells = copy_up (cut (m.registers.base - 1) m.cells) (Suspension Proc m.registers m.address ∷ m.cells);
       registers = record r0 { newest = Some w };
       address = place;
-    })) in
-    ap (λ (w : List Cell). given_to given (suspend_proc_from m w)) (cut_at m.cells m.registers.base (Call proc locals level r0 place) h1 h2 k)
+    }) in
+    ap (λ (w : List Cell). suspend_proc_from m w) (cut_at m.cells m.registers.base (Call proc locals level r0 place) h1 h2 k)
     ∙ ap F (sym (h ∙ add-one (length m.cells)))
-    ∙ given_is given (copy_up (cut (m.registers.base - 1) m.cells) (Suspension Proc m.registers m.address ∷ m.cells)) s' (record r0 { newest = Some n }) place
-    (hung_is (Suspension Proc m.registers m.address) m.cells s' r0 from (m.registers.base - 1) given u h3 f b)
+    ∙ same_cells (copy_up (cut (m.registers.base - 1) m.cells) (Suspension Proc m.registers m.address ∷ m.cells)) s' (record r0 { newest = Some n }) place
+    (hung_is (Suspension Proc m.registers m.address) m.cells s' r0 from (m.registers.base - 1) u h3 f b)
 
 -- the innermost mark goes on
 
 pub sound_all : (s : List Cell) (r : Registers) → Sound s r → Sound (cut (length s) s) r
 sound_all s r t = subst (λ (w : List Cell). Sound w r) (sym (cut_all s)) t
 
-pub suspend_is : (m : FlatStack) (why : Why) (s' : List Cell) (scan : Option ℕ) (n from : ℕ) (given : Option Item) → Sound m.cells m.registers
+pub suspend_is : (m : FlatStack) (why : Why) (s' : List Cell) (scan : Option ℕ) (n from : ℕ) → Sound m.cells m.registers
     → from ≡ bottom (map shape m.cells) m.registers → n ≡ length m.cells + 1 → scan ≡ scan_by why n (older_scan m.cells m.registers.scan) m.registers.scan
-    → s' ≡ with_given given (with_copy from (length m.cells) (Suspension why m.registers m.address ∷ m.cells))
-    → given_to given (Some (suspend why m)) ≡ Some (record { cells = s'; registers = record m.registers { newest = Some n; scan = scan }; address = m.address })
-suspend_is m why s' scan n from given t f h q b =
+    → s' ≡ with_copy from (length m.cells) (Suspension why m.registers m.address ∷ m.cells)
+    → Some (suspend why m) ≡ Some (record { cells = s'; registers = record m.registers { newest = Some n; scan = scan }; address = m.address })
+suspend_is m why s' scan n from t f h q b =
     let p : length m.cells ≤ length m.cells = omega arith in
-    let F : List Cell → ℕ → Option FlatStack = λ v w. given_to given (Some (record {
+    let F : List Cell → ℕ → Option FlatStack = λ v w. Some (record {
       cells = copy_up v (Suspension why m.registers m.address ∷ m.cells);
       registers = record m.registers { newest = Some w; scan = scan_by why w (older_scan m.cells m.registers.scan) m.registers.scan };
       address = m.address;
-    })) in
+    }) in
     let G : Option ℕ
     → Option FlatStack = λ w. Some (record { cells = s'; registers = record m.registers { newest = Some n; scan = w }; address = m.address }) in
     ap (λ (w : ℕ). F m.cells w) (sym (h ∙ add-one (length m.cells)))
     ∙ ap (λ (v : List Cell). F v n) (sym (cut_all m.cells))
-    ∙ given_is given (copy_up (cut (length m.cells) m.cells) (Suspension why m.registers m.address ∷ m.cells)) s'
+    ∙ same_cells (copy_up (cut (length m.cells) m.cells) (Suspension why m.registers m.address ∷ m.cells)) s'
     (record m.registers { newest = Some n; scan = scan_by why n (older_scan m.cells m.registers.scan) m.registers.scan }) m.address
-    (hung_is (Suspension why m.registers m.address) m.cells s' m.registers from (length m.cells) given (sound_all m.cells m.registers t) p f b)
+    (hung_is (Suspension why m.registers m.address) m.cells s' m.registers from (length m.cells) (sound_all m.cells m.registers t) p f b)
     ∙ ap G (sym q)
 
 -- the scans that are open

@@ -1,13 +1,23 @@
 // The calls of a stack.
-ghost use Rattle.std.specs.Prelude.{◌≡◌, ◌+◌, ◌<◌, ◌≤◌, ◌^◌, ℕ, Option, None, Bool, true, false, OnOk, OnErr, IsOk, IfOk, IsSome, is_some, is_none, length, map, slice_get, slice_set};
+ghost use Rattle.std.specs.Prelude.{◌≡◌, ◌+◌, ◌<◌, ◌≤◌, ◌^◌, ℕ, Option, None, Bool, true, false, OnOk, OnErr, IsOk, IfOk, IfSome, IsSome, is_some, is_none, length, map, slice_get, slice_set};
 ghost use Rattle.icn_frames.specs.Stacks as flat;
+ghost use Rattle.icn_frames.specs.Stacks.{FlatStack};
 ghost use Rattle.icn_frames.specs.StackInvariant.{shape, IsScan, MayBeAt};
+ghost use Rattle.icn_frames.specs.Slots.{plain_operand, plain_local, counting};
+ghost use Rattle.icn_frames.specs.Newest.{IsCounting, IsNewest};
+ghost use Rattle.icn_frames.specs.declared.layout.Why.{Why};
+ghost use Rattle.icn_value.specs.declared.item.Item.TheVariants as Items;
+ghost use Rattle.icn_value.specs.declared.val.Val.TheVariants as Vals;
+ghost use Rattle.icn_value.specs.declared.item.Item.{Item};
+ghost use Rattle.icn_value.specs.declared.val.Val.{Val};
 
-use crate::layout::{Cell, Registers, Why};
+use crate::cells::Cells;
+use crate::layout::{Count, NewestKind, Registers, Why};
+use crate::slots::StackSlot;
 use crate::stack::Stack;
 use crate::steps::{
-    at_frame, bottom_of, hang, is_same, mark_cell, oldest_from, raise, saved_by, scan_after,
-    swap_at,
+    at_frame, bottom_of, hang, hang_count, is_same, older_than, oldest_from, put_locals,
+    scan_after, swap_at,
 };
 use icn_value::{Item, Pair, Val};
 use std::alloc::{AllocError, Global};
@@ -16,43 +26,39 @@ use std::marker::Model;
 /// The stack of one co-expression.
 ///
 /// A clause sees the stack as cells, registers and an address in the code, and for how many more cells there is room. The base,
-/// and each procedure's frame, counts as the outermost mark of what runs in it. Only `new`, `reserve`, `mark`,
-/// `push`, `suspend` and `enter` take memory; after an error, which is want of memory, they leave all but the room as it was,
-/// and the room does not shrink.
+/// and each procedure's frame, counts as the outermost mark of what runs in it. Only `new`, `reserve`, `mark`, `enter` and the
+/// calls that push or suspend take memory; after an error, which is want of memory, they leave all but the room as it was, and
+/// the room does not shrink.
 #[derive(Drop)]
-pub struct Frames<K: Stack<Cell> + Drop> {
-    cells: K,
+pub struct Frames<K: Stack<StackSlot> + Drop> {
+    cells: Cells<K>,
     registers: Registers,
     address: u32,
 }
 
-impl<K: Stack<Cell> + Drop> Model for Frames<K> {
+impl<K: Stack<StackSlot> + Drop> Model for Frames<K> {
     ghost use Rattle.icn_frames.specs.StackInvariant.{SeenStack, Sound};
 
     ghost Value = { SeenStack };
 
     ghost view = { λ m. record {
-      flat = record { cells = K.cells m.cells; registers = m.registers; address = m.address };
-      spare = K.spare m.cells;
+      flat = record { cells = m.cells.cells; registers = m.registers; address = m.address };
+      spare = m.cells.spare;
     } };
 
-    ghost invariant = { λ m. Sound (K.cells m.cells) m.registers };
+    ghost invariant = { λ m. Sound m.cells.cells m.registers };
 }
 
-impl<K: Stack<Cell> + Drop> Frames<K> {
+impl<K: Stack<StackSlot> + Drop> Frames<K> {
     /// A base frame with these locals.
     pub fn new(alloc: Global, proc: u32, locals: &[Val], address: u32) -> Result<Self, AllocError>
         ensures { IfOk result (λ m. m.flat ≡ flat.begin proc locals.now address) }
     {
-        let mut cells = K::empty(alloc);
-        let height = raise(
-            &mut cells,
-            Cell::Base {
-                proc,
-                locals: locals.len() as u64,
-            },
-            locals,
-        )?;
+        let mut cells = Cells::new(alloc);
+        cells.reserve(locals.len() as u64 + 1)?;
+        cells.push_base(proc, locals.len() as u64);
+        let height = cells.len();
+        put_locals(&mut cells, locals);
         Ok(Frames {
             cells,
             registers: at_frame(height),
@@ -64,28 +70,21 @@ impl<K: Stack<Cell> + Drop> Frames<K> {
     pub fn proc(&self) -> u32
         ensures { result ≡ flat.proc self.now.flat }
     {
-        match self.cells.get(self.registers.base - 1) {
-            Cell::Base { proc, .. } => proc,
-            Cell::Call { proc, .. } => proc,
-            _ => unreachable!(),
-        }
+        self.cells.proc_at(self.registers.base - 1)
     }
 
     /// 1, and 1 more for each procedure frame from the running one down to the base.
     pub fn level(&self) -> u64
         ensures { result ≡ flat.level self.now.flat }
     {
-        match self.cells.get(self.registers.base - 1) {
-            Cell::Call { level, .. } => level,
-            _ => 1,
-        }
+        self.cells.level_at(self.registers.base - 1)
     }
 
     /// Whether the running procedure has no caller on this stack.
     pub fn is_base(&self) -> bool
         ensures { result ≡ flat.is_base self.now.flat }
     {
-        matches!(self.cells.get(self.registers.base - 1), Cell::Base { .. })
+        self.cells.is_base_at(self.registers.base - 1)
     }
 
     /// How many locals the running procedure has.
@@ -96,11 +95,7 @@ impl<K: Stack<Cell> + Drop> Frames<K> {
         // Each has a cell of its own, so that nothing changes where all are set to what they are.
         ensures same { flat.set_locals (flat.locals self.now.flat) self.now.flat ≡ self.now.flat }
     {
-        match self.cells.get(self.registers.base - 1) {
-            Cell::Base { locals, .. } => locals,
-            Cell::Call { locals, .. } => locals,
-            _ => unreachable!(),
-        }
+        self.cells.locals_at(self.registers.base - 1)
     }
 
     /// A local of the running procedure, by its index, which must be in range.
@@ -108,10 +103,7 @@ impl<K: Stack<Cell> + Drop> Frames<K> {
         requires { index < flat.local_count self.now.flat }
         ensures { slice_get (flat.locals self.now.flat) index ≡ Some result }
     {
-        match self.cells.get(self.registers.base + index) {
-            Cell::Local(v) => v,
-            _ => unreachable!(),
-        }
+        self.cells.local_at(self.registers.base, index)
     }
 
     /// Sets a local of the running procedure, by its index, which must be in range.
@@ -122,10 +114,26 @@ impl<K: Stack<Cell> + Drop> Frames<K> {
         ensures locals { flat.locals self.new.flat ≡ slice_set (flat.locals self.old.flat) index v }
         ensures spare { self.new.spare ≡ self.old.spare }
     {
-        self.cells.set(self.registers.base + index, Cell::Local(v));
+        self.cells.set_local(self.registers.base, index, v);
+    }
+
+    /// Sets a local of the running procedure, by its index, which must be in range, by the slot of its value, beside which
+    /// nothing may be kept.
+    #[inline(always)]
+    pub fn set_local_plain(&mut self, index: u64, slot: StackSlot)
+        requires there { index < flat.local_count self.old.flat }
+        requires plain { IsSome (plain_local slot) }
+        ensures flat { (v : Val) → plain_local slot ≡ Some v → self.new.flat
+            ≡ flat.set_locals (slice_set (flat.locals self.old.flat) index v) self.old.flat }
+        ensures locals { (v : Val) → plain_local slot ≡ Some v
+            → flat.locals self.new.flat ≡ slice_set (flat.locals self.old.flat) index v }
+        ensures spare { self.new.spare ≡ self.old.spare }
+    {
+        self.cells.set_local_plain(self.registers.base, index, slot);
     }
 
     /// The address of the next instruction.
+    #[inline(always)]
     pub fn address(&self) -> u32
         ensures { result ≡ self.now.flat.address }
     {
@@ -133,6 +141,7 @@ impl<K: Stack<Cell> + Drop> Frames<K> {
     }
 
     /// Goes on at this address.
+    #[inline(always)]
     pub fn go(&mut self, address: u32)
         ensures flat { self.new.flat ≡ flat.go address self.old.flat }
         ensures spare { self.new.spare ≡ self.old.spare }
@@ -158,7 +167,7 @@ impl<K: Stack<Cell> + Drop> Frames<K> {
         ensures succeeds { 0 < self.old.spare → IsOk result }
     {
         self.cells.reserve(1)?;
-        self.cells.push(Cell::Operand(x));
+        self.cells.push_operand(x);
         Ok(())
     }
 
@@ -166,7 +175,7 @@ impl<K: Stack<Cell> + Drop> Frames<K> {
     pub fn has_operand(&self) -> bool
         ensures { result ≡ is_some (flat.pop self.now.flat) }
     {
-        matches!(self.cells.get(self.cells.len() - 1), Cell::Operand(_))
+        self.cells.is_operand_at(self.cells.len() - 1)
     }
 
     /// Takes the top operand, which must be there.
@@ -175,10 +184,67 @@ impl<K: Stack<Cell> + Drop> Frames<K> {
         ensures flat { flat.pop self.old.flat ≡ Some (result, self.new.flat) }
         ensures spare { self.new.spare ≡ self.old.spare + 1 }
     {
-        match self.cells.pop() {
-            Cell::Operand(x) => x,
-            _ => unreachable!(),
-        }
+        self.cells.pop_operand()
+    }
+
+    /// The slot of the top operand, which must be there. Where nothing is kept beside it, it tells the operand.
+    #[inline(always)]
+    pub fn top(&self) -> StackSlot
+        requires { IsSome (flat.pop self.now.flat) }
+        ensures { (x : Item) (rest : FlatStack) → flat.pop self.now.flat ≡ Some (x, rest)
+            → (y : Item) → plain_operand result ≡ Some y → x ≡ y }
+    {
+        self.cells.slot_at(self.cells.len() - 1)
+    }
+
+    /// Puts an operand on top by its slot, beside which nothing may be kept.
+    #[inline(always)]
+    pub fn push_plain(&mut self, slot: StackSlot) -> Result<(), AllocError>
+        requires { IsSome (plain_operand slot) }
+        ensures ok { OnOk result ((x : Item) → plain_operand slot ≡ Some x
+            → self.new.flat ≡ flat.push x self.old.flat) }
+        ensures err { OnErr result (self.new.flat ≡ self.old.flat) }
+        ensures spare { self.old.spare ≤ self.new.spare + 1 }
+        ensures succeeds { 0 < self.old.spare → IsOk result }
+    {
+        self.cells.reserve(1)?;
+        self.cells.push_plain(slot);
+        Ok(())
+    }
+
+    /// Drops the top operand, which must be there.
+    #[inline(always)]
+    pub fn drop_top(&mut self)
+        requires { IsSome (flat.pop self.old.flat) }
+        ensures flat { (x : Item) (rest : FlatStack) → flat.pop self.old.flat ≡ Some (x, rest)
+            → self.new.flat ≡ rest }
+        ensures spare { self.new.spare ≡ self.old.spare + 1 }
+    {
+        self.cells.drop_top();
+    }
+
+    /// Puts another operand in the place of the top one, which must be there, by its slot, beside which nothing may be kept.
+    #[inline(always)]
+    pub fn replace_top(&mut self, slot: StackSlot)
+        requires there { IsSome (flat.pop self.old.flat) }
+        requires plain { IsSome (plain_operand slot) }
+        ensures flat { (x y : Item) (rest : FlatStack) → flat.pop self.old.flat ≡ Some (x, rest)
+            → plain_operand slot ≡ Some y → self.new.flat ≡ flat.push y rest }
+        ensures spare { self.new.spare ≡ self.old.spare }
+    {
+        self.cells.drop_top();
+        self.cells.push_plain(slot);
+    }
+
+    /// The slot of a local of the running procedure, by its index, which must be in range. Where nothing is kept beside
+    /// it, it tells the value.
+    #[inline(always)]
+    pub fn local_slot(&self, index: u64) -> StackSlot
+        requires { index < flat.local_count self.now.flat }
+        ensures { (v : Val) → slice_get (flat.locals self.now.flat) index ≡ Some v
+            → (w : Val) → plain_local result ≡ Some w → v ≡ w }
+    {
+        self.cells.slot_above(self.registers.base, index)
     }
 
     /// Opens a plain mark, or with a count a limit mark.
@@ -189,7 +255,7 @@ impl<K: Stack<Cell> + Drop> Frames<K> {
         ensures succeeds { 0 < self.old.spare → IsOk result }
     {
         self.cells.reserve(1)?;
-        self.cells.push(mark_cell(label, count, self.registers));
+        self.cells.push_mark(label, count, self.registers);
         self.registers = Registers {
             base: self.registers.base,
             mark: self.cells.len(),
@@ -213,17 +279,14 @@ impl<K: Stack<Cell> + Drop> Frames<K> {
     pub fn label(&self) -> Option<u32>
         ensures { result ≡ flat.label self.now.flat }
     {
-        match self.cells.get(self.registers.mark - 1) {
-            Cell::Mark { label, .. } => label,
-            _ => None,
-        }
+        self.cells.label_at(self.registers.mark - 1)
     }
 
     /// Whether the innermost mark is a plain one, which `relabel` wants.
     pub fn is_plain(&self) -> bool
         ensures { (label : ℕ) → result ≡ is_some (flat.relabel label self.now.flat) }
     {
-        matches!(self.cells.get(self.registers.mark - 1), Cell::Mark { .. })
+        self.cells.is_plain_at(self.registers.mark - 1)
     }
 
     /// Sets the label of the innermost mark, which must be a plain one.
@@ -232,38 +295,21 @@ impl<K: Stack<Cell> + Drop> Frames<K> {
         ensures flat { flat.relabel label self.old.flat ≡ Some self.new.flat }
         ensures spare { self.new.spare ≡ self.old.spare }
     {
-        let at = self.registers.mark - 1;
-        match self.cells.get(at) {
-            Cell::Mark { saved, .. } => self.cells.set(
-                at,
-                Cell::Mark {
-                    label: Some(label),
-                    changed: true,
-                    saved,
-                },
-            ),
-            _ => unreachable!(),
-        }
+        self.cells.set_label(self.registers.mark - 1, label);
     }
 
     /// Whether `relabel` set the innermost mark's label.
     pub fn has_new_label(&self) -> bool
         ensures { result ≡ flat.is_relabelled self.now.flat }
     {
-        match self.cells.get(self.registers.mark - 1) {
-            Cell::Mark { changed, .. } => changed,
-            _ => false,
-        }
+        self.cells.is_relabelled_at(self.registers.mark - 1)
     }
 
     /// Whether the innermost mark is a limit mark with a count above 0, which `count_down` wants.
     pub fn has_count(&self) -> bool
         ensures { result ≡ is_some (flat.count_down self.now.flat) }
     {
-        match self.cells.get(self.registers.mark - 1) {
-            Cell::Limit { count, .. } => count > 0,
-            _ => false,
-        }
+        self.cells.count_at(self.registers.mark - 1) > 0
     }
 
     /// Lowers the count of an innermost limit mark, which must be above 0, and gives the new count.
@@ -273,14 +319,9 @@ impl<K: Stack<Cell> + Drop> Frames<K> {
         ensures spare { self.new.spare ≡ self.old.spare }
     {
         let at = self.registers.mark - 1;
-        match self.cells.get(at) {
-            Cell::Limit { count, saved } => {
-                let left = count - 1;
-                self.cells.set(at, Cell::Limit { count: left, saved });
-                left
-            }
-            _ => unreachable!(),
-        }
+        let left = self.cells.count_at(at) - 1;
+        self.cells.set_count(at, left);
+        left
     }
 
     /// Whether an operand is directly below the innermost mark, which `below` gives.
@@ -290,7 +331,7 @@ impl<K: Stack<Cell> + Drop> Frames<K> {
         if self.registers.mark < 2 {
             return false;
         }
-        matches!(self.cells.get(self.registers.mark - 2), Cell::Operand(_))
+        self.cells.is_operand_at(self.registers.mark - 2)
     }
 
     /// The operand directly below the innermost mark, which must be there.
@@ -298,10 +339,17 @@ impl<K: Stack<Cell> + Drop> Frames<K> {
         requires { IsSome (flat.below self.now.flat) }
         ensures { flat.below self.now.flat ≡ Some result }
     {
-        match self.cells.get(self.registers.mark - 2) {
-            Cell::Operand(x) => x,
-            _ => unreachable!(),
-        }
+        self.cells.operand_at(self.registers.mark - 2)
+    }
+
+    /// The slot of the operand directly below the innermost mark, which must be there. Where nothing is kept beside it, it
+    /// tells the operand.
+    #[inline(always)]
+    pub fn below_slot(&self) -> StackSlot
+        requires { IsSome (flat.below self.now.flat) }
+        ensures { (x y : Item) → flat.below self.now.flat ≡ Some x → plain_operand result ≡ Some y → x ≡ y }
+    {
+        self.cells.slot_at(self.registers.mark - 2)
     }
 
     /// Drops the innermost mark, which `mark` opened, with all above it. Gives the pair that the oldest scan saved that was
@@ -312,7 +360,7 @@ impl<K: Stack<Cell> + Drop> Frames<K> {
         ensures spare { self.old.spare ≤ self.new.spare }
     {
         let to = self.registers.mark - 1;
-        let saved = saved_by(self.cells.get(to));
+        let saved = self.cells.saved_at(to);
         let pair = self.pair_since(saved.scan);
         self.cells.cut(to);
         self.registers = saved;
@@ -328,10 +376,102 @@ impl<K: Stack<Cell> + Drop> Frames<K> {
         ensures err { OnErr result (self.new.flat ≡ self.old.flat) }
         ensures spare { OnErr result (self.old.spare ≤ self.new.spare) }
     {
-        match why {
-            Why::Alt => self.suspend_mark(given),
-            Why::Proc => self.suspend_proc(given),
-            _ => self.suspend_here(why, given),
+        self.suspend_bare(&why)?;
+        self.give(given);
+        Ok(())
+    }
+
+    /// Leaves the innermost mark, which must not be the frame, suspended, and pushes the operand of a slot, beside which
+    /// nothing may be kept: `suspend` for `Alt`.
+    pub fn suspend_mark_plain(&mut self, slot: StackSlot) -> Result<(), AllocError>
+        requires goes_on { flat.at_base self.old.flat ≡ false }
+        requires plain { IsSome (plain_operand slot) }
+        ensures ok { OnOk result ((x : Item) → plain_operand slot ≡ Some x
+            → flat.given_to (Some x) (flat.suspend_mark self.old.flat) ≡ Some self.new.flat) }
+        ensures err { OnErr result (self.new.flat ≡ self.old.flat) }
+        ensures spare { OnErr result (self.old.spare ≤ self.new.spare) }
+    {
+        self.suspend_mark()?;
+        self.cells.push_plain(slot);
+        Ok(())
+    }
+
+    /// Suspends the procedure, which must have a caller here, and pushes the operand of a slot, beside which nothing may be
+    /// kept: `suspend` for `Proc`.
+    pub fn suspend_proc_plain(&mut self, slot: StackSlot) -> Result<(), AllocError>
+        requires goes_on { flat.is_base self.old.flat ≡ false }
+        requires plain { IsSome (plain_operand slot) }
+        ensures ok { OnOk result ((x : Item) → plain_operand slot ≡ Some x
+            → flat.given_to (Some x) (flat.suspend_proc self.old.flat) ≡ Some self.new.flat) }
+        ensures err { OnErr result (self.new.flat ≡ self.old.flat) }
+        ensures spare { OnErr result (self.old.spare ≤ self.new.spare) }
+    {
+        self.suspend_proc()?;
+        self.cells.push_plain(slot);
+        Ok(())
+    }
+
+    /// Suspends a count in the innermost mark, and pushes the integer that it gives.
+    pub fn suspend_count(&mut self, count: Count) -> Result<(), AllocError>
+        ensures ok { OnOk result (flat.given_to (Some (Items.Val (Vals.Integer count.given)))
+            (flat.suspend_by (counting count.given count.last count.step) self.old.flat)
+            ≡ Some self.new.flat) }
+        ensures err { OnErr result (self.new.flat ≡ self.old.flat) }
+        ensures spare { OnErr result (self.old.spare ≤ self.new.spare) }
+    {
+        let from = bottom_of(&self.cells, self.registers);
+        let to = self.cells.len();
+        let height = hang_count(
+            &mut self.cells,
+            count,
+            self.registers,
+            self.address,
+            from,
+            to,
+        )?;
+        self.registers.newest = Some(height);
+        self.cells.push_plain(StackSlot::ValInteger(count.given));
+        Ok(())
+    }
+
+    /// What the newest suspension of the innermost mark is, as far as its slot tells.
+    #[inline(always)]
+    pub fn newest_kind(&self) -> NewestKind
+        ensures { IsNewest result self.now.flat }
+    {
+        match self.registers.newest {
+            None => NewestKind::Nothing,
+            Some(height) => self.cells.kind_at(height - 1),
+        }
+    }
+
+    /// The newest suspension of the innermost mark, where it is that of a count and its slot tells so.
+    pub fn newest_count(&self) -> Option<Count>
+        ensures { IfSome result (λ count. IsCounting count self.now.flat) }
+    {
+        match self.registers.newest {
+            None => None,
+            Some(height) => self.cells.count_held_at(height - 1),
+        }
+    }
+
+    /// Resumes the newest suspension of the innermost mark, and does not say why it was suspended. Without one nothing changes.
+    pub fn resume_newest(&mut self)
+        ensures flat { (why : Why) (rest : FlatStack) → flat.resume self.old.flat ≡ Some (why, rest)
+            → self.new.flat ≡ rest }
+        ensures none { self.old.flat.registers.newest ≡ None → self.new.flat ≡ self.old.flat }
+        ensures spare { self.old.spare ≤ self.new.spare }
+    {
+        match self.registers.newest {
+            None => {}
+            Some(height) => {
+                let at = height - 1;
+                let saved = self.cells.saved_at(at);
+                let address = self.cells.address_at(at);
+                self.cells.cut(at);
+                self.registers = saved;
+                self.address = address;
+            }
         }
     }
 
@@ -343,20 +483,9 @@ impl<K: Stack<Cell> + Drop> Frames<K> {
         match self.registers.newest {
             None => None,
             Some(height) => {
-                let at = height - 1;
-                match self.cells.get(at) {
-                    Cell::Suspension {
-                        why,
-                        saved,
-                        address,
-                    } => {
-                        self.cells.cut(at);
-                        self.registers = saved;
-                        self.address = address;
-                        Some(why)
-                    }
-                    _ => unreachable!(),
-                }
+                let why = self.cells.why_at(height - 1);
+                self.resume_newest();
+                Some(why)
             }
         }
     }
@@ -394,14 +523,17 @@ impl<K: Stack<Cell> + Drop> Frames<K> {
         ensures err { OnErr result (self.new.flat ≡ self.old.flat) }
         ensures spare { OnErr result (self.old.spare ≤ self.new.spare) }
     {
-        let frame = Cell::Call {
+        let level = self.level() + 1;
+        self.cells.reserve(locals.len() as u64 + 1)?;
+        self.cells.push_call(
             proc,
-            locals: locals.len() as u64,
-            level: self.level() + 1,
-            saved: self.registers,
-            address: self.address,
-        };
-        let height = raise(&mut self.cells, frame, locals)?;
+            locals.len() as u64,
+            level,
+            self.registers,
+            self.address,
+        );
+        let height = self.cells.len();
+        put_locals(&mut self.cells, locals);
         self.registers = at_frame(height);
         self.address = address;
         Ok(())
@@ -414,37 +546,49 @@ impl<K: Stack<Cell> + Drop> Frames<K> {
         ensures spare { self.old.spare ≤ self.new.spare }
     {
         let at = self.registers.base - 1;
-        match self.cells.get(at) {
-            Cell::Call { saved, address, .. } => {
-                self.cells.cut(at);
-                self.registers = saved;
-                self.address = address;
-            }
-            _ => unreachable!(),
+        let saved = self.cells.saved_at(at);
+        let address = self.cells.return_at(at);
+        self.cells.cut(at);
+        self.registers = saved;
+        self.address = address;
+    }
+
+    // Suspends, by the reason. There is room for a result then.
+    fn suspend_bare(&mut self, why: &Why) -> Result<(), AllocError>
+        requires { flat.GoesOn why.now self.old.flat }
+        ensures ok { OnOk result (flat.suspend_by why.now self.old.flat ≡ Some self.new.flat) }
+        ensures room { OnOk result (0 < self.new.spare) }
+        ensures err { OnErr result (self.new.flat ≡ self.old.flat) }
+        ensures spare { OnErr result (self.old.spare ≤ self.new.spare) }
+    {
+        match why {
+            Why::Alt => self.suspend_mark(),
+            Why::Proc => self.suspend_proc(),
+            _ => self.suspend_here(why),
         }
     }
 
-    // Suspends in the innermost mark, and pushes a result if there is one.
-    fn suspend_here(&mut self, why: Why, given: Option<Item>) -> Result<(), AllocError>
-        ensures ok { OnOk result
-            (flat.given_to given (Some (flat.suspend why self.old.flat)) ≡ Some self.new.flat) }
+    // Pushes a result, if there is one. There must be room for it.
+    fn give(&mut self, given: Option<Item>)
+        requires { 0 < self.old.spare }
+        ensures { flat.given_to given (Some self.old.flat) ≡ Some self.new.flat }
+    {
+        if let Some(x) = given {
+            self.cells.push_operand(x);
+        }
+    }
+
+    // Suspends in the innermost mark. There is room for a result then.
+    fn suspend_here(&mut self, why: &Why) -> Result<(), AllocError>
+        ensures ok { OnOk result (Some (flat.suspend why.now self.old.flat) ≡ Some self.new.flat) }
+        ensures room { OnOk result (0 < self.new.spare) }
         ensures err { OnErr result (self.new.flat ≡ self.old.flat) }
         ensures spare { OnErr result (self.old.spare ≤ self.new.spare) }
     {
         let from = bottom_of(&self.cells, self.registers);
         let to = self.cells.len();
         let older = self.older_scan();
-        let height = hang(
-            &mut self.cells,
-            Cell::Suspension {
-                why,
-                saved: self.registers,
-                address: self.address,
-            },
-            from,
-            to,
-            given,
-        )?;
+        let height = hang(&mut self.cells, why, self.registers, self.address, from, to)?;
         self.registers = Registers {
             base: self.registers.base,
             mark: self.registers.mark,
@@ -454,27 +598,24 @@ impl<K: Stack<Cell> + Drop> Frames<K> {
         Ok(())
     }
 
-    // Leaves the innermost mark suspended, and pushes a result if there is one.
-    fn suspend_mark(&mut self, given: Option<Item>) -> Result<(), AllocError>
+    // Leaves the innermost mark suspended. There is room for a result then.
+    fn suspend_mark(&mut self) -> Result<(), AllocError>
         requires { flat.at_base self.old.flat ≡ false }
-        ensures ok { OnOk result
-            (flat.given_to given (flat.suspend_mark self.old.flat) ≡ Some self.new.flat) }
+        ensures ok { OnOk result (flat.suspend_mark self.old.flat ≡ Some self.new.flat) }
+        ensures room { OnOk result (0 < self.new.spare) }
         ensures err { OnErr result (self.new.flat ≡ self.old.flat) }
         ensures spare { OnErr result (self.old.spare ≤ self.new.spare) }
     {
         let to = self.registers.mark - 1;
-        let saved = saved_by(self.cells.get(to));
+        let saved = self.cells.saved_at(to);
         let from = bottom_of(&self.cells, saved);
         let height = hang(
             &mut self.cells,
-            Cell::Suspension {
-                why: Why::Alt,
-                saved: self.registers,
-                address: self.address,
-            },
+            &Why::Alt,
+            self.registers,
+            self.address,
             from,
             to,
-            given,
         )?;
         self.registers = Registers {
             base: saved.base,
@@ -485,40 +626,34 @@ impl<K: Stack<Cell> + Drop> Frames<K> {
         Ok(())
     }
 
-    // Suspends the procedure, and pushes a result for the caller if there is one.
-    fn suspend_proc(&mut self, given: Option<Item>) -> Result<(), AllocError>
+    // Suspends the procedure. There is room for a result then.
+    fn suspend_proc(&mut self) -> Result<(), AllocError>
         requires { flat.is_base self.old.flat ≡ false }
-        ensures ok { OnOk result
-            (flat.given_to given (flat.suspend_proc self.old.flat) ≡ Some self.new.flat) }
+        ensures ok { OnOk result (flat.suspend_proc self.old.flat ≡ Some self.new.flat) }
+        ensures room { OnOk result (0 < self.new.spare) }
         ensures err { OnErr result (self.new.flat ≡ self.old.flat) }
         ensures spare { OnErr result (self.old.spare ≤ self.new.spare) }
     {
         let to = self.registers.base - 1;
-        match self.cells.get(to) {
-            Cell::Call { saved, address, .. } => {
-                let from = bottom_of(&self.cells, saved);
-                let height = hang(
-                    &mut self.cells,
-                    Cell::Suspension {
-                        why: Why::Proc,
-                        saved: self.registers,
-                        address: self.address,
-                    },
-                    from,
-                    to,
-                    given,
-                )?;
-                self.registers = Registers {
-                    base: saved.base,
-                    mark: saved.mark,
-                    newest: Some(height),
-                    scan: saved.scan,
-                };
-                self.address = address;
-                Ok(())
-            }
-            _ => unreachable!(),
-        }
+        let saved = self.cells.saved_at(to);
+        let address = self.cells.return_at(to);
+        let from = bottom_of(&self.cells, saved);
+        let height = hang(
+            &mut self.cells,
+            &Why::Proc,
+            self.registers,
+            self.address,
+            from,
+            to,
+        )?;
+        self.registers = Registers {
+            base: saved.base,
+            mark: saved.mark,
+            newest: Some(height),
+            scan: saved.scan,
+        };
+        self.address = address;
+        Ok(())
     }
 
     // The scan that is the newest once the newest one is left.
@@ -527,10 +662,7 @@ impl<K: Stack<Cell> + Drop> Frames<K> {
     {
         match self.registers.scan {
             None => None,
-            Some(height) => match self.cells.get(height - 1) {
-                Cell::Suspension { saved, .. } => saved.scan,
-                _ => None,
-            },
+            Some(height) => older_than(&self.cells, height),
         }
     }
 
@@ -540,13 +672,7 @@ impl<K: Stack<Cell> + Drop> Frames<K> {
     {
         match self.oldest(until) {
             None => None,
-            Some(height) => match self.cells.get(height - 1) {
-                Cell::Suspension {
-                    why: Why::Scan(pair),
-                    ..
-                } => Some(pair),
-                _ => None,
-            },
+            Some(height) => Some(self.cells.pair_at(height - 1)),
         }
     }
 

@@ -1,4 +1,4 @@
-// What a stack holds. `Registers` and `Cell` are not printed or compared: only a stack makes and reads them.
+// What a stack holds, as clauses see it. No cell is ever made: a stack keeps slots, and each stands for a cell.
 use icn_value::{Item, Pair, Residual, Val};
 
 /// Why something was suspended.
@@ -14,6 +14,34 @@ pub enum Why {
     Escan,
     /// A procedure suspended.
     Proc,
+}
+
+/// A count that is suspended.
+#[derive(Clone, Copy, Debug, PartialEq, Eq)]
+pub struct Count {
+    /// The integer given last.
+    pub given: i64,
+    /// The end, which is not passed.
+    pub last: i64,
+    /// What is added each time.
+    pub step: i64,
+}
+
+/// What the newest suspension is, as far as it tells without a `Why`.
+#[derive(Clone, Copy, Debug, PartialEq, Eq)]
+pub enum NewestKind {
+    /// There is none.
+    Nothing,
+    /// `Why::Alt`.
+    Alt,
+    /// `Why::Op` of a count.
+    Count,
+    /// `Why::Escan`.
+    Escan,
+    /// `Why::Proc`.
+    Proc,
+    /// It may be any.
+    Other,
 }
 
 /// Where the frame, the marks and the suspensions of what runs stand.
@@ -32,7 +60,7 @@ pub struct Registers {
     pub scan: Option<u64>,
 }
 
-/// One cell. A frame has its locals directly above it.
+/// One cell, as clauses see it. A frame has its locals directly above it.
 #[derive(Clone, Copy)]
 pub enum Cell {
     /// The lowest frame: its procedure, and how many locals it has.

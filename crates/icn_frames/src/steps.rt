@@ -1,30 +1,17 @@
 // What calls do to the cells.
-ghost use Rattle.std.specs.Prelude.{◌≡◌, ◌+◌, ◌≤◌, ◌==◌, ℕ, ◌∷◌, length, map, Option, Bool, OnOk, OnErr, IfOk};
+ghost use Rattle.std.specs.Prelude.{◌≡◌, ◌+◌, ◌<◌, ◌≤◌, ◌==◌, ℕ, ◌∷◌, length, map, Option, Bool, OnOk, OnErr, IfOk};
 ghost use Rattle.icn_frames.specs.Stacks as flat;
+ghost use Rattle.icn_frames.specs.declared.layout.Cell.TheVariants as CellVariants;
 ghost use Rattle.icn_frames.specs.Heights.{with_copy};
-ghost use Rattle.icn_frames.specs.StackInvariant.{shape, AMark, KindAt, IsScan, MayBeAt, Fit, bottom, FrameAt, IsMarked};
+ghost use Rattle.icn_frames.specs.Slots.{counting};
+ghost use Rattle.icn_frames.specs.StackInvariant.{shape, KindAt, IsScan, MayBeAt, Fit, bottom, FrameAt};
 
-use crate::layout::{Cell, Registers, Why};
+use crate::cells::Cells;
+use crate::layout::{Count, Registers, Why};
+use crate::slots::StackSlot;
 use crate::stack::Stack;
-use icn_value::{Item, Pair, Val};
+use icn_value::{Pair, Val};
 use std::alloc::AllocError;
-
-// The cell of a plain mark, or with a count that of a limit mark.
-pub fn mark_cell(label: Option<u32>, count: Option<u64>, registers: Registers) -> Cell
-    ensures { result ≡ flat.opening label count registers }
-{
-    match count {
-        None => Cell::Mark {
-            label,
-            changed: false,
-            saved: registers,
-        },
-        Some(count) => Cell::Limit {
-            count,
-            saved: registers,
-        },
-    }
-}
 
 // The registers of a procedure whose frame is at this height, as it begins.
 pub fn at_frame(height: u64) -> Registers
@@ -38,25 +25,19 @@ pub fn at_frame(height: u64) -> Registers
     }
 }
 
-// Puts a frame on top, with its locals above it, and gives its height.
-pub fn raise<K: Stack<Cell>>(cells: &mut K, frame: Cell, locals: &[Val]) -> Result<u64, AllocError>
-    ensures height { IfOk result (λ height. height ≡ length (K.cells cells.old) + 1) }
-    ensures ok { OnOk result (K.cells cells.new ≡ flat.put_above locals.now (frame ∷ K.cells cells.old)) }
-    ensures err { OnErr result (K.cells cells.new ≡ K.cells cells.old) }
-    ensures spare { OnErr result (K.spare cells.old ≤ K.spare cells.new) }
+// Puts locals on top, for which there must be room.
+pub fn put_locals<K: Stack<StackSlot> + Drop>(cells: &mut Cells<K>, locals: &[Val])
+    requires { length locals.now ≤ cells.old.spare }
+    ensures { cells.new.cells ≡ flat.put_above locals.now cells.old.cells }
 {
-    cells.reserve(locals.len() as u64 + 1)?;
-    cells.push(frame);
-    let height = cells.len();
     for v in locals {
-        cells.push(Cell::Local(*v));
+        cells.push_local(*v);
     }
-    Ok(height)
 }
 
 // The newest open scan after a suspension.
-pub fn scan_after(why: Why, height: u64, older: Option<u64>, scan: Option<u64>) -> Option<u64>
-    ensures { result ≡ flat.scan_by why height older scan }
+pub fn scan_after(why: &Why, height: u64, older: Option<u64>, scan: Option<u64>) -> Option<u64>
+    ensures { result ≡ flat.scan_by why.now height older scan }
 {
     match why {
         Why::Scan(_) => Some(height),
@@ -66,19 +47,15 @@ pub fn scan_after(why: Why, height: u64, older: Option<u64>, scan: Option<u64>) 
 }
 
 // The height of the highest cell below the operands of the mark in these registers.
-pub fn bottom_of<K: Stack<Cell>>(cells: &K, r: Registers) -> u64
-    requires { FrameAt (map shape (K.cells cells.now)) r.base }
-    ensures { result ≡ bottom (map shape (K.cells cells.now)) r }
+pub fn bottom_of<K: Stack<StackSlot> + Drop>(cells: &Cells<K>, r: Registers) -> u64
+    requires { FrameAt (map shape cells.now.cells) r.base }
+    ensures { result ≡ bottom (map shape cells.now.cells) r }
 {
     match r.newest {
         Some(height) => height,
         None => {
             if r.mark == r.base {
-                match cells.get(r.base - 1) {
-                    Cell::Base { locals, .. } => r.base + locals,
-                    Cell::Call { locals, .. } => r.base + locals,
-                    _ => unreachable!(),
-                }
+                r.base + cells.locals_at(r.base - 1)
             } else {
                 r.mark
             }
@@ -86,42 +63,56 @@ pub fn bottom_of<K: Stack<Cell>>(cells: &K, r: Registers) -> u64
     }
 }
 
-// Puts a frame on top, the cells between two heights above it, and maybe a result, and gives the frame's height.
-pub fn hang<K: Stack<Cell>>(
-    cells: &mut K,
-    frame: Cell,
+// Puts a suspension on top, with the cells between two heights above it, and gives the suspension's height. There is room
+// for a result then.
+pub fn hang<K: Stack<StackSlot> + Drop>(
+    cells: &mut Cells<K>,
+    why: &Why,
+    saved: Registers,
+    address: u32,
     from: u64,
     to: u64,
-    given: Option<Item>,
 ) -> Result<u64, AllocError>
     requires order { from ≤ to }
-    requires within { to ≤ length (K.cells cells.old) }
-    ensures height { IfOk result (λ height. height ≡ length (K.cells cells.old) + 1) }
-    ensures ok { OnOk result
-        (K.cells cells.new ≡ flat.with_given given (with_copy from to (frame ∷ K.cells cells.old))) }
-    ensures err { OnErr result (K.cells cells.new ≡ K.cells cells.old) }
-    ensures spare { OnErr result (K.spare cells.old ≤ K.spare cells.new) }
+    requires within { to ≤ length cells.old.cells }
+    ensures height { IfOk result (λ height. height ≡ length cells.old.cells + 1) }
+    ensures ok { OnOk result (cells.new.cells
+        ≡ with_copy from to (CellVariants.Suspension why.now saved address ∷ cells.old.cells)) }
+    ensures room { OnOk result (0 < cells.new.spare) }
+    ensures err { OnErr result (cells.new.cells ≡ cells.old.cells) }
+    ensures spare { OnErr result (cells.old.spare ≤ cells.new.spare) }
 {
+    let height = cells.len() + 1;
     cells.reserve(to - from + 2)?;
-    cells.push(frame);
-    let height = cells.len();
+    cells.push_suspension(why, saved, address);
     cells.copy_up(from, to);
-    if let Some(x) = given {
-        cells.push(Cell::Operand(x));
-    }
     Ok(height)
 }
 
-// The registers outside a mark.
-pub fn saved_by(cell: Cell) -> Registers
-    requires { IsMarked (Some (shape cell)) }
-    ensures { shape cell ≡ AMark result }
+// The same with the suspension of a count.
+pub fn hang_count<K: Stack<StackSlot> + Drop>(
+    cells: &mut Cells<K>,
+    count: Count,
+    saved: Registers,
+    address: u32,
+    from: u64,
+    to: u64,
+) -> Result<u64, AllocError>
+    requires order { from ≤ to }
+    requires within { to ≤ length cells.old.cells }
+    ensures height { IfOk result (λ height. height ≡ length cells.old.cells + 1) }
+    ensures ok { OnOk result (cells.new.cells
+        ≡ with_copy from to (CellVariants.Suspension (counting count.given count.last count.step) saved
+        address ∷ cells.old.cells)) }
+    ensures room { OnOk result (0 < cells.new.spare) }
+    ensures err { OnErr result (cells.new.cells ≡ cells.old.cells) }
+    ensures spare { OnErr result (cells.old.spare ≤ cells.new.spare) }
 {
-    match cell {
-        Cell::Mark { saved, .. } => saved,
-        Cell::Limit { saved, .. } => saved,
-        _ => unreachable!(),
-    }
+    let height = cells.len() + 1;
+    cells.reserve(to - from + 2)?;
+    cells.push_count(count, saved, address);
+    cells.copy_up(from, to);
+    Ok(height)
 }
 
 // Whether two heights are one, or neither is there.
@@ -136,11 +127,15 @@ pub fn is_same(a: Option<u64>, b: Option<u64>) -> bool
 }
 
 // From an open scan through older ones to the last before a given one.
-pub fn oldest_from<K: Stack<Cell>>(cells: &K, until: Option<u64>, scan: Option<u64>) -> Option<u64>
-    requires fit { Fit (map shape (K.cells cells.now)) }
-    requires scan { MayBeAt IsScan (map shape (K.cells cells.now)) scan }
-    ensures value { result ≡ flat.oldest_from (length (K.cells cells.now)) (K.cells cells.now) until scan }
-    ensures there { MayBeAt IsScan (map shape (K.cells cells.now)) result }
+pub fn oldest_from<K: Stack<StackSlot> + Drop>(
+    cells: &Cells<K>,
+    until: Option<u64>,
+    scan: Option<u64>,
+) -> Option<u64>
+    requires fit { Fit (map shape cells.now.cells) }
+    requires scan { MayBeAt IsScan (map shape cells.now.cells) scan }
+    ensures value { result ≡ flat.oldest_from (length cells.now.cells) cells.now.cells until scan }
+    ensures there { MayBeAt IsScan (map shape cells.now.cells) result }
 {
     let mut at = scan;
     while let Some(height) = at {
@@ -153,40 +148,21 @@ pub fn oldest_from<K: Stack<Cell>>(cells: &K, until: Option<u64>, scan: Option<u
     None
 }
 
-// The scan that was the newest when a suspension frame was made.
-pub fn older_than<K: Stack<Cell>>(cells: &K, height: u64) -> Option<u64>
-    requires from { 1 ≤ height }
-    requires to { height ≤ length (K.cells cells.now) }
-    ensures { result ≡ flat.older_scan (K.cells cells.now) (Some height) }
+// The scan that was the newest when another was opened.
+pub fn older_than<K: Stack<StackSlot> + Drop>(cells: &Cells<K>, height: u64) -> Option<u64>
+    requires { KindAt IsScan (map shape cells.now.cells) height }
+    ensures { result ≡ flat.older_scan cells.now.cells (Some height) }
 {
-    match cells.get(height - 1) {
-        Cell::Suspension { saved, .. } => saved.scan,
-        _ => None,
-    }
+    cells.saved_at(height - 1).scan
 }
 
 // Exchanges the pair of a scan's frame.
-pub fn swap_at<K: Stack<Cell>>(cells: &mut K, height: u64, pair: Pair) -> Pair
-    requires { KindAt IsScan (map shape (K.cells cells.old)) height }
-    ensures swaps { flat.SwapsAt height pair (K.cells cells.old) result (K.cells cells.new) }
-    ensures spare { K.spare cells.new ≡ K.spare cells.old }
+pub fn swap_at<K: Stack<StackSlot> + Drop>(cells: &mut Cells<K>, height: u64, pair: Pair) -> Pair
+    requires { KindAt IsScan (map shape cells.old.cells) height }
+    ensures swaps { flat.SwapsAt height pair cells.old.cells result cells.new.cells }
+    ensures spare { cells.new.spare ≡ cells.old.spare }
 {
-    match cells.get(height - 1) {
-        Cell::Suspension {
-            why: Why::Scan(old),
-            saved,
-            address,
-        } => {
-            cells.set(
-                height - 1,
-                Cell::Suspension {
-                    why: Why::Scan(pair),
-                    saved,
-                    address,
-                },
-            );
-            old
-        }
-        _ => unreachable!(),
-    }
+    let old = cells.pair_at(height - 1);
+    cells.set_pair(height - 1, pair);
+    old
 }

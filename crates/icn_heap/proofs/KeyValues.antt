@@ -8,7 +8,7 @@ use Rattle.icn_value.specs.Members.{members_of}
 use Rattle.icn_value.specs.declared.cset.Cset.{Cset}
 use Rattle.icn_value.specs.declared.val.File.TheVariants.{Input, Output, Errout}
 use Rattle.icn_value.proofs.SameValues.{same_is, same_self}
-use Rattle.icn_value.proofs.CsetMembers.{bits_alike}
+use Rattle.icn_value.proofs.CsetMembers.{words_alike}
 use Rattle.icn_heap.specs.Keys.{key_value, IsKey}
 use Rattle.icn_heap.specs.KeyTests.{key_eq}
 use Rattle.icn_heap.specs.declared.key.Key.{Key}
@@ -40,8 +40,8 @@ bytes_in (TextValue bytes) = bytes
 bytes_in (CharsValue bytes) = bytes
 bytes_in value = []
 
-same_cset : (a b : Cset) → a.bits ≡ b.bits → a ≡ b
-same_cset a b is = ap (λ bits. let c : Cset = record { bits = bits } in c) is
+same_cset : (a b : Cset) → a.words ≡ b.words → a ≡ b
+same_cset a b is = ap (λ words. let c : Cset = record { words = words } in c) is
 
 pub same_keys : (a b : Key) → IsKey a → IsKey b → same (key_value a) (key_value b) ≡ key_eq a b
 unfolding key_eq number_in integer_in bytes_in
@@ -51,8 +51,8 @@ same_keys (Text a) (Text b) is is' =
     decided _ _ _ (λ e. (bytes_eq-Decides a.items b.items).1 (ap bytes_in e)) (λ t. ap TextValue ((bytes_eq-Decides a.items b.items).0 t))
 same_keys (Chars a) (Chars b) is is' =
     decided _ _ _
-    (λ e. (bytes_eq-Decides a.bits b.bits).1 (bits_alike a b is.formed.length is'.formed.length is.formed.bytes is'.formed.bytes (ap bytes_in e)))
-    (λ t. ap (λ cset. CharsValue (members_of cset)) (same_cset a b ((bytes_eq-Decides a.bits b.bits).0 t)))
+    (λ e. (bytes_eq-Decides a.words b.words).1 (words_alike a b is.formed.length is'.formed.length is.formed.words is'.formed.words (ap bytes_in e)))
+    (λ t. ap (λ cset. CharsValue (members_of cset)) (same_cset a b ((bytes_eq-Decides a.words b.words).0 t)))
 same_keys (Std Input) (Std Input) is is' = refl
 same_keys (Std Input) (Std Output) is is' = refl
 same_keys (Std Input) (Std Errout) is is' = refl

@@ -12,7 +12,7 @@ unfoldable pub key_eq : Key → Key → Bool
 key_eq Null Null = true
 key_eq (Integer a) (Integer b) = int_eq a b
 key_eq (Text a) (Text b) = bytes_eq a.items b.items
-key_eq (Chars a) (Chars b) = bytes_eq a.bits b.bits
+key_eq (Chars a) (Chars b) = bytes_eq a.words b.words
 key_eq (Std a) (Std b) = file_rank (file_of a) == file_rank (file_of b)
 key_eq (Proc a) (Proc b) = a == b
 key_eq (Rec a) (Rec b) = a == b

@@ -1,5 +1,5 @@
 -- Keys as values.
-use Rattle.std.specs.Prelude.{◌≡◌, ◌<◌, length}
+use Rattle.std.specs.Prelude.{◌≡◌, ◌<◌, ◌^◌, length}
 use Rattle.std.specs.List.{All}
 use Rattle.std.specs.Coded.{Unit-prop}
 use Rattle.std.proofs.Props.{props}
@@ -31,10 +31,10 @@ key_value (Set id) = ASet id
 key_value (Table id) = ATable id
 key_value (Coexp id) = ACoexp id
 
--- the truth values stand in 32 bytes
+-- the truth values stand in four words
 pub record IsCset (cset : Cset) : Type 0 where
-  pub length : length cset.bits ≡ 32
-  pub bytes : All (λ byte. byte < 256) cset.bits
+  pub length : length cset.words ≡ 4
+  pub words : All (λ word. word < 2 ^ 64) cset.words
 
 abbrev pub IsKeyBy : Key → Type 0
 IsKeyBy (Chars cset) = IsCset cset

@@ -1,5 +1,5 @@
 // Values as keys of tables and members of sets.
-ghost use Rattle.std.specs.Prelude.{◌≡◌, ◌<◌, length, IfOk};
+ghost use Rattle.std.specs.Prelude.{◌≡◌, ◌<◌, ◌^◌, length, IfOk};
 ghost use Rattle.std.specs.List.{All};
 ghost use Rattle.icn_value.specs.Values.{Text, Chars};
 ghost use Rattle.icn_value.specs.Members.{members_of};
@@ -39,19 +39,19 @@ pub fn chars_key(cset: Cset) -> Key
     ensures value { key_value result ≡ Chars (members_of cset) }
     ensures formed { IsKey result }
 {
-    bits_of_bytes(&cset.bits);
+    words_of_cset(&cset.words);
     Key::Chars(cset)
 }
 
-// The truth values of a cset stand in 32 bytes. A call does nothing: it tells a caller's proof so.
-fn bits_of_bytes(bits: &[u8; 32])
-    ensures len { length bits.now ≡ 32 }
-    ensures bytes { All (λ byte. byte < 256) bits.now }
+// The truth values of a cset stand in four words. A call does nothing: it tells a caller's proof so.
+fn words_of_cset(words: &[u64; 4])
+    ensures len { length words.now ≡ 4 }
+    ensures words { All (λ word. word < 2 ^ 64) words.now }
 {
-    are_bytes(bits);
+    are_words(words);
 }
 
-// Each item of a slice of bytes is one.
-fn are_bytes(bytes: &[u8])
-    ensures { All (λ byte. byte < 256) bytes.now }
+// Each item of a slice of words is one.
+fn are_words(words: &[u64])
+    ensures { All (λ word. word < 2 ^ 64) words.now }
 {}

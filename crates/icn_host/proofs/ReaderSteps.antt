@@ -1,13 +1,13 @@
 -- How reads add up.
-use Rattle.std.proofs.Common.{◌≡◌, ◌≤◌, ◌<◌, ◌+◌, ◌-◌, ℕ, min, List, ◌++◌, length, take, drop, Option, None, Some, sym, ◌∙◌, refl, [], append-nil, ap, append_assoc, take-append-drop, arith, length-append}
+use Rattle.std.proofs.Common.{◌≡◌, ◌≤◌, ◌<◌, ◌+◌, ◌-◌, ℕ, min, List, ◌++◌, length, take, drop, Option, None, Some, sym, ◌∙◌, refl, subst, [], append-nil, ap, append_assoc, take-append-drop, arith, length-append}
 use Rattle.std.specs.Io.KnownBytes.{Consumes}
-use Rattle.std.proofs.lemmas.List.{length-take-le, take-append-le, take_all, take_min}
+use Rattle.std.proofs.lemmas.List.{length-take-le, take-append-le, take_all, take_min, take-take}
 use Rattle.std.proofs.Math.Seq.{take-append-add}
 use Rattle.std.specs.Io.KnownBytes.{IsAtEnd, Keeps}
 use Rattle.std.specs.List.{slice_range}
 use Rattle.std.proofs.lemmas.List.{drop_all, drop-drop, length-take, length-drop}
 use Rattle.std.proofs.Math.Seq.{drop-append_seam, take-append_seam, take-add}
-use Rattle.icn_host.specs.Readers.{HasRead, HasTaken, left_of}
+use Rattle.icn_host.specs.Readers.{HasRead, HasTaken, ReadsFirstPart, left_of}
 use Rattle.icn_host.specs.Sources.{TakesFirst, TakesFirstPart}
 
 pub both : (a b c : Option (List ℕ)) (xs ys : List ℕ) → Consumes a b xs → Consumes b c ys → Consumes a c (xs ++ ys)
@@ -44,6 +44,26 @@ read_on {a} {b} {c} {had} {has} {most} {room} now buffer n count h some consumes
           ∙ (append_assoc had given (take count buffer) ∙ ap (λ s. had ++ s) (sym more)));
       left = omega arith;
     }
+
+read_first_part : (a b c : Option (List ℕ)) (given had has : List ℕ) (most : ℕ) → Consumes a b given → has ≡ had ++ take most given
+    → ReadsFirstPart a most had has
+read_first_part None b c given had has most g e = tt
+read_first_part (Some xs) None c given had has most g e = absurd g
+read_first_part (Some xs) (Some ys) c given had has most g e =
+    let n : ℕ = min most (length given) in (
+      n,
+      e ∙ ap (λ s. had ++ s) (sym (take_min most given) ∙ (sym (take-append-le n given ys (omega arith))
+          ∙ (ap (λ s. take n s) (sym g) ∙ sym (take-take n most xs (omega arith))))),
+    )
+
+read_part : {a b : Option (List ℕ)} {had has : List ℕ} {most room : ℕ} → HasRead a b had has most room → ReadsFirstPart a most had has
+read_part {a} {b} {had} {has} {most} {room} h = read_first_part a b b h.given had has most h.consumes h.appended
+
+-- a read that gave up after a part
+pub read_part_of : {a b : Option (List ℕ)} {had has : List ℕ} {start room : ℕ} (most : ℕ) (now : List ℕ) → HasRead a b had has (start + 1) room
+    → start ≡ most → now ≡ has → ReadsFirstPart a (most + 1) had now
+read_part_of {a} {b} {had} {has} {start} {room} most now h same is =
+    subst (λ s. ReadsFirstPart a (most + 1) had s) (sym is) (subst (λ m. ReadsFirstPart a (m + 1) had has) same (read_part h))
 
 pub keeps_after : (a b c : Option (List ℕ)) (xs : List ℕ) → Consumes a b xs → Keeps b c → Consumes a c xs
 keeps_after None b c xs g h = tt

@@ -3,6 +3,7 @@ use Rattle.std.specs.Prelude.{◌≡◌, ◌⊎◌, ◌<◌, ℕ, All, List, [],
 use Rattle.std.specs.BTreeMap.{BTreeMap, get_by_text}
 use Rattle.std.specs.Map.{update}
 use Rattle.std.specs.Option.{option_map}
+use Rattle.std.specs.Io.KnownBytes.{append_known}
 use Rattle.std.specs.Str.{bytes_eq}
 
 -- the content of the file of each name, if there is one
@@ -48,6 +49,38 @@ pub record SetsFile (before after : Option FileMap) (name bytes : List ℕ) : Ty
 pub record SetsPart (before after : Option FileMap) (name bytes : List ℕ) : Type 0 where
   pub follows : Follows before after (λ old new. (content : Option (List ℕ))
       × IsLeftBehind (old name) bytes content × Changes old new name content)
+
+-- the file of this name, where there is one, has these bytes more
+pub record GrowsFile (before after : Option FileMap) (name bytes : List ℕ) : Type 0 where
+  pub follows : Follows before after (λ old new. Changes old new name (append_known (old name) bytes))
+
+-- the file of this name, where there is one, has some first part of these bytes more
+pub record GrowsFilePart (before after : Option FileMap) (name bytes : List ℕ) : Type 0 where
+  pub count : ℕ
+  pub grows : GrowsFile before after name (take count bytes)
+
+-- each name holds what it held
+pub record KeepsFiles (before after : Option FileMap) : Type 0 where
+  pub follows : Follows before after (λ old new. (q : List ℕ) → new q ≡ old q)
+
+-- no file has the name any more
+pub record TakesAway (before after : Option FileMap) (name : List ℕ) : Type 0 where
+  pub follows : Follows before after (λ old new. Changes old new name None)
+
+-- the second name holds what the first held, which holds nothing now; where both are one, it stays
+pub record MovesFile (before after : Option FileMap) (source target : List ℕ) : Type 0 where
+  pub follows : Follows before after (λ old new. (q : List ℕ)
+      → new q ≡ update bytes_eq (update bytes_eq old source None) target (old source) q)
+
+-- a reader of the file of this name tells what it holds
+abbrev pub TellsFile : Option FileMap → List ℕ → Option (List ℕ) → Type 0
+TellsFile held name remaining =
+    IfSome held (λ files. (bytes : List ℕ) × (files name ≡ Some bytes) × (remaining ≡ Some bytes))
+
+-- a new file stands under a name that none had, and it is empty
+pub record MakesFile (before after : Option FileMap) (name : List ℕ) : Type 0 where
+  pub free : NotHeld before name
+  pub empty : SetsFile before after name []
 
 -- what a map of texts to bytes holds for each name
 abbrev pub file_map : {Y Z : Type 0} → BTreeMap (String Y) (Vec ℕ Z) → FileMap

@@ -1,6 +1,7 @@
 pub mod Buffers
 pub mod CountsAtFault
 pub mod Counts
+pub mod Drafts
 pub mod FileMaps
 pub mod Plans
 pub mod Puts

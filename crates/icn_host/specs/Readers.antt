@@ -1,5 +1,5 @@
 -- How far a loop has read.
-use Rattle.std.specs.Prelude.{◌≡◌, ℕ, ◌+◌, ◌-◌, List, ◌++◌, length, take, Option}
+use Rattle.std.specs.Prelude.{◌≡◌, ℕ, ◌+◌, ◌-◌, List, ◌++◌, length, take, Option, IfSome}
 use Rattle.std.specs.List.{slice_range, position_or_len}
 use Rattle.icn_host.specs.Sources.{is_newline}
 use Rattle.icn_host.specs.declared.input.Ahead.{Ahead}
@@ -12,6 +12,14 @@ pub record HasRead (before after : Option (List ℕ)) (had has : List ℕ) (most
   pub consumes : Consumes before after given
   pub appended : has ≡ had ++ take most given
   pub left : room ≡ most - length given
+
+-- the first bytes that a reader has left, up to so many, were appended, where it tells them
+abbrev pub ReadsFirst : Option (List ℕ) → ℕ → List ℕ → List ℕ → Type 0
+ReadsFirst before count had has = IfSome before (λ bytes. has ≡ had ++ take count bytes)
+
+-- a part of them was appended
+abbrev pub ReadsFirstPart : Option (List ℕ) → ℕ → List ℕ → List ℕ → Type 0
+ReadsFirstPart before count had has = IfSome before (λ bytes. (n : ℕ) × (has ≡ had ++ take n (take count bytes)))
 
 -- what is left of some bytes, from one place up to another, and of the reader behind them
 abbrev pub left_of : List ℕ → ℕ → ℕ → Option (List ℕ) → Option (List ℕ)

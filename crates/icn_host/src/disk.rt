@@ -1,34 +1,45 @@
-// The files of the system as a store. It doesn't tell what they hold.
-ghost use Rattle.std.specs.Prelude.{◌≡◌, ◌+◌, ◌-◌, ◌^◌, ◌≤◌, ◌++◌, min, take, None, OnOk, IfSome, IsErrOf, vec_len};
+// The files of a file system as a store.
+ghost use Rattle.std.specs.Prelude.{◌≡◌, ◌+◌, ◌≤◌, IfOk, IfSome, IsNone, OnOk, OnErr, IsErrOf, vec_len};
 ghost use Rattle.icn_host.specs.Buffers.{Extends};
+ghost use Rattle.icn_host.specs.FileMaps.{NotHeld, Reads, ReadsPart, TellsFile};
+ghost use Rattle.icn_host.specs.Readers.{ReadsFirst, ReadsFirstPart};
 
 use crate::fault::{Fault, ReadFailure};
-use crate::retry::{fault_of, open, read_some, write_whole};
+use crate::retry::{RETRIES, fault_of, read_some};
+use crate::system::FileSystem;
 use crate::traits::Files;
-use std::fs::{OpenFile, OpenOptions};
+use crate::whole::write_file;
+use std::alloc::Global;
 use std::io::{ErrorKind, Read};
-use std::rt;
 
-/// The files of the system. A name is a path.
+/// The files of a file system. A name is a path. Where the system tells what it holds, the store tells it.
 ///
 /// The count of absences rises at each read of a file that is not there, also where the system can hold none under the name: it
 /// names a folder, a folder on its way is none, it is too long or has a byte 0. The count of faults rises at each other error of
 /// the system but want of memory, and at an interruption after 1000 others in a row.
+///
+/// A file is written whole: its content is written under a name of its own in the same folder, `.icn-draft-0` or with a greater
+/// number, which then takes the name's place. So a reader sees the old content or the new one, and after a failure the old one
+/// is there and no draft. A file keeps its permissions. In place is written what is no file of its own (a link, a device, a
+/// pipe), and where the folder takes no new file or name; then a failure may leave a part.
 #[derive(Drop)]
-pub struct DiskFiles<R> {
-    rt: R,
+pub struct DiskFiles<S> {
+    alloc: Global,
+    system: S,
     faults: u64,
     absences: u64,
 }
 
-impl<R: rt::Files> DiskFiles<R> {
-    /// The files that this runtime reaches. None is opened yet.
-    pub fn new(rt: R) -> Self
-        ensures faults { ⟦<DiskFiles<R> as Files>⟧.faults result ≡ 0 }
-        ensures absences { ⟦<DiskFiles<R> as Files>⟧.absences result ≡ 0 }
+impl<S: FileSystem> DiskFiles<S> {
+    /// The files of this system. None is opened yet.
+    pub fn new(alloc: Global, system: S) -> Self
+        ensures held { ⟦<DiskFiles<S> as Files>⟧.held result ≡ S.held system }
+        ensures faults { ⟦<DiskFiles<S> as Files>⟧.faults result ≡ 0 }
+        ensures absences { ⟦<DiskFiles<S> as Files>⟧.absences result ≡ 0 }
     {
         DiskFiles {
-            rt,
+            alloc,
+            system,
             faults: 0,
             absences: 0,
         }
@@ -37,87 +48,75 @@ impl<R: rt::Files> DiskFiles<R> {
 
 // Appends the first `most + 1` bytes that are left, or all of them.
 fn read_first<R: Read>(reader: &mut R, most: u64, into: &mut Vec<u8>) -> Result<(), Fault>
-    ensures ok { OnOk result (IfSome (R.remaining reader.old)
-        (λ xs. into.new.items ≡ into.old.items ++ take (min (most + 1) (2 ^ 64 - 1)) xs)) }
+    ensures ok { OnOk result
+        (ReadsFirst (R.remaining reader.old) (most + 1) into.old.items into.new.items) }
+    ensures err { OnErr result
+        (ReadsFirstPart (R.remaining reader.old) (most + 1) into.old.items into.new.items) }
     ensures kept { Extends into.old.items into.new.items }
     ensures within { vec_len into.new ≤ vec_len into.old + (most + 1) }
 {
     let mut buffer = [0; 4096];
-    let mut room = most.saturating_add(1);
+    let mut room = u128::from(most) + 1;
     while room > 0 {
         let n = read_some(reader, &mut buffer)?;
         if n == 0 {
             return Ok(());
         }
-        let count = room.min(n as u64);
+        let count = room.min(n as u128);
         into.extend_from_slice(&buffer[..count as usize])?;
         room -= count;
     }
     Ok(())
 }
 
-fn read_file<R: rt::Files>(
-    rt: &R,
+fn read_file<S: FileSystem>(
+    system: &mut S,
     name: &str,
     most: u64,
     into: &mut Vec<u8>,
 ) -> Result<(), ReadFailure>
+    ensures ok { OnOk result
+        (Reads (S.held system.old) name.now (most + 1) into.old.items into.new.items) }
+    ensures err { OnErr result
+        (ReadsPart (S.held system.old) name.now (most + 1) into.old.items into.new.items) }
     ensures kept { Extends into.old.items into.new.items }
     ensures within { vec_len into.new ≤ vec_len into.old + (most + 1) }
+    ensures absent { IsErrOf result ReadFailure.NotThere → NotHeld (S.held system.old) name.now }
     ensures nothing { IsErrOf result ReadFailure.NotThere → into.new.items ≡ into.old.items }
+    ensures same { S.held system.new ≡ S.held system.old }
 {
-    let mut options = OpenOptions::new();
-    options.read(true);
-    match open(rt, &options, name) {
-        Ok(mut file) => {
-            if is_folder(&file)? {
-                return Err(ReadFailure::NotThere);
-            }
-            Ok(read_first(&mut file, most, into)?)
+    match open(system, name)? {
+        Some(mut reader) => Ok(read_first(&mut reader, most, into)?),
+        None => Err(ReadFailure::NotThere),
+    }
+}
+
+// Opens a file to read it. `None` where no file has the name.
+fn open<S: FileSystem>(system: &mut S, name: &str) -> Result<Option<S::Reader>, Fault>
+    ensures told { IfOk result (λ found. IfSome found
+        (λ reader. TellsFile (S.held system.old) name.now (S.Reader.remaining reader))) }
+    ensures absent { IfOk result (λ found. IsNone found → NotHeld (S.held system.old) name.now) }
+    ensures same { S.held system.new ≡ S.held system.old }
+{
+    for _ in 0..=RETRIES {
+        match system.open(name) {
+            Ok(found) => return Ok(found),
+            Err(e) if e.kind() == ErrorKind::Interrupted => {}
+            Err(e) => return Err(fault_of(&e)),
         }
-        Err(e) if names_no_file(e.kind()) => Err(ReadFailure::NotThere),
-        Err(e) => Err(ReadFailure::from(fault_of(&e))),
     }
+    Err(Fault::Failed)
 }
 
-// Nothing is there, or the system can hold no file under the name: a folder on its way is none, it is too long, or it has a
-// byte 0.
-fn names_no_file(kind: ErrorKind) -> bool {
-    matches!(
-        kind,
-        ErrorKind::NotFound
-            | ErrorKind::NotADirectory
-            | ErrorKind::InvalidFilename
-            | ErrorKind::InvalidInput
-    )
-}
-
-// A folder can be opened, but it is no file.
-fn is_folder<F: OpenFile>(file: &F) -> Result<bool, Fault> {
-    match file.metadata() {
-        Ok(metadata) => Ok(metadata.is_dir()),
-        Err(e) => Err(fault_of(&e)),
-    }
-}
-
-fn write_file<R: rt::Files>(rt: &R, name: &str, bytes: &[u8]) -> Result<(), Fault> {
-    let mut options = OpenOptions::new();
-    options.write(true).create(true).truncate(true);
-    match open(rt, &options, name) {
-        Ok(mut file) => write_whole(&mut file, bytes),
-        Err(e) => Err(fault_of(&e)),
-    }
-}
-
-impl<R: rt::Files> Files for DiskFiles<R> {
-    ghost held = { λ _. None };
+impl<S: FileSystem> Files for DiskFiles<S> {
+    ghost held = { λ s. S.held s.system };
 
     ghost faults = { λ s. s.faults };
 
     ghost absences = { λ s. s.absences };
 
     fn read(&mut self, name: &str, most: u64, into: &mut Vec<u8>) -> Result<(), ReadFailure> {
-        let result = read_file(&self.rt, name, most, into);
+        let result = read_file(&mut self.system, name, most, into);
         match result {
             Err(ReadFailure::NotThere) => self.absences = self.absences.saturating_add(1),
             Err(ReadFailure::Failed) => self.faults = self.faults.saturating_add(1),
@@ -127,7 +126,7 @@ impl<R: rt::Files> Files for DiskFiles<R> {
     }
 
     fn write(&mut self, name: &str, bytes: &[u8]) -> Result<(), Fault> {
-        let result = write_file(&self.rt, name, bytes);
+        let result = write_file(self.alloc, &mut self.system, name, bytes);
         if result == Err(Fault::Failed) {
             self.faults = self.faults.saturating_add(1);
         }

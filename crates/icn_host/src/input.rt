@@ -1,7 +1,6 @@
-// A reader as a source. It doesn't tell what it has left.
-ghost use Rattle.std.specs.Prelude.{◌≡◌, ◌+◌, ◌≤◌, None, OnOk, OnErr, IfOk, IsErrOf, length, vec_len};
+// A reader as a source.
+ghost use Rattle.std.specs.Prelude.{◌≡◌, ◌+◌, ◌≤◌, OnOk, OnErr, IfOk, IsErrOf, length, vec_len};
 ghost use Rattle.std.specs.Io.KnownBytes.{IsAtEnd, Keeps};
-ghost use Rattle.icn_host.specs.Counts.{CountsOnce};
 ghost use Rattle.icn_host.specs.Sources.{ExtendsByLine, TakesLine, TakesLinePart, TakesFirst, TakesFirstPart};
 ghost use Rattle.icn_host.specs.Buffers.{Extends};
 
@@ -99,7 +98,8 @@ impl<R: Read> Ahead<R> {
     }
 }
 
-/// A reader as a source, for a standard input. It reads ahead, up to 4096 bytes at a time.
+/// A reader as a source, for a standard input. It reads ahead, up to 4096 bytes at a time. Where the reader tells what it
+/// has left, the source tells what it read ahead and that.
 ///
 /// Its count of faults rises at each error of the reader but want of memory. An interruption after 1000 others in a
 /// row is such an error, and so is a line of more than 1099511627776 bytes. After an error of `line` its newline is
@@ -133,23 +133,11 @@ impl<R: Read> StdSource<R> {
 impl<R: Read> Source for StdSource<R> {
     ghost use Rattle.icn_host.specs.Readers.{source_left};
 
-    ghost left = { λ _. None };
+    ghost left = { λ s. source_left R.remaining s };
 
     ghost faults = { λ s. s.faults };
 
-    // The source tells nothing, but where the reader tells what it has left, the line is the next one of it.
-    fn line(&mut self, into: &mut Vec<u8>) -> Result<LineEnd, Fault>
-        ensures ok { IfOk result (TakesLine (source_left R.remaining self.old)
-            (source_left R.remaining self.new) into.old.items into.new.items) }
-        ensures err { OnErr result (TakesLinePart (source_left R.remaining self.old)
-            (source_left R.remaining self.new) into.old.items into.new.items
-            (IsErrOf result Fault.Failed)) }
-        ensures kept { Extends into.old.items into.new.items }
-        ensures plain { IfOk result (λ _. ExtendsByLine into.old.items into.new.items) }
-        ensures none { IfOk result (λ line. line ≡ LineEnd.End → into.new.items ≡ into.old.items) }
-        ensures cause { CountsOnce (⟦<StdSource<R> as Source>⟧.faults self.old)
-            (⟦<StdSource<R> as Source>⟧.faults self.new) (IsErrOf result Fault.Failed) }
-    {
+    fn line(&mut self, into: &mut Vec<u8>) -> Result<LineEnd, Fault> {
         let result = self.ahead.line(into);
         if result == Err(Fault::Failed) {
             self.faults = self.faults.saturating_add(1);
@@ -157,17 +145,7 @@ impl<R: Read> Source for StdSource<R> {
         result
     }
 
-    fn take(&mut self, n: u64, into: &mut Vec<u8>) -> Result<u64, Fault>
-        ensures ok { IfOk result (TakesFirst (source_left R.remaining self.old)
-            (source_left R.remaining self.new) into.old.items into.new.items n) }
-        ensures err { OnErr result (TakesFirstPart (source_left R.remaining self.old)
-            (source_left R.remaining self.new) into.old.items into.new.items n) }
-        ensures kept { Extends into.old.items into.new.items }
-        ensures counted { IfOk result (λ count. vec_len into.new ≡ vec_len into.old + count) }
-        ensures within { vec_len into.new ≤ vec_len into.old + n }
-        ensures cause { CountsOnce (⟦<StdSource<R> as Source>⟧.faults self.old)
-            (⟦<StdSource<R> as Source>⟧.faults self.new) (IsErrOf result Fault.Failed) }
-    {
+    fn take(&mut self, n: u64, into: &mut Vec<u8>) -> Result<u64, Fault> {
         let result = self.ahead.take(n, into);
         if result == Err(Fault::Failed) {
             self.faults = self.faults.saturating_add(1);

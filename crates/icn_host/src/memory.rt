@@ -54,6 +54,8 @@ impl MemSink {
 impl Sink for MemSink {
     ghost use Rattle.icn_host.specs.Plans.{sink_plan, later_plan, FailsNext};
 
+    ghost pending = { λ _. 0 };
+
     ghost state = { λ s. sink_state (Some s.held.items) s.faults s.wants };
 
     fn put(&mut self, piece: &[u8]) -> Result<(), Fault>
@@ -76,6 +78,11 @@ impl Sink for MemSink {
             self.wants = self.wants.saturating_add(1);
             return Err(Fault::NoMemory);
         }
+        Ok(())
+    }
+
+    // Nothing is pending, so it never fails.
+    fn flush(&mut self) -> Result<(), Fault> {
         Ok(())
     }
 }

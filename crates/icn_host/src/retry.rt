@@ -5,12 +5,11 @@ ghost use Rattle.std.specs.IoError.{error_kind};
 ghost use Rattle.icn_host.specs.Sinks.{Gains, GainsPart};
 
 use crate::fault::Fault;
-use std::fs::OpenOptions;
+use std::io;
 use std::io::{ErrorKind, Read, Write};
-use std::{io, rt};
 
 // An interrupted call is made again at most so often in a row.
-const RETRIES: u32 = 1000;
+pub const RETRIES: u32 = 1000;
 
 // Want of memory is told apart from every other error.
 pub fn fault_of(error: &io::Error) -> Fault
@@ -41,7 +40,7 @@ pub fn read_some<R: Read>(reader: &mut R, buffer: &mut [u8]) -> Result<usize, Fa
 }
 
 // Writes a part of the piece from its start, at least a byte.
-fn write_some<W: Write>(writer: &mut W, piece: &[u8]) -> Result<usize, Fault>
+pub fn write_some<W: Write>(writer: &mut W, piece: &[u8]) -> Result<usize, Fault>
     ensures within { IfOk result (λ n. (0 < n) × (n ≤ length piece.now)) }
     ensures gains { IfOk result
         (λ n. Gains (W.contents writer.old) (W.contents writer.new) (take n piece.now)) }
@@ -69,15 +68,4 @@ pub fn write_whole<W: Write>(writer: &mut W, piece: &[u8]) -> Result<(), Fault>
         rest = rest.split_at(n).1;
     }
     Ok(())
-}
-
-// Opens a file. Its answer may be an interruption, after the last try.
-pub fn open<R: rt::Files>(rt: &R, options: &OpenOptions, name: &str) -> io::Result<R::File> {
-    for _ in 0..RETRIES {
-        match options.open(rt, name) {
-            Err(e) if e.kind() == ErrorKind::Interrupted => {}
-            answer => return answer,
-        }
-    }
-    options.open(rt, name)
 }

@@ -37,6 +37,8 @@ impl SureSink {
 }
 
 impl Sink for SureSink {
+    ghost pending = { λ _. 0 };
+
     ghost state = { λ s. sink_state (Some s.held.items) 0 s.wants };
 
     fn put(&mut self, piece: &[u8]) -> Result<(), Fault> {
@@ -44,6 +46,10 @@ impl Sink for SureSink {
             self.wants = self.wants.saturating_add(1);
             return Err(Fault::NoMemory);
         }
+        Ok(())
+    }
+
+    fn flush(&mut self) -> Result<(), Fault> {
         Ok(())
     }
 }

@@ -1,8 +1,9 @@
 // A source, a sink and a store of files: what they hold or have left where they tell it, and how often they have failed.
 ghost use Rattle.std.specs.Prelude.{◌≡◌, ◌+◌, ◌≤◌, ℕ, List, Option, OnOk, OnErr, IfOk, IsErrOf, vec_len};
+ghost use Rattle.std.specs.Io.KnownBytes.{Keeps};
 ghost use Rattle.icn_host.specs.Buffers.{Extends};
 ghost use Rattle.icn_host.specs.Counts.{CountsOnce};
-ghost use Rattle.icn_host.specs.Sinks.{Gains, GainsPart, SinkState};
+ghost use Rattle.icn_host.specs.Sinks.{Gains, GainsPart, SinkState, StaysSettled};
 ghost use Rattle.icn_host.specs.FileMaps.{Reads, ReadsPart, NotHeld, SetsFile, SetsPart, FileMap};
 ghost use Rattle.icn_host.specs.Sources.{ExtendsByLine, TakesLine, TakesLinePart, TakesFirst, TakesFirstPart};
 
@@ -44,16 +45,33 @@ pub trait Source {
         ensures cause { CountsOnce (faults self.old) (faults self.new) (IsErrOf result Fault.Failed) };
 }
 
-/// Takes bytes in order.
+/// Takes bytes in order. It may keep some of them: they are accepted, and pending until they are settled.
 pub trait Sink {
-    /// The bytes taken so far, where the sink tells them, and how often it has failed and has wanted memory, up to the
+    /// The bytes accepted so far, where the sink tells them, and how often it has failed and has wanted memory, up to the
     /// greatest `u64`.
     ghost state: { Self → SinkState };
 
-    /// Appends the piece. After an `Err` a part of it from its start was appended.
+    /// How many bytes, the last that were accepted, are pending. All before them are settled: they stand where the sink puts
+    /// them, whatever becomes of it.
+    ghost pending: { Self → ℕ };
+
+    /// Accepts the piece, behind what was accepted. After an `Err` a part of it from its start was accepted. What was settled
+    /// stays so.
     fn put(&mut self, piece: &[u8]) -> Result<(), Fault>
         ensures ok { OnOk result (Gains (state self.old).held (state self.new).held piece.now) }
         ensures err { OnErr result (GainsPart (state self.old).held (state self.new).held piece.now) }
+        ensures settled { StaysSettled (state self.old).held (state self.new).held (pending self.old)
+            (pending self.new) }
+        ensures cause { CountsOnce (state self.old).faults (state self.new).faults
+            (IsErrOf result Fault.Failed) }
+        ensures want { CountsOnce (state self.old).wants (state self.new).wants
+            (IsErrOf result Fault.NoMemory) };
+
+    /// Settles all that was accepted. After an `Err` some of it may be pending still, and no more than before.
+    fn flush(&mut self) -> Result<(), Fault>
+        ensures same { Keeps (state self.old).held (state self.new).held }
+        ensures settled { OnOk result (pending self.new ≡ 0) }
+        ensures kept { pending self.new ≤ pending self.old }
         ensures cause { CountsOnce (state self.old).faults (state self.new).faults
             (IsErrOf result Fault.Failed) }
         ensures want { CountsOnce (state self.old).wants (state self.new).wants

@@ -1,18 +1,18 @@
 -- The entries of the tables of strings, csets, integers and records.
 use Rattle.std.proofs.Common.{◌≡◌, ℕ, ℤ, pos, negsuc, suc, ◌-◌, ◌^◌, ◌<◌, ◌≤◌, Bool, true, false, cond, ltb, eqb, ◌&&◌, List, ◌++◌, length, Ok, refl, sym, ap, subst, ◌∙◌, append_assoc, arith}
 use Rattle.std.specs.Prelude.{nat_lt}
-use Rattle.std.specs.List.{list_all}
+use Rattle.std.specs.List.{flat_map, list_all}
 use Rattle.std.specs.Int.{Width, w64, to_le_bytes, cast_signed, cast_unsigned}
 use Rattle.std.specs.Int.RustNames.{FitsSigned}
 use Rattle.std.proofs.lemmas.Bool.{ltb-true, ltb-false, lt-ltb, leb-true, le-leb, and_parts, and_from, eq-eqb, eqb-true}
 use Rattle.std.proofs.lemmas.Int.{to_z-of_z, of_z-to_z}
 use Rattle.icn_value.specs.declared.cset.Cset.{Cset}
 use Rattle.icn_code.specs.Codes.{RecordType}
-use Rattle.icn_code.specs.Rules.{is_byte, is_count, is_string, is_cset, is_integer, is_record}
-use Rattle.icn_image.specs.Readers.{◌>>=◌, bytes_at, number_at, index_at, table_at}
+use Rattle.icn_code.specs.Rules.{is_byte, is_count, is_string, is_cset, is_word, is_integer, is_record}
+use Rattle.icn_image.specs.Readers.{◌>>=◌, bytes_at, number_at, index_at, times, table_at}
 use Rattle.icn_image.specs.Reading.{string_at, cset_at, integer_at, record_at}
 use Rattle.icn_image.specs.Spelling.{table, string, cset, integer, record_type}
-use Rattle.icn_image.proofs.SpelledFields.{IsBytes, all_bytes, bind_parts, done_injective, Takes, takes_then, Reads, bytes_take, bytes_again, IsWide, wide64, number_reads, place_reads, table_reads}
+use Rattle.icn_image.proofs.SpelledFields.{IsBytes, all_bytes, bind_parts, done_injective, Takes, takes_then, Reads, bytes_take, bytes_again, IsWide, wide64, number_reads, place_reads, times_takes, times_again, table_reads}
 
 -- ---- strings
 
@@ -39,17 +39,25 @@ string_reads w wide = record { takes = string_takes w wide; again = string_again
 
 -- ---- csets
 
+words_read : Reads ℕ (number_at w64) (to_le_bytes w64) is_word
+words_read = number_reads w64 (2 ^ 64) wide64
+
 cset_takes : (bytes : List ℕ) (x : Cset × List ℕ) → IsBytes bytes → cset_at bytes ≡ Ok x → Takes bytes (cset x.0) x.1 × (is_cset x.0 ≡ true)
+unfolding cset_at
 cset_takes bytes x fits e =
-    let a = bind_parts (bytes_at 32 bytes) (λ bits. Ok (record { bits = bits.0 }, bits.1)) x e in
-    let t = bytes_take 32 bytes a.0 fits a.1 in
-    subst (λ (y : Cset × List ℕ). Takes bytes (cset y.0) y.1 × (is_cset y.0 ≡ true)) (done_injective (record { bits = a.0.0 }, a.0.1) x a.2)
-    (t.0, and_from (eqb (length a.0.0) 32) (list_all is_byte a.0.0) (eq-eqb _ _ t.1) (all_bytes a.0.0 t.2))
+    let a = bind_parts (times (number_at w64) 4 bytes) (λ words. Ok (record { words = words.0 }, words.1)) x e in
+    let t = times_takes ℕ (number_at w64) (to_le_bytes w64) is_word words_read 4 bytes a.0 fits a.1 in
+    subst (λ (y : Cset × List ℕ). Takes bytes (cset y.0) y.1 × (is_cset y.0 ≡ true)) (done_injective (record { words = a.0.0 }, a.0.1) x a.2)
+    (t.0, and_from (eqb (length a.0.0) 4) (list_all is_word a.0.0) (eq-eqb _ _ t.1) t.2)
 
 cset_again : (set : Cset) (rest : List ℕ) → is_cset set ≡ true → cset_at (cset set ++ rest) ≡ Ok (set, rest)
+unfolding cset_at
 cset_again set rest keeps =
-    let p = and_parts (eqb (length set.bits) 32) (list_all is_byte set.bits) keeps in
-    rw (bytes_again set.bits rest 32 (eqb-true _ _ p.0)) refl
+    let p = and_parts (eqb (length set.words) 4) (list_all is_word set.words) keeps in
+    let read = times_again ℕ (number_at w64) (to_le_bytes w64) is_word words_read set.words rest p.1 in
+    let four : times (number_at w64) 4 (flat_map (to_le_bytes w64) set.words ++ rest) ≡ Ok (set.words, rest) =
+    subst (λ (n : ℕ). times (number_at w64) n (flat_map (to_le_bytes w64) set.words ++ rest) ≡ Ok (set.words, rest)) (eqb-true _ _ p.0) read in
+    rw four refl
 
 pub cset_reads : Reads Cset cset_at cset is_cset
 cset_reads = record { takes = cset_takes; again = cset_again }

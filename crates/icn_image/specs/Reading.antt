@@ -33,11 +33,11 @@ string_at width bytes = do
   count ← number_at width bytes
   bytes_at count.0 count.1
 
--- a cset: a bit for each of the 256 bytes
-abbrev pub cset_at : Reader Cset
+-- a cset: a bit for each of the 256 bytes, in four words
+unfoldable pub cset_at : Reader Cset
 cset_at bytes = do
-  bits ← bytes_at 32 bytes
-  Ok (record { bits = bits.0 }, bits.1)
+  words ← times (number_at w64) 4 bytes
+  Ok (record { words = words.0 }, words.1)
 
 -- an integer of 64 bits, with its sign
 unfoldable pub integer_at : Reader ℤ

@@ -26,9 +26,9 @@ table width spelling entries = to_le_bytes width (length entries) ++ flat_map sp
 abbrev pub string : Width → List ℕ → List ℕ
 string width bytes = to_le_bytes width (length bytes) ++ bytes
 
--- the bits of a cset are its spelling
+-- the words of a cset, its bits from the least on
 abbrev pub cset : Cset → List ℕ
-cset set = set.bits
+cset set = flat_map (to_le_bytes w64) set.words
 
 -- 64 bits, in two's complement
 abbrev pub integer : ℤ → List ℕ

@@ -1,14 +1,14 @@
 // The tables of strings, csets, integers, fields and records.
 ghost use Rattle.std.specs.Prelude.{map};
-ghost use Rattle.std.specs.Int.{w16};
+ghost use Rattle.std.specs.Int.{w16, w64};
 ghost use Rattle.icn_code.specs.Codes.{record_of, records_of};
-ghost use Rattle.icn_image.specs.Readers.{Gives, index_at, table_at, times};
+ghost use Rattle.icn_image.specs.Readers.{Gives, index_at, number_at, table_at, times};
 ghost use Rattle.icn_image.specs.Reading.{cset_at, integer_at, record_at, string_at};
 
 use crate::fault::ImageFault;
 use crate::number::{bytes_at, number_at, place_at};
 use icn_code::LinkedRecord;
-use icn_tree::{Bytes, Rule};
+use icn_tree::Bytes;
 use icn_value::Cset;
 use std::alloc::Global;
 
@@ -50,13 +50,27 @@ pub fn strings_at(alloc: Global, bytes: &[u8]) -> Result<(Vec<Bytes>, &[u8]), Im
     so_many_strings(alloc, count, rest)
 }
 
+#[tactic(auto, unfolding(crate::specs::Reading::cset_at, crate::specs::Readers::times))]
 fn cset_at(bytes: &[u8]) -> Result<(Cset, &[u8]), ImageFault>
     ensures { Gives (λ x. (x.0, x.1.now)) result (cset_at bytes.now) }
 {
-    match bytes.split_first_chunk::<32>() {
-        None => Err(ImageFault::Broken(Rule::I2)),
-        Some((bits, rest)) => Ok((Cset { bits: *bits }, rest)),
-    }
+    let (first, rest) = word_at(bytes)?;
+    let (second, rest) = word_at(rest)?;
+    let (third, rest) = word_at(rest)?;
+    let (fourth, rest) = word_at(rest)?;
+    let words = [first, second, third, fourth];
+    Ok((Cset { words }, rest))
+}
+
+#[tactic(auto, unfolding(crate::specs::Readers::number_at))]
+fn word_at(bytes: &[u8]) -> Result<(u64, &[u8]), ImageFault>
+    ensures { Gives (λ x. (x.0, x.1.now)) result (number_at w64 bytes.now) }
+{
+    let (front, rest) = bytes_at(8, bytes)?;
+    let word = u64::from_le_bytes([
+        front[0], front[1], front[2], front[3], front[4], front[5], front[6], front[7],
+    ]);
+    Ok((word, rest))
 }
 
 fn so_many_csets(alloc: Global, count: u32, bytes: &[u8]) -> Result<(Vec<Cset>, &[u8]), ImageFault>

@@ -1,7 +1,7 @@
 // Writing an image.
 ghost use Rattle.std.specs.Prelude.{◌≡◌, ◌∷◌, ◌++◌, IfOk, OnOk, map};
 ghost use Rattle.std.specs.List.{flat_map};
-ghost use Rattle.std.specs.Int.{to_le_bytes, w16, w32};
+ghost use Rattle.std.specs.Int.{to_le_bytes, w16, w32, w64};
 ghost use Rattle.icn_code.specs.Codes.{proc_of, procs_of, record_of, records_of};
 ghost use Rattle.icn_code.specs.CodeTables.{tables_of};
 ghost use Rattle.icn_image.specs.Fronts.{head_of};
@@ -42,12 +42,22 @@ fn put_strings(out: &mut Vec<u8>, strings: &[Bytes]) -> Result<(), AllocError>
     Ok(())
 }
 
+// The bits of a cset, from the least on.
+fn put_words(out: &mut Vec<u8>, words: &[u64; 4]) -> Result<(), AllocError>
+    ensures { OnOk result (out.new.items ≡ out.old.items ++ flat_map (to_le_bytes w64) words.now) }
+{
+    for word in words {
+        out.extend_from_slice(&word.to_le_bytes())?;
+    }
+    Ok(())
+}
+
 fn put_csets(out: &mut Vec<u8>, csets: &[Cset]) -> Result<(), AllocError>
     ensures { OnOk result (out.new.items ≡ out.old.items ++ table w16 cset csets.now) }
 {
     put_number(out, csets.len())?;
     for cset in csets {
-        out.extend_from_slice(&cset.bits)?;
+        put_words(out, &cset.words)?;
     }
     Ok(())
 }

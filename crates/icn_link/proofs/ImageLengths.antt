@@ -1,7 +1,7 @@
 -- How long the image of a code is.
 use Rattle.std.proofs.Common.{◌≡◌, ℕ, suc, ◌+◌, ◌*◌, true, List, [], ◌∷◌, ◌++◌, length, map, refl, sym, ap, ◌∙◌, arith, length-append}
 use Rattle.std.specs.Prelude.{◌==◌}
-use Rattle.std.specs.Int.{w16, to_le_bytes}
+use Rattle.std.specs.Int.{w16, w64, to_le_bytes}
 use Rattle.std.specs.List.{flat_map, list_all, sum_by}
 use Rattle.std.proofs.lemmas.Bool.{and_parts}
 use Rattle.std.proofs.lemmas.Bool.Decides.{nat_tests}
@@ -14,7 +14,7 @@ use Rattle.icn_code.specs.declared.code.Start.TheVariants as Starts
 use Rattle.icn_code.specs.declared.instr.Instr.{Instr}
 use Rattle.icn_code.specs.declared.instr.Instr.TheVariants as I
 use Rattle.icn_code.specs.Codes.{Proc, RecordType, Tables}
-use Rattle.icn_code.specs.Rules.{is_byte, is_cset, keeps_rules}
+use Rattle.icn_code.specs.Rules.{is_word, is_cset, keeps_rules}
 use Rattle.icn_image.specs.Fronts.{head_of}
 use Rattle.icn_image.specs.Spelling.{image_of, image_head, front, front_of, procs, table, string, cset, integer, record_type, global, kind_and_number, head, body, instruction}
 use Rattle.icn_link.specs.ImageSizes.{instr_size, body_size, bodies_size, strings_size, records_size}
@@ -33,14 +33,20 @@ each_same f n m z e (x ∷ xs) =
     length-append (f x) (flat_map f xs) ∙ ap (λ k. k + length (flat_map f xs)) (e x)
     ∙ ap (λ k. n + k) (each_same f n m z e xs) ∙ sym (m (length xs))
 
-cset_bits : (set : Cset) → is_cset set ≡ true → length set.bits ≡ 32
-cset_bits set h = let t = (and_parts (length set.bits == 32) (list_all is_byte set.bits) h).0 in grind (arith, nat_tests)
+words_length : (words : List ℕ) → length (flat_map (to_le_bytes w64) words) ≡ length words * 8
+words_length words = each_same (to_le_bytes w64) 8 (λ k. omega arith) refl (λ word. refl) words
+
+cset_length : (set : Cset) → is_cset set ≡ true → length (cset set) ≡ 32
+cset_length set h =
+    let t = (and_parts (length set.words == 4) (list_all is_word set.words) h).0 in
+    let four : length set.words ≡ 4 = grind (arith, nat_tests) in
+    words_length set.words ∙ ap (λ n. n * 8) four
 
 csets_length : (sets : List Cset) → list_all is_cset sets ≡ true → length (flat_map cset sets) ≡ length sets * 32
 csets_length [] h = refl
 csets_length (set ∷ sets) h =
-    let t = and_parts _ _ h in let one = cset_bits set t.0 in let rest = csets_length sets t.1 in
-    length-append set.bits (flat_map cset sets) ∙ omega (arith, one, rest)
+    let t = and_parts _ _ h in let one = cset_length set t.0 in let rest = csets_length sets t.1 in
+    length-append (cset set) (flat_map cset sets) ∙ omega (arith, one, rest)
 
 instr_length : (instr : Instr) → length (instruction w16 instr) ≡ instr_size instr
 instr_length I.Pnull = refl

@@ -172,18 +172,18 @@ global_entry tables procs records name = global_with tables (index_of procs) (in
 
 -- Csets
 
--- a byte sets the bit b mod 8 of the byte at b div 8
+-- a byte sets the bit b mod 64 of the word at b div 64
 abbrev pub with_bit : List ℕ → ℕ → List ℕ
-with_bit bits b = slice_set bits (b / 8) (bit_or (slice_index bits (b / 8)) (2 ^ (b % 8)))
+with_bit words b = slice_set words (b / 64) (bit_or (slice_index words (b / 64)) (2 ^ (b % 64)))
 
--- the bits with those of more bytes
+-- the words with the bits of more bytes
 abbrev pub with_bits : List ℕ → List ℕ → List ℕ
-with_bits bits [] = bits
-with_bits bits (b ∷ bytes) = with_bits (with_bit bits b) bytes
+with_bits words [] = words
+with_bits words (b ∷ bytes) = with_bits (with_bit words b) bytes
 
--- a set of bytes as its 256 bits
+-- a set of bytes as its 256 bits, in four words
 abbrev pub cset_of : List ℕ → Cset
-cset_of bytes = record { bits = with_bits (replicate 32 0) bytes }
+cset_of bytes = record { words = with_bits (replicate 4 0) bytes }
 
 -- The code
 

@@ -167,17 +167,17 @@ fn csets(alloc: Global, sets: &[&[u8]]) -> Result<Vec<Cset>, AllocError>
 fn cset_of(members: &[u8]) -> Cset
     ensures { result ≡ cset_of members.now }
 {
-    let mut bits = [0; 32];
+    let mut words = [0; 4];
     for byte in members {
-        put_bit(&mut bits, *byte);
+        put_bit(&mut words, *byte);
     }
-    Cset { bits }
+    Cset { words }
 }
 
-fn put_bit(bits: &mut [u8; 32], byte: u8)
-    ensures { bits.new ≡ with_bit bits.old byte }
+fn put_bit(words: &mut [u64; 4], byte: u8)
+    ensures { words.new ≡ with_bit words.old byte }
 {
-    bits[usize::from(byte / 8)] |= 1 << (byte % 8);
+    words[usize::from(byte / 64)] |= 1 << (byte % 64);
 }
 
 // Where texts stand in a table.

@@ -6,6 +6,7 @@ pub mod ElementSteps
 pub mod FailFalls
 pub mod FailingSteps
 pub mod GiveSteps
+pub mod InPlaceSteps
 pub mod InvokeSteps
 pub mod KeptSteps
 pub mod LoopSteps
@@ -14,6 +15,8 @@ pub mod OperandCalls
 pub mod OperateSteps
 pub mod PerformEvents
 pub mod PerformSteps
+pub mod PlainOperands
+pub mod PlainOperationSteps
 pub mod SettleSteps
 pub mod SetTwice
 pub mod StartLoops

@@ -203,13 +203,13 @@ has_stack m w k n row b a (Err Halts.NoMemory) e p = tt
 -- Operations
 
 -- but for one all operations are rows
-operated_is : (op : Op) (xs : List run_rows.Item) (m : Frames) (st : Store Frames) → (op ≡ Ops.Refresh → ⊥)
+pub operated_is : (op : Op) (xs : List run_rows.Item) (m : Frames) (st : Store Frames) → (op ≡ Ops.Refresh → ⊥)
     → operate flat op xs m st ≡ outcome flat (step_rows.apply st.names (Operation op) xs (here flat m st)) m st
 operated_is Ops.Refresh xs m st d = absurd (d refl)
 operated_is op xs m st d = refl
 
 -- the turn is counted
-in_turn : (tables : Tables) (st : Store Frames) (event : Store Frames → State Frames Frames) → nat_lt st.turns st.world.heap.bounds.turns ≡ true
+pub in_turn : (tables : Tables) (st : Store Frames) (event : Store Frames → State Frames Frames) → nat_lt st.turns st.world.heap.bounds.turns ≡ true
     → turn tables st event ≡ event (record st { turns = suc st.turns })
 in_turn tables st event b = ap (λ (x : Bool). turn_if x st event) b
 

@@ -74,7 +74,7 @@ live_one t reach v h m (Some (Suspension why registers place)) e i l = l
 live_one t reach v h m (Some (Operand item)) e i l = l
 live_one t reach v h m None e i l = l
 
-live_from : (t : Tables) (reach : Reach) (vs : List Val) (h : ℕ) (m : FlatStack) → All (IsLive reach.extent) vs → IsLiveStack t reach m
+pub live_from : (t : Tables) (reach : Reach) (vs : List Val) (h : ℕ) (m : FlatStack) → All (IsLive reach.extent) vs → IsLiveStack t reach m
     → IsLiveStack t reach (record m { cells = set_from h vs m.cells })
 live_from t reach [] h m a l = l
 live_from t reach (v ∷ vs) h m a l =

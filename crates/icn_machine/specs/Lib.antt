@@ -7,3 +7,4 @@ pub mod Stepping
 pub mod Settling
 pub mod AfterInstruction
 pub mod Starting
+pub mod PlainOperations

@@ -10,6 +10,7 @@ mod invoking;
 mod operations;
 mod own_locals;
 mod performing;
+mod plain_operations;
 mod starting;
 mod stepping;
 

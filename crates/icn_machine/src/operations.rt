@@ -1,5 +1,5 @@
 // Operations, and the rows that are resumed.
-ghost use Rattle.std.specs.Prelude.{◌≡◌, ◌≢◌, IsSome};
+ghost use Rattle.std.specs.Prelude.{◌≡◌, ◌≢◌, ◌+◌, ◌<◌, ◌^◌, IsSome};
 ghost use Rattle.icn_text.specs.declared.op.Op.TheVariants as Ops;
 ghost use Rattle.icn_value.specs.Store.{Outside};
 ghost use Rattle.icn_defs.specs.Arities.{arity};
@@ -20,6 +20,7 @@ ghost use Rattle.icn_machine.specs.Performing.{LeavesNamed, PerformsOn};
 ghost use Rattle.icn_machine.specs.NamedWorlds.{MachineNamed};
 
 use crate::performing::{perform, perform_again};
+use crate::plain_operations::operate_in_place;
 use icn_apply::Applied;
 use icn_control::{Machine, RunState, take_operands};
 use icn_convert::Names;
@@ -31,7 +32,8 @@ use icn_value::{Item, Residual};
 use icn_vars::Halt;
 
 /// Performs an operation on its operands, which must be there, as a turn; the refreshing of a co-expression has a call of its own.
-/// The rooms for operands and for what is read and put are used again, whatever they hold. The errors are those of `perform`.
+/// One on integers and locals is done in place. The rooms for operands and for what is read and put are used again, whatever they
+/// hold. The errors are those of `perform`.
 pub fn operate<K: Stack<Cell> + Drop, N: Names, I: Source, O: Sink, E: Sink>(
     m: &mut Machine<K>,
     op: Op,
@@ -53,12 +55,46 @@ pub fn operate<K: Stack<Cell> + Drop, N: Names, I: Source, O: Sink, E: Sink>(
     ensures keeps { StaysSound m.old m.new result }
     ensures named { LeavesNamed (N.known names.now) m.new.world (stack_of m.new) result }
 {
-    let Ok(()) = take_operands(m.stacks.frames(), items, arity(op) as usize) else {
-        return Err(Halt::NoMemory);
-    };
     if m.turns >= m.limits.turns {
         return Ok(RunState::AtBound);
     }
+    match operate_in_place(m.stacks.frames(), op) {
+        Some(stage) => {
+            m.turns += 1;
+            Ok(stage)
+        }
+        None => operate_by_row(m, op, items, names, buffer, input, out, err),
+    }
+}
+
+// Performs it by its row, where a turn is left.
+#[inline(never)]
+fn operate_by_row<K: Stack<Cell> + Drop, N: Names, I: Source, O: Sink, E: Sink>(
+    m: &mut Machine<K>,
+    op: Op,
+    items: &mut Vec<Item>,
+    names: &N,
+    buffer: &mut Vec<u8>,
+    input: &mut I,
+    out: &mut O,
+    err: &mut E,
+) -> Result<RunState, Halt>
+    requires stands { IsRunnable m.old }
+    requires turn { m.old.turns < m.old.limits.turns }
+    requires few { m.old.turns + 1 < 2 ^ 64 }
+    requires row { op ≢ Ops.Refresh }
+    requires operands { IsSome (take_operands (arity op) (stack_of m.old)) }
+    requires named { MachineNamed (N.known names.now) m.old }
+    ensures step { (tables : Tables) → all_names tables ≡ N.known names.now
+        → PerformsOn tables (λ outside. does tables outside (Instrs.Op op) m.old) m.new
+        (call_streams (I.left input.old) (I.faults input.old) (O.state out.old) (E.state err.old))
+        (call_streams (I.left input.new) (I.faults input.new) (O.state out.new) (E.state err.new)) result }
+    ensures keeps { StaysSound m.old m.new result }
+    ensures named { LeavesNamed (N.known names.now) m.new.world (stack_of m.new) result }
+{
+    let Ok(()) = take_operands(m.stacks.frames(), items, arity(op) as usize) else {
+        return Err(Halt::NoMemory);
+    };
     m.turns += 1;
     perform(
         m.stacks.frames(),

@@ -1,5 +1,5 @@
--- Bits of bytes, one by one, and the members that they stand for.
-use Rattle.std.proofs.Common.{rules, arith, eqb, ◌≡◌, ◌≢◌, refl, ap, ◌∙◌, ℕ, zero, suc, ◌+◌, ◌-◌, ◌*◌, ◌<◌, ◌≤◌, ◌==◌, ◌/◌, ◌%◌, ◌^◌, ◌&&◌, ◌||◌, ◌⊎◌, inl, inr, Bool, true, false, not, max, min, length, List, [], ◌∷◌, ◌++◌, if◌then◌else◌, sym, w8, slice_set, slice_index, append-nil, length-append}
+-- Bits of words, one by one, and the members that they stand for.
+use Rattle.std.proofs.Common.{rules, arith, eqb, ◌≡◌, ◌≢◌, refl, ap, ◌∙◌, ℕ, zero, suc, ◌+◌, ◌-◌, ◌*◌, ◌<◌, ◌≤◌, ◌==◌, ◌/◌, ◌%◌, ◌^◌, ◌&&◌, ◌||◌, ◌⊎◌, inl, inr, Bool, true, false, not, max, min, length, List, [], ◌∷◌, ◌++◌, if◌then◌else◌, sym, w64, slice_set, slice_index, append-nil, length-append}
 use Rattle.std.specs.Prelude.{filter, replicate}
 use Rattle.std.specs.Int.{bit_at, bit_not}
 use Rattle.std.specs.Int.Bits.{bit_or, bit_and}
@@ -44,12 +44,12 @@ either_at a b i = ap (λ n. n == 1) (bit_at_or a b i) ∙ either_test (bit_at a 
 both_at : (a b i : ℕ) → (bit_at (bit_and a b) i == 1) ≡ ((bit_at a i == 1) && (bit_at b i == 1))
 both_at a b i = ap (λ n. n == 1) (bit_at_and a b i) ∙ both_test (bit_at a i) (bit_at b i) (bit_at-lt a i) (bit_at-lt b i)
 
-other_at : (a i : ℕ) → a < 256 → i < 8 → (bit_at (bit_not w8 a) i == 1) ≡ not (bit_at a i == 1)
-other_at a i small within = ap (λ n. n == 1) (bit_at_not w8 a i small within) ∙ other_test (bit_at a i) (bit_at-lt a i)
+other_at : (a i : ℕ) → a < 2 ^ 64 → i < 64 → (bit_at (bit_not w64 a) i == 1) ≡ not (bit_at a i == 1)
+other_at a i small within = ap (λ n. n == 1) (bit_at_not w64 a i small within) ∙ other_test (bit_at a i) (bit_at-lt a i)
 
--- Lists of bytes, changed from the first on
+-- Lists of words, changed from the first on
 
--- one bit more is as it is to be
+-- one word more is as it is to be
 pub done_more : (now : List ℕ) (target : ℕ → ℕ) (place x : ℕ) → place < length now → x ≡ target place → ((k : ℕ) → k < place → slice_index now k ≡ target k)
     → (k : ℕ) → k < place + 1 → slice_index (slice_set now place x) k ≡ target k
 done_more now target place x within is before k below = at (cases_lt k place)
@@ -58,43 +58,43 @@ done_more now target place x within is before k below = at (cases_lt k place)
     at (inl less) = get_or-set_other now place k x 0 (λ same. absurd (omega (arith, same))) ∙ before k less
     at (inr more) = let same : k ≡ place = omega arith in rw same (get_or-set_same now place x 0 within ∙ is)
 
--- the bits ahead are as before
+-- the words ahead are as before
 pub ahead_more : (now : List ℕ) (old : ℕ → ℕ) (place x : ℕ) → ((k : ℕ) → place ≤ k → slice_index now k ≡ old k) → (k : ℕ) → place + 1 ≤ k
     → slice_index (slice_set now place x) k ≡ old k
 ahead_more now old place x before k beyond = get_or-set_other now place k x 0 (λ same. absurd (omega (arith, same))) ∙ before k (omega arith)
 
-pub bounded_more : (old now : ℕ → ℕ) (place : ℕ) → ((k : ℕ) → place ≤ k → now k ≡ old k) → now place < 256 → ((k : ℕ) → k < place → old k < 256) → (k : ℕ)
-    → k < place + 1 → old k < 256
+pub bounded_more : (old now : ℕ → ℕ) (place : ℕ) → ((k : ℕ) → place ≤ k → now k ≡ old k) → now place < 2 ^ 64 → ((k : ℕ) → k < place → old k < 2 ^ 64) → (k : ℕ)
+    → k < place + 1 → old k < 2 ^ 64
 bounded_more old now place ahead fits before k below = at (cases_lt k place)
   where
-    at : (k < place) ⊎ (place ≤ k) → old k < 256
+    at : (k < place) ⊎ (place ≤ k) → old k < 2 ^ 64
     at (inl less) = before k less
     at (inr more) = let same : k ≡ place = omega arith in rw same (rw (← ahead place (omega arith)) fits)
 
 -- Members
 
-within : (byte : ℕ) → byte < 256 → byte / 8 < 32
+within : (byte : ℕ) → byte < 256 → byte / 64 < 4
 within byte below = omega arith
 
-pub either_members : (a b new : Cset) → ((k : ℕ) → k < 32 → slice_index new.bits k ≡ bit_or (slice_index a.bits k) (slice_index b.bits k))
+pub either_members : (a b new : Cset) → ((k : ℕ) → k < 4 → slice_index new.words k ≡ bit_or (slice_index a.words k) (slice_index b.words k))
     → HasMembers new (λ byte. has a byte || has b byte)
 either_members a b new bytes = record {
-  is = λ byte below. ap (λ n. bit_at n (byte % 8) == 1) (bytes (byte / 8) (within byte below))
-      ∙ either_at (slice_index a.bits (byte / 8)) (slice_index b.bits (byte / 8)) (byte % 8);
+  is = λ byte below. ap (λ n. bit_at n (byte % 64) == 1) (bytes (byte / 64) (within byte below))
+      ∙ either_at (slice_index a.words (byte / 64)) (slice_index b.words (byte / 64)) (byte % 64);
 }
 
-pub both_members : (a b new : Cset) → ((k : ℕ) → k < 32 → slice_index new.bits k ≡ bit_and (slice_index a.bits k) (slice_index b.bits k))
+pub both_members : (a b new : Cset) → ((k : ℕ) → k < 4 → slice_index new.words k ≡ bit_and (slice_index a.words k) (slice_index b.words k))
     → HasMembers new (λ byte. has a byte && has b byte)
 both_members a b new bytes = record {
-  is = λ byte below. ap (λ n. bit_at n (byte % 8) == 1) (bytes (byte / 8) (within byte below))
-      ∙ both_at (slice_index a.bits (byte / 8)) (slice_index b.bits (byte / 8)) (byte % 8);
+  is = λ byte below. ap (λ n. bit_at n (byte % 64) == 1) (bytes (byte / 64) (within byte below))
+      ∙ both_at (slice_index a.words (byte / 64)) (slice_index b.words (byte / 64)) (byte % 64);
 }
 
-pub other_members : (a new : Cset) → ((k : ℕ) → k < 32 → slice_index a.bits k < 256)
-    → ((k : ℕ) → k < 32 → slice_index new.bits k ≡ bit_not w8 (slice_index a.bits k)) → HasMembers new (λ byte. not (has a byte))
+pub other_members : (a new : Cset) → ((k : ℕ) → k < 4 → slice_index a.words k < 2 ^ 64)
+    → ((k : ℕ) → k < 4 → slice_index new.words k ≡ bit_not w64 (slice_index a.words k)) → HasMembers new (λ byte. not (has a byte))
 other_members a new small bytes = record {
-  is = λ byte below. ap (λ n. bit_at n (byte % 8) == 1) (bytes (byte / 8) (within byte below))
-      ∙ other_at (slice_index a.bits (byte / 8)) (byte % 8) (small (byte / 8) (within byte below)) (omega arith);
+  is = λ byte below. ap (λ n. bit_at n (byte % 64) == 1) (bytes (byte / 64) (within byte below))
+      ∙ other_at (slice_index a.words (byte / 64)) (byte % 64) (small (byte / 64) (within byte below)) (omega arith);
 }
 
 no_bytes : (n k : ℕ) → slice_index (replicate n 0) k ≡ 0
@@ -102,35 +102,35 @@ no_bytes zero k = refl
 no_bytes (suc n) zero = refl
 no_bytes (suc n) (suc k) = no_bytes n k
 
-pub no_members : HasMembers (record { bits = replicate 32 0 }) (λ byte. false)
-no_members = record { is = λ byte below. ap (λ n. bit_at n (byte % 8) == 1) (no_bytes 32 (byte / 8)) ∙ ap (λ n. n == 1) (bit_at-zero (byte % 8)) }
+pub no_members : HasMembers (record { words = replicate 4 0 }) (λ byte. false)
+no_members = record { is = λ byte below. ap (λ n. bit_at n (byte % 64) == 1) (no_bytes 4 (byte / 64)) ∙ ap (λ n. n == 1) (bit_at-zero (byte % 64)) }
 
 -- one more byte is a member
-pub with_members : (a : Cset) (byte place : ℕ) → byte < 256 → place ≡ byte / 8 → length a.bits ≡ 32
-    → HasMembers (record { bits = slice_set a.bits place (bit_or (slice_index a.bits place) (1 * 2 ^ (byte % 8) % 256)) })
+pub with_members : (a : Cset) (byte place : ℕ) → byte < 256 → place ≡ byte / 64 → length a.words ≡ 4
+    → HasMembers (record { words = slice_set a.words place (bit_or (slice_index a.words place) (1 * 2 ^ (byte % 64) % 2 ^ 64)) })
     (λ other. other == byte || has a other)
-with_members a byte place small is bytes = record { is = λ other below. by_place other below (eqb_tells (other / 8) place) }
+with_members a byte place small is bytes = record { is = λ other below. by_place other below (eqb_tells (other / 64) place) }
   where
     new : ℕ
-    new = bit_or (slice_index a.bits place) (1 * 2 ^ (byte % 8) % 256)
+    new = bit_or (slice_index a.words place) (1 * 2 ^ (byte % 64) % 2 ^ 64)
 
     apart : (other : ℕ) → other ≢ byte → has a other ≡ (other == byte || has a other)
     apart other other_byte = rw (ne_eqb other byte other_byte) refl
 
     by_bit : (other : ℕ) → other < 256
-        → other / 8 ≡ place → ((eqb (other % 8) (byte % 8) ≡ true) × (other % 8 ≡ byte % 8)) ⊎ ((eqb (other % 8) (byte % 8) ≡ false) × (other % 8 ≢ byte % 8))
-        → (bit_at new (other % 8) == 1) ≡ (other == byte || has a other)
+        → other / 64 ≡ place → ((eqb (other % 64) (byte % 64) ≡ true) × (other % 64 ≡ byte % 64)) ⊎ ((eqb (other % 64) (byte % 64) ≡ false) × (other % 64 ≢ byte % 64))
+        → (bit_at new (other % 64) == 1) ≡ (other == byte || has a other)
     by_bit other below here (inl same) = let whole : other ≡ byte = omega (arith, same.1, here, is) in
-        rw whole (rw (bit_at_set_same w8 (slice_index a.bits place) (byte % 8) (omega arith)) (rw (eq-eqb byte byte refl) refl))
-    by_bit other below here (inr differ) = ap (λ n. n == 1) (bit_at_set_other w8 (slice_index a.bits place) (byte % 8) (omega arith) (other % 8) differ.1)
-        ∙ (ap (λ k. bit_at (slice_index a.bits k) (other % 8) == 1) (sym here) ∙ apart other (λ same. differ.1 (ap (λ n. n % 8) same)))
+        rw whole (rw (bit_at_set_same w64 (slice_index a.words place) (byte % 64) (omega arith)) (rw (eq-eqb byte byte refl) refl))
+    by_bit other below here (inr differ) = ap (λ n. n == 1) (bit_at_set_other w64 (slice_index a.words place) (byte % 64) (omega arith) (other % 64) differ.1)
+        ∙ (ap (λ k. bit_at (slice_index a.words k) (other % 64) == 1) (sym here) ∙ apart other (λ same. differ.1 (ap (λ n. n % 64) same)))
 
-    by_place : (other : ℕ) → other < 256 → ((eqb (other / 8) place ≡ true) × (other / 8 ≡ place)) ⊎ ((eqb (other / 8) place ≡ false) × (other / 8 ≢ place))
-        → (bit_at (slice_index (slice_set a.bits place new) (other / 8)) (other % 8) == 1) ≡ (other == byte || has a other)
-    by_place other below (inl same) = ap (λ n. bit_at n (other % 8) == 1) (ap (slice_index (slice_set a.bits place new)) same.1
-        ∙ get_or-set_same a.bits place new 0 (omega (arith, bytes, is, small))) ∙ by_bit other below same.1 (eqb_tells (other % 8) (byte % 8))
-    by_place other below (inr differ) = ap (λ n. bit_at n (other % 8) == 1) (get_or-set_other a.bits place (other / 8) new 0 differ.1)
-        ∙ apart other (λ same. differ.1 (ap (λ n. n / 8) same ∙ sym is))
+    by_place : (other : ℕ) → other < 256 → ((eqb (other / 64) place ≡ true) × (other / 64 ≡ place)) ⊎ ((eqb (other / 64) place ≡ false) × (other / 64 ≢ place))
+        → (bit_at (slice_index (slice_set a.words place new) (other / 64)) (other % 64) == 1) ≡ (other == byte || has a other)
+    by_place other below (inl same) = ap (λ n. bit_at n (other % 64) == 1) (ap (slice_index (slice_set a.words place new)) same.1
+        ∙ get_or-set_same a.words place new 0 (omega (arith, bytes, is, small))) ∙ by_bit other below same.1 (eqb_tells (other % 64) (byte % 64))
+    by_place other below (inr differ) = ap (λ n. bit_at n (other % 64) == 1) (get_or-set_other a.words place (other / 64) new 0 differ.1)
+        ∙ apart other (λ same. differ.1 (ap (λ n. n / 64) same ∙ sym is))
 
 -- Numbers of members
 

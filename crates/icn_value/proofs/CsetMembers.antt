@@ -1,5 +1,5 @@
 -- A cset is known by its members.
-use Rattle.std.proofs.Common.{◌≡◌, ◌∙◌, refl, sym, ap, ℕ, zero, suc, ◌+◌, ◌*◌, ◌/◌, ◌%◌, ◌<◌, ◌≤◌, ◌==◌, ◌&&◌, ◌||◌, Bool, true, false, cond, true≢false, inl, inr, List, [], ◌∷◌, length, filter, slice_index, arith}
+use Rattle.std.proofs.Common.{◌≡◌, ◌∙◌, refl, sym, ap, ℕ, zero, suc, ◌+◌, ◌*◌, ◌/◌, ◌%◌, ◌^◌, ◌<◌, ◌≤◌, ◌==◌, ◌&&◌, ◌||◌, Bool, true, false, cond, true≢false, inl, inr, List, [], ◌∷◌, length, filter, slice_index, arith}
 use Rattle.std.specs.List.{All, range_with_len}
 use Rattle.std.specs.Int.{bit_at}
 use Rattle.std.proofs.lemmas.Bool.{cases_lt}
@@ -68,21 +68,21 @@ pub has_alike : (a b : Cset) → members_of a ≡ members_of b → (n : ℕ) →
 unfolding members_of
 has_alike a b same n few = sym (members_pass (has a) n few) ∙ ap (λ bytes. contains bytes n) same ∙ members_pass (has b) n few
 
-byte_alike : (a b : Cset) → members_of a ≡ members_of b → (k : ℕ) → k < 32 → slice_index a.bits k < 256 → slice_index b.bits k < 256
-    → slice_index a.bits k ≡ slice_index b.bits k
-byte_alike a b same k few fits fits' =
-    same_from_bits_below 8 _ _ fits fits' (λ i below.
-    let place : (k * 8 + i) / 8 ≡ k = omega arith in
-    let bit : (k * 8 + i) % 8 ≡ i = omega arith in
-    let alike : has a (k * 8 + i) ≡ has b (k * 8 + i) = has_alike a b same (k * 8 + i) (omega arith) in
-    bit_by (bit_at (slice_index a.bits k) i) (bit_at (slice_index b.bits k) i) (bit_at-lt _ _) (bit_at-lt _ _) (rw (place, bit) at alike))
+word_alike : (a b : Cset) → members_of a ≡ members_of b → (k : ℕ) → k < 4 → slice_index a.words k < 2 ^ 64 → slice_index b.words k < 2 ^ 64
+    → slice_index a.words k ≡ slice_index b.words k
+word_alike a b same k few fits fits' =
+    same_from_bits_below 64 _ _ fits fits' (λ i below.
+    let place : (k * 64 + i) / 64 ≡ k = omega arith in
+    let bit : (k * 64 + i) % 64 ≡ i = omega arith in
+    let alike : has a (k * 64 + i) ≡ has b (k * 64 + i) = has_alike a b same (k * 64 + i) (omega arith) in
+    bit_by (bit_at (slice_index a.words k) i) (bit_at (slice_index b.words k) i) (bit_at-lt _ _) (bit_at-lt _ _) (rw (place, bit) at alike))
 
--- the bytes of two sets are the same where they have the same members
-pub bits_alike : (a b : Cset) → length a.bits ≡ 32 → length b.bits ≡ 32 → All (λ byte. byte < 256) a.bits → All (λ byte. byte < 256) b.bits
-    → members_of a ≡ members_of b → a.bits ≡ b.bits
-bits_alike a b size size' bytes bytes' same =
-    same_lists a.bits b.bits (size ∙ sym size') (λ k d few.
-    let few' : k < length b.bits = omega arith in
-    get_or_default_zero a.bits k d few
-    ∙ byte_alike a b same k (omega arith) (bytes k 0 few) (bytes' k 0 few')
-    ∙ sym (get_or_default_zero b.bits k d few'))
+-- the words of two sets are the same where they have the same members
+pub words_alike : (a b : Cset) → length a.words ≡ 4 → length b.words ≡ 4 → All (λ word. word < 2 ^ 64) a.words → All (λ word. word < 2 ^ 64) b.words
+    → members_of a ≡ members_of b → a.words ≡ b.words
+words_alike a b size size' bytes bytes' same =
+    same_lists a.words b.words (size ∙ sym size') (λ k d few.
+    let few' : k < length b.words = omega arith in
+    get_or_default_zero a.words k d few
+    ∙ word_alike a b same k (omega arith) (bytes k 0 few) (bytes' k 0 few')
+    ∙ sym (get_or_default_zero b.words k d few'))

@@ -6,7 +6,7 @@ use Rattle.icn_value.specs.declared.cset.Cset.{Cset}
 
 -- whether a byte is a member
 abbrev pub has : Cset → ℕ → Bool
-has cset byte = bit_at (slice_index cset.bits (byte / 8)) (byte % 8) == 1
+has cset byte = bit_at (slice_index cset.words (byte / 64)) (byte % 64) == 1
 
 -- the members below a number, ascending
 unfoldable pub members_below : Cset → ℕ → List ℕ

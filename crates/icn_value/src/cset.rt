@@ -4,8 +4,8 @@ ghost use Rattle.std.specs.Prelude.{◌≡◌, ◌==◌, ◌&&◌, ◌||◌, fal
 /// A set of bytes, with a truth value for each. No call takes memory.
 #[derive(Clone, Copy, Debug, PartialEq, Eq, Hash)]
 pub struct Cset {
-    /// Byte b is a member where bit b mod 8 of the byte at b div 8 is set.
-    pub bits: [u8; 32],
+    /// Byte b is a member where bit b mod 64 of the word at b div 64 is set.
+    pub words: [u64; 4],
 }
 
 impl Cset {
@@ -16,34 +16,34 @@ impl Cset {
     pub fn empty() -> Cset
         ensures { HasMembers result (λ byte. false) }
     {
-        Cset { bits: [0; 32] }
+        Cset { words: [0; 4] }
     }
 
     /// Whether a byte is a member.
     pub fn has(&self, byte: u8) -> bool
         ensures { result ≡ has self.now byte }
     {
-        (self.bits[usize::from(byte / 8)] >> (byte % 8)) & 1 == 1
+        (self.words[usize::from(byte / 64)] >> (byte % 64)) & 1 == 1
     }
 
     /// These members and this byte.
     pub fn with(self, byte: u8) -> Cset
         ensures { HasMembers result (λ other. other == byte || has self other) }
     {
-        let mut bits = self.bits;
-        bits[usize::from(byte / 8)] |= 1 << (byte % 8);
-        Cset { bits }
+        let mut words = self.words;
+        words[usize::from(byte / 64)] |= 1 << (byte % 64);
+        Cset { words }
     }
 
     /// The bytes that are a member of this or of the other.
     pub fn either(self, other: Cset) -> Cset
         ensures { HasMembers result (λ byte. has self byte || has other byte) }
     {
-        let mut bits = self.bits;
-        for place in 0..32 {
-            bits[place] |= other.bits[place];
+        let mut words = self.words;
+        for place in 0..4 {
+            words[place] |= other.words[place];
         }
-        Cset { bits }
+        Cset { words }
     }
 
     /// The members that the other lacks.
@@ -57,22 +57,22 @@ impl Cset {
     pub fn both(self, other: Cset) -> Cset
         ensures { HasMembers result (λ byte. has self byte && has other byte) }
     {
-        let mut bits = self.bits;
-        for place in 0..32 {
-            bits[place] &= other.bits[place];
+        let mut words = self.words;
+        for place in 0..4 {
+            words[place] &= other.words[place];
         }
-        Cset { bits }
+        Cset { words }
     }
 
     /// The bytes that are no members.
     pub fn other(self) -> Cset
         ensures { HasMembers result (λ byte. not (has self byte)) }
     {
-        let mut bits = self.bits;
-        for place in 0..32 {
-            bits[place] = !bits[place];
+        let mut words = self.words;
+        for place in 0..4 {
+            words[place] = !words[place];
         }
-        Cset { bits }
+        Cset { words }
     }
 
     /// How many members there are.

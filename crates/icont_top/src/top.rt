@@ -34,11 +34,12 @@ use crate::loading::{LoadedProgram, linked_program, numbered_program, translate_
 use crate::writing::{FileToWrite, write_all};
 use icn_answer::{Answer, own_line, refuse};
 use icn_defs::{Ending, broken_off};
-use icn_frames::{Cell, VecStack};
+use icn_frames::Cell;
 use icn_host::{Fault, Files, Sink, Source, put_line};
 use icn_image::one_spelling;
 use icn_run_answer::answer_of;
 use icn_running::run;
+use icn_segments::RawStack;
 use icn_value::Limits;
 use icn_verify::{Verified, one_fault};
 use icont_units::sizes_line;
@@ -416,7 +417,7 @@ fn run_answer<I: Source, O: Sink, E: Sink>(
         cells: standard.cells,
         levels: standard.levels,
     };
-    match run::<VecStack<Cell>, I, O, E>(alloc, code, asked.arguments, limits, input, out, err) {
+    match run::<RawStack<Cell>, I, O, E>(alloc, code, asked.arguments, limits, input, out, err) {
         Ok(ending) => Answer::Ran(ending),
         Err(fault) => {
             let answer = answer_of(fault);

@@ -1,7 +1,7 @@
 //! The program `iconx`: it runs the image of a program of the Icon language.
 #![tactic(auto)]
 
-use icn_host::{DiskFiles, Sink, StdSink, StdSource};
+use icn_host::{DiskFiles, RuntimeFiles, Settling, Sink, StdSink, StdSource};
 use iconx_top::{Answer, iconx_main};
 use std::alloc::AllocError;
 use std::process::ExitCode;
@@ -10,10 +10,10 @@ use std::{env, io};
 
 fn main(rt: HostRuntime) -> ExitCode {
     let alloc = rt.alloc();
-    let mut files = DiskFiles::new(&rt);
+    let mut files = DiskFiles::new(alloc, RuntimeFiles::new(&rt));
     let mut input = StdSource::new(rt.stdin());
-    let mut out = StdSink::new(rt.stdout());
-    let mut err = StdSink::new(rt.stderr());
+    let mut out = StdSink::new(alloc, rt.stdout(), Settling::EachPiece);
+    let mut err = StdSink::new(alloc, rt.stderr(), Settling::EachPiece);
     let answer = match words(&rt) {
         Ok(words) => iconx_main(alloc, &words, &mut files, &mut input, &mut out, &mut err),
         Err(_) => {

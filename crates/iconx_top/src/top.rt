@@ -22,10 +22,11 @@ use crate::load::load;
 use crate::words::{RunAsked, read_command};
 use icn_answer::{Answer, own_line, refuse};
 use icn_defs::broken_off;
-use icn_frames::{Cell, VecStack};
+use icn_frames::Cell;
 use icn_host::{Files, Sink, Source};
 use icn_run_answer::answer_of;
 use icn_running::run;
+use icn_segments::RawStack;
 use icn_verify::Verified;
 use law_outside::runs_leave;
 use std::alloc::Global;
@@ -159,7 +160,7 @@ fn run_answer<I: Source, O: Sink, E: Sink>(
 {
     runs_leave();
     broken_off();
-    match run::<VecStack<Cell>, I, O, E>(
+    match run::<RawStack<Cell>, I, O, E>(
         alloc,
         code,
         asked.arguments,

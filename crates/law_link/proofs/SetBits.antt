@@ -38,9 +38,9 @@ either_at : (a b i : ℕ) → (bit_at (bit_or a b) i == 1) ≡ ((bit_at a i == 1
 either_at a b i = ap (λ n. n == 1) (bit_at_or a b i)
     ∙ either_test (bit_at a i) (bit_at b i) (bit_at-lt a i) (bit_at-lt b i)
 
--- a byte of a list has a bit
+-- a word of a list has a bit
 abbrev bit_of : List ℕ → ℕ → Bool
-bit_of bits n = bit_at (slice_index bits (n / 8)) (n % 8) == 1
+bit_of bits n = bit_at (slice_index bits (n / 64)) (n % 64) == 1
 
 or_none : (b : Bool) → b ≡ (b || false)
 or_none true = refl
@@ -54,36 +54,36 @@ not_same a b h = by (eqb_tells a b)
     by (inr t) = t.0
 
 -- with one bit more
-bit_more : (bits : List ℕ) (b n : ℕ) → b / 8 < length bits → bit_of (with_bit bits b) n ≡ (bit_of bits n || (b == n))
-bit_more bits b n few = by (eqb_tells (n / 8) (b / 8)) (eqb_tells (n % 8) (b % 8))
+bit_more : (bits : List ℕ) (b n : ℕ) → b / 64 < length bits → bit_of (with_bit bits b) n ≡ (bit_of bits n || (b == n))
+bit_more bits b n few = by (eqb_tells (n / 64) (b / 64)) (eqb_tells (n % 64) (b % 64))
   where
-    byte : ℕ
-    byte = slice_index bits (b / 8)
+    word : ℕ
+    word = slice_index bits (b / 64)
 
-    by : ((eqb (n / 8) (b / 8) ≡ true) × (n / 8 ≡ b / 8)) ⊎ ((eqb (n / 8) (b / 8) ≡ false) × (n / 8 ≢ b / 8))
-        → ((eqb (n % 8) (b % 8) ≡ true) × (n % 8 ≡ b % 8)) ⊎ ((eqb (n % 8) (b % 8) ≡ false) × (n % 8 ≢ b % 8))
+    by : ((eqb (n / 64) (b / 64) ≡ true) × (n / 64 ≡ b / 64)) ⊎ ((eqb (n / 64) (b / 64) ≡ false) × (n / 64 ≢ b / 64))
+        → ((eqb (n % 64) (b % 64) ≡ true) × (n % 64 ≡ b % 64)) ⊎ ((eqb (n % 64) (b % 64) ≡ false) × (n % 64 ≢ b % 64))
         → bit_of (with_bit bits b) n ≡ (bit_of bits n || (b == n))
     by (inl p) (inl q) =
         let whole = p.1 in
         let part = q.1 in
         let same : b ≡ n = omega arith in
-        ap (λ k. bit_at (slice_index (with_bit bits b) k) (n % 8) == 1) p.1
-        ∙ ap (λ k. bit_at k (n % 8) == 1) (get_or-set_same bits (b / 8) (bit_or byte (2 ^ (b % 8))) 0 few)
-        ∙ either_at byte (2 ^ (b % 8)) (n % 8)
-        ∙ ap (λ k. (bit_at byte (n % 8) == 1) || (k == 1)) (ap (bit_at (2 ^ (b % 8))) q.1 ∙ bit_at-pow_same (b % 8))
-        ∙ ap (λ k. (bit_at (slice_index bits k) (n % 8) == 1) || true) (sym p.1)
+        ap (λ k. bit_at (slice_index (with_bit bits b) k) (n % 64) == 1) p.1
+        ∙ ap (λ k. bit_at k (n % 64) == 1) (get_or-set_same bits (b / 64) (bit_or word (2 ^ (b % 64))) 0 few)
+        ∙ either_at word (2 ^ (b % 64)) (n % 64)
+        ∙ ap (λ k. (bit_at word (n % 64) == 1) || (k == 1)) (ap (bit_at (2 ^ (b % 64))) q.1 ∙ bit_at-pow_same (b % 64))
+        ∙ ap (λ k. (bit_at (slice_index bits k) (n % 64) == 1) || true) (sym p.1)
         ∙ ap (λ t. bit_of bits n || t) (sym ((Decides-eqb b n).1 same))
     by (inl p) (inr q) =
-        let other : b ≢ n = λ e. q.1 (ap (λ k. k % 8) (sym e)) in
-        ap (λ k. bit_at (slice_index (with_bit bits b) k) (n % 8) == 1) p.1
-        ∙ ap (λ k. bit_at k (n % 8) == 1) (get_or-set_same bits (b / 8) (bit_or byte (2 ^ (b % 8))) 0 few)
-        ∙ either_at byte (2 ^ (b % 8)) (n % 8)
-        ∙ ap (λ k. (bit_at byte (n % 8) == 1) || (k == 1)) (bit_at-pow_other (b % 8) (n % 8) q.1)
-        ∙ ap (λ k. (bit_at (slice_index bits k) (n % 8) == 1) || false) (sym p.1)
+        let other : b ≢ n = λ e. q.1 (ap (λ k. k % 64) (sym e)) in
+        ap (λ k. bit_at (slice_index (with_bit bits b) k) (n % 64) == 1) p.1
+        ∙ ap (λ k. bit_at k (n % 64) == 1) (get_or-set_same bits (b / 64) (bit_or word (2 ^ (b % 64))) 0 few)
+        ∙ either_at word (2 ^ (b % 64)) (n % 64)
+        ∙ ap (λ k. (bit_at word (n % 64) == 1) || (k == 1)) (bit_at-pow_other (b % 64) (n % 64) q.1)
+        ∙ ap (λ k. (bit_at (slice_index bits k) (n % 64) == 1) || false) (sym p.1)
         ∙ ap (λ t. bit_of bits n || t) (sym (not_same b n other))
     by (inr p) q =
-        let other : b ≢ n = λ e. p.1 (ap (λ k. k / 8) (sym e)) in
-        ap (λ k. bit_at k (n % 8) == 1) (get_or-set_other bits (b / 8) (n / 8) (bit_or byte (2 ^ (b % 8))) 0 p.1)
+        let other : b ≢ n = λ e. p.1 (ap (λ k. k / 64) (sym e)) in
+        ap (λ k. bit_at k (n % 64) == 1) (get_or-set_other bits (b / 64) (n / 64) (bit_or word (2 ^ (b % 64))) 0 p.1)
         ∙ or_none (bit_of bits n) ∙ ap (λ t. bit_of bits n || t) (sym (not_same b n other))
 
 or_later : (a b c : Bool) → ((a || b) || c) ≡ (a || (b || c))
@@ -91,14 +91,14 @@ or_later true b c = refl
 or_later false b c = refl
 
 -- with all of some bytes
-bits_more : (bytes bits : List ℕ) (n : ℕ) → length bits ≡ 32 → list_all is_byte bytes ≡ true
+bits_more : (bytes bits : List ℕ) (n : ℕ) → length bits ≡ 4 → list_all is_byte bytes ≡ true
     → bit_of (with_bits bits bytes) n ≡ (bit_of bits n || contains bytes n)
 bits_more [] bits n long h = or_none (bit_of bits n)
 bits_more (b ∷ bytes) bits n long h =
     let small = below b 256 (and_first (is_byte b) (list_all is_byte bytes) h) in
-    let few : b / 8 < length bits = omega (arith, long) in
+    let few : b / 64 < length bits = omega (arith, long) in
     bits_more bytes (with_bit bits b) n
-    (length-set bits (b / 8) (bit_or (slice_index bits (b / 8)) (2 ^ (b % 8))) ∙ long)
+    (length-set bits (b / 64) (bit_or (slice_index bits (b / 64)) (2 ^ (b % 64))) ∙ long)
     (and_second (is_byte b) (list_all is_byte bytes) h)
     ∙ ap (λ t. t || contains bytes n) (bit_more bits b n few) ∙ or_later (bit_of bits n) (b == n) (contains bytes n)
 
@@ -107,11 +107,11 @@ zeros zero k = refl
 zeros (suc n) zero = refl
 zeros (suc n) (suc k) = zeros n k
 
-no_bit : (n : ℕ) → bit_of (replicate 32 0) n ≡ false
-no_bit n = ap (λ byte. bit_at byte (n % 8) == 1) (zeros 32 (n / 8)) ∙ ap (λ k. k == 1) (bit_at-zero (n % 8))
+no_bit : (n : ℕ) → bit_of (replicate 4 0) n ≡ false
+no_bit n = ap (λ word. bit_at word (n % 64) == 1) (zeros 4 (n / 64)) ∙ ap (λ k. k == 1) (bit_at-zero (n % 64))
 
 set_has : (bytes : List ℕ) (n : ℕ) → list_all is_byte bytes ≡ true → has (cset_of bytes) n ≡ contains bytes n
-set_has bytes n h = bits_more bytes (replicate 32 0) n refl h ∙ ap (λ t. t || contains bytes n) (no_bit n)
+set_has bytes n h = bits_more bytes (replicate 4 0) n refl h ∙ ap (λ t. t || contains bytes n) (no_bit n)
 
 -- Bytes that ascend
 

@@ -1,4 +1,3 @@
-mod EachOfList
 mod RowValues
 pub mod RowsNamed
 pub mod RowSizes

@@ -5,3 +5,8 @@ pub mod Undone
 pub mod ErrorsBeforeCharges
 pub mod GrowingSums
 pub mod SortedOnce
+pub mod EachOfList
+pub mod RowLaws
+pub mod ValuesInRows
+pub mod EveryRow
+pub mod KeptSizes

@@ -3,6 +3,7 @@
 
 mod errors;
 mod growth;
+mod sizes;
 mod sorting;
 mod undoing;
 mod values;
@@ -10,6 +11,7 @@ mod walks;
 
 pub use errors::errors_change_nothing;
 pub use growth::nothing_is_given_back;
+pub use sizes::rows_keep;
 pub use sorting::{sorting_is_one, sorting_puts_in_order};
 pub use undoing::undoing_gives_back;
 pub use values::{

@@ -8,7 +8,6 @@ pub mod HopSteps
 pub mod InstructionSteps
 pub mod TablesKept
 pub mod NoStuck
-pub mod RowValues
 pub mod RowsWithin
 pub mod Observations
 pub mod StateFacts

@@ -4,11 +4,13 @@
 #[cfg(test)]
 mod tests {
     use icn_host::{
-        DiskFiles, Fault, Files, LineEnd, MemFiles, MemSink, MemSource, ReadFailure, Sink, Source,
-        StdSink, StdSource, SureFiles, SureSink, SureSource,
+        DiskFiles, Fault, FileSystem, Files, LineEnd, MemFiles, MemSink, MemSource, ReadFailure,
+        RuntimeFiles, Settling, Sink, Source, Standing, StdSink, StdSource, SureFiles, SureSink,
+        SureSource,
     };
     use std::collections::BTreeMap;
     use std::io::{ErrorKind, Read, Write};
+    use std::os::unix::fs::{PermissionsExt, symlink};
     use std::process::Abort;
     use std::test::Fail;
     use std::{fs, io};
@@ -72,6 +74,66 @@ mod tests {
 
         fn flush(&mut self) -> io::Result<()> {
             Ok(())
+        }
+    }
+
+    // A file system that takes so many bytes more, and perhaps makes no new file.
+    #[derive(Drop)]
+    struct SmallSystem<S> {
+        system: S,
+        room: usize,
+        refusal: Option<ErrorKind>,
+    }
+
+    impl<S: FileSystem> FileSystem for SmallSystem<S> {
+        type Reader = S::Reader;
+
+        type Writer = S::Writer;
+
+        ghost held = { λ s. S.held s.system };
+
+        ghost opened = { S.opened };
+
+        fn open(&mut self, name: &str) -> io::Result<Option<S::Reader>> {
+            self.system.open(name)
+        }
+
+        fn look(&mut self, name: &str) -> io::Result<Standing> {
+            self.system.look(name)
+        }
+
+        fn make(
+            &mut self,
+            name: &str,
+            permissions: Option<&fs::Permissions>,
+        ) -> io::Result<S::Writer> {
+            match self.refusal {
+                Some(kind) => Err(kind.into()),
+                None => self.system.make(name, permissions),
+            }
+        }
+
+        fn clear(&mut self, name: &str) -> io::Result<S::Writer> {
+            self.system.clear(name)
+        }
+
+        fn write(&mut self, file: &mut S::Writer, piece: &[u8]) -> io::Result<usize> {
+            if self.room == 0 {
+                return Err(ErrorKind::StorageFull.into());
+            }
+            let count = self
+                .system
+                .write(file, &piece[..self.room.min(piece.len())])?;
+            self.room = self.room.saturating_sub(count);
+            Ok(count)
+        }
+
+        fn rename(&mut self, source: &str, target: &str) -> io::Result<()> {
+            self.system.rename(source, target)
+        }
+
+        fn remove(&mut self, name: &str) {
+            self.system.remove(name);
         }
     }
 
@@ -296,9 +358,86 @@ mod tests {
                 room,
                 when_full,
             };
-            assert_eq!(rt; put(&mut StdSink::new(&mut writer), "hello"), want);
-            assert_eq!(rt; put(&mut StdSink::new(&mut writer), ""), Ok(()));
+            let mut sink = StdSink::new(rt.alloc(), &mut writer, Settling::EachPiece);
+            assert_eq!(rt; put(&mut sink, "hello"), want);
+            drop(sink);
             assert_eq!(rt; writer.taken.as_slice(), taken.as_bytes());
+        }
+        Ok(())
+    }
+
+    // Each row has what is put, and what is written then.
+    #[test]
+    fn sinks_that_keep(rt: HostRuntime) -> Result<(), Fail> {
+        let rows = [
+            (
+                Settling::EachPiece,
+                [("a", "a"), ("\n", "a\n"), ("b", "a\nb")],
+            ),
+            (
+                Settling::EachLine,
+                [("a", ""), ("b\nc", "ab\nc"), ("d", "ab\nc")],
+            ),
+            (Settling::WhenFull, [("a", ""), ("\n", ""), ("b", "")]),
+        ];
+        for (settling, puts) in rows {
+            let alloc = rt.alloc();
+            for count in 1..=puts.len() {
+                let mut writer = SlowWriter {
+                    taken: Vec::new(alloc),
+                    interruptions: 0,
+                    room: 9,
+                    when_full: None,
+                };
+                let mut sink = StdSink::new(alloc, &mut writer, settling);
+                for (piece, _) in puts.iter().take(count) {
+                    assert_eq!(rt; put(&mut sink, piece), Ok(()));
+                }
+                drop(sink);
+                let written = puts[count - 1].1;
+                assert_eq!(rt; writer.taken.as_slice(), written.as_bytes(), "of {count}");
+            }
+        }
+        Ok(())
+    }
+
+    #[test]
+    fn a_sink_that_is_flushed(rt: HostRuntime) -> Result<(), Fail> {
+        let alloc = rt.alloc();
+        let mut writer = SlowWriter {
+            taken: Vec::new(alloc),
+            interruptions: 0,
+            room: 3,
+            when_full: Some(ErrorKind::StorageFull),
+        };
+        let mut sink = StdSink::new(alloc, &mut writer, Settling::WhenFull);
+        assert_eq!(rt; put(&mut sink, "ab"), Ok(()));
+        assert_eq!(rt; sink.flush(), Ok(()));
+        assert_eq!(rt; put(&mut sink, "cd"), Ok(()));
+        assert_eq!(rt; sink.flush(), Err(Fault::Failed));
+        assert_eq!(rt; sink.flush(), Err(Fault::Failed));
+        drop(sink);
+        assert_eq!(rt; writer.taken.as_slice(), b"abc".as_slice());
+        Ok(())
+    }
+
+    // More than a sink keeps, in pieces of several lengths.
+    #[test]
+    fn a_sink_that_is_full(rt: HostRuntime) -> Result<(), Fail> {
+        let alloc = rt.alloc();
+        for length in [1000, 65535, 65536, 65537] {
+            let mut piece = Vec::new(alloc);
+            for _ in 0..length {
+                piece.push(b'x')?;
+            }
+            let mut taken = Vec::new(alloc);
+            let mut sink = StdSink::new(alloc, &mut taken, Settling::WhenFull);
+            for _ in 0..70 {
+                assert_eq!(rt; sink.put(&piece), Ok(()));
+            }
+            assert_eq!(rt; sink.flush(), Ok(()));
+            drop(sink);
+            assert_eq!(rt; taken.len(), 70 * length);
         }
         Ok(())
     }
@@ -308,9 +447,14 @@ mod tests {
         if fs::exists(&rt, "stream")? {
             fs::remove_file(&rt, "stream")?;
         }
-        let mut sink = StdSink::new(fs::File::create(&rt, "stream")?);
+        let mut sink = StdSink::new(
+            rt.alloc(),
+            fs::File::create(&rt, "stream")?,
+            Settling::WhenFull,
+        );
         assert_eq!(rt; sink.put(b"one\n\ntw"), Ok(()));
         assert_eq!(rt; sink.put(b"o"), Ok(()));
+        assert_eq!(rt; sink.flush(), Ok(()));
         drop(sink);
         let mut source = StdSource::new(fs::File::open(&rt, "stream")?);
         let mut bytes = Vec::new(rt.alloc());
@@ -329,7 +473,7 @@ mod tests {
         if fs::exists(&rt, "host")? {
             fs::remove_file(&rt, "host")?;
         }
-        let mut files = DiskFiles::new(&rt);
+        let mut files = DiskFiles::new(rt.alloc(), RuntimeFiles::new(&rt));
         check_files(&rt, &mut files, &mut bytes);
         // a folder, a name behind a folder that is not there or is none, a byte 0, and a name that is too long
         let mut long = String::new(rt.alloc());
@@ -348,6 +492,89 @@ mod tests {
         assert_eq!(rt; files.read("host", 9, &mut bytes), Ok(()));
         assert_eq!(rt; bytes.as_slice(), b"again".as_slice());
         fs::remove_file(&rt, "host")?;
+        Ok(())
+    }
+
+    // What stands in a folder that a test has made.
+    fn names_in(rt: &HostRuntime, folder: &str) -> io::Result<usize> {
+        let mut count = 0usize;
+        for entry in fs::read_dir(rt, folder)? {
+            entry?;
+            count = count.saturating_add(1);
+        }
+        Ok(count)
+    }
+
+    // Each row has the room of the file system, what refuses a draft, the answer, and what the file holds then: it held `old`.
+    #[test]
+    fn files_written_whole_or_not(rt: HostRuntime) -> Result<(), Fail> {
+        let rows = [
+            (9, None, Ok(()), "whole"),
+            (5, None, Ok(()), "whole"),
+            (4, None, Err(Fault::Failed), "old"),
+            (0, None, Err(Fault::Failed), "old"),
+            (9, Some(ErrorKind::StorageFull), Err(Fault::Failed), "old"),
+            (9, Some(ErrorKind::PermissionDenied), Ok(()), "whole"),
+            (9, Some(ErrorKind::ReadOnlyFilesystem), Ok(()), "whole"),
+            (
+                4,
+                Some(ErrorKind::PermissionDenied),
+                Err(Fault::Failed),
+                "whol",
+            ),
+        ];
+        if fs::exists(&rt, "whole")? {
+            fs::remove_dir_all(&rt, "whole")?;
+        }
+        fs::create_dir(&rt, "whole")?;
+        let mut bytes = Vec::new(rt.alloc());
+        for (room, refusal, want, held) in rows {
+            fs::write(&rt, "whole/file", "old")?;
+            let system = SmallSystem {
+                system: RuntimeFiles::new(&rt),
+                room,
+                refusal,
+            };
+            let mut files = DiskFiles::new(rt.alloc(), system);
+            assert_eq!(rt; files.write("whole/file", b"whole"), want, "room {room}");
+            bytes.clear();
+            assert_eq!(rt; files.read("whole/file", 9, &mut bytes), Ok(()));
+            assert_eq!(rt; bytes.as_slice(), held.as_bytes(), "room {room}");
+            assert_eq!(rt; names_in(&rt, "whole")?, 1, "room {room}");
+        }
+        fs::remove_dir_all(&rt, "whole")?;
+        Ok(())
+    }
+
+    // A file keeps its permissions, a link stays one, a device takes all, and a name may have 255 bytes.
+    #[test]
+    fn names_of_each_kind(rt: HostRuntime) -> Result<(), Fail> {
+        if fs::exists(&rt, "kinds")? {
+            fs::remove_dir_all(&rt, "kinds")?;
+        }
+        fs::create_dir(&rt, "kinds")?;
+        let mut files = DiskFiles::new(rt.alloc(), RuntimeFiles::new(&rt));
+        assert_eq!(rt; files.write("kinds/file", b"first"), Ok(()));
+        fs::set_permissions(&rt, "kinds/file", fs::Permissions::from_mode(0o751))?;
+        assert_eq!(rt; files.write("kinds/file", b"second"), Ok(()));
+        let mode = fs::metadata(&rt, "kinds/file")?.permissions().mode();
+        assert_eq!(rt; mode & 0o7777, 0o751);
+        symlink(&rt, "file", "kinds/link")?;
+        assert_eq!(rt; files.write("kinds/link", b"third"), Ok(()));
+        assert!(rt; fs::symlink_metadata(&rt, "kinds/link")?.is_symlink());
+        let mut bytes = Vec::new(rt.alloc());
+        assert_eq!(rt; files.read("kinds/file", 9, &mut bytes), Ok(()));
+        assert_eq!(rt; bytes.as_slice(), b"third".as_slice());
+        assert_eq!(rt; files.write("/dev/null", b"nothing"), Ok(()));
+        assert_eq!(rt; files.write("/dev/full", b"nothing"), Err(Fault::Failed));
+        let mut long = String::from_str(rt.alloc(), "kinds/")?;
+        for _ in 0..255 {
+            long.push_str("l")?;
+        }
+        assert_eq!(rt; files.write(&long, b"long"), Ok(()));
+        assert_eq!(rt; files.write("kinds", b"no"), Err(Fault::Failed));
+        assert_eq!(rt; names_in(&rt, "kinds")?, 3);
+        fs::remove_dir_all(&rt, "kinds")?;
         Ok(())
     }
 }

@@ -484,6 +484,8 @@ mod tests {
     }
 
     impl Sink for WantingSink {
+        ghost pending = { λ _. 0 };
+
         ghost state = { λ s. sink_state None 0 s.wants };
 
         fn put(&mut self, piece: &[u8]) -> Result<(), Fault> {
@@ -497,6 +499,10 @@ mod tests {
                 self.wants = self.wants.saturating_add(1);
             }
             result
+        }
+
+        fn flush(&mut self) -> Result<(), Fault> {
+            Ok(())
         }
     }
 

@@ -5,14 +5,14 @@
 mod command;
 mod row;
 
-use icn_host::DiskFiles;
+use icn_host::{DiskFiles, RuntimeFiles};
 use row::CaseFiles;
 use std::io;
 
 fn main(rt: HostRuntime) -> io::Result<()> {
     let alloc = rt.alloc();
     let rows = io::read_to_string(alloc, rt.reader())?;
-    let mut disk = DiskFiles::new(&rt);
+    let mut disk = DiskFiles::new(alloc, RuntimeFiles::new(&rt));
     let mut row = CaseFiles::new(alloc);
     for line in rows.lines() {
         let shown = row.read(alloc, &mut disk, line)?;

@@ -1,8 +1,8 @@
 // The cases.
 use crate::code::code_of;
-use crate::counted::CountedStack;
 use crate::observed::{Object, observe_run};
 use icn_frames::{Cell, VecStack};
+use icn_segments::RawStack;
 use icn_verify::Verified;
 use std::alloc::{AllocError, Global};
 
@@ -22,7 +22,7 @@ fn shown_twice(alloc: Global, source: &str, input: &str) -> Result<String, Alloc
         return String::from_str(alloc, " -> no code");
     };
     let (first, _) = observe_run::<VecStack<Cell>>(alloc, &code, input, None)?;
-    let (second, _) = observe_run::<CountedStack<Cell>>(alloc, &code, input, None)?;
+    let (second, _) = observe_run::<RawStack<Cell>>(alloc, &code, input, None)?;
     if first == second {
         format!(in alloc; " -> {first}")
     } else {

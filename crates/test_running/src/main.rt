@@ -4,7 +4,6 @@
 
 mod case;
 mod code;
-mod counted;
 mod observed;
 
 use case::show_case;

@@ -3,6 +3,7 @@ ghost use Rattle.std.specs.Bool.{OnTrue};
 ghost use Rattle.icn_frames.specs.Stacks.{GoesOn};
 
 use icn_frames::{Cell, Frames, Stack, VecStack, Why};
+use icn_segments::RawStack;
 use icn_value::{Item, Pair, Residual, Span, Val};
 use std::alloc::{AllocError, Global};
 use std::process::Abort;
@@ -92,15 +93,39 @@ fn check_refusal<K: Stack<u64> + Drop>(rt: &impl Abort, cells: &mut K) -> Result
     Ok(())
 }
 
+// More cells than lie in two segments, copied and cut across their ends.
+fn check_many<K: Stack<u64> + Drop>(rt: &impl Abort, cells: &mut K) -> Result<(), AllocError> {
+    cells.cut(0);
+    for v in 0..600 {
+        make_change(cells, StackChange::Push(v))?;
+    }
+    make_change(cells, StackChange::CopyUp(200, 520))?;
+    assert_eq!(rt; cells.len(), 920);
+    for i in 0..cells.len() {
+        let want = if i < 600 { i } else { i - 400 };
+        assert_eq!(rt; cells.get(i), want, "at {i}");
+    }
+    for to in [513, 512, 257, 256, 1] {
+        make_change(cells, StackChange::Cut(to))?;
+        assert_eq!(rt; make_change(cells, StackChange::Pop)?, Some(to - 1));
+    }
+    Ok(())
+}
+
 // A stack that has room for some cells takes these without an error.
 #[test]
 fn changes_cells(rt: HostRuntime) -> Result<(), Fail> {
     let mut cells: VecStack<u64> = VecStack::new(rt.alloc());
     check_cells(&rt, &mut cells)?;
     check_refusal(&rt, &mut cells)?;
+    check_many(&rt, &mut cells)?;
     let mut others: VecStack<u64> = Stack::empty(rt.alloc());
     check_cells(&rt, &mut others)?;
     check_refusal(&rt, &mut others)?;
+    let mut segments: RawStack<u64> = RawStack::new(rt.alloc());
+    check_cells(&rt, &mut segments)?;
+    check_refusal(&rt, &mut segments)?;
+    check_many(&rt, &mut segments)?;
     Ok(())
 }
 
@@ -271,7 +296,7 @@ fn check_calls<K: Stack<Cell> + Drop>(
     Ok(())
 }
 
-fn new_frames(alloc: Global) -> Result<Frames<VecStack<Cell>>, AllocError> {
+fn new_frames<K: Stack<Cell> + Drop>(alloc: Global) -> Result<Frames<K>, AllocError> {
     Frames::new(alloc, 7, &[Val::Integer(10), Val::Integer(20)], 100)
 }
 
@@ -439,26 +464,36 @@ const CALLS: [(Call, CallResult); 28] = [
     (Call::Leave, CallResult::Not),
 ];
 
-#[test]
-fn calls_on_one_block(rt: HostRuntime) -> Result<(), Fail> {
+fn check_tables<K: Stack<Cell> + Drop>(rt: &impl Abort, alloc: Global) -> Result<(), AllocError> {
     for calls in [
         MARKS.as_slice(),
         SUSPENSIONS.as_slice(),
         SCANS.as_slice(),
         CALLS.as_slice(),
     ] {
-        let mut frames = new_frames(rt.alloc())?;
-        check_calls(&rt, &mut frames, calls)?;
+        let mut frames: Frames<K> = new_frames(alloc)?;
+        check_calls(rt, &mut frames, calls)?;
     }
+    Ok(())
+}
+
+#[test]
+fn calls_on_one_block(rt: HostRuntime) -> Result<(), Fail> {
+    check_tables::<VecStack<Cell>>(&rt, rt.alloc())?;
+    Ok(())
+}
+
+#[test]
+fn calls_on_segments(rt: HostRuntime) -> Result<(), Fail> {
+    check_tables::<RawStack<Cell>>(&rt, rt.alloc())?;
     Ok(())
 }
 
 const DEEP: u32 = 100000;
 
 // As deep as this: marks with an operand and a suspension each, then procedures, and back.
-#[test]
-fn nests_deep(rt: HostRuntime) -> Result<(), Fail> {
-    let mut frames = new_frames(rt.alloc())?;
+fn check_depth<K: Stack<Cell> + Drop>(rt: &impl Abort, alloc: Global) -> Result<(), AllocError> {
+    let mut frames: Frames<K> = new_frames(alloc)?;
     for label in 0..DEEP {
         frames.push(item(i64::from(label)))?;
         frames.mark(Some(label), None)?;
@@ -487,5 +522,12 @@ fn nests_deep(rt: HostRuntime) -> Result<(), Fail> {
         );
     }
     assert_eq!(rt; frames.at_base(), true);
+    Ok(())
+}
+
+#[test]
+fn nests_deep(rt: HostRuntime) -> Result<(), Fail> {
+    check_depth::<VecStack<Cell>>(&rt, rt.alloc())?;
+    check_depth::<RawStack<Cell>>(&rt, rt.alloc())?;
     Ok(())
 }

@@ -1,6 +1,5 @@
-use Rattle.std.proofs.Common.{refl}
-use Rattle.icn_frames.proofs.SuspensionFrames.{bottom_is}
+use Rattle.icn_frames.proofs.HeightsRead.{frame_below}
 use Rattle.icn_frames.proofs.steps.bottom_of.Goals as goal
 
-pub returns-in-Call : goal.returns-in-Call
-returns-in-Call g c = bottom_is _ c.args.r _ _ c.in-None.is c.if-r.true c.requires.from c.in-Call.ensures refl
+pub locals_at-requires : goal.locals_at-requires
+locals_at-requires g c = frame_below _ _ c.requires

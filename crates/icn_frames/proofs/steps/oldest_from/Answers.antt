@@ -4,9 +4,12 @@ use Rattle.icn_frames.specs.StackInvariant.{shape, IsScan, KindAt, MayBeAt}
 use Rattle.icn_frames.proofs.OpenScans.{Lower, height_of, older_lower, oldest_none, oldest_on}
 use Rattle.icn_frames.proofs.steps.oldest_from.Goals as goal
 
+pub older_than-older-requires : goal.older_than-older-requires
+older_than-older-requires g c = subst (λ (w : Option ℕ). MayBeAt IsScan (map shape c.args.cells.now.cells) w) c.in-Some.is c.loop-at.invariant.there
+
 pub loop-at-smaller : goal.loop-at-smaller
 loop-at-smaller g c =
-    let s = g.K.Stack.cells c.args.cells.now in
+    let s = c.args.cells.now.cells in
     let k : KindAt IsScan (map shape s) c.in-Some.height = subst (λ (w : Option ℕ). MayBeAt IsScan (map shape s) w) c.in-Some.is c.loop-at.invariant.there in
     let l : Lower s c.in-Some.height c.older_than-older.result = subst (λ (w : Option ℕ). Lower s c.in-Some.height w) (sym c.older_than-older.ensures)
     (older_lower s c.in-Some.height c.requires.fit k) in
@@ -14,7 +17,7 @@ loop-at-smaller g c =
 
 pub loop-at-preserved : goal.loop-at-preserved
 loop-at-preserved g c =
-    let s = g.K.Stack.cells c.args.cells.now in
+    let s = c.args.cells.now.cells in
     let k : KindAt IsScan (map shape s) c.in-Some.height = subst (λ (w : Option ℕ). MayBeAt IsScan (map shape s) w) c.in-Some.is c.loop-at.invariant.there in
     let l : Lower s c.in-Some.height c.older_than-older.result = subst (λ (w : Option ℕ). Lower s c.in-Some.height w) (sym c.older_than-older.ensures)
     (older_lower s c.in-Some.height c.requires.fit k) in
@@ -29,6 +32,6 @@ loop-at-preserved g c =
 
 pub returns-clause-value : goal.returns-clause-value
 returns-clause-value g c =
-    let s = g.K.Stack.cells c.args.cells.now in
+    let s = c.args.cells.now.cells in
     sym (oldest_none (length s) s c.args.until) ∙ ap (λ (w : Option ℕ). oldest_from (length s) s c.args.until w) (sym c.in_default.is)
     ∙ c.loop-at.invariant.same

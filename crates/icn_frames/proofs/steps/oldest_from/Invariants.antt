@@ -6,9 +6,9 @@ use Rattle.icn_frames.proofs.steps.oldest_from.Given as goal
 
 abbrev pub invariant-loop-at : goal.invariant-loop-at
 invariant-loop-at g l = record {
-  there : MayBeAt IsScan (map shape (g.K.Stack.cells l.cells)) l.at;
-  same : oldest_from (length (g.K.Stack.cells l.cells)) (g.K.Stack.cells l.cells) l.until l.at
-      ≡ oldest_from (length (g.K.Stack.cells l.cells)) (g.K.Stack.cells l.cells) l.until l.initial.at;
+  there : MayBeAt IsScan (map shape l.cells.cells) l.at;
+  same : oldest_from (length l.cells.cells) l.cells.cells l.until l.at
+      ≡ oldest_from (length l.cells.cells) l.cells.cells l.until l.initial.at;
 }
 
 abbrev pub decreases-loop-at : goal.decreases-loop-at

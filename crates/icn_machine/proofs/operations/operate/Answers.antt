@@ -1,178 +1,127 @@
-use Rattle.std.proofs.Common.{◌≡◌, ◌+◌, [], Some, add-one, ap, false, nat_lt, refl, true, ◌∙◌, rules}
-use Rattle.std.specs.Prelude.{map}
+use Rattle.std.proofs.Common.{◌≡◌, IsSome, [], ap, false, nat_lt, refl, sym, true, ◌∙◌, rules, subst}
 use Rattle.icn_value.specs.Limited.{Bounds}
 use Rattle.icn_defs.specs.Arities.{arity}
-use Rattle.icn_defs.specs.StepRows as rows
 use Rattle.icn_heap.specs.Heaps.{extent_of, heap_of}
-use Rattle.law_names.specs.NamedSettings.{ItemNamed}
-use Rattle.icn_vars.specs.Worlds.{item_in, reach_of, world_of}
-use Rattle.icn_coexp.specs.Transfers.{with_stack}
-use Rattle.icn_run.specs.Stacks.{flat}
-use Rattle.icn_run.specs.Step.{all_names, operate}
-use Rattle.law_steps.proofs.CallsNamed as named
-use Rattle.icn_control.specs.Machines.{store_in, store_seen}
+use Rattle.icn_vars.specs.Worlds.{reach_of}
+use Rattle.icn_frames.specs.Stacks.{FlatStack}
+use Rattle.icn_code.specs.declared.instr.Instr.TheVariants as Instrs
+use Rattle.icn_run.specs.Step.{State}
+use Rattle.icn_run.specs.Stacks.{Frames}
+use Rattle.law_steps.specs.StateNames.{StackNamed}
+use Rattle.icn_control.specs.Machines.{ComesTo, does, stack_of, store_seen}
 use Rattle.icn_control.specs.StackViews.{stack_in}
-use Rattle.icn_control.specs.declared.machine.Machine.{Machine}
+use Rattle.icn_control.specs.TakenOperands.{take_operands}
 use Rattle.icn_control.proofs.ExhaustSteps.{nat_lt_true}
-use Rattle.icn_control.proofs.ListSteps.{nat_lt_false, turn_bound}
+use Rattle.icn_control.proofs.ListSteps.{nat_lt_false}
 use Rattle.icn_control.proofs.LiteralSteps.{running_live}
-use Rattle.icn_control.proofs.MachineSteps.{stacks_on}
-use Rattle.icn_control.proofs.TakenOperandSteps.{live_taken}
-use Rattle.icn_machine.proofs.PerformEvents.{unless_both}
-use Rattle.icn_machine.proofs.OperateSteps.{has_stack, named_running, named_taken, op_is, operates, performs_idle, performs_on, performs_still, sound_after, taken_as, taken_count}
+use Rattle.icn_machine.proofs.InPlaceSteps.{alone_runs, alone_stands, bound_is, does_same, on_same, on_stack, sound_alone, sound_same, stays_sound}
+use Rattle.icn_machine.proofs.OperateSteps.{named_running, performs_still}
+use Rattle.icn_machine.proofs.PerformEvents.{performs_as}
 use Rattle.icn_machine.proofs.operations.operate.Goals as goal
-
-pub returns-in_default-clause-step : goal.returns-in_default-clause-step
-returns-in_default-clause-step g c tables names = performs_idle _ _ _
 
 pub returns-then-m-clause-step : goal.returns-then-m-clause-step
 returns-then-m-clause-step g c tables names =
     let m = c.args.m.now in
-    let k = c.take_operands.new.frames.flat in
-    let items = c.take_operands.new.items.items in
-    let all = extent_of m.world.heap in
-    let taken = taken_as c.arity.result (arity c.args.op) c.frames.result.now.flat k k items items c.in-Ok.ensures.taken c.arity.ensures refl refl in
     let none : nat_lt m.turns (heap_of m.world.heap).bounds.turns ≡ false
     = ap (λ (x : Bounds). nat_lt m.turns x.turns) c.requires.stands.sound.1.bounds ∙ nat_lt_false m.turns m.limits.turns c.if-m.true in
     performs_still _ _ _ _
-    (λ was. op_is all tables m.stacks.table c.frames.result.now.flat k items c.args.op (store_seen tables was m) c.frames.ensures.running taken
-    ∙ turn_bound tables (store_seen tables was m)
-    (store_in (all_names tables) was (world_of m.world) m.turns m.begun.items all (record m.stacks.table { running = Some k }))
-    (operate flat c.args.op (map (item_in all) items) (stack_in all k)) none refl)
+    (λ was. bound_is (extent_of m.world.heap) tables c.args.op (stack_of m) (store_seen tables was m) c.requires.operands none)
 
 pub returns-then-m-clause-keeps : goal.returns-then-m-clause-keeps
-returns-then-m-clause-keeps g c = record {
-  sound = λ tables s. (
-      let m = c.args.m.now in
-      let f = c.frames.result.now.flat in
-      let k = c.take_operands.new.frames.flat in
-      record {
-        stacks = stacks_on tables (reach_of m.world []) m.stacks.table f k c.frames.ensures.running
-            (λ l. (live_taken tables (reach_of m.world []) c.arity.result f k c.take_operands.new.items.items c.in-Ok.ensures.taken l).rest) s.stacks;
-        bounds = s.bounds;
-        counts = s.counts;
-        counted = record { results = s.counted.results; activators = s.counted.activators };
-      });
-  halt = search rules;
-  limits = refl;
-  stack = search rules;
-}
+returns-then-m-clause-keeps g c = record { sound = λ tables s. s; halt = search rules; limits = refl; stack = search rules }
 
 pub returns-then-m-clause-named : goal.returns-then-m-clause-named
-returns-then-m-clause-named g c =
+returns-then-m-clause-named g c = (c.requires.named.stack_named, c.requires.named.world_named)
+
+pub operate_in_place-requires-clause-operands : goal.operate_in_place-requires-clause-operands
+operate_in_place-requires-clause-operands g c =
     let m = c.args.m.now in
-    let names = g.N.Names.known c.args.names.now in
-    let all = extent_of m.world.heap in
-    let f = c.frames.result.now.flat in
-    let k = c.take_operands.new.frames.flat in
-    let there = named_taken names all c.arity.result f k c.take_operands.new.items.items c.in-Ok.ensures.taken
-    (named_running names all m.stacks.table f c.frames.ensures.running c.requires.named.stack_named) in
-    (named.stack_out names (stack_in all k) there.rest, c.requires.named.world_named)
+    let F : FlatStack → Type 0 = λ x. IsSome (take_operands (arity c.args.op) x) in
+    on_same m c.frames.result.now c.frames.result.now.flat F c.frames.ensures.running refl c.requires.operands
 
-pub perform-requires-clause-applicable : goal.perform-requires-clause-applicable
-perform-requires-clause-applicable g c =
-    let f = c.frames.result.now.flat in
-    let k = c.take_operands.new.frames.flat in
-    let items = c.take_operands.new.items.items in
-    let taken = taken_as c.arity.result (arity c.args.op) f k k items c.deref.result.now c.in-Ok.ensures.taken c.arity.ensures refl c.deref.ensures.value in
-    (c.requires.row, taken_count (arity c.args.op) f k c.deref.result.now taken)
-
-pub perform-requires-clause-here : goal.perform-requires-clause-here
-perform-requires-clause-here g c = record {
-  stack = (
-      let m = c.args.m.now in
-      let t = c.requires.stands.sound.0 in
-      let reach = reach_of m.world [] in
-      let f = c.frames.result.now.flat in
-      let k = c.frames-2.result.now.flat in
-      let items = c.take_operands.new.items.items in
-      let taken = taken_as c.arity.result c.arity.result f c.take_operands.new.frames.flat k items items c.in-Ok.ensures.taken refl
-      c.frames-2.ensures.running refl in (
-        t,
-        (live_taken t reach c.arity.result f k items taken
-            (running_live t reach m.stacks.table f c.frames.ensures.running c.requires.stands.sound.1.stacks)).rest,
-      ));
-  stack_named = (
-      let m = c.args.m.now in
-      let names = g.N.Names.known c.args.names.now in
-      let all = extent_of m.world.heap in
-      let f = c.frames.result.now.flat in
-      let k = c.frames-2.result.now.flat in
-      let items = c.take_operands.new.items.items in
-      let taken = taken_as c.arity.result c.arity.result f c.take_operands.new.frames.flat k items items c.in-Ok.ensures.taken refl
-      c.frames-2.ensures.running refl in
-      let there = named_taken names all c.arity.result f k items taken
-      (named_running names all m.stacks.table f c.frames.ensures.running c.requires.named.stack_named) in
-      named.stack_out names (stack_in all k) there.rest);
-  world_named = search rules;
-}
-
-pub perform-requires-clause-given : goal.perform-requires-clause-given
-perform-requires-clause-given g c = record {
-  items = (
-      let m = c.args.m.now in
-      let t = c.requires.stands.sound.0 in
-      let reach = reach_of m.world [] in
-      let f = c.frames.result.now.flat in
-      let k = c.frames-2.result.now.flat in
-      let xs = c.deref.result.now in
-      let taken = taken_as c.arity.result c.arity.result f c.take_operands.new.frames.flat k c.take_operands.new.items.items xs c.in-Ok.ensures.taken
-      refl c.frames-2.ensures.running c.deref.ensures.value in
-      (live_taken t reach c.arity.result f k xs taken
-      (running_live t reach m.stacks.table f c.frames.ensures.running c.requires.stands.sound.1.stacks)).items_live);
-  items_named = (
-      let m = c.args.m.now in
-      let names = g.N.Names.known c.args.names.now in
-      let all = extent_of m.world.heap in
-      let f = c.frames.result.now.flat in
-      let k = c.take_operands.new.frames.flat in
-      let xs = c.deref.result.now in
-      let taken = taken_as c.arity.result c.arity.result f k k c.take_operands.new.items.items xs c.in-Ok.ensures.taken refl refl c.deref.ensures.value in
-      let there = named_taken names all c.arity.result f k xs taken
-      (named_running names all m.stacks.table f c.frames.ensures.running c.requires.named.stack_named) in
-      named.all_of (ItemNamed names) (map (item_in all) xs) there.items_named);
-}
-
-pub returns-clause-step : goal.returns-clause-step
-returns-clause-step g c tables names =
+pub operate_in_place-requires-clause-live : goal.operate_in_place-requires-clause-live
+operate_in_place-requires-clause-live g c =
     let m = c.args.m.now in
-    let row = rows.apply (g.N.Names.known c.args.names.now) (rows.Operation c.args.op) (map (item_in (extent_of m.world.heap)) c.deref.result.now) in
-    let f = c.frames.result.now.flat in
-    let k = c.frames-2.result.now.flat in
-    let xs = c.deref.result.now in
-    let taken = taken_as c.arity.result (arity c.args.op) f c.take_operands.new.frames.flat k c.take_operands.new.items.items xs c.in-Ok.ensures.taken
-    c.arity.ensures c.frames-2.ensures.running c.deref.ensures.value in
+    let t = c.requires.stands.sound.0 in
+    let reach = reach_of m.world [] in
+    (t, (reach, running_live t reach m.stacks.table c.frames.result.now.flat c.frames.ensures.running c.requires.stands.sound.1.stacks))
+
+pub returns-in-Some-clause-step : goal.returns-in-Some-clause-step
+returns-in-Some-clause-step g c tables names =
+    let m = c.args.m.now in
     let more : nat_lt m.turns (heap_of m.world.heap).bounds.turns ≡ true
     = ap (λ (x : Bounds). nat_lt m.turns x.turns) c.requires.stands.sound.1.bounds ∙ nat_lt_true m.turns m.limits.turns c.if-m.false in
-    let after : Machine g.row.K.Denot
-    = record { world = c.perform.new.world; stacks = with_stack m.stacks c.perform.new.frames; turns = m.turns + 1; begun = m.begun; limits = m.limits } in
-    performs_on after c.requires.stands.sound.0 tables m.world m.turns m.stacks.table k c.perform.new.frames.flat row _ _ _ c.perform.result
-    c.perform.ensures.leaves.kept c.requires.stands.sound.1.stacks refl (add-one m.turns)
-    (λ was. operates tables (g.N.Names.known c.args.names.now) m.world m.stacks.table f k xs c.args.op after m.turns was c.requires.row
-    c.frames.ensures.running taken more names)
-    c.perform.ensures.row
+    performs_still _ _ _ _
+    (λ was. alone_stands m c.operate_in_place.new.frames tables was c.args.op c.frames.result.now.flat c.in-Some.stage c.frames.ensures.running more
+    c.in-Some.ensures.done)
 
-pub returns-clause-keeps : goal.returns-clause-keeps
-returns-clause-keeps g c = record {
-  sound = λ tables s. (
-      let m = c.args.m.now in
-      let reach = reach_of m.world [] in
-      let f = c.frames.result.now.flat in
-      let k = c.frames-2.result.now.flat in
-      let items = c.take_operands.new.items.items in
-      let taken = taken_as c.arity.result c.arity.result f c.take_operands.new.frames.flat k items items c.in-Ok.ensures.taken refl
-      c.frames-2.ensures.running refl in
-      let live = (live_taken tables reach c.arity.result f k items taken (running_live tables reach m.stacks.table f c.frames.ensures.running s.stacks)).rest in
-      let after : Machine g.row.K.Denot
-      = record { world = c.perform.new.world; stacks = with_stack m.stacks c.perform.new.frames; turns = m.turns + 1; begun = m.begun; limits = m.limits } in
-      unless_both c.perform.result _ _ _ (c.perform.ensures.live tables live) c.perform.ensures.leaves.counts
-      (λ l counts. sound_after m after tables c.perform.new.frames.flat c.perform.ensures.leaves.kept refl refl refl s l counts));
-  halt = search rules;
-  limits = refl;
-  stack = (
-      let m = c.args.m.now in
-      let row = rows.apply (g.N.Names.known c.args.names.now) (rows.Operation c.args.op) (map (item_in (extent_of m.world.heap)) c.deref.result.now) in
-      let after : Machine g.row.K.Denot
-      = record { world = c.perform.new.world; stacks = with_stack m.stacks c.perform.new.frames; turns = m.turns + 1; begun = m.begun; limits = m.limits } in
-      has_stack after m.world c.frames-2.result.now.flat c.perform.new.frames.flat row _ _ c.perform.result refl c.perform.ensures.row);
-}
+pub returns-in-Some-clause-keeps : goal.returns-in-Some-clause-keeps
+returns-in-Some-clause-keeps g c =
+    let m = c.args.m.now in
+    let more : nat_lt m.turns (heap_of m.world.heap).bounds.turns ≡ true
+    = ap (λ (x : Bounds). nat_lt m.turns x.turns) c.requires.stands.sound.1.bounds ∙ nat_lt_true m.turns m.limits.turns c.if-m.false in
+    record {
+      sound = λ tables s. sound_alone m c.operate_in_place.new.frames tables c.frames.result.now.flat c.frames.ensures.running c.in-Some.ensures.live s;
+      halt = search rules;
+      limits = refl;
+      stack = alone_runs m c.operate_in_place.new.frames c.requires.stands.sound.0 c.args.op c.frames.result.now.flat c.in-Some.stage more
+          c.in-Some.ensures.done;
+    }
+
+pub returns-in-Some-clause-named : goal.returns-in-Some-clause-named
+returns-in-Some-clause-named g c =
+    let m = c.args.m.now in
+    let names = g.N.Names.known c.args.names.now in
+    let all = extent_of m.world.heap in (
+      c.in-Some.ensures.named names all (named_running names all m.stacks.table c.frames.result.now.flat c.frames.ensures.running
+          c.requires.named.stack_named),
+      c.requires.named.world_named,
+    )
+
+pub operate_by_row-requires-clause-stands : goal.operate_by_row-requires-clause-stands
+operate_by_row-requires-clause-stands g c =
+    let m = c.args.m.now in
+    let t = c.requires.stands.sound.0 in
+    record {
+      runs = refl;
+      sound = (
+        t,
+        sound_same m c.operate_in_place.new.frames t c.frames.result.now.flat c.frames.ensures.running (c.operate_in_place.ensures.not_done c.in-None.is)
+            c.requires.stands.sound.1,
+      );
+    }
+
+pub operate_by_row-requires-clause-operands : goal.operate_by_row-requires-clause-operands
+operate_by_row-requires-clause-operands g c =
+    let F : FlatStack → Type 0 = λ x. IsSome (take_operands (arity c.args.op) x) in
+    on_same c.args.m.now c.operate_in_place.new.frames c.frames.result.now.flat F c.frames.ensures.running (c.operate_in_place.ensures.not_done c.in-None.is)
+    c.requires.operands
+
+pub operate_by_row-requires-clause-named : goal.operate_by_row-requires-clause-named
+operate_by_row-requires-clause-named g c =
+    let m = c.args.m.now in
+    let F : FlatStack → Type 0 = λ x. StackNamed (g.N.Names.known c.args.names.now) (stack_in (extent_of m.world.heap) x) in
+    record {
+      stack_named = on_same m c.operate_in_place.new.frames c.frames.result.now.flat F c.frames.ensures.running (c.operate_in_place.ensures.not_done c.in-None.is)
+          c.requires.named.stack_named;
+      world_named = c.requires.named.world_named;
+    }
+
+pub returns-in-None-clause-step : goal.returns-in-None-clause-step
+returns-in-None-clause-step g c tables names =
+    let m = c.args.m.now in
+    let s = c.operate_in_place.new.frames in
+    let same = c.operate_in_place.ensures.not_done c.in-None.is in
+    performs_as (λ was. does tables was (Instrs.Op c.args.op) m) (λ was. does tables was (Instrs.Op c.args.op) (on_stack m s))
+    (λ was now answer. ComesTo tables now (does tables was (Instrs.Op c.args.op) (on_stack m s)) c.operate_by_row.new.m answer)
+    (λ was now answer. ComesTo tables now (does tables was (Instrs.Op c.args.op) m) c.operate_by_row.new.m answer)
+    _ _ c.operate_by_row.result
+    (λ was. does_same m s tables was (Instrs.Op c.args.op) c.frames.result.now.flat c.frames.ensures.running same)
+    (λ was now h. subst (λ (x : State Frames Frames). ComesTo tables now x c.operate_by_row.new.m c.operate_by_row.result)
+    (sym (does_same m s tables was (Instrs.Op c.args.op) c.frames.result.now.flat c.frames.ensures.running same)) h)
+    (c.operate_by_row.ensures.step tables names)
+
+pub returns-in-None-clause-keeps : goal.returns-in-None-clause-keeps
+returns-in-None-clause-keeps g c =
+    stays_sound c.args.m.now c.operate_by_row.new.m c.operate_in_place.new.frames c.frames.result.now.flat c.operate_by_row.result
+    c.frames.ensures.running (c.operate_in_place.ensures.not_done c.in-None.is) c.operate_by_row.ensures.keeps

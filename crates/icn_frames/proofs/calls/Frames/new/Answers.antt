@@ -1,13 +1,11 @@
-use Rattle.std.proofs.Common.{refl, ap, ◌∙◌, List, [], ◌∷◌, length, suc, None, add-one}
-use Rattle.icn_frames.specs.declared.layout.Cell.{Cell}
-use Rattle.icn_frames.specs.declared.layout.Cell.TheVariants.{Base}
-use Rattle.icn_frames.specs.Stacks.{put_above}
+use Rattle.std.proofs.Common.{◌∙◌, refl, [], None}
 use Rattle.icn_frames.proofs.FrameEntry.{sound_frame}
+use Rattle.icn_frames.proofs.HeightsRead.{framed_above, height_above}
 use Rattle.icn_frames.proofs.calls.Frames.new.Goals as goal
 
 pub invariant_of-result : goal.invariant_of-result
-invariant_of-result g c = rw (c.at_frame.ensures)
-    (sound_frame c.args.locals.now _ None [] _ _ refl (c.in_ok-height.ensures.height
-    ∙ add-one _ ∙ ap (λ (w : List Cell). suc (length w)) c.empty-cells.ensures.cells)
-    tt tt (c.in_ok-height.ensures.ok
-    ∙ ap (λ (w : List Cell). put_above c.args.locals.now (Base c.args.proc (length c.args.locals.now) ∷ w)) c.empty-cells.ensures.cells))
+invariant_of-result g c =
+    let e = c.in_ok-reserve.ensures.cells ∙ c.new-cells.ensures in
+    rw (c.at_frame.ensures)
+    (sound_frame c.args.locals.now _ None [] _ _ refl (height_above _ [] _ _ _ c.len-height.ensures.is c.push_base.ensures.cells e) tt tt
+    (framed_above c.args.locals.now _ [] _ _ _ c.put_locals.ensures c.push_base.ensures.cells e))

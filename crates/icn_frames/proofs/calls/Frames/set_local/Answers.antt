@@ -5,27 +5,31 @@ use Rattle.icn_frames.proofs.CellFacts.{sound_set_shape, local_count_at}
 use Rattle.icn_frames.specs.Stacks.{FlatStack}
 use Rattle.icn_frames.proofs.Locals.{set_local_is}
 use Rattle.icn_frames.proofs.LocalsSet.{locals_set}
+use Rattle.icn_frames.proofs.HeightsRead.{local_within}
 use Rattle.icn_frames.proofs.calls.Frames.set_local.Goals as goal
+
+pub set_local-requires : goal.set_local-requires
+set_local-requires g c = local_within _ _ _ c.self.invariant (rw (← c.self.view_is) at c.requires)
 
 pub invariant_of-self : goal.invariant_of-self
 invariant_of-self g c =
-    let s = g.K.Stack.cells c.self.inside.cells in
+    let s = c.self.inside.cells.cells in
     let r = c.self.inside.registers in
     let n = rw (← c.self.view_is) at c.requires in
     let k : c.args.index < count_of (cell_at r.base (map shape s)) = subst (λ (w : ℕ). c.args.index < w) (local_count_at s r.base) n in
-    sound_set_shape s _ r _ _ c.self.invariant (c.self.invariant.stands.leads.base.locals c.args.index k) c.set.ensures.cells
+    sound_set_shape s _ r _ _ c.self.invariant (c.self.invariant.stands.leads.base.locals c.args.index k) c.set_local.ensures.cells
 
 pub returns-clause-flat : goal.returns-clause-flat
 returns-clause-flat g c =
-    let m : FlatStack = record { cells = g.K.Stack.cells c.self.inside.cells; registers = c.self.inside.registers; address = c.self.inside.address } in
-    rw (← c.self.view_is) (set_local_is m c.args.index c.args.v _ c.self.invariant (rw (← c.self.view_is) at c.requires) c.set.ensures.cells)
+    let m : FlatStack = record { cells = c.self.inside.cells.cells; registers = c.self.inside.registers; address = c.self.inside.address } in
+    rw (← c.self.view_is) (set_local_is m c.args.index c.args.v _ c.self.invariant (rw (← c.self.view_is) at c.requires) c.set_local.ensures.cells)
 
 pub returns-clause-locals : goal.returns-clause-locals
 returns-clause-locals g c =
-    let m : FlatStack = record { cells = g.K.Stack.cells c.self.inside.cells; registers = c.self.inside.registers; address = c.self.inside.address } in
-    let s = g.K.Stack.cells c.self.inside.cells in
+    let m : FlatStack = record { cells = c.self.inside.cells.cells; registers = c.self.inside.registers; address = c.self.inside.address } in
+    let s = c.self.inside.cells.cells in
     let r = c.self.inside.registers in
     let n = rw (← c.self.view_is) at c.requires in
     let k : c.args.index < count_of (cell_at r.base (map shape s)) = subst (λ (w : ℕ). c.args.index < w) (local_count_at s r.base) n in
-    let after = sound_set_shape s _ r _ _ c.self.invariant (c.self.invariant.stands.leads.base.locals c.args.index k) c.set.ensures.cells in
-    rw (← c.self.view_is) (locals_set m c.args.index c.args.v _ c.self.invariant after n c.set.ensures.cells)
+    let after = sound_set_shape s _ r _ _ c.self.invariant (c.self.invariant.stands.leads.base.locals c.args.index k) c.set_local.ensures.cells in
+    rw (← c.self.view_is) (locals_set m c.args.index c.args.v _ c.self.invariant after n c.set_local.ensures.cells)

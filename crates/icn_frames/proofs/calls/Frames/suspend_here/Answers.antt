@@ -5,25 +5,25 @@ use Rattle.icn_frames.proofs.calls.Frames.suspend_here.Goals as goal
 
 pub invariant_of-self-2 : goal.invariant_of-self-2
 invariant_of-self-2 g c =
-    let s = g.K.Stack.cells c.self.inside.cells in
+    let s = c.self.inside.cells.cells in
     let r = c.self.inside.registers in
-    let w = c.args.why in
+    let w = c.args.why.now in
     let h = c.in_ok-height.height in
     let q : c.scan_after.result ≡ scan_by w h (older_scan s r.scan) r.scan = c.scan_after.ensures
     ∙ ap (λ (x : Option ℕ). scan_by w h x r.scan) (rw (← c.self.view_is) at c.older_scan-older.ensures) in
-    sound_hung w s _ r r c.self.inside.address _ _ (length s) c.args.given c.scan_after.result c.self.invariant (sound_all s r c.self.invariant) (omega arith)
+    sound_hung w s _ r r c.self.inside.address _ _ (length s) c.scan_after.result c.self.invariant (sound_all s r c.self.invariant) (omega arith)
     c.bottom_of-from.ensures c.in_ok-height.ensures.height
     (scan_here w s r c.self.inside.address h c.scan_after.result c.self.invariant c.in_ok-height.ensures.height q)
-    (rw c.len-to.ensures at c.in_ok-height.ensures.ok)
+    (rw c.len-to.ensures.is at c.in_ok-height.ensures.ok)
 
 pub returns-clause-ok : goal.returns-clause-ok
 returns-clause-ok g c =
-    let s = g.K.Stack.cells c.self.inside.cells in
+    let s = c.self.inside.cells.cells in
     let r = c.self.inside.registers in
-    let w = c.args.why in
+    let w = c.args.why.now in
     let h = c.in_ok-height.height in
     let q : c.scan_after.result ≡ scan_by w h (older_scan s r.scan) r.scan = c.scan_after.ensures
     ∙ ap (λ (x : Option ℕ). scan_by w h x r.scan) (rw (← c.self.view_is) at c.older_scan-older.ensures) in
-    let m : FlatStack = record { cells = g.K.Stack.cells c.self.inside.cells; registers = c.self.inside.registers; address = c.self.inside.address } in
-    rw (← c.self.view_is) (suspend_is m w _ c.scan_after.result _ _ c.args.given c.self.invariant
-    c.bottom_of-from.ensures c.in_ok-height.ensures.height q (rw c.len-to.ensures at c.in_ok-height.ensures.ok))
+    let m : FlatStack = record { cells = c.self.inside.cells.cells; registers = c.self.inside.registers; address = c.self.inside.address } in
+    rw (← c.self.view_is) (suspend_is m w _ c.scan_after.result _ _ c.self.invariant
+    c.bottom_of-from.ensures c.in_ok-height.ensures.height q (rw c.len-to.ensures.is at c.in_ok-height.ensures.ok))

@@ -6,12 +6,12 @@ use Rattle.icn_value.proofs.cset.Cset.both.Goals as goal
 
 pub loop-place-preserved : goal.loop-place-preserved
 loop-place-preserved c = record {
-  bytes = length-set c.loop-place.bits c.loop-place.place _ ∙ c.loop-place.invariant.bytes;
-  done = done_more c.loop-place.bits (λ k. bit_and (slice_index c.args.self.bits k) (slice_index c.args.other.bits k)) c.loop-place.place
-      _ (omega (arith, c.loop-place.invariant.bytes, c.loop-place-test.true)) (ap (λ n. bit_and n (slice_index c.args.other.bits c.loop-place.place))
+  bytes = length-set c.loop-place.words c.loop-place.place _ ∙ c.loop-place.invariant.bytes;
+  done = done_more c.loop-place.words (λ k. bit_and (slice_index c.args.self.words k) (slice_index c.args.other.words k)) c.loop-place.place
+      _ (omega (arith, c.loop-place.invariant.bytes, c.loop-place-test.true)) (ap (λ n. bit_and n (slice_index c.args.other.words c.loop-place.place))
       (c.loop-place.invariant.ahead c.loop-place.place (omega arith))) c.loop-place.invariant.done;
-  ahead = ahead_more c.loop-place.bits (slice_index c.args.self.bits) c.loop-place.place _ c.loop-place.invariant.ahead;
+  ahead = ahead_more c.loop-place.words (slice_index c.args.self.words) c.loop-place.place _ c.loop-place.invariant.ahead;
 }
 
 pub returns : goal.returns
-returns c = both_members c.args.self c.args.other (record { bits = c.loop-place.bits }) (λ k below. c.loop-place.invariant.done k (omega arith))
+returns c = both_members c.args.self c.args.other (record { words = c.loop-place.words }) (λ k below. c.loop-place.invariant.done k (omega arith))

@@ -1,0 +1,38 @@
+use Rattle.std.proofs.Common.{◌<◌, ℕ, subst, map}
+use Rattle.icn_frames.specs.Heights.{cell_at}
+use Rattle.icn_frames.specs.StackInvariant.{shape, count_of}
+use Rattle.icn_frames.proofs.CellFacts.{sound_set_shape, local_count_at}
+use Rattle.icn_frames.specs.Stacks.{FlatStack}
+use Rattle.icn_frames.proofs.Locals.{set_local_is}
+use Rattle.icn_frames.proofs.LocalsSet.{locals_set}
+use Rattle.icn_frames.proofs.HeightsRead.{local_within, some_is}
+use Rattle.icn_frames.proofs.calls.Frames.set_local_plain.Goals as goal
+
+pub set_local_plain-requires-clause-within : goal.set_local_plain-requires-clause-within
+set_local_plain-requires-clause-within g c = local_within _ _ _ c.self.invariant (rw (← c.self.view_is) at c.requires.there)
+
+pub invariant_of-self : goal.invariant_of-self
+invariant_of-self g c =
+    let s = c.self.inside.cells.cells in
+    let r = c.self.inside.registers in
+    let n = rw (← c.self.view_is) at c.requires.there in
+    let y = some_is _ c.requires.plain in
+    let k : c.args.index < count_of (cell_at r.base (map shape s)) = subst (λ (w : ℕ). c.args.index < w) (local_count_at s r.base) n in
+    sound_set_shape s _ r _ _ c.self.invariant (c.self.invariant.stands.leads.base.locals c.args.index k) (c.set_local_plain.ensures.cells y.0 y.1)
+
+pub returns-clause-flat : goal.returns-clause-flat
+returns-clause-flat g c v e =
+    let m : FlatStack = record { cells = c.self.inside.cells.cells; registers = c.self.inside.registers; address = c.self.inside.address } in
+    rw (← c.self.view_is)
+    (set_local_is m c.args.index v _ c.self.invariant (rw (← c.self.view_is) at c.requires.there) (c.set_local_plain.ensures.cells v e))
+
+pub returns-clause-locals : goal.returns-clause-locals
+returns-clause-locals g c v e =
+    let m : FlatStack = record { cells = c.self.inside.cells.cells; registers = c.self.inside.registers; address = c.self.inside.address } in
+    let s = c.self.inside.cells.cells in
+    let r = c.self.inside.registers in
+    let n = rw (← c.self.view_is) at c.requires.there in
+    let k : c.args.index < count_of (cell_at r.base (map shape s)) = subst (λ (w : ℕ). c.args.index < w) (local_count_at s r.base) n in
+    let is = c.set_local_plain.ensures.cells v e in
+    let after = sound_set_shape s _ r _ _ c.self.invariant (c.self.invariant.stands.leads.base.locals c.args.index k) is in
+    rw (← c.self.view_is) (locals_set m c.args.index v _ c.self.invariant after n is)

@@ -1,0 +1,10 @@
+use Rattle.std.proofs.Common.{sym, ap, ◌∙◌}
+use Rattle.icn_frames.proofs.Beside.{within, shown}
+use Rattle.icn_frames.specs.Stacks.{label_in}
+use Rattle.icn_frames.proofs.cells.Cells.label_at.Goals as goal
+
+pub get-requires : goal.get-requires
+get-requires g c = within _ _ _ _ (rw (← c.self.view_is) at c.requires)
+
+pub returns : goal.returns
+returns g c = rw (← c.self.view_is) (c.label_in.ensures _ _ ∙ ap label_in (sym (shown _ _ _ _ _ (rw (← c.self.view_is) at c.requires) c.get.ensures)))

@@ -1,0 +1,7 @@
+use Rattle.std.specs.Prelude.{◌≡◌}
+use Rattle.icn_host.proofs.whole.write_some.Given as goal
+
+abbrev pub invariant-loop : goal.invariant-loop
+invariant-loop g l =
+    (g.S.FileSystem.held l.system ≡ g.S.FileSystem.held l.initial.system)
+    × (g.S.FileSystem.opened l.file ≡ g.S.FileSystem.opened l.initial.file)

@@ -1,0 +1,129 @@
+-- Operands that slots tell: integers, and locals that hold them.
+use Rattle.std.proofs.Common.{◌≡◌, ℕ, ℤ, ◌<◌, List, [], ◌∷◌, length, slice_get, Option, Some, None, IfSome, IsSome, refl, sym, ap, ◌∙◌, subst}
+use Rattle.std.proofs.lemmas.List.Elements.{All-head, All-tail}
+use Rattle.std.proofs.lemmas.Option.{same_Some, slice_get-get_or}
+use Rattle.std.specs.Prelude.{get_or}
+use Rattle.std.specs.Option.{option_and_then}
+use Rattle.icn_text.specs.declared.op.Op.{Op}
+use Rattle.icn_value.specs.declared.item.Item.{Item}
+use Rattle.icn_value.specs.declared.item.Item.TheVariants as Items
+use Rattle.icn_value.specs.declared.val.Val.{Val}
+use Rattle.icn_value.specs.declared.val.Val.TheVariants as Vals
+use Rattle.icn_vars.specs.Worlds.{IsLiveItem, Reach}
+use Rattle.icn_frames.specs.Slots.{plain_local, plain_operand}
+use Rattle.icn_frames.specs.declared.slots.StackSlot.{StackSlot}
+use Rattle.icn_frames.specs.Stacks as held
+use Rattle.icn_frames.specs.Stacks.{FlatStack}
+use Rattle.icn_code.specs.Codes.{Tables}
+use Rattle.icn_control.specs.LiveStacks.{IsLiveStack, with_locals}
+use Rattle.icn_control.specs.TakenOperands.{take_operands, taken_onto}
+use Rattle.icn_control.proofs.LiveCalls.{own_locals}
+use Rattle.icn_control.proofs.StackSteps.{pushed_back}
+use Rattle.icn_control.proofs.TakenOperandSteps.{live_taken}
+use Rattle.icn_machine.specs.PlainOperations.{Computes, NamesOwnLocal, TakesSlots, TellIntegers, TellsInteger, as_local, as_value, integer_result, local_item}
+
+-- Two operands that are there
+
+pub record TwoThere (m : FlatStack) : Type 0 where
+  pub upper : Item
+  pub rest : FlatStack
+  pub lower : Item
+  pub left : FlatStack
+  pub first : held.pop m ≡ Some (upper, rest)
+  pub second : held.pop rest ≡ Some (lower, left)
+
+below_there : (m : FlatStack) (top : Item × FlatStack) (o : Option (Item × FlatStack)) → held.pop m ≡ Some top → held.pop top.1 ≡ o
+    → IsSome (option_and_then (λ (popped : Item × FlatStack). taken_onto 0 popped.1 (popped.0 ∷ top.0 ∷ [])) o) → TwoThere m
+below_there m top (Some next) e f q = record { upper = top.0; rest = top.1; lower = next.0; left = next.1; first = e; second = f }
+below_there m top None e f q = cc
+
+pub two_there : (m : FlatStack) → IsSome (take_operands 2 m) → TwoThere m
+two_there m there = by_popped (held.pop m) refl there
+  where
+    by_popped : (o : Option (Item × FlatStack)) → held.pop m ≡ o
+        → IsSome (option_and_then (λ (popped : Item × FlatStack). taken_onto 1 popped.1 (popped.0 ∷ [])) o) → TwoThere m
+    by_popped (Some top) e q = below_there m top (held.pop top.1) e refl q
+    by_popped None e q = cc
+
+-- the operand below the top one is there
+pub second_there : (m d : FlatStack) (two : TwoThere m) → d ≡ two.rest → IsSome (held.pop d)
+second_there m d two e = subst (λ (x : FlatStack). IsSome (held.pop x)) (sym e) (subst IsSome (sym two.second) refl)
+
+-- the stack that is left, by another name
+pub popped_to : (m r d : FlatStack) (x : Item) → held.pop m ≡ Some (x, r) → d ≡ r → held.pop m ≡ Some (x, d)
+popped_to m r d x e f =
+    let F : FlatStack → Option (Item × FlatStack) = λ y. Some (x, y) in
+    e ∙ ap F (sym f)
+
+-- both, taken
+pub two_taken : (m r k : FlatStack) (x y : Item) → held.pop m ≡ Some (y, r) → held.pop r ≡ Some (x, k) → take_operands 2 m ≡ Some (x ∷ y ∷ [], k)
+two_taken m r k x y e f =
+    ap (option_and_then (λ (popped : Item × FlatStack). taken_onto 1 popped.1 (popped.0 ∷ []))) e
+    ∙ ap (option_and_then (λ (popped : Item × FlatStack). taken_onto 0 popped.1 (popped.0 ∷ y ∷ []))) f
+
+-- what was taken is put back
+pub taken_back : (m k : FlatStack) (x y : Item) → take_operands 2 m ≡ Some (x ∷ y ∷ [], k) → held.push y (held.push x k) ≡ m
+taken_back m k x y e =
+    let there : TwoThere m = two_there m (subst IsSome (sym e) refl) in
+    let same : Some (there.lower ∷ there.upper ∷ [], there.left) ≡ Some (x ∷ y ∷ [], k)
+    = sym (two_taken m there.rest there.left there.lower there.upper there.first there.second) ∙ e in
+    let pair : (there.lower ∷ there.upper ∷ [], there.left) ≡ (x ∷ y ∷ [], k) = same_Some _ _ same in
+    let F : List Item × FlatStack → FlatStack = λ p. held.push (second_of p.0) (held.push (first_of p.0) p.1) in
+    sym (ap F pair) ∙ ap (held.push there.upper) (pushed_back there.rest there.left there.lower there.second)
+    ∙ pushed_back m there.rest there.upper there.first
+  where
+    first_of : List Item → Item
+    first_of (a ∷ items) = a
+    first_of [] = x
+
+    second_of : List Item → Item
+    second_of (a ∷ b ∷ items) = b
+    second_of (a ∷ []) = y
+    second_of [] = y
+
+-- Locals
+
+-- an operand that is taken is a local of the activation, if it is one
+own_local : (reach : Reach) (k : FlatStack) (slot : StackSlot) (x : Item) → plain_operand slot ≡ Some x
+    → IsLiveItem (with_locals (own_locals k) reach) x → NamesOwnLocal k slot
+own_local reach k slot x e live index is =
+    let same : x ≡ local_item index = same_Some x (local_item index) (sym e ∙ is) in
+    let own : IsLiveItem (with_locals (own_locals k) reach) (local_item index) = subst (λ (y : Item). IsLiveItem (with_locals (own_locals k) reach) y) same live in
+    own.live.live.live
+
+pub lower_own : (t : Tables) (reach : Reach) (m k : FlatStack) (slots : StackSlot × StackSlot) → TakesSlots m k slots → IsLiveStack t reach m
+    → NamesOwnLocal k slots.0
+lower_own t reach m k slots takes l =
+    let live = (live_taken t reach 2 m k (takes.first ∷ takes.second ∷ []) takes.taken l).items_live in
+    own_local reach k slots.0 takes.first takes.lower (All-head (IsLiveItem (with_locals (own_locals k) reach)) takes.first (takes.second ∷ []) live)
+
+pub upper_own : (t : Tables) (reach : Reach) (m k : FlatStack) (slots : StackSlot × StackSlot) → TakesSlots m k slots → IsLiveStack t reach m
+    → NamesOwnLocal k slots.1
+upper_own t reach m k slots takes l =
+    let P : Item → Type 0 = IsLiveItem (with_locals (own_locals k) reach) in
+    let live = (live_taken t reach 2 m k (takes.first ∷ takes.second ∷ []) takes.taken l).items_live in
+    own_local reach k slots.1 takes.second takes.upper (All-head P takes.second [] (All-tail P takes.first (takes.second ∷ []) live))
+
+-- the value of a local is that which its slot tells
+pub local_told : (vs : List Val) (index count : ℕ) (slot : StackSlot) (n : ℤ) → index < count → count ≡ length vs
+    → ((v : Val) → slice_get vs index ≡ Some v → (w : Val) → plain_local slot ≡ Some w → v ≡ w) → plain_local slot ≡ Some (Vals.Integer n)
+    → slice_get vs index ≡ Some (Vals.Integer n)
+local_told vs index count slot n within same told e =
+    let there : slice_get vs index ≡ Some (get_or vs index Vals.Null)
+    = slice_get-get_or vs index Vals.Null (subst (λ (c : ℕ). index < c) same within) in
+    there ∙ ap (λ (v : Val). Some v) (told (get_or vs index Vals.Null) there (Vals.Integer n) e)
+
+-- Integers that slots tell
+
+pub value_tells : (vs : List Val) (slot : StackSlot) (n : ℤ) → plain_operand slot ≡ Some (Items.Val (Vals.Integer n)) → TellsInteger vs slot n
+value_tells vs slot n is x e = as_value (same_Some x (Items.Val (Vals.Integer n)) (sym e ∙ is))
+
+pub local_tells : (vs : List Val) (slot : StackSlot) (index : ℕ) (r : Option ℤ) → plain_operand slot ≡ Some (local_item index)
+    → IfSome r (λ n. slice_get vs index ≡ Some (Vals.Integer n)) → IfSome r (TellsInteger vs slot)
+local_tells vs slot index (Some n) is there = λ x e. as_local index (same_Some x (local_item index) (sym e ∙ is)) there
+local_tells vs slot index None is there = tt
+
+pub computes_so : (op : Op) (vs : List Val) (slots : StackSlot × StackSlot) (a b : ℤ) (r : Option ℤ) → TellIntegers vs slots (a, b)
+    → r ≡ integer_result op a b → IfSome r (Computes op vs slots)
+computes_so op vs slots a b (Some n) t e = record { two = (a, b); of = t; is = sym e }
+computes_so op vs slots a b None t e = tt

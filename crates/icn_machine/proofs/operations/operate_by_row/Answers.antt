@@ -1,0 +1,130 @@
+use Rattle.std.proofs.Common.{◌≡◌, ◌+◌, [], add-one, ap, nat_lt, refl, true, ◌∙◌, rules}
+use Rattle.std.specs.Prelude.{map}
+use Rattle.icn_value.specs.Limited.{Bounds}
+use Rattle.icn_defs.specs.Arities.{arity}
+use Rattle.icn_defs.specs.StepRows as rows
+use Rattle.icn_heap.specs.Heaps.{extent_of, heap_of}
+use Rattle.law_names.specs.NamedSettings.{ItemNamed}
+use Rattle.icn_vars.specs.Worlds.{item_in, reach_of}
+use Rattle.icn_coexp.specs.Transfers.{with_stack}
+use Rattle.icn_run.specs.Stacks.{flat}
+use Rattle.law_steps.proofs.CallsNamed as named
+use Rattle.icn_control.specs.StackViews.{stack_in}
+use Rattle.icn_control.specs.declared.machine.Machine.{Machine}
+use Rattle.icn_control.proofs.ExhaustSteps.{nat_lt_true}
+use Rattle.icn_control.proofs.LiteralSteps.{running_live}
+use Rattle.icn_control.proofs.TakenOperandSteps.{live_taken}
+use Rattle.icn_machine.proofs.PerformEvents.{unless_both}
+use Rattle.icn_machine.proofs.OperateSteps.{has_stack, named_running, named_taken, operates, performs_idle, performs_on, sound_after, taken_as, taken_count}
+use Rattle.icn_machine.proofs.operations.operate_by_row.Goals as goal
+
+pub returns-in_default-clause-step : goal.returns-in_default-clause-step
+returns-in_default-clause-step g c tables names = performs_idle _ _ _
+
+pub perform-requires-clause-applicable : goal.perform-requires-clause-applicable
+perform-requires-clause-applicable g c =
+    let f = c.frames.result.now.flat in
+    let k = c.take_operands.new.frames.flat in
+    let items = c.take_operands.new.items.items in
+    let taken = taken_as c.arity.result (arity c.args.op) f k k items c.deref.result.now c.in-Ok.ensures.taken c.arity.ensures refl c.deref.ensures.value in
+    (c.requires.row, taken_count (arity c.args.op) f k c.deref.result.now taken)
+
+pub perform-requires-clause-here : goal.perform-requires-clause-here
+perform-requires-clause-here g c = record {
+  stack = (
+      let m = c.args.m.now in
+      let t = c.requires.stands.sound.0 in
+      let reach = reach_of m.world [] in
+      let f = c.frames.result.now.flat in
+      let k = c.frames-2.result.now.flat in
+      let items = c.take_operands.new.items.items in
+      let taken = taken_as c.arity.result c.arity.result f c.take_operands.new.frames.flat k items items c.in-Ok.ensures.taken refl
+      c.frames-2.ensures.running refl in (
+        t,
+        (live_taken t reach c.arity.result f k items taken
+            (running_live t reach m.stacks.table f c.frames.ensures.running c.requires.stands.sound.1.stacks)).rest,
+      ));
+  stack_named = (
+      let m = c.args.m.now in
+      let names = g.N.Names.known c.args.names.now in
+      let all = extent_of m.world.heap in
+      let f = c.frames.result.now.flat in
+      let k = c.frames-2.result.now.flat in
+      let items = c.take_operands.new.items.items in
+      let taken = taken_as c.arity.result c.arity.result f c.take_operands.new.frames.flat k items items c.in-Ok.ensures.taken refl
+      c.frames-2.ensures.running refl in
+      let there = named_taken names all c.arity.result f k items taken
+      (named_running names all m.stacks.table f c.frames.ensures.running c.requires.named.stack_named) in
+      named.stack_out names (stack_in all k) there.rest);
+  world_named = search rules;
+}
+
+pub perform-requires-clause-given : goal.perform-requires-clause-given
+perform-requires-clause-given g c = record {
+  items = (
+      let m = c.args.m.now in
+      let t = c.requires.stands.sound.0 in
+      let reach = reach_of m.world [] in
+      let f = c.frames.result.now.flat in
+      let k = c.frames-2.result.now.flat in
+      let xs = c.deref.result.now in
+      let taken = taken_as c.arity.result c.arity.result f c.take_operands.new.frames.flat k c.take_operands.new.items.items xs c.in-Ok.ensures.taken
+      refl c.frames-2.ensures.running c.deref.ensures.value in
+      (live_taken t reach c.arity.result f k xs taken
+      (running_live t reach m.stacks.table f c.frames.ensures.running c.requires.stands.sound.1.stacks)).items_live);
+  items_named = (
+      let m = c.args.m.now in
+      let names = g.N.Names.known c.args.names.now in
+      let all = extent_of m.world.heap in
+      let f = c.frames.result.now.flat in
+      let k = c.take_operands.new.frames.flat in
+      let xs = c.deref.result.now in
+      let taken = taken_as c.arity.result c.arity.result f k k c.take_operands.new.items.items xs c.in-Ok.ensures.taken refl refl c.deref.ensures.value in
+      let there = named_taken names all c.arity.result f k xs taken
+      (named_running names all m.stacks.table f c.frames.ensures.running c.requires.named.stack_named) in
+      named.all_of (ItemNamed names) (map (item_in all) xs) there.items_named);
+}
+
+pub returns-clause-step : goal.returns-clause-step
+returns-clause-step g c tables names =
+    let m = c.args.m.now in
+    let row = rows.apply (g.N.Names.known c.args.names.now) (rows.Operation c.args.op) (map (item_in (extent_of m.world.heap)) c.deref.result.now) in
+    let f = c.frames.result.now.flat in
+    let k = c.frames-2.result.now.flat in
+    let xs = c.deref.result.now in
+    let taken = taken_as c.arity.result (arity c.args.op) f c.take_operands.new.frames.flat k c.take_operands.new.items.items xs c.in-Ok.ensures.taken
+    c.arity.ensures c.frames-2.ensures.running c.deref.ensures.value in
+    let more : nat_lt m.turns (heap_of m.world.heap).bounds.turns ≡ true
+    = ap (λ (x : Bounds). nat_lt m.turns x.turns) c.requires.stands.sound.1.bounds ∙ nat_lt_true m.turns m.limits.turns c.requires.turn in
+    let after : Machine g.row.K.Denot
+    = record { world = c.perform.new.world; stacks = with_stack m.stacks c.perform.new.frames; turns = m.turns + 1; begun = m.begun; limits = m.limits } in
+    performs_on after c.requires.stands.sound.0 tables m.world m.turns m.stacks.table k c.perform.new.frames.flat row _ _ _ c.perform.result
+    c.perform.ensures.leaves.kept c.requires.stands.sound.1.stacks refl (add-one m.turns)
+    (λ was. operates tables (g.N.Names.known c.args.names.now) m.world m.stacks.table f k xs c.args.op after m.turns was c.requires.row
+    c.frames.ensures.running taken more names)
+    c.perform.ensures.row
+
+pub returns-clause-keeps : goal.returns-clause-keeps
+returns-clause-keeps g c = record {
+  sound = λ tables s. (
+      let m = c.args.m.now in
+      let reach = reach_of m.world [] in
+      let f = c.frames.result.now.flat in
+      let k = c.frames-2.result.now.flat in
+      let items = c.take_operands.new.items.items in
+      let taken = taken_as c.arity.result c.arity.result f c.take_operands.new.frames.flat k items items c.in-Ok.ensures.taken refl
+      c.frames-2.ensures.running refl in
+      let live = (live_taken tables reach c.arity.result f k items taken (running_live tables reach m.stacks.table f c.frames.ensures.running s.stacks)).rest in
+      let after : Machine g.row.K.Denot
+      = record { world = c.perform.new.world; stacks = with_stack m.stacks c.perform.new.frames; turns = m.turns + 1; begun = m.begun; limits = m.limits } in
+      unless_both c.perform.result _ _ _ (c.perform.ensures.live tables live) c.perform.ensures.leaves.counts
+      (λ l counts. sound_after m after tables c.perform.new.frames.flat c.perform.ensures.leaves.kept refl refl refl s l counts));
+  halt = search rules;
+  limits = refl;
+  stack = (
+      let m = c.args.m.now in
+      let row = rows.apply (g.N.Names.known c.args.names.now) (rows.Operation c.args.op) (map (item_in (extent_of m.world.heap)) c.deref.result.now) in
+      let after : Machine g.row.K.Denot
+      = record { world = c.perform.new.world; stacks = with_stack m.stacks c.perform.new.frames; turns = m.turns + 1; begun = m.begun; limits = m.limits } in
+      has_stack after m.world c.frames-2.result.now.flat c.perform.new.frames.flat row _ _ c.perform.result refl c.perform.ensures.row);
+}

@@ -1,0 +1,279 @@
+// Operations on integers and locals, done on the stack alone: no operand is taken into a room, and no row is called. What is not
+// plain stays as it is.
+ghost use Rattle.std.specs.Prelude.{◌≡◌, ◌+◌, ◌<◌, ◌≤◌, IfSome, IsSome, IsTrue, None, Some, slice_get};
+ghost use Rattle.std.specs.Result.{result_ok};
+ghost use Rattle.icn_value.specs.declared.item.Item.{Item};
+ghost use Rattle.icn_value.specs.declared.val.Val.TheVariants as Vals;
+ghost use Rattle.icn_text.specs.declared.op.Op.TheVariants as Ops;
+ghost use Rattle.icn_defs.specs.Arities.{arity};
+ghost use Rattle.icn_vars.specs.Worlds.{Reach};
+ghost use Rattle.icn_frames.specs.Slots.{plain_operand};
+ghost use Rattle.icn_frames.specs.Stacks as flat;
+ghost use Rattle.icn_code.specs.Codes.{Tables};
+ghost use Rattle.icn_control.specs.LiveStacks.{IsLiveStack};
+ghost use Rattle.icn_control.specs.TakenOperands.{take_operands};
+ghost use Rattle.icn_machine.specs.PlainOperations.{Assigns, Compares, Computes, NamesOwnLocal, OperatesInPlace, TakesSlots, TellIntegers, TellsInteger, integer_result, is_met, local_item};
+
+use icn_control::{RunState, put_slot};
+use icn_frames::{Cell, Frames, Stack};
+use icn_text::{Arith, Op, add, div, mul, rem, sub};
+use icn_value::Val;
+use std::cmp::Ordering;
+
+// Whether an operand may be an integer: it is one, or a local.
+#[inline(always)]
+fn may_be_integer(slot: Cell) -> bool
+    ensures { IsTrue result → IsSome (plain_operand slot) }
+{
+    match slot {
+        Cell::ValInteger(_) => true,
+        Cell::VarLocal(_) => true,
+        _ => false,
+    }
+}
+
+// The integer that a local holds, if it holds one.
+#[inline(always)]
+fn local_integer<K: Stack<Cell> + Drop>(frames: &Frames<K>, index: u32) -> Option<i64>
+    requires { index < flat.local_count frames.now.flat }
+    ensures { IfSome result
+        (λ n. slice_get (flat.locals frames.now.flat) index ≡ Some (Vals.Integer n)) }
+{
+    frames.local_count();
+    match frames.local_slot(index as u64) {
+        Cell::LocalInteger(n) => Some(n),
+        _ => None,
+    }
+}
+
+// The integer that an operand is, or that the local holds which it names.
+#[inline(always)]
+fn integer_in<K: Stack<Cell> + Drop>(frames: &Frames<K>, slot: Cell) -> Option<i64>
+    requires { NamesOwnLocal frames.now.flat slot }
+    ensures { IfSome result (TellsInteger (flat.locals frames.now.flat) slot) }
+{
+    match slot {
+        Cell::ValInteger(n) => Some(n),
+        Cell::VarLocal(index) => local_integer(frames, index),
+        _ => None,
+    }
+}
+
+// The integers of two operands, where both are or hold one.
+#[inline(always)]
+fn integers_in<K: Stack<Cell> + Drop>(frames: &Frames<K>, slots: (Cell, Cell)) -> Option<(i64, i64)>
+    requires lower { NamesOwnLocal frames.now.flat slots.0 }
+    requires upper { NamesOwnLocal frames.now.flat slots.1 }
+    ensures { IfSome result (TellIntegers (flat.locals frames.now.flat) slots) }
+{
+    let m = integer_in(frames, slots.0)?;
+    let n = integer_in(frames, slots.1)?;
+    Some((m, n))
+}
+
+// Takes the two top operands, where both may be integers.
+#[inline(always)]
+fn take_slots<K: Stack<Cell> + Drop>(frames: &mut Frames<K>) -> Option<(Cell, Cell)>
+    requires { IsSome (take_operands 2 frames.old.flat) }
+    ensures taken { IfSome result (TakesSlots frames.old.flat frames.new.flat) }
+    ensures spare { IfSome result (λ slots. 2 ≤ frames.new.spare) }
+    ensures none { result ≡ None → frames.new.flat ≡ frames.old.flat }
+{
+    let upper = frames.top();
+    if !may_be_integer(upper) {
+        return None;
+    }
+    frames.drop_top();
+    let lower = frames.top();
+    if !may_be_integer(lower) {
+        put_slot(frames, upper);
+        return None;
+    }
+    frames.drop_top();
+    Some((lower, upper))
+}
+
+// Puts two operands back that were taken.
+#[inline(always)]
+fn put_slots<K: Stack<Cell> + Drop>(frames: &mut Frames<K>, slots: (Cell, Cell))
+    requires room { 2 ≤ frames.old.spare }
+    requires lower { IsSome (plain_operand slots.0) }
+    requires upper { IsSome (plain_operand slots.1) }
+    ensures { (x y : Item) → plain_operand slots.0 ≡ Some x → plain_operand slots.1 ≡ Some y
+        → frames.new.flat ≡ flat.push y (flat.push x frames.old.flat) }
+{
+    put_slot(frames, slots.0);
+    put_slot(frames, slots.1);
+}
+
+// What was computed, if it was.
+#[inline(always)]
+fn computed(found: Result<i64, Arith>) -> Option<i64>
+    ensures { result ≡ result_ok found }
+{
+    match found {
+        Ok(n) => Some(n),
+        Err(_) => None,
+    }
+}
+
+// The result of arithmetic on two integers, if there is one.
+#[inline(always)]
+fn integer_result(op: Op, m: i64, n: i64) -> Option<i64>
+    ensures { result ≡ integer_result op m n }
+{
+    match op {
+        Op::Add => computed(add(m, n)),
+        Op::Subtract => computed(sub(m, n)),
+        Op::Multiply => computed(mul(m, n)),
+        Op::Divide => computed(div(m, n)),
+        Op::Remainder => computed(rem(m, n)),
+        _ => None,
+    }
+}
+
+// Whether a comparison is met, by the order of its operands.
+#[inline(always)]
+fn is_met(op: Op, order: Ordering) -> Option<bool>
+    ensures { result ≡ is_met op order }
+{
+    match op {
+        Op::Less => Some(order.is_lt()),
+        Op::LessOrEqual => Some(order.is_le()),
+        Op::Equal => Some(order.is_eq()),
+        Op::GreaterOrEqual => Some(order.is_ge()),
+        Op::Greater => Some(order.is_gt()),
+        Op::NotEqual => Some(order.is_ne()),
+        _ => None,
+    }
+}
+
+// The result of arithmetic on two operands, if both are integers and it has one.
+#[inline(always)]
+fn result_of<K: Stack<Cell> + Drop>(frames: &Frames<K>, op: Op, slots: (Cell, Cell)) -> Option<i64>
+    requires lower { NamesOwnLocal frames.now.flat slots.0 }
+    requires upper { NamesOwnLocal frames.now.flat slots.1 }
+    ensures { IfSome result (Computes op (flat.locals frames.now.flat) slots) }
+{
+    let (m, n) = integers_in(frames, slots)?;
+    integer_result(op, m, n)
+}
+
+// Whether a comparison of two operands is met, and the integer at the right, if both are integers.
+#[inline(always)]
+fn comparison_of<K: Stack<Cell> + Drop>(
+    frames: &Frames<K>,
+    op: Op,
+    slots: (Cell, Cell),
+) -> Option<(bool, i64)>
+    requires lower { NamesOwnLocal frames.now.flat slots.0 }
+    requires upper { NamesOwnLocal frames.now.flat slots.1 }
+    ensures { IfSome result (Compares op (flat.locals frames.now.flat) slots) }
+{
+    let (m, n) = integers_in(frames, slots)?;
+    let met = is_met(op, m.cmp(&n))?;
+    Some((met, n))
+}
+
+// Arithmetic on two integers that has a result.
+fn compute<K: Stack<Cell> + Drop>(frames: &mut Frames<K>, op: Op) -> Option<RunState>
+    requires operands { IsSome (take_operands 2 frames.old.flat) }
+    requires live { (tables : Tables) × ((reach : Reach) × IsLiveStack tables reach frames.old.flat) }
+    ensures { OperatesInPlace op frames.old.flat frames.new.flat result }
+{
+    let slots = take_slots(frames)?;
+    frames.local_count();
+    let Some(n) = result_of(frames, op, slots) else {
+        put_slots(frames, slots);
+        return None;
+    };
+    put_slot(frames, Cell::ValInteger(n));
+    Some(RunState::Running)
+}
+
+// A comparison of two integers.
+fn compare<K: Stack<Cell> + Drop>(frames: &mut Frames<K>, op: Op) -> Option<RunState>
+    requires operands { IsSome (take_operands 2 frames.old.flat) }
+    requires live { (tables : Tables) × ((reach : Reach) × IsLiveStack tables reach frames.old.flat) }
+    ensures { OperatesInPlace op frames.old.flat frames.new.flat result }
+{
+    let slots = take_slots(frames)?;
+    frames.local_count();
+    let Some(met) = comparison_of(frames, op, slots) else {
+        put_slots(frames, slots);
+        return None;
+    };
+    if met.0 {
+        put_slot(frames, Cell::ValInteger(met.1));
+        return Some(RunState::Running);
+    }
+    Some(RunState::Failing)
+}
+
+// The index of a local that an operand is.
+#[inline(always)]
+fn local_index(slot: Cell) -> Option<u32>
+    ensures { IfSome result (λ index. plain_operand slot ≡ Some (local_item index)) }
+{
+    match slot {
+        Cell::VarLocal(index) => Some(index),
+        _ => None,
+    }
+}
+
+// The index of the local that an operand is, and the integer that the other one is or holds, where it is so.
+#[inline(always)]
+fn assignment_of<K: Stack<Cell> + Drop>(
+    frames: &Frames<K>,
+    slots: (Cell, Cell),
+) -> Option<(u32, i64)>
+    requires lower { NamesOwnLocal frames.now.flat slots.0 }
+    requires upper { NamesOwnLocal frames.now.flat slots.1 }
+    ensures { IfSome result (Assigns frames.now.flat slots) }
+{
+    let index = local_index(slots.0)?;
+    let n = integer_in(frames, slots.1)?;
+    Some((index, n))
+}
+
+// The assignment of an integer to a local.
+fn assign<K: Stack<Cell> + Drop>(frames: &mut Frames<K>) -> Option<RunState>
+    requires operands { IsSome (take_operands 2 frames.old.flat) }
+    requires live { (tables : Tables) × ((reach : Reach) × IsLiveStack tables reach frames.old.flat) }
+    ensures { OperatesInPlace Ops.Assign frames.old.flat frames.new.flat result }
+{
+    let slots = take_slots(frames)?;
+    frames.local_count();
+    let Some(two) = assignment_of(frames, slots) else {
+        put_slots(frames, slots);
+        return None;
+    };
+    frames.set_local(two.0 as u64, Val::Integer(two.1));
+    frames.local_count();
+    put_slot(frames, Cell::VarLocal(two.0));
+    Some(RunState::Running)
+}
+
+/// Performs an operation on integers and locals that are on top: arithmetic, a comparison, or an assignment to a local. Elsewhere
+/// nothing changes. Its operands must be there. It takes no memory.
+pub fn operate_in_place<K: Stack<Cell> + Drop>(frames: &mut Frames<K>, op: Op) -> Option<RunState>
+    requires operands { IsSome (take_operands (arity op) frames.old.flat) }
+    requires live { (tables : Tables) × ((reach : Reach) × IsLiveStack tables reach frames.old.flat) }
+    ensures { OperatesInPlace op frames.old.flat frames.new.flat result }
+{
+    match op {
+        Op::Add => compute(frames, op),
+        Op::Subtract => compute(frames, op),
+        Op::Multiply => compute(frames, op),
+        Op::Divide => compute(frames, op),
+        Op::Remainder => compute(frames, op),
+        Op::Less => compare(frames, op),
+        Op::LessOrEqual => compare(frames, op),
+        Op::Equal => compare(frames, op),
+        Op::GreaterOrEqual => compare(frames, op),
+        Op::Greater => compare(frames, op),
+        Op::NotEqual => compare(frames, op),
+        Op::Assign => assign(frames),
+        _ => None,
+    }
+}

@@ -1,0 +1,5 @@
+pub mod Ownership
+pub mod Places
+pub mod Blocks
+pub mod Segmented
+pub mod RawStacks
